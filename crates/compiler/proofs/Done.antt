@@ -2,10 +2,10 @@
 use Rattle.std.proofs.Common.{◌≡◌, ℕ, Bool, List, refl, sym, subst, Option, Some, None, Ok, Err}
 use Rattle.std.specs.Prelude.{Result, IfOk}
 use Rattle.ir_base.specs.declared.status.Options.{Options}
-use Rattle.frame_contents.specs.Frames.{AreLayouts}
+use Rattle.pass_proofs.specs.frame_contents.Frames.{AreLayouts}
 use Rattle.frame_layout.specs.declared.layout.Layouts.{Layouts}
-use Rattle.rule_all.specs.Refused.{IsRefused}
-use Rattle.text_grammar.specs.Text.{StandsFor}
+use Rattle.pass_proofs.specs.rule_all.Refused.{IsRefused}
+use Rattle.pass_proofs.specs.text_grammar.Text.{StandsFor}
 use Rattle.ir_model.specs.declared.module.Module.{Module}
 use Rattle.text_parser.proofs.TextRead.{reading_of}
 use Rattle.text_parser.specs.Parse.{read_module}
@@ -15,8 +15,8 @@ use Rattle.compiler.specs.declared.lowered.Lowered.{Lowered}
 use Rattle.compiler.specs.declared.lowered.Lowering.{Lowering}
 use Rattle.frame_acceptance.specs.Acceptance.{ComesOf, IsAcceptance}
 use Rattle.frame_acceptance.specs.declared.accepting.Acceptance.{Acceptance}
-use Rattle.rule_modules.specs.declared.order.Refusal.{Refusal}
-use Rattle.rule_names.specs.declared.stage.Stage.{Stage}
+use Rattle.pass_proofs.specs.rule_modules.declared.order.Refusal.{Refusal}
+use Rattle.pass_proofs.specs.rule_names.declared.stage.Stage.{Stage}
 
 -- an accepted source is refused for nothing, and its frames have these layouts
 pub record IsAccepted (m : Module) (share : Bool) (layouts : Layouts) : Type 0 where

@@ -8,20 +8,20 @@ use Rattle.pass_cleanup.specs.Cleanup.{clean_function, is_kept_instr}
 use Rattle.pass_cleanup.specs.Free.{calls_id_alone, is_free}
 use Rattle.pass_split.specs.Given.{has_given_call}
 use Rattle.pass_split.specs.Parts.{back_blocks, done_block, entry_instrs, first_layout, given_parts, given_ramp_of, head_blocks, later_part, layouts_after, marked_parts, origins_for, part_blocks, parts_of, plain_of, plain_shape, ramp_of, split_function, split_functions, split_module}
-use Rattle.pass_front.specs.Front.{allocas_of, is_alloca}
+use Rattle.pass_proofs.specs.pass_front.Front.{allocas_of, is_alloca}
 use Rattle.pass_split.specs.Pieces.{all_pieces, begins_again, first_piecing, next_piecing, pass_block, piece, pieced, pieces_of, piecing_of, redirected_term, stop_label, stopped, with_instr, with_instrs}
 use Rattle.pass_split.specs.Reached.{is_flagged, kept_block, kept_blocks, pruned, reached}
 use Rattle.pass_split.specs.declared.origin.Origin.{Origin}
 use Rattle.pass_split.specs.declared.piecing.Piecing.{Piecing}
 use Rattle.frame_layout.specs.declared.layout.Layout.{Layout}
 use Rattle.frame_layout.specs.declared.layout.Layouts.{Layouts}
-use Rattle.pass_intrinsics.specs.Cuts.{cut_at}
-use Rattle.pass_intrinsics.specs.Lowered.{address, done_test, lowered, number_of_save, save_or_none, set_address, set_number, set_truth}
-use Rattle.pass_intrinsics.specs.Shapes.{first_name, index_bytes, index_name, pass_label, shape_of, slot_name}
-use Rattle.pass_intrinsics.specs.declared.cuts.Cut.{Cut}
-use Rattle.pass_intrinsics.specs.declared.shape.Part.{Part}
-use Rattle.pass_intrinsics.specs.declared.shape.Shape.{Shape}
-use Rattle.pass_intrinsics.specs.declared.shape.SuspendPoint.{SuspendPoint}
+use Rattle.pass_proofs.specs.pass_intrinsics.Cuts.{cut_at}
+use Rattle.pass_proofs.specs.pass_intrinsics.Lowered.{address, done_test, lowered, number_of_save, save_or_none, set_address, set_number, set_truth}
+use Rattle.pass_proofs.specs.pass_intrinsics.Shapes.{first_name, index_bytes, index_name, pass_label, shape_of, slot_name}
+use Rattle.pass_proofs.specs.pass_intrinsics.declared.cuts.Cut.{Cut}
+use Rattle.pass_proofs.specs.pass_intrinsics.declared.shape.Part.{Part}
+use Rattle.pass_proofs.specs.pass_intrinsics.declared.shape.Shape.{Shape}
+use Rattle.pass_proofs.specs.pass_intrinsics.declared.shape.SuspendPoint.{SuspendPoint}
 use Rattle.ir_model.specs.Ty.{Ty, int}
 use Rattle.ir_model.specs.TypeView.{bits_of}
 use Rattle.ir_model.specs.declared.instr.Instr.{Instr}
@@ -41,7 +41,7 @@ use Rattle.compiler.specs.NoCoroutine.{LeavesNoCoroutine, has_no_coroutine}
 use Rattle.compiler.specs.declared.lowered.Lowered.{Lowered}
 use Rattle.compiler.specs.declared.lowered.Lowering.{Lowering}
 use Rattle.frame_acceptance.specs.declared.accepting.Acceptance.{Acceptance}
-use Rattle.pass_exits.specs.ExitBlocks.{with_exit_blocks}
+use Rattle.pass_proofs.specs.pass_exits.ExitBlocks.{with_exit_blocks}
 
 -- ---- lists
 

@@ -3,8 +3,8 @@ use Rattle.std.proofs.Common.{ℕ, Bool, List, sym, subst, None}
 use Rattle.std.specs.Prelude.{Result, IfOk}
 use Rattle.ir_base.specs.declared.status.Options.{Options}
 use Rattle.frame_layout.specs.declared.layout.Layouts.{Layouts}
-use Rattle.rule_all.specs.Refused.{IsRefused}
-use Rattle.text_grammar.specs.Text.{StandsFor}
+use Rattle.pass_proofs.specs.rule_all.Refused.{IsRefused}
+use Rattle.pass_proofs.specs.text_grammar.Text.{StandsFor}
 use Rattle.ir_model.specs.declared.module.Module.{Module}
 use Rattle.compiler.proofs.Done.{IsAccepted, lowering_holds}
 use Rattle.compiler.proofs.NoCoroutine.{split_all_plain, split_calls_id}
@@ -14,7 +14,7 @@ use Rattle.compiler.specs.declared.lowered.Lowered.{Lowered}
 use Rattle.compiler.specs.declared.lowered.Lowering.{Lowering}
 use Rattle.compiler.proofs.whole.lowered_sources.Row.{all_accepted, is_ready}
 use Rattle.compiler.specs.cleanup.accepted.Ready.{IsReady}
-use Rattle.rule_names.specs.declared.stage.Stage.{Stage}
+use Rattle.pass_proofs.specs.rule_names.declared.stage.Stage.{Stage}
 
 done_breaks_none : (text : List ℕ) (m : Module) → StandsFor text m → (share : Bool) (layouts : Layouts) (l : Lowered) → IsAccepted m share layouts → IsDone m layouts l → IsRefused Stage.Plain l.«module» None
 done_breaks_none text m stands share layouts l a d =

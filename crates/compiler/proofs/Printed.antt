@@ -3,13 +3,13 @@ use Rattle.std.proofs.Common.{◌≡◌, inl, inr, ℕ, zero, suc, Bool, List, [
 use Rattle.std.specs.Prelude.{Result, IfOk, map, slice_get, ◌^◌}
 use Rattle.text_canonical.specs.canonical.Items.{module_text}
 use Rattle.ir_base.specs.declared.status.Options.{Options}
-use Rattle.text_names.specs.Spelling.{IsName}
-use Rattle.flow_solver.specs.Paths.{IsListed}
+use Rattle.pass_proofs.specs.text_names.Spelling.{IsName}
+use Rattle.pass_proofs.specs.flow_solver.Paths.{IsListed}
 use Rattle.frame_layout.specs.declared.layout.Layout.{Layout}
 use Rattle.frame_layout.specs.declared.layout.Layouts.{Layouts}
 use Rattle.text_frame_lines.specs.Frames.{AreFrames}
-use Rattle.rule_all.specs.Refused.{IsRefused}
-use Rattle.text_grammar.specs.Text.{StandsFor}
+use Rattle.pass_proofs.specs.rule_all.Refused.{IsRefused}
+use Rattle.pass_proofs.specs.text_grammar.Text.{StandsFor}
 use Rattle.ir_model.specs.declared.module.Function.{Function}
 use Rattle.ir_model.specs.declared.module.Module.{Module}
 use Rattle.text_printer.proofs.Behind.{stands_behind}
@@ -27,7 +27,7 @@ use Rattle.compiler.proofs.whole.printed_forms.Lowered.{lowered_printable, lower
 use Rattle.compiler.specs.whole.Passed.{AreFew}
 use Rattle.text_canonical.proofs.order.Modules.{stands_in_order}
 use Rattle.text_canonical.specs.order.Order.{module_order}
-use Rattle.rule_names.specs.declared.stage.Stage.{Stage}
+use Rattle.pass_proofs.specs.rule_names.declared.stage.Stage.{Stage}
 use Rattle.text_canonical.specs.grammar.Bytes.{AreBytes}
 
 -- frame lines can be written where names of functions are names and the numbers of layouts are small

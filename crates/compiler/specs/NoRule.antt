@@ -1,10 +1,10 @@
 -- What is lowered breaks no rule, and its framed form may be split.
 use Rattle.std.specs.Prelude.{None}
-use Rattle.rule_all.specs.Refused.{IsRefused}
+use Rattle.pass_proofs.specs.rule_all.Refused.{IsRefused}
 use Rattle.compiler.specs.Lowering.{OfLowered}
 use Rattle.compiler.specs.declared.lowered.Lowering.{Lowering}
 use Rattle.compiler.specs.cleanup.accepted.Ready.{IsReady}
-use Rattle.rule_names.specs.declared.stage.Stage.{Stage}
+use Rattle.pass_proofs.specs.rule_names.declared.stage.Stage.{Stage}
 
 -- the lowered module, where there is one, breaks none of the rules of modules without coroutines
 abbrev pub BreaksNoRule : Lowering → Type 0

@@ -1,14 +1,14 @@
 -- The text of what is lowered stands for a module without coroutines that breaks no rule.
 use Rattle.std.specs.Prelude.{ℕ, List, [], ◌∷◌, None}
-use Rattle.rule_all.specs.Refused.{IsRefused}
-use Rattle.text_grammar.specs.Text.{StandsFor}
+use Rattle.pass_proofs.specs.rule_all.Refused.{IsRefused}
+use Rattle.pass_proofs.specs.text_grammar.Text.{StandsFor}
 use Rattle.ir_model.specs.declared.module.Function.{Function}
 use Rattle.ir_model.specs.declared.module.Module.{Module}
 use Rattle.compiler.specs.Lowering.{OfLowered}
 use Rattle.compiler.specs.declared.lowered.Lowering.{Lowering}
 use Rattle.compiler.specs.whole.Passed.{AreFew}
 use Rattle.text_canonical.specs.order.Order.{module_order}
-use Rattle.rule_names.specs.declared.stage.Stage.{Stage}
+use Rattle.pass_proofs.specs.rule_names.declared.stage.Stage.{Stage}
 
 -- the text stands for the module with the names of each function in the order of their first occurrence, and that breaks none of the rules of modules without coroutines
 pub record StandsForPlain (m : Module) (text : List ℕ) : Type 0 where

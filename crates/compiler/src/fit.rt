@@ -1,18 +1,18 @@
 //! The fields of the frames of accepted sources are fit, so the layouts of these frames are good.
 
 ghost use Rattle.std.specs.Prelude.{◌≡◌, ℕ, Bool, List, [], None, Ok, Some, slice_get};
-ghost use Rattle.frame_contents.specs.Frames.{AreLayouts};
+ghost use Rattle.pass_proofs.specs.frame_contents.Frames.{AreLayouts};
 ghost use Rattle.frame_good.specs.Frames.{AreGood, HasFitFields};
 ghost use Rattle.frame_layout.specs.declared.layout.Layouts.{Layouts};
-ghost use Rattle.rule_laws.specs.rules.counted.Widths.{first_other_width};
+ghost use Rattle.pass_proofs.specs.rule_laws.rules.counted.Widths.{first_other_width};
 ghost use Rattle.ir_model.specs.declared.module.Function.{Function};
 ghost use Rattle.ir_model.specs.declared.module.Module.{Module};
-ghost use Rattle.ir_parts.specs.Locals.{locals_of};
-ghost use Rattle.rule_all.specs.Refused.{IsRefused};
-ghost use Rattle.rule_locals.specs.Extents.{first_past_extent};
-ghost use Rattle.rule_names.specs.Definitions.{first_twice};
-ghost use Rattle.rule_names.specs.declared.stage.Stage.{Stage};
-ghost use Rattle.text_grammar.specs.Text.{StandsFor};
+ghost use Rattle.pass_proofs.specs.ir_parts.Locals.{locals_of};
+ghost use Rattle.pass_proofs.specs.rule_all.Refused.{IsRefused};
+ghost use Rattle.pass_proofs.specs.rule_locals.Extents.{first_past_extent};
+ghost use Rattle.pass_proofs.specs.rule_names.Definitions.{first_twice};
+ghost use Rattle.pass_proofs.specs.rule_names.declared.stage.Stage.{Stage};
+ghost use Rattle.pass_proofs.specs.text_grammar.Text.{StandsFor};
 
 /// The frame's fields are fit where integers have widths of types, and Y4 and N1 of locals aren't broken.
 pub fn functions_have_fit_fields()

@@ -7,20 +7,20 @@ ghost use Rattle.compiler_theorem.specs.theorem.Between.{renewing};
 ghost use Rattle.compiler_theorem.specs.theorem.Built.{building};
 ghost use Rattle.compiler_theorem.specs.theorem.Entries.{IsEntryCall, Run};
 ghost use Rattle.compiler_theorem.specs.theorem.Lowered.{HasFewBytes, IsLowered, Lowered, early, edged};
-ghost use Rattle.ir_base.specs.declared.outcome.Outcome.{Outcome};
-ghost use Rattle.pass_cells.specs.Kept.{entry};
+ghost use Rattle.compiler.specs.ir_base.declared.outcome.Outcome.{Outcome};
+ghost use Rattle.compiler.specs.pass_cells.Kept.{entry};
 ghost use Rattle.pass_frames_meaning.specs.Coroutines.{HasStorables, MayFollow};
 ghost use Rattle.pass_frames_meaning.specs.Ends.{AreEndsKnown, KeepsEdges, KeepsEnds, MayGoOn, MayLeaveEdge};
 ghost use Rattle.pass_frames_meaning.specs.Led.{IsLedState};
 ghost use Rattle.pass_frames_meaning.specs.Setting.{AreOfRuns};
-ghost use Rattle.pass_frames_proof.specs.Places.{edged as edged_of, offsets};
-ghost use Rattle.pass_frames_proof.specs.Related.{AreBuiltOf, is_coroutine};
-ghost use Rattle.pass_frames_proof.specs.Stepping.{IsNotEntering};
-ghost use Rattle.pass_renewed_proof.specs.Renewed.{renewed_step};
-ghost use Rattle.run_agreement.specs.Machines.{IsFine};
-ghost use Rattle.run_source.specs.Source.{first_state};
-ghost use Rattle.run_source.specs.declared.state.State.{State};
-ghost use Rattle.run_step.specs.Runs.{iterate};
+ghost use Rattle.pass_frames_meaning.specs.pass_frames_proof.Places.{edged as edged_of, offsets};
+ghost use Rattle.pass_frames_meaning.specs.pass_frames_proof.Related.{AreBuiltOf, is_coroutine};
+ghost use Rattle.pass_frames_meaning.specs.pass_frames_proof.Stepping.{IsNotEntering};
+ghost use Rattle.pass_frames_meaning.specs.pass_renewed_proof.Renewed.{renewed_step};
+ghost use Rattle.compiler.specs.run_agreement.Machines.{IsFine};
+ghost use Rattle.compiler.specs.run_source.Source.{first_state};
+ghost use Rattle.compiler.specs.run_source.declared.state.State.{State};
+ghost use Rattle.compiler.specs.run_step.Runs.{iterate};
 
 /// Suspends take written saves, no end stands where a path without begin leads, and no slot in a frame is used there.
 pub fn sources_keep_rules_of_ends()

@@ -2,8 +2,8 @@
 
 ghost use Rattle.std.specs.Prelude.{ℕ, List, length};
 ghost use Rattle.compiler_theorem.specs.narrow.Narrow.{IsNarrowModule};
-ghost use Rattle.ir_model.specs.declared.module.Module.{Module};
-ghost use Rattle.text_grammar.specs.Text.{StandsFor};
+ghost use Rattle.compiler.specs.ir_model.declared.module.Module.{Module};
+ghost use Rattle.compiler.specs.text_grammar.Text.{StandsFor};
 
 /// A structure takes a token for each of its fields, so it has at most as many as its text has bytes.
 pub fn texts_have_few_fields()

@@ -9,22 +9,22 @@ ghost use Rattle.compiler_theorem.specs.parts.Framed.{AreFramedFacts, AreLaidFac
 ghost use Rattle.compiler_theorem.specs.theorem.Entries.{IsEntry, IsEntryCall, Run};
 ghost use Rattle.compiler_theorem.specs.theorem.Lowered.{HasFewBytes, IsLowered, Lowered, early, framed_run, plain_run, split_from};
 ghost use Rattle.compiler_theorem.specs.theorem.GoodLayouts.{AreGoodLayouts};
-ghost use Rattle.frame_contents.specs.Held.{suspend_count};
-ghost use Rattle.frame_layout.specs.Frames.{index_size};
-ghost use Rattle.frame_layout.specs.declared.layout.Layout.{Layout};
-ghost use Rattle.frame_layout.specs.declared.layout.PlacedField.{PlacedField};
-ghost use Rattle.ir_model.specs.declared.module.Function.{Function};
+ghost use Rattle.compiler.specs.frame_contents.Held.{suspend_count};
+ghost use Rattle.compiler.specs.frame_layout.Frames.{index_size};
+ghost use Rattle.compiler.specs.frame_layout.declared.layout.Layout.{Layout};
+ghost use Rattle.compiler.specs.frame_layout.declared.layout.PlacedField.{PlacedField};
+ghost use Rattle.compiler.specs.ir_model.declared.module.Function.{Function};
 ghost use Rattle.pass_split_proof.specs.states.Instances.{IsLaidOut, index_length};
 ghost use Rattle.pass_split_proof.specs.states.Memories.{AreContents};
-ghost use Rattle.run_framed.specs.Framed.{framed_given, is_promise_kind, layout_of};
-ghost use Rattle.frame_layout.specs.declared.layout.Layouts.{Layouts};
-ghost use Rattle.ir_model.specs.declared.module.Module.{Module};
-ghost use Rattle.pass_frames.specs.Framed.{IsFramedForm};
-ghost use Rattle.pass_proofs.specs.exits.states.Exits.{exits_split};
+ghost use Rattle.compiler.specs.run_framed.Framed.{framed_given, is_promise_kind, layout_of};
+ghost use Rattle.compiler.specs.frame_layout.declared.layout.Layouts.{Layouts};
+ghost use Rattle.compiler.specs.ir_model.declared.module.Module.{Module};
+ghost use Rattle.compiler.specs.pass_frames.Framed.{IsFramedForm};
+ghost use Rattle.compiler.specs.pass_proofs.exits.states.Exits.{exits_split};
 ghost use Rattle.pass_split_proof.specs.ready.Layouts.{AreLayoutsOf};
 ghost use Rattle.pass_split_proof.specs.ready.Module.{IsFollowable};
-ghost use Rattle.run_agreement.specs.Agreements.{AgreesWithin};
-ghost use Rattle.run_agreement.specs.Machines.{at};
+ghost use Rattle.compiler.specs.run_agreement.Agreements.{AgreesWithin};
+ghost use Rattle.compiler.specs.run_agreement.Machines.{at};
 
 /// Good layouts are those of the coroutines of the framed form in order, each with its coroutine's number.
 pub fn framed_layouts_stand_in_order()

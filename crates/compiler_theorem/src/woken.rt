@@ -8,20 +8,20 @@ ghost use Rattle.compiler_theorem.specs.theorem.Built.{building};
 ghost use Rattle.compiler_theorem.specs.theorem.Entries.{IsEntryCall, Run};
 ghost use Rattle.compiler_theorem.specs.theorem.Lowered.{HasFewBytes, IsLowered, Lowered, early, edged};
 ghost use Rattle.compiler_theorem.specs.woken.Roots.{AreRootsTold};
-ghost use Rattle.ir_base.specs.declared.outcome.Outcome.{Outcome};
+ghost use Rattle.compiler.specs.ir_base.declared.outcome.Outcome.{Outcome};
 ghost use Rattle.pass_frames_meaning.specs.Coroutines.{HasStorables, MayFollow};
 ghost use Rattle.pass_frames_meaning.specs.Others.{EntersCoroutines};
 ghost use Rattle.pass_frames_meaning.specs.Setting.{AreOfRuns};
-ghost use Rattle.pass_frames_proof.specs.Followed.{IsFollowed};
-ghost use Rattle.pass_frames_proof.specs.Stepping.{IsNotEntering};
-ghost use Rattle.run_agreement.specs.Machines.{IsFine};
-ghost use Rattle.run_source.specs.declared.state.Mode.{Mode};
+ghost use Rattle.pass_frames_meaning.specs.pass_frames_proof.Followed.{IsFollowed};
+ghost use Rattle.pass_frames_meaning.specs.pass_frames_proof.Stepping.{IsNotEntering};
+ghost use Rattle.compiler.specs.run_agreement.Machines.{IsFine};
+ghost use Rattle.compiler.specs.run_source.declared.state.Mode.{Mode};
 ghost use Rattle.pass_frames_meaning.specs.Woken.{KeepsWaking, MayEnter, MayWake};
-ghost use Rattle.pass_frames_proof.specs.Related.{AreBuiltOf, is_coroutine};
-ghost use Rattle.pass_renewed_proof.specs.Renewed.{renewed_step};
-ghost use Rattle.run_framed.specs.Framed.{framed_state_at};
-ghost use Rattle.run_source.specs.Source.{first_state};
-ghost use Rattle.run_step.specs.Runs.{iterate};
+ghost use Rattle.pass_frames_meaning.specs.pass_frames_proof.Related.{AreBuiltOf, is_coroutine};
+ghost use Rattle.pass_frames_meaning.specs.pass_renewed_proof.Renewed.{renewed_step};
+ghost use Rattle.compiler.specs.run_framed.Framed.{framed_state_at};
+ghost use Rattle.compiler.specs.run_source.Source.{first_state};
+ghost use Rattle.compiler.specs.run_step.Runs.{iterate};
 
 /// The table of roots tells of which kept values distances are kept.
 pub fn roots_tell_of_distances()

@@ -1,19 +1,19 @@
 -- Steps of coroutines: what is open of the states, and which steps are other cases.
 use Rattle.std.specs.Prelude.{◌≡◌, ◌⊎◌, ◌∷◌, ℕ, Bool, false, true, None, Some, Option, List}
-use Rattle.ir_model.specs.Ty.{Ty}
-use Rattle.ir_model.specs.declared.instr.Instr.{Instr}
-use Rattle.ir_model.specs.declared.instr.Terminator.{Terminator}
-use Rattle.ir_model.specs.declared.operand.Arg.{Arg}
-use Rattle.ir_model.specs.declared.operand.Callee.{Callee}
-use Rattle.ir_model.specs.declared.operand.Intrinsic.{Intrinsic}
-use Rattle.ir_model.specs.declared.operand.Operand.{Operand}
-use Rattle.ir_parts.specs.Contents.{instr_operands}
-use Rattle.ir_paths.specs.Windows.{operand_at}
-use Rattle.pass_cells.specs.Cells.{fetches_of}
-use Rattle.pass_cells.specs.Kept.{entry}
-use Rattle.pass_cells.specs.declared.plan.KeptValue.{KeptValue}
-use Rattle.pass_copies.specs.Uses.{is_access}
-use Rattle.pass_fetch.specs.Fetching.{fetch_of}
+use Rattle.pass_frames_proof.specs.ir_model.Ty.{Ty}
+use Rattle.pass_frames_proof.specs.ir_model.declared.instr.Instr.{Instr}
+use Rattle.pass_frames_proof.specs.ir_model.declared.instr.Terminator.{Terminator}
+use Rattle.pass_frames_proof.specs.ir_model.declared.operand.Arg.{Arg}
+use Rattle.pass_frames_proof.specs.ir_model.declared.operand.Callee.{Callee}
+use Rattle.pass_frames_proof.specs.ir_model.declared.operand.Intrinsic.{Intrinsic}
+use Rattle.pass_frames_proof.specs.ir_model.declared.operand.Operand.{Operand}
+use Rattle.pass_frames_proof.specs.ir_parts.Contents.{instr_operands}
+use Rattle.pass_frames_proof.specs.ir_paths.Windows.{operand_at}
+use Rattle.pass_frames_proof.specs.pass_cells.Cells.{fetches_of}
+use Rattle.pass_frames_proof.specs.pass_cells.Kept.{entry}
+use Rattle.pass_frames_proof.specs.pass_cells.declared.plan.KeptValue.{KeptValue}
+use Rattle.pass_frames_proof.specs.pass_copies.Uses.{is_access}
+use Rattle.pass_frames_proof.specs.pass_fetch.Fetching.{fetch_of}
 use Rattle.pass_frames_meaning.specs.Setting.{Setting}
 use Rattle.pass_frames_meaning.specs.Standing.{IsStaying}
 use Rattle.pass_frames_proof.specs.Code.{is_ahead, loaded, slot_table}
@@ -23,19 +23,19 @@ use Rattle.pass_frames_proof.specs.Marking.{IsBeforeBegin, IsBehindBegin, IsEarl
 use Rattle.pass_frames_proof.specs.Places.{Framing, copies, offsets, plan}
 use Rattle.pass_frames_proof.specs.Related.{AreBuiltOf, IsKeptValue, is_coroutine, is_first}
 use Rattle.pass_frames_proof.specs.Stepping.{IsNotEntering, IsPlacedOperand, IsUnlocated, state_in}
-use Rattle.pass_proofs.specs.addresses.rules.Addresses.{lies_in_frame}
-use Rattle.pass_proofs.specs.fetch.rules.Fetches.{AreUnfetched}
-use Rattle.pass_renewed_proof.specs.Renewed.{renewed_step}
-use Rattle.rule_laws.specs.rules.function_rules.Kept.{KeepsFunctionRules}
-use Rattle.run_laws.specs.changed.Changed.{Each}
-use Rattle.run_memory.specs.declared.pointer.Value.{Value}
-use Rattle.run_source.specs.State.{function_of}
-use Rattle.run_source.specs.declared.state.Activation.{Activation}
-use Rattle.run_source.specs.declared.state.Mode.{Mode}
-use Rattle.run_source.specs.declared.state.State.{State}
-use Rattle.run_step.specs.Step.{AtInstr, AtTerm, fetch}
-use Rattle.run_step.specs.Values.{value_in}
-use Rattle.run_step.specs.declared.world.Slot.{Slot}
+use Rattle.pass_frames_proof.specs.pass_proofs.addresses.rules.Addresses.{lies_in_frame}
+use Rattle.pass_frames_proof.specs.pass_proofs.fetch.rules.Fetches.{AreUnfetched}
+use Rattle.pass_frames_proof.specs.pass_renewed_proof.Renewed.{renewed_step}
+use Rattle.pass_frames_proof.specs.rule_laws.rules.function_rules.Kept.{KeepsFunctionRules}
+use Rattle.pass_frames_proof.specs.run_laws.changed.Changed.{Each}
+use Rattle.pass_frames_proof.specs.run_memory.declared.pointer.Value.{Value}
+use Rattle.pass_frames_proof.specs.run_source.State.{function_of}
+use Rattle.pass_frames_proof.specs.run_source.declared.state.Activation.{Activation}
+use Rattle.pass_frames_proof.specs.run_source.declared.state.Mode.{Mode}
+use Rattle.pass_frames_proof.specs.run_source.declared.state.State.{State}
+use Rattle.pass_frames_proof.specs.run_step.Step.{AtInstr, AtTerm, fetch}
+use Rattle.pass_frames_proof.specs.run_step.Values.{value_in}
+use Rattle.pass_frames_proof.specs.run_step.declared.world.Slot.{Slot}
 
 -- what a kept name of the coroutine on top has fits the type in which it is kept
 abbrev pub HasStorables : Setting → State → Type 0

@@ -1,23 +1,23 @@
 -- Which states of the run that makes slots anew are followed in the framed run, where a resume hands on some values in the
 -- run before.
 use Rattle.std.specs.Prelude.{◌≡◌, ℕ}
-use Rattle.frame_layout.specs.declared.layout.Layouts.{Layouts}
-use Rattle.ir_base.specs.declared.outcome.Outcome.{Outcome}
+use Rattle.pass_frames_proof.specs.frame_layout.declared.layout.Layouts.{Layouts}
+use Rattle.pass_frames_proof.specs.ir_base.declared.outcome.Outcome.{Outcome}
 use Rattle.pass_frames_proof.specs.Followed.{IsFollowed, renewed_state_at}
 use Rattle.pass_frames_proof.specs.Related.{AreBuiltOf, AreShownAlike, Building}
-use Rattle.pass_kept_proof.specs.Machines.{kept_machine}
+use Rattle.pass_frames_proof.specs.pass_kept_proof.Machines.{kept_machine}
 use Rattle.pass_renewed_meaning.specs.Followed.{AreAlike, AreInStep, IsEntering}
 use Rattle.pass_renewed_meaning.specs.Offsets.{first_at}
 use Rattle.pass_renewed_meaning.specs.Rules.{Setting}
 use Rattle.pass_renewed_meaning.specs.Runs.{first_given, first_step, second_given}
-use Rattle.pass_renewed_proof.specs.Beside.{IsBeside}
-use Rattle.pass_renewed_proof.specs.Prices.{Prices, kept_price}
-use Rattle.pass_renewed_proof.specs.Renewed.{renewed_step}
-use Rattle.run_agreement.specs.Costs.{AgreesBy, Through}
-use Rattle.run_agreement.specs.Machines.{IsFine}
-use Rattle.run_framed.specs.Framed.{framed_state_at}
-use Rattle.run_source.specs.declared.state.State.{State}
-use Rattle.run_states.specs.moved_states.Beside.{framed_machine}
+use Rattle.pass_frames_proof.specs.pass_renewed_proof.Beside.{IsBeside}
+use Rattle.pass_frames_proof.specs.pass_renewed_proof.Prices.{Prices, kept_price}
+use Rattle.pass_frames_proof.specs.pass_renewed_proof.Renewed.{renewed_step}
+use Rattle.pass_frames_proof.specs.run_agreement.Costs.{AgreesBy, Through}
+use Rattle.pass_frames_proof.specs.run_agreement.Machines.{IsFine}
+use Rattle.pass_frames_proof.specs.run_framed.Framed.{framed_state_at}
+use Rattle.pass_frames_proof.specs.run_source.declared.state.State.{State}
+use Rattle.pass_frames_proof.specs.run_states.moved_states.Beside.{framed_machine}
 
 -- It stands beside a state of the run before, whose next step isn't undefined, or its resumed activation makes slots anew.
 -- So what holds in that run, as that live slots conflict, may be used.

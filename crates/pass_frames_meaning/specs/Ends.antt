@@ -1,32 +1,32 @@
 -- Ends of blocks of coroutines: what is asked of the two modules and of states, besides rules and what is known of both
 -- runs.
 use Rattle.std.specs.Prelude.{◌≡◌, ◌≢◌, ◌<◌, ℕ, Bool, List, None, Option, Some, false, length, slice_get, true}
-use Rattle.flow_solver.specs.Paths.{IsListed}
-use Rattle.ir_laws.specs.paths.woven_rules.Pairs.{AreDifferent}
-use Rattle.pass_cells.specs.Written.{again_row, row_at}
-use Rattle.pass_cells.specs.declared.plan.KeptValue.{KeptValue}
-use Rattle.pass_copies.specs.Uses.{flag_at}
+use Rattle.pass_frames_proof.specs.flow_solver.Paths.{IsListed}
+use Rattle.pass_frames_proof.specs.ir_laws.paths.woven_rules.Pairs.{AreDifferent}
+use Rattle.pass_frames_proof.specs.pass_cells.Written.{again_row, row_at}
+use Rattle.pass_frames_proof.specs.pass_cells.declared.plan.KeptValue.{KeptValue}
+use Rattle.pass_frames_proof.specs.pass_copies.Uses.{flag_at}
 use Rattle.pass_frames_meaning.specs.Coroutines.{HasStorables, IsEnding, MayEnd, MaySuspend}
 use Rattle.pass_frames_proof.specs.Entry.{cells_of}
 use Rattle.pass_frames_proof.specs.Followed.{IsFollowed}
 use Rattle.pass_frames_proof.specs.FromEdges.{AreAgainsInOrder, IsEarlyInFrame, IsInRow, IsLocalSlot}
-use Rattle.pass_intrinsics.specs.Shapes.{suspends_of}
-use Rattle.ir_model.specs.Names.{function_at}
-use Rattle.ir_model.specs.Ty.{Ty}
-use Rattle.ir_model.specs.declared.instr.Incoming.{Incoming}
-use Rattle.ir_model.specs.declared.instr.Instr.{Instr}
-use Rattle.ir_model.specs.declared.instr.Phi.{Phi}
-use Rattle.ir_model.specs.declared.instr.Terminator.{Terminator}
-use Rattle.ir_model.specs.declared.module.Block.{Block}
-use Rattle.ir_model.specs.declared.operand.Arg.{Arg}
-use Rattle.ir_model.specs.declared.operand.Callee.{Callee}
-use Rattle.ir_model.specs.declared.operand.Intrinsic.{Intrinsic}
-use Rattle.ir_model.specs.declared.operand.Operand.{Operand}
-use Rattle.ir_paths.specs.Windows.{operand_at}
-use Rattle.ir_paths.specs.declared.point.Point.{Point}
-use Rattle.pass_cells.specs.Kept.{entry}
-use Rattle.pass_fetch.specs.Instrs.{term_operands}
-use Rattle.pass_frames.specs.Framed.{begin_of}
+use Rattle.pass_frames_proof.specs.pass_intrinsics.Shapes.{suspends_of}
+use Rattle.pass_frames_proof.specs.ir_model.Names.{function_at}
+use Rattle.pass_frames_proof.specs.ir_model.Ty.{Ty}
+use Rattle.pass_frames_proof.specs.ir_model.declared.instr.Incoming.{Incoming}
+use Rattle.pass_frames_proof.specs.ir_model.declared.instr.Instr.{Instr}
+use Rattle.pass_frames_proof.specs.ir_model.declared.instr.Phi.{Phi}
+use Rattle.pass_frames_proof.specs.ir_model.declared.instr.Terminator.{Terminator}
+use Rattle.pass_frames_proof.specs.ir_model.declared.module.Block.{Block}
+use Rattle.pass_frames_proof.specs.ir_model.declared.operand.Arg.{Arg}
+use Rattle.pass_frames_proof.specs.ir_model.declared.operand.Callee.{Callee}
+use Rattle.pass_frames_proof.specs.ir_model.declared.operand.Intrinsic.{Intrinsic}
+use Rattle.pass_frames_proof.specs.ir_model.declared.operand.Operand.{Operand}
+use Rattle.pass_frames_proof.specs.ir_paths.Windows.{operand_at}
+use Rattle.pass_frames_proof.specs.ir_paths.declared.point.Point.{Point}
+use Rattle.pass_frames_proof.specs.pass_cells.Kept.{entry}
+use Rattle.pass_frames_proof.specs.pass_fetch.Instrs.{term_operands}
+use Rattle.pass_frames_proof.specs.pass_frames.Framed.{begin_of}
 use Rattle.pass_frames_meaning.specs.Based.{IsBasedState, IsBeginAhead}
 use Rattle.pass_frames_meaning.specs.Fresh.{IsWoken}
 use Rattle.pass_frames_meaning.specs.Led.{IsLedState}
@@ -37,14 +37,14 @@ use Rattle.pass_frames_proof.specs.Phis.{IsOrdinaryBlock}
 use Rattle.pass_frames_proof.specs.Places.{Framing, copies, edged, fetched, is_return, offsets, plan, written}
 use Rattle.pass_frames_proof.specs.Related.{Building, IsKeptValue, is_coroutine}
 use Rattle.pass_frames_proof.specs.Stepping.{IsPlacedOperand}
-use Rattle.pass_kept_proof.specs.SuspendRules.{IsCallAt}
-use Rattle.run_framed.specs.Framed.{begin_name}
-use Rattle.run_hooks.specs.Away.{IsPlacedState, KeepsAllPlaceRules}
-use Rattle.run_hooks.specs.Meanings.{renewed_hooks}
-use Rattle.run_laws.specs.changed.Changed.{Each}
-use Rattle.run_source.specs.State.{function_of}
-use Rattle.run_source.specs.declared.state.State.{State}
-use Rattle.run_step.specs.Step.{AtInstr, AtTerm, fetch}
+use Rattle.pass_frames_proof.specs.pass_kept_proof.SuspendRules.{IsCallAt}
+use Rattle.pass_frames_proof.specs.run_framed.Framed.{begin_name}
+use Rattle.pass_renewed_meaning.specs.run_hooks.Away.{IsPlacedState, KeepsAllPlaceRules}
+use Rattle.pass_renewed_meaning.specs.run_hooks.Meanings.{renewed_hooks}
+use Rattle.pass_frames_proof.specs.run_laws.changed.Changed.{Each}
+use Rattle.pass_frames_proof.specs.run_source.State.{function_of}
+use Rattle.pass_frames_proof.specs.run_source.declared.state.State.{State}
+use Rattle.pass_frames_proof.specs.run_step.Step.{AtInstr, AtTerm, fetch}
 
 -- P holds of each operand that comes to a phi from the block
 abbrev pub EachComing : (Operand → Type 0) → Framing → ℕ → Type 0

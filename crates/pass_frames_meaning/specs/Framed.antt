@@ -1,33 +1,33 @@
 -- In each state of a run by hooks the frame of each instance that isn't freed is there.
 use Rattle.std.specs.Prelude.{◌≡◌, ◌≢◌, ◌≤◌, ℕ, Bool, true, false, List, [], ◌∷◌, slice_get, Some, None, Option}
 use Rattle.std.specs.Prelude.{Result, Ok, Err}
-use Rattle.ir_base.specs.declared.cause.Cause.{Cause}
-use Rattle.ir_base.specs.declared.outcome.Outcome.{Outcome}
-use Rattle.ir_model.specs.Names.{function_at}
-use Rattle.ir_model.specs.Ty.{Ty}
-use Rattle.ir_model.specs.declared.instr.Instr.{Instr}
-use Rattle.ir_model.specs.declared.module.Frame.{Frame}
-use Rattle.ir_model.specs.declared.module.Function.{Function}
-use Rattle.ir_model.specs.declared.module.Module.{Module}
-use Rattle.ir_model.specs.declared.operand.Arg.{Arg}
-use Rattle.ir_model.specs.declared.operand.Callee.{Callee}
-use Rattle.ir_paths.specs.declared.point.Point.{Point}
+use Rattle.pass_frames_proof.specs.ir_base.declared.cause.Cause.{Cause}
+use Rattle.pass_frames_proof.specs.ir_base.declared.outcome.Outcome.{Outcome}
+use Rattle.pass_frames_proof.specs.ir_model.Names.{function_at}
+use Rattle.pass_frames_proof.specs.ir_model.Ty.{Ty}
+use Rattle.pass_frames_proof.specs.ir_model.declared.instr.Instr.{Instr}
+use Rattle.pass_frames_proof.specs.ir_model.declared.module.Frame.{Frame}
+use Rattle.pass_frames_proof.specs.ir_model.declared.module.Function.{Function}
+use Rattle.pass_frames_proof.specs.ir_model.declared.module.Module.{Module}
+use Rattle.pass_frames_proof.specs.ir_model.declared.operand.Arg.{Arg}
+use Rattle.pass_frames_proof.specs.ir_model.declared.operand.Callee.{Callee}
+use Rattle.pass_frames_proof.specs.ir_paths.declared.point.Point.{Point}
 use Rattle.pass_frames_proof.specs.Marking.{marker}
-use Rattle.pass_renewed_proof.specs.SlotRules.{IsMadeOnce}
-use Rattle.run_hooks.specs.Hooks.{Hooks}
-use Rattle.run_memory.specs.Memory.{is_live}
-use Rattle.run_memory.specs.declared.block.MemoryBlock.{MemoryBlock}
-use Rattle.run_memory.specs.declared.pointer.Value.{Value}
+use Rattle.pass_frames_proof.specs.pass_renewed_proof.SlotRules.{IsMadeOnce}
+use Rattle.pass_renewed_meaning.specs.run_hooks.Hooks.{Hooks}
+use Rattle.pass_frames_proof.specs.run_memory.Memory.{is_live}
+use Rattle.pass_frames_proof.specs.run_memory.declared.block.MemoryBlock.{MemoryBlock}
+use Rattle.pass_frames_proof.specs.run_memory.declared.pointer.Value.{Value}
 use Rattle.run_slots.specs.Slots.{HasNewSlot, IsSlottedState, KeepsSlots, is_alloca_block}
-use Rattle.run_source.specs.State.{function_of}
-use Rattle.run_source.specs.declared.state.Activation.{Activation}
-use Rattle.run_source.specs.declared.state.Instance.{Instance}
-use Rattle.run_source.specs.declared.state.State.{State}
-use Rattle.run_source.specs.declared.state.Status.{Status}
-use Rattle.run_source_tables.specs.Given.{frame_of}
-use Rattle.run_step.specs.Step.{AtInstr, block_of, fetch}
-use Rattle.run_step.specs.Values.{Env, arg_values, nth, value_in}
-use Rattle.run_step.specs.declared.world.Slot.{Slot}
+use Rattle.pass_frames_proof.specs.run_source.State.{function_of}
+use Rattle.pass_frames_proof.specs.run_source.declared.state.Activation.{Activation}
+use Rattle.pass_frames_proof.specs.run_source.declared.state.Instance.{Instance}
+use Rattle.pass_frames_proof.specs.run_source.declared.state.State.{State}
+use Rattle.pass_frames_proof.specs.run_source.declared.state.Status.{Status}
+use Rattle.pass_frames_proof.specs.run_source_tables.Given.{frame_of}
+use Rattle.pass_frames_proof.specs.run_step.Step.{AtInstr, block_of, fetch}
+use Rattle.pass_frames_proof.specs.run_step.Values.{Env, arg_values, nth, value_in}
+use Rattle.pass_frames_proof.specs.run_step.declared.world.Slot.{Slot}
 
 -- ---- frames
 

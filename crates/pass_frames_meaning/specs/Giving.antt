@@ -1,15 +1,15 @@
 -- What is known of blocks where one is given back.
 use Rattle.std.specs.List.{Contains}
 use Rattle.std.specs.Prelude.{◌≡◌, ◌∷◌, ℕ, Some, None, false, true, slice_get}
-use Rattle.flow_solver.specs.Paths.{IsListed}
+use Rattle.pass_frames_proof.specs.flow_solver.Paths.{IsListed}
 use Rattle.pass_frames_proof.specs.Related.{Building, is_coroutine, returned_from}
-use Rattle.run_memory.specs.Memory.{is_owned, same_kind}
-use Rattle.run_memory.specs.declared.block.Kind.{Kind}
-use Rattle.run_memory.specs.declared.block.MemoryBlock.{MemoryBlock}
-use Rattle.run_source.specs.declared.state.Activation.{Activation}
-use Rattle.run_source.specs.declared.state.Instance.{Instance}
-use Rattle.run_source.specs.declared.state.State.{State}
-use Rattle.run_step.specs.declared.world.Slot.{Slot}
+use Rattle.pass_frames_proof.specs.run_memory.Memory.{is_owned, same_kind}
+use Rattle.pass_frames_proof.specs.run_memory.declared.block.Kind.{Kind}
+use Rattle.pass_frames_proof.specs.run_memory.declared.block.MemoryBlock.{MemoryBlock}
+use Rattle.pass_frames_proof.specs.run_source.declared.state.Activation.{Activation}
+use Rattle.pass_frames_proof.specs.run_source.declared.state.Instance.{Instance}
+use Rattle.pass_frames_proof.specs.run_source.declared.state.State.{State}
+use Rattle.pass_frames_proof.specs.run_step.declared.world.Slot.{Slot}
 
 -- An instance owns its block until that is freed. Each state of the first run has this (`IsFrameBlock`).
 pub record AreFramesOwned (s : State) : Type 0 where

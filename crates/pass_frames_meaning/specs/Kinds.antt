@@ -1,53 +1,53 @@
 -- Steps of coroutines that are kinds of their own: what they ask of the two modules and of states.
 use Rattle.std.specs.List.{Contains, list_any}
 use Rattle.std.specs.Prelude.{◌≡◌, ◌≢◌, ◌⊎◌, ◌+◌, ◌<◌, ◌≤◌, ◌==◌, if◌then◌else◌, ℕ, Bool, true, false, List, [], length, not, slice_get, Some, None, Option}
-use Rattle.flow_solver.specs.Paths.{IsListed}
-use Rattle.frame_classes.specs.declared.class.SlotClass.{SlotClass}
-use Rattle.frame_contents.specs.Held.{position_of}
-use Rattle.ir_model.specs.Layout.{size_of}
-use Rattle.ir_model.specs.Names.{function_at}
-use Rattle.ir_model.specs.Ty.{Ty}
-use Rattle.ir_model.specs.declared.instr.Instr.{Instr}
-use Rattle.ir_model.specs.declared.operand.Arg.{Arg}
-use Rattle.ir_model.specs.declared.operand.Callee.{Callee}
-use Rattle.ir_model.specs.declared.operand.Intrinsic.{Intrinsic}
-use Rattle.ir_model.specs.declared.operand.Operand.{Operand}
-use Rattle.ir_paths.specs.Slots.{allocas_of}
-use Rattle.ir_paths.specs.Windows.{instr_at, operand_at, suspend_of}
-use Rattle.ir_paths.specs.declared.point.Point.{Point}
-use Rattle.pass_cells.specs.Kept.{entry, is_flagged}
-use Rattle.pass_cells.specs.Written.{row_at}
-use Rattle.pass_cells.specs.declared.plan.KeptValue.{KeptValue}
-use Rattle.pass_fetch.specs.Fetching.{value_bytes}
-use Rattle.pass_frames.specs.Framed.{begin_of}
-use Rattle.pass_frames.specs.Tables.{class_flags, offset_at}
+use Rattle.pass_frames_proof.specs.flow_solver.Paths.{IsListed}
+use Rattle.pass_frames_proof.specs.frame_classes.declared.class.SlotClass.{SlotClass}
+use Rattle.pass_frames_proof.specs.frame_contents.Held.{position_of}
+use Rattle.pass_frames_proof.specs.ir_model.Layout.{size_of}
+use Rattle.pass_frames_proof.specs.ir_model.Names.{function_at}
+use Rattle.pass_frames_proof.specs.ir_model.Ty.{Ty}
+use Rattle.pass_frames_proof.specs.ir_model.declared.instr.Instr.{Instr}
+use Rattle.pass_frames_proof.specs.ir_model.declared.operand.Arg.{Arg}
+use Rattle.pass_frames_proof.specs.ir_model.declared.operand.Callee.{Callee}
+use Rattle.pass_frames_proof.specs.ir_model.declared.operand.Intrinsic.{Intrinsic}
+use Rattle.pass_frames_proof.specs.ir_model.declared.operand.Operand.{Operand}
+use Rattle.pass_frames_proof.specs.ir_paths.Slots.{allocas_of}
+use Rattle.pass_frames_proof.specs.ir_paths.Windows.{instr_at, operand_at, suspend_of}
+use Rattle.pass_frames_proof.specs.ir_paths.declared.point.Point.{Point}
+use Rattle.pass_frames_proof.specs.pass_cells.Kept.{entry, is_flagged}
+use Rattle.pass_frames_proof.specs.pass_cells.Written.{row_at}
+use Rattle.pass_frames_proof.specs.pass_cells.declared.plan.KeptValue.{KeptValue}
+use Rattle.pass_frames_proof.specs.pass_fetch.Fetching.{value_bytes}
+use Rattle.pass_frames_proof.specs.pass_frames.Framed.{begin_of}
+use Rattle.pass_frames_proof.specs.pass_frames.Tables.{class_flags, offset_at}
 use Rattle.pass_frames_meaning.specs.Setting.{Setting}
 use Rattle.pass_frames_meaning.specs.Spared.{AreFieldsApart, HasFieldAt}
-use Rattle.pass_copies.specs.declared.slot.EarlySlot.{EarlySlot}
+use Rattle.pass_frames_proof.specs.pass_copies.declared.slot.EarlySlot.{EarlySlot}
 use Rattle.pass_frames_proof.specs.Beginning.{is_in_frame}
 use Rattle.pass_frames_proof.specs.Followed.{IsFollowed}
 use Rattle.pass_frames_proof.specs.Places.{Framing, copies, edged, framed, instrs_at, offsets, own_place, plan}
 use Rattle.pass_frames_proof.specs.Related.{Building, IsKeptValue, IsSuspendNumber, is_coroutine, is_first}
 use Rattle.pass_frames_proof.specs.Saving.{save_call}
 use Rattle.pass_frames_proof.specs.Slotted.{AreRangesApart, HasFrameThere, IsSlotField}
-use Rattle.pass_proofs.specs.addresses.rules.Addresses.{lies_in_frame}
-use Rattle.pass_intrinsics.specs.Shapes.{suspends_of}
-use Rattle.pass_renewed_proof.specs.Renewed.{renewed_step}
-use Rattle.run_framed.specs.Framed.{layout_of}
-use Rattle.run_laws.specs.transfer.Places.{IsBlank}
-use Rattle.run_memory.specs.Memory.{is_live}
-use Rattle.run_memory.specs.declared.block.MemoryBlock.{MemoryBlock}
-use Rattle.run_memory.specs.declared.pointer.Value.{Value}
-use Rattle.run_source.specs.Source.{is_among, is_over}
-use Rattle.run_source.specs.State.{address_in, function_of, own_facts}
-use Rattle.run_source.specs.declared.state.Instance.{Instance}
-use Rattle.run_source.specs.declared.state.Mode.{Mode}
-use Rattle.run_source.specs.declared.state.State.{State}
-use Rattle.run_source.specs.declared.state.Status.{Status}
-use Rattle.run_source_tables.specs.Given.{facts_at, frame_of}
-use Rattle.run_step.specs.Step.{AtInstr, fetch, has_markers}
-use Rattle.run_step.specs.declared.world.Slot.{Slot}
-use Rattle.run_step.specs.Values.{pointer_to, value_in}
+use Rattle.pass_frames_proof.specs.pass_proofs.addresses.rules.Addresses.{lies_in_frame}
+use Rattle.pass_frames_proof.specs.pass_intrinsics.Shapes.{suspends_of}
+use Rattle.pass_frames_proof.specs.pass_renewed_proof.Renewed.{renewed_step}
+use Rattle.pass_frames_proof.specs.run_framed.Framed.{layout_of}
+use Rattle.pass_frames_proof.specs.run_laws.transfer.Places.{IsBlank}
+use Rattle.pass_frames_proof.specs.run_memory.Memory.{is_live}
+use Rattle.pass_frames_proof.specs.run_memory.declared.block.MemoryBlock.{MemoryBlock}
+use Rattle.pass_frames_proof.specs.run_memory.declared.pointer.Value.{Value}
+use Rattle.pass_frames_proof.specs.run_source.Source.{is_among, is_over}
+use Rattle.pass_frames_proof.specs.run_source.State.{address_in, function_of, own_facts}
+use Rattle.pass_frames_proof.specs.run_source.declared.state.Instance.{Instance}
+use Rattle.pass_frames_proof.specs.run_source.declared.state.Mode.{Mode}
+use Rattle.pass_frames_proof.specs.run_source.declared.state.State.{State}
+use Rattle.pass_frames_proof.specs.run_source.declared.state.Status.{Status}
+use Rattle.pass_frames_proof.specs.run_source_tables.Given.{facts_at, frame_of}
+use Rattle.pass_frames_proof.specs.run_step.Step.{AtInstr, fetch, has_markers}
+use Rattle.pass_frames_proof.specs.run_step.declared.world.Slot.{Slot}
+use Rattle.pass_frames_proof.specs.run_step.Values.{pointer_to, value_in}
 
 -- ---- saves
 

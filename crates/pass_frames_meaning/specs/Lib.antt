@@ -1,3 +1,10 @@
+-- What libraries below say, for those above.
+pub use Rattle.pass_frames_proof.specs as pass_frames_proof
+pub use Rattle.pass_renewed_meaning.specs as pass_renewed_meaning
+pub use Rattle.pass_frames_proof.specs.pass_renewed_proof as pass_renewed_proof
+pub use Rattle.pass_renewed_meaning.specs.run_hooks as run_hooks
+pub use Rattle.run_slots.specs as run_slots
+pub use Rattle.pass_renewed_meaning.specs.run_types as run_types
 pub mod Anew
 pub mod Based
 pub mod Called

@@ -1,18 +1,18 @@
 -- Steps of functions that are no coroutines.
 use Rattle.std.specs.Prelude.{◌≡◌, ◌⊎◌, ℕ, Bool, true, List, Option}
-use Rattle.ir_model.specs.Ty.{Ty}
-use Rattle.ir_model.specs.declared.instr.Instr.{Instr}
-use Rattle.ir_model.specs.declared.operand.Arg.{Arg}
-use Rattle.ir_model.specs.declared.operand.Callee.{Callee}
-use Rattle.ir_model.specs.declared.operand.Intrinsic.{Intrinsic}
+use Rattle.pass_frames_proof.specs.ir_model.Ty.{Ty}
+use Rattle.pass_frames_proof.specs.ir_model.declared.instr.Instr.{Instr}
+use Rattle.pass_frames_proof.specs.ir_model.declared.operand.Arg.{Arg}
+use Rattle.pass_frames_proof.specs.ir_model.declared.operand.Callee.{Callee}
+use Rattle.pass_frames_proof.specs.ir_model.declared.operand.Intrinsic.{Intrinsic}
 use Rattle.pass_frames_meaning.specs.Setting.{Setting}
 use Rattle.pass_frames_proof.specs.Followed.{IsFollowed}
 use Rattle.pass_frames_proof.specs.Related.{is_coroutine}
-use Rattle.run_memory.specs.declared.pointer.Value.{Value}
-use Rattle.run_source.specs.Source.{context_of}
-use Rattle.run_source.specs.State.{function_of, work_of}
-use Rattle.run_source.specs.declared.state.State.{State}
-use Rattle.run_step.specs.Step.{AtInstr, Enter, fetch, instr_action}
+use Rattle.pass_frames_proof.specs.run_memory.declared.pointer.Value.{Value}
+use Rattle.pass_frames_proof.specs.run_source.Source.{context_of}
+use Rattle.pass_frames_proof.specs.run_source.State.{function_of, work_of}
+use Rattle.pass_frames_proof.specs.run_source.declared.state.State.{State}
+use Rattle.pass_frames_proof.specs.run_step.Step.{AtInstr, Enter, fetch, instr_action}
 
 -- The steps that enter a coroutine are followed: calls of ramps, and resumes and destroys.
 pub record EntersCoroutines (c : Setting) (s t : State) : Type 0 where

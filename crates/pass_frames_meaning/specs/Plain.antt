@@ -1,5 +1,5 @@
 -- Instructions whose results are plain names of the framed form.
-use Rattle.ir_model.specs.declared.instr.Instr.{Instr}
+use Rattle.pass_frames_proof.specs.ir_model.declared.instr.Instr.{Instr}
 
 abbrev pub IsNoAlloca : Instr → Type 0
 IsNoAlloca (Instr.Alloca r ty align) = ⊥

@@ -1,12 +1,12 @@
 -- What is asked of the two modules between which frames are built, and what is known of states of both runs.
 use Rattle.std.specs.Prelude.{◌≡◌, ◌∷◌, ℕ, Bool, false, true, List, Option}
-use Rattle.ir_laws.specs.facts.sound_states.Named.{AreUsesNamed}
-use Rattle.ir_model.specs.Names.{function_at}
-use Rattle.ir_model.specs.Ty.{Ty}
-use Rattle.ir_model.specs.declared.instr.Instr.{Instr}
-use Rattle.ir_model.specs.declared.instr.Terminator.{Terminator}
-use Rattle.ir_model.specs.declared.operand.Arg.{Arg}
-use Rattle.ir_paths.specs.Windows.{windows_of}
+use Rattle.pass_frames_proof.specs.ir_laws.facts.sound_states.Named.{AreUsesNamed}
+use Rattle.pass_frames_proof.specs.ir_model.Names.{function_at}
+use Rattle.pass_frames_proof.specs.ir_model.Ty.{Ty}
+use Rattle.pass_frames_proof.specs.ir_model.declared.instr.Instr.{Instr}
+use Rattle.pass_frames_proof.specs.ir_model.declared.instr.Terminator.{Terminator}
+use Rattle.pass_frames_proof.specs.ir_model.declared.operand.Arg.{Arg}
+use Rattle.pass_frames_proof.specs.ir_paths.Windows.{windows_of}
 use Rattle.pass_frames_meaning.specs.Called.{IsCalledState}
 use Rattle.pass_frames_meaning.specs.Spared.{AreFieldsApart}
 use Rattle.pass_frames_proof.specs.Asking.{IsPromiseLaid}
@@ -17,19 +17,19 @@ use Rattle.pass_frames_proof.specs.Related.{AreBuiltOf, Building, is_coroutine}
 use Rattle.pass_frames_proof.specs.Returning.{FitsResult, given_value}
 use Rattle.pass_frames_proof.specs.Stepping.{AreGiven, HasFieldIndices, IsNotEntering}
 use Rattle.pass_renewed_meaning.specs.Rules.{KeepsStepRules}
-use Rattle.pass_renewed_proof.specs.Renewed.{RenewedGiven}
-use Rattle.rule_laws.specs.frames.rows.Returns.{HaveOwnReturns}
-use Rattle.rule_laws.specs.rules.function_rules.Kept.{AllKeepFunctionRules}
-use Rattle.run_source.specs.State.{function_of}
-use Rattle.run_source.specs.declared.state.Activation.{Activation}
-use Rattle.run_source.specs.declared.state.State.{State}
-use Rattle.run_source_tables.specs.Given.{facts_at, frame_of}
+use Rattle.pass_frames_proof.specs.pass_renewed_proof.Renewed.{RenewedGiven}
+use Rattle.pass_frames_proof.specs.rule_laws.frames.rows.Returns.{HaveOwnReturns}
+use Rattle.pass_frames_proof.specs.rule_laws.rules.function_rules.Kept.{AllKeepFunctionRules}
+use Rattle.pass_frames_proof.specs.run_source.State.{function_of}
+use Rattle.pass_frames_proof.specs.run_source.declared.state.Activation.{Activation}
+use Rattle.pass_frames_proof.specs.run_source.declared.state.State.{State}
+use Rattle.pass_frames_proof.specs.run_source_tables.Given.{facts_at, frame_of}
 use Rattle.run_slots.specs.Slots.{IsSlottedState}
-use Rattle.run_states.specs.sound_states.Sound.{IsSound}
-use Rattle.run_step.specs.Step.{AtInstr, AtTerm, fetch}
-use Rattle.run_step.specs.declared.world.Slot.{Slot}
-use Rattle.run_types.specs.Rules.{KeepsAllTypes}
-use Rattle.run_types.specs.States.{IsFittingState}
+use Rattle.pass_frames_proof.specs.run_states.sound_states.Sound.{IsSound}
+use Rattle.pass_frames_proof.specs.run_step.Step.{AtInstr, AtTerm, fetch}
+use Rattle.pass_frames_proof.specs.run_step.declared.world.Slot.{Slot}
+use Rattle.pass_renewed_meaning.specs.run_types.Rules.{KeepsAllTypes}
+use Rattle.pass_renewed_meaning.specs.run_types.States.{IsFittingState}
 
 -- the two modules, and what both runs are given
 pub record Setting : Type 0 where

@@ -1,14 +1,14 @@
 -- What instructions of coroutines ask besides rules and what is known of both runs.
 use Rattle.std.specs.Prelude.{ℕ}
-use Rattle.ir_model.specs.declared.instr.Instr.{Instr}
-use Rattle.ir_model.specs.declared.operand.Callee.{Callee}
-use Rattle.ir_model.specs.declared.operand.Intrinsic.{Intrinsic}
-use Rattle.ir_parts.specs.Contents.{instr_operands}
+use Rattle.pass_frames_proof.specs.ir_model.declared.instr.Instr.{Instr}
+use Rattle.pass_frames_proof.specs.ir_model.declared.operand.Callee.{Callee}
+use Rattle.pass_frames_proof.specs.ir_model.declared.operand.Intrinsic.{Intrinsic}
+use Rattle.pass_frames_proof.specs.ir_parts.Contents.{instr_operands}
 use Rattle.pass_frames_meaning.specs.Setting.{Setting}
 use Rattle.pass_frames_proof.specs.Stepping.{IsPlacedOperand, IsUnlocated, state_in}
-use Rattle.rule_laws.specs.rules.function_rules.Kept.{KeepsFunctionRules}
-use Rattle.run_laws.specs.changed.Changed.{Each}
-use Rattle.run_source.specs.declared.state.State.{State}
+use Rattle.pass_frames_proof.specs.rule_laws.rules.function_rules.Kept.{KeepsFunctionRules}
+use Rattle.pass_frames_proof.specs.run_laws.changed.Changed.{Each}
+use Rattle.pass_frames_proof.specs.run_source.declared.state.State.{State}
 
 -- it is no marker, and names no promise
 abbrev pub IsStaying : Instr → Type 0

@@ -1,19 +1,19 @@
 //! In both runs activations below are right behind their calls, and the callee tells which name its result gets.
 
 ghost use Rattle.std.specs.Prelude.{◌≡◌, ℕ, List, None};
-ghost use Rattle.ir_base.specs.declared.outcome.Word.{Word};
+ghost use Rattle.pass_frames_proof.specs.ir_base.declared.outcome.Word.{Word};
 ghost use Rattle.pass_frames_meaning.specs.Called.{IsCalledState, KeepsCalled};
-ghost use Rattle.pass_renewed_proof.specs.Renewed.{RenewedGiven, renewed_step};
-ghost use Rattle.run_framed.specs.Framed.{FramedGiven, framed_state_at, given_call};
-ghost use Rattle.run_hooks.specs.Away.{IsPlacedState, KeepsAllPlaceRules};
-ghost use Rattle.run_hooks.specs.Hooks.{Hooks, step_of};
-ghost use Rattle.run_hooks.specs.Reached.{AllHaveSwitches};
-ghost use Rattle.run_source.specs.Source.{first_state};
-ghost use Rattle.run_source.specs.State.{function_of};
-ghost use Rattle.run_source.specs.declared.state.State.{State as TheState};
-ghost use Rattle.run_step.specs.Runs.{iterate};
-ghost use Rattle.run_step.specs.Step.{fetch};
-ghost use Rattle.run_types.specs.Rules.{KeepsAllTypes};
+ghost use Rattle.pass_frames_proof.specs.pass_renewed_proof.Renewed.{RenewedGiven, renewed_step};
+ghost use Rattle.pass_frames_proof.specs.run_framed.Framed.{FramedGiven, framed_state_at, given_call};
+ghost use Rattle.pass_renewed_meaning.specs.run_hooks.Away.{IsPlacedState, KeepsAllPlaceRules};
+ghost use Rattle.pass_renewed_meaning.specs.run_hooks.Hooks.{Hooks, step_of};
+ghost use Rattle.pass_renewed_meaning.specs.run_hooks.Reached.{AllHaveSwitches};
+ghost use Rattle.pass_frames_proof.specs.run_source.Source.{first_state};
+ghost use Rattle.pass_frames_proof.specs.run_source.State.{function_of};
+ghost use Rattle.pass_frames_proof.specs.run_source.declared.state.State.{State as TheState};
+ghost use Rattle.pass_frames_proof.specs.run_step.Runs.{iterate};
+ghost use Rattle.pass_frames_proof.specs.run_step.Step.{fetch};
+ghost use Rattle.pass_renewed_meaning.specs.run_types.Rules.{KeepsAllTypes};
 
 /// Hooks that change activations as their names say leave those below right behind their calls, whose result has the
 /// name that the callee gives. What makes allocas again has an instance.

@@ -4,17 +4,17 @@
 //! invariants of both runs and of rules, but for what is in `MayFollow`.
 
 ghost use Rattle.std.specs.Prelude.{◌≡◌, ℕ, Bool, None, Option, List, Some, true};
-ghost use Rattle.ir_base.specs.declared.outcome.Outcome.{Outcome};
-ghost use Rattle.ir_base.specs.declared.name.Name.{Name};
-ghost use Rattle.ir_model.specs.Ty.{Ty, token};
-ghost use Rattle.ir_model.specs.declared.instr.Instr.{Instr};
-ghost use Rattle.ir_model.specs.declared.operand.Arg.{Arg};
-ghost use Rattle.ir_model.specs.declared.operand.Allocator.{Allocator};
-ghost use Rattle.ir_model.specs.declared.operand.Callee.{Callee};
-ghost use Rattle.ir_model.specs.declared.operand.Intrinsic.{Intrinsic};
-ghost use Rattle.ir_model.specs.declared.operand.Operand.{Operand};
-ghost use Rattle.ir_parts.specs.Contents.{result_of};
-ghost use Rattle.pass_cells.specs.Kept.{entry};
+ghost use Rattle.pass_frames_proof.specs.ir_base.declared.outcome.Outcome.{Outcome};
+ghost use Rattle.pass_frames_proof.specs.ir_base.declared.name.Name.{Name};
+ghost use Rattle.pass_frames_proof.specs.ir_model.Ty.{Ty, token};
+ghost use Rattle.pass_frames_proof.specs.ir_model.declared.instr.Instr.{Instr};
+ghost use Rattle.pass_frames_proof.specs.ir_model.declared.operand.Arg.{Arg};
+ghost use Rattle.pass_frames_proof.specs.ir_model.declared.operand.Allocator.{Allocator};
+ghost use Rattle.pass_frames_proof.specs.ir_model.declared.operand.Callee.{Callee};
+ghost use Rattle.pass_frames_proof.specs.ir_model.declared.operand.Intrinsic.{Intrinsic};
+ghost use Rattle.pass_frames_proof.specs.ir_model.declared.operand.Operand.{Operand};
+ghost use Rattle.pass_frames_proof.specs.ir_parts.Contents.{result_of};
+ghost use Rattle.pass_frames_proof.specs.pass_cells.Kept.{entry};
 ghost use Rattle.pass_frames_meaning.specs.Coroutines.{AreCoroutinesReady, AreOthersFollowed, IsNowhere, IsUnlocatedHere, MayEnd, MayFollow, MayMark, MaySuspend};
 ghost use Rattle.pass_frames_meaning.specs.Others.{EntersCoroutines};
 ghost use Rattle.pass_frames_meaning.specs.Setting.{AreOfRuns, KeepsAll, Setting};
@@ -27,14 +27,14 @@ ghost use Rattle.pass_frames_proof.specs.Marking.{marker};
 ghost use Rattle.pass_frames_proof.specs.Places.{Framing, edged, plan};
 ghost use Rattle.pass_frames_proof.specs.Related.{AreBuiltOf, is_coroutine};
 ghost use Rattle.pass_frames_proof.specs.Stepping.{IsCommon, IsNotEntering};
-ghost use Rattle.pass_renewed_proof.specs.Renewed.{renewed_step};
-ghost use Rattle.rule_values.specs.Fits.{fits_kind};
-ghost use Rattle.rule_values.specs.Kinds.{value_kind};
-ghost use Rattle.run_agreement.specs.Machines.{IsFine};
-ghost use Rattle.run_source.specs.Source.{context_of};
-ghost use Rattle.run_source.specs.State.{function_of};
-ghost use Rattle.run_source.specs.declared.state.State.{State as TheState};
-ghost use Rattle.run_step.specs.Step.{AtInstr, fetch};
+ghost use Rattle.pass_frames_proof.specs.pass_renewed_proof.Renewed.{renewed_step};
+ghost use Rattle.pass_frames_proof.specs.rule_values.Fits.{fits_kind};
+ghost use Rattle.pass_frames_proof.specs.rule_values.Kinds.{value_kind};
+ghost use Rattle.pass_frames_proof.specs.run_agreement.Machines.{IsFine};
+ghost use Rattle.pass_frames_proof.specs.run_source.Source.{context_of};
+ghost use Rattle.pass_frames_proof.specs.run_source.State.{function_of};
+ghost use Rattle.pass_frames_proof.specs.run_source.declared.state.State.{State as TheState};
+ghost use Rattle.pass_frames_proof.specs.run_step.Step.{AtInstr, fetch};
 
 /// An instruction that changes no memory is followed, and a store, where no access goes by the address of a slot that
 /// is used before begin. Of a getelementptr no distance is kept.

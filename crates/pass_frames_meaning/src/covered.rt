@@ -3,15 +3,15 @@
 //! What is known of the first run may be used where a step is followed: that its live slots conflict, say.
 
 ghost use Rattle.std.specs.Prelude.{◌≡◌};
-ghost use Rattle.frame_layout.specs.declared.layout.Layouts.{Layouts as TheLayouts};
+ghost use Rattle.pass_frames_proof.specs.frame_layout.declared.layout.Layouts.{Layouts as TheLayouts};
 ghost use Rattle.pass_frames_meaning.specs.Covered.{AgreesWithFrames, AreCoveredStepsFollowed};
 ghost use Rattle.pass_frames_proof.specs.Followed.{IsGiven};
 ghost use Rattle.pass_frames_proof.specs.Meaning.{PaysForFrames};
 ghost use Rattle.pass_frames_proof.specs.Related.{AreBuiltOf, Building};
 ghost use Rattle.pass_renewed_meaning.specs.Rules.{KeepsAll, Setting};
 ghost use Rattle.pass_renewed_meaning.specs.Runs.{second_given};
-ghost use Rattle.pass_renewed_proof.specs.Prices.{Prices, renewed_price};
-ghost use Rattle.run_source.specs.Source.{first_state};
+ghost use Rattle.pass_frames_proof.specs.pass_renewed_proof.Prices.{Prices, renewed_price};
+ghost use Rattle.pass_frames_proof.specs.run_source.Source.{first_state};
 
 /// Where the starts are related, prices pay, and each step from a covered state is followed, the run in which a resume
 /// hands on some values agrees with the framed one, by what its steps cost.

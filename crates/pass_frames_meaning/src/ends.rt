@@ -4,16 +4,16 @@
 //! invariants of both runs, and of what is in `KeepsEnds` and `MayGoOn`.
 
 ghost use Rattle.std.specs.Prelude.{◌≡◌, ◌∷◌, Bool, List, Option, ℕ, false, true};
-ghost use Rattle.ir_base.specs.declared.outcome.Outcome.{Outcome};
-ghost use Rattle.ir_base.specs.declared.outcome.Word.{Word};
-ghost use Rattle.ir_model.specs.Names.{function_at};
-ghost use Rattle.ir_model.specs.Ty.{Ty};
-ghost use Rattle.ir_model.specs.declared.instr.Instr.{Instr};
-ghost use Rattle.ir_model.specs.declared.instr.Terminator.{Terminator};
-ghost use Rattle.ir_model.specs.declared.operand.Arg.{Arg};
-ghost use Rattle.ir_model.specs.declared.operand.Callee.{Callee};
-ghost use Rattle.ir_model.specs.declared.operand.Intrinsic.{Intrinsic};
-ghost use Rattle.ir_paths.specs.Windows.{windows_of};
+ghost use Rattle.pass_frames_proof.specs.ir_base.declared.outcome.Outcome.{Outcome};
+ghost use Rattle.pass_frames_proof.specs.ir_base.declared.outcome.Word.{Word};
+ghost use Rattle.pass_frames_proof.specs.ir_model.Names.{function_at};
+ghost use Rattle.pass_frames_proof.specs.ir_model.Ty.{Ty};
+ghost use Rattle.pass_frames_proof.specs.ir_model.declared.instr.Instr.{Instr};
+ghost use Rattle.pass_frames_proof.specs.ir_model.declared.instr.Terminator.{Terminator};
+ghost use Rattle.pass_frames_proof.specs.ir_model.declared.operand.Arg.{Arg};
+ghost use Rattle.pass_frames_proof.specs.ir_model.declared.operand.Callee.{Callee};
+ghost use Rattle.pass_frames_proof.specs.ir_model.declared.operand.Intrinsic.{Intrinsic};
+ghost use Rattle.pass_frames_proof.specs.ir_paths.Windows.{windows_of};
 ghost use Rattle.pass_frames_meaning.specs.Based.{AreBegunOnce, IsBasedState, KeepsBased};
 ghost use Rattle.pass_frames_meaning.specs.Called.{FitsMode, IsCalledState};
 ghost use Rattle.pass_frames_meaning.specs.Coroutines.{IsEnding, MayEnd, MayFollow, MaySuspend};
@@ -25,19 +25,19 @@ ghost use Rattle.pass_frames_proof.specs.Leaving.{AreWindowsPlaced};
 ghost use Rattle.pass_frames_proof.specs.Places.{edged, framed, is_return};
 ghost use Rattle.pass_frames_proof.specs.Related.{AreBuiltOf, is_coroutine};
 ghost use Rattle.pass_frames_proof.specs.Stepping.{IsNotEntering};
-ghost use Rattle.pass_renewed_proof.specs.Renewed.{RenewedGiven, renewed_step};
-ghost use Rattle.run_agreement.specs.Machines.{IsFine};
-ghost use Rattle.run_hooks.specs.Away.{IsPlacedState, KeepsAllPlaceRules};
-ghost use Rattle.run_hooks.specs.Hooks.{Hooks, step_of};
-ghost use Rattle.run_hooks.specs.Meanings.{renewed_hooks};
-ghost use Rattle.run_hooks.specs.Reached.{AllHaveSwitches};
-ghost use Rattle.run_source.specs.Source.{context_of, first_state};
-ghost use Rattle.run_source.specs.State.{function_of, work_of};
-ghost use Rattle.run_source.specs.declared.state.Activation.{Activation};
-ghost use Rattle.run_source.specs.declared.state.State.{State as TheState};
-ghost use Rattle.run_step.specs.Runs.{iterate};
-ghost use Rattle.run_step.specs.Step.{AtInstr, AtTerm, GoTo, fetch, term_action};
-ghost use Rattle.run_types.specs.Rules.{KeepsAllTypes};
+ghost use Rattle.pass_frames_proof.specs.pass_renewed_proof.Renewed.{RenewedGiven, renewed_step};
+ghost use Rattle.pass_frames_proof.specs.run_agreement.Machines.{IsFine};
+ghost use Rattle.pass_renewed_meaning.specs.run_hooks.Away.{IsPlacedState, KeepsAllPlaceRules};
+ghost use Rattle.pass_renewed_meaning.specs.run_hooks.Hooks.{Hooks, step_of};
+ghost use Rattle.pass_renewed_meaning.specs.run_hooks.Meanings.{renewed_hooks};
+ghost use Rattle.pass_renewed_meaning.specs.run_hooks.Reached.{AllHaveSwitches};
+ghost use Rattle.pass_frames_proof.specs.run_source.Source.{context_of, first_state};
+ghost use Rattle.pass_frames_proof.specs.run_source.State.{function_of, work_of};
+ghost use Rattle.pass_frames_proof.specs.run_source.declared.state.Activation.{Activation};
+ghost use Rattle.pass_frames_proof.specs.run_source.declared.state.State.{State as TheState};
+ghost use Rattle.pass_frames_proof.specs.run_step.Runs.{iterate};
+ghost use Rattle.pass_frames_proof.specs.run_step.Step.{AtInstr, AtTerm, GoTo, fetch, term_action};
+ghost use Rattle.pass_renewed_meaning.specs.run_types.Rules.{KeepsAllTypes};
 
 /// A terminator that goes to a label is followed, where its block is on no resume or destroy edge. Behind a suspend the
 /// switch goes to the end.

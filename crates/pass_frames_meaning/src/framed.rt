@@ -1,8 +1,8 @@
 //! The frame of each instance that isn't freed is there, in each state of a run by hooks.
 
 ghost use Rattle.std.specs.Prelude.{◌≡◌, ◌<◌, ℕ, List, Some, false, slice_get, true};
-ghost use Rattle.ir_base.specs.declared.outcome.Word.{Word};
-ghost use Rattle.ir_model.specs.Names.{function_at};
+ghost use Rattle.pass_frames_proof.specs.ir_base.declared.outcome.Word.{Word};
+ghost use Rattle.pass_frames_proof.specs.ir_model.Names.{function_at};
 ghost use Rattle.pass_frames_meaning.specs.Called.{IsCalledState};
 ghost use Rattle.pass_frames_meaning.specs.Framed.{AreFramesHeld, HasAllocas, IsHeldState, KeepsAllocas, KeepsHeld};
 ghost use Rattle.pass_frames_meaning.specs.Framed.{MarksNoFrame};
@@ -10,20 +10,20 @@ ghost use Rattle.pass_frames_meaning.specs.Setting.{Setting};
 ghost use Rattle.pass_frames_proof.specs.Related.{is_coroutine};
 ghost use Rattle.pass_frames_proof.specs.Slotted.{HasFrameThere};
 ghost use Rattle.pass_renewed_meaning.specs.Rules.{KeepsStepRules};
-ghost use Rattle.pass_renewed_proof.specs.Renewed.{RenewedGiven, renewed_step};
-ghost use Rattle.pass_renewed_proof.specs.SlotRules.{KeepsAllSlots};
-ghost use Rattle.run_framed.specs.Framed.{layout_of};
-ghost use Rattle.run_hooks.specs.Away.{KeepsAllPlaceRules};
-ghost use Rattle.run_hooks.specs.Hooks.{Hooks, step_of};
-ghost use Rattle.run_hooks.specs.Meanings.{renewed_hooks};
-ghost use Rattle.run_hooks.specs.Reached.{AllHaveSwitches, IsReachedState};
+ghost use Rattle.pass_frames_proof.specs.pass_renewed_proof.Renewed.{RenewedGiven, renewed_step};
+ghost use Rattle.pass_frames_proof.specs.pass_renewed_proof.SlotRules.{KeepsAllSlots};
+ghost use Rattle.pass_frames_proof.specs.run_framed.Framed.{layout_of};
+ghost use Rattle.pass_renewed_meaning.specs.run_hooks.Away.{KeepsAllPlaceRules};
+ghost use Rattle.pass_renewed_meaning.specs.run_hooks.Hooks.{Hooks, step_of};
+ghost use Rattle.pass_renewed_meaning.specs.run_hooks.Meanings.{renewed_hooks};
+ghost use Rattle.pass_renewed_meaning.specs.run_hooks.Reached.{AllHaveSwitches, IsReachedState};
 ghost use Rattle.run_slots.specs.Slots.{IsSlottedState};
-ghost use Rattle.run_source.specs.Source.{first_state};
-ghost use Rattle.run_source.specs.declared.state.Instance.{Instance as TheInstance};
-ghost use Rattle.run_source.specs.declared.state.State.{State as TheState};
-ghost use Rattle.run_source_tables.specs.Given.{frame_of};
-ghost use Rattle.run_step.specs.Runs.{iterate};
-ghost use Rattle.run_types.specs.Rules.{KeepsAllTypes};
+ghost use Rattle.pass_frames_proof.specs.run_source.Source.{first_state};
+ghost use Rattle.pass_frames_proof.specs.run_source.declared.state.Instance.{Instance as TheInstance};
+ghost use Rattle.pass_frames_proof.specs.run_source.declared.state.State.{State as TheState};
+ghost use Rattle.pass_frames_proof.specs.run_source_tables.Given.{frame_of};
+ghost use Rattle.pass_frames_proof.specs.run_step.Runs.{iterate};
+ghost use Rattle.pass_renewed_meaning.specs.run_types.Rules.{KeepsAllTypes};
 
 /// A begin takes a live block that nobody owns and that has the printed size, and owns it to that. A deallocator kills
 /// only what nobody owns, slots that die lie in no frame, and no marker is of a frame's block. So each frame stays

@@ -7,10 +7,10 @@ ghost use Rattle.pass_frames_proof.specs.Heaps.{IsGivingBack};
 ghost use Rattle.pass_frames_proof.specs.Related.{AreBuiltOf, Building};
 ghost use Rattle.pass_frames_proof.specs.Returning.{HasSlotsListed};
 ghost use Rattle.pass_frames_proof.specs.Slotted.{HasListedSlots};
-ghost use Rattle.run_memory.specs.declared.pointer.Value.{Value};
+ghost use Rattle.pass_frames_proof.specs.run_memory.declared.pointer.Value.{Value};
 ghost use Rattle.run_slots.specs.Slots.{IsSlottedState};
-ghost use Rattle.run_source.specs.Source.{deallocate};
-ghost use Rattle.run_source.specs.declared.state.State.{State as TheState};
+ghost use Rattle.pass_frames_proof.specs.run_source.Source.{deallocate};
+ghost use Rattle.pass_frames_proof.specs.run_source.declared.state.State.{State as TheState};
 
 /// A block may be given back where that is defined. Nothing of the source lives in its home any more, and no instance that
 /// is suspended owns it: else it couldn't be given back.

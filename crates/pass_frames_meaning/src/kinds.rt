@@ -2,14 +2,14 @@
 //! kept.
 
 ghost use Rattle.std.specs.Prelude.{◌≡◌, ℕ, Bool, List, Option, Some, [], true};
-ghost use Rattle.ir_base.specs.declared.outcome.Outcome.{Outcome};
-ghost use Rattle.ir_model.specs.Ty.{Ty};
-ghost use Rattle.ir_model.specs.declared.instr.Instr.{Instr};
-ghost use Rattle.ir_model.specs.declared.operand.Arg.{Arg};
-ghost use Rattle.ir_model.specs.declared.operand.Callee.{Callee};
-ghost use Rattle.ir_model.specs.declared.operand.Intrinsic.{Intrinsic};
-ghost use Rattle.ir_model.specs.declared.operand.Operand.{Operand};
-ghost use Rattle.pass_cells.specs.Kept.{entry};
+ghost use Rattle.pass_frames_proof.specs.ir_base.declared.outcome.Outcome.{Outcome};
+ghost use Rattle.pass_frames_proof.specs.ir_model.Ty.{Ty};
+ghost use Rattle.pass_frames_proof.specs.ir_model.declared.instr.Instr.{Instr};
+ghost use Rattle.pass_frames_proof.specs.ir_model.declared.operand.Arg.{Arg};
+ghost use Rattle.pass_frames_proof.specs.ir_model.declared.operand.Callee.{Callee};
+ghost use Rattle.pass_frames_proof.specs.ir_model.declared.operand.Intrinsic.{Intrinsic};
+ghost use Rattle.pass_frames_proof.specs.ir_model.declared.operand.Operand.{Operand};
+ghost use Rattle.pass_frames_proof.specs.pass_cells.Kept.{entry};
 ghost use Rattle.pass_frames_meaning.specs.Coroutines.{IsOwnKind, MayFollow};
 ghost use Rattle.pass_frames_meaning.specs.Kinds.{AreOtherBeginsFollowed, AreSlotsMade, IsPlainMemory, KeepsKinds, MayBegin, MayKinds, MayMake, MaySave};
 ghost use Rattle.pass_frames_meaning.specs.Setting.{AreOfRuns, KeepsAll, Setting};
@@ -17,11 +17,11 @@ ghost use Rattle.pass_frames_proof.specs.Followed.{IsFollowed};
 ghost use Rattle.pass_frames_proof.specs.Places.{copies, plan};
 ghost use Rattle.pass_frames_proof.specs.Related.{AreBuiltOf, is_coroutine};
 ghost use Rattle.pass_frames_proof.specs.Stepping.{IsNotEntering};
-ghost use Rattle.pass_renewed_proof.specs.Renewed.{renewed_step};
-ghost use Rattle.run_agreement.specs.Machines.{IsFine};
-ghost use Rattle.run_source.specs.State.{function_of};
-ghost use Rattle.run_source.specs.declared.state.State.{State as TheState};
-ghost use Rattle.run_step.specs.Step.{AtInstr, fetch};
+ghost use Rattle.pass_frames_proof.specs.pass_renewed_proof.Renewed.{renewed_step};
+ghost use Rattle.pass_frames_proof.specs.run_agreement.Machines.{IsFine};
+ghost use Rattle.pass_frames_proof.specs.run_source.State.{function_of};
+ghost use Rattle.pass_frames_proof.specs.run_source.declared.state.State.{State as TheState};
+ghost use Rattle.pass_frames_proof.specs.run_step.Step.{AtInstr, fetch};
 
 /// coro.id of a coroutine is followed: the framed form names no promise, and it gives nothing in either run.
 pub fn ids_of_coroutines_are_followed()

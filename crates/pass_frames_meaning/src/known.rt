@@ -1,9 +1,9 @@
 //! What steps of coroutines ask of a state is known of each state of a run that makes slots anew.
 
 ghost use Rattle.std.specs.Prelude.{◌≡◌, ℕ, Bool, true, false, Option};
-ghost use Rattle.ir_base.specs.declared.outcome.Outcome.{Outcome};
-ghost use Rattle.ir_model.specs.Ty.{Ty};
-ghost use Rattle.ir_model.specs.declared.operand.Arg.{Arg};
+ghost use Rattle.pass_frames_proof.specs.ir_base.declared.outcome.Outcome.{Outcome};
+ghost use Rattle.pass_frames_proof.specs.ir_model.Ty.{Ty};
+ghost use Rattle.pass_frames_proof.specs.ir_model.declared.operand.Arg.{Arg};
 ghost use Rattle.pass_frames_meaning.specs.Called.{IsCalledState};
 ghost use Rattle.pass_frames_meaning.specs.Coroutines.{HasStorables, MayFollow, MayMark};
 ghost use Rattle.pass_frames_meaning.specs.Executed.{IsExecutedState, KeepAllOwn};
@@ -12,13 +12,13 @@ ghost use Rattle.pass_frames_meaning.specs.Marks.{AreMarkedSlotsThere, KeepsMark
 ghost use Rattle.pass_frames_meaning.specs.Setting.{KeepsAll, Setting};
 ghost use Rattle.pass_frames_proof.specs.Marking.{IsWholeMarked, marking};
 ghost use Rattle.pass_frames_proof.specs.Related.{AreBuiltOf, is_coroutine};
-ghost use Rattle.pass_renewed_proof.specs.Renewed.{renewed_step};
+ghost use Rattle.pass_frames_proof.specs.pass_renewed_proof.Renewed.{renewed_step};
 ghost use Rattle.run_slots.specs.Slots.{IsSlottedState};
-ghost use Rattle.run_source.specs.State.{function_of};
-ghost use Rattle.run_source.specs.declared.state.State.{State as TheState};
-ghost use Rattle.run_states.specs.sound_states.Sound.{IsSound};
-ghost use Rattle.run_step.specs.Step.{AtInstr, fetch};
-ghost use Rattle.run_step.specs.declared.world.Slot.{Slot};
+ghost use Rattle.pass_frames_proof.specs.run_source.State.{function_of};
+ghost use Rattle.pass_frames_proof.specs.run_source.declared.state.State.{State as TheState};
+ghost use Rattle.pass_frames_proof.specs.run_states.sound_states.Sound.{IsSound};
+ghost use Rattle.pass_frames_proof.specs.run_step.Step.{AtInstr, fetch};
+ghost use Rattle.pass_frames_proof.specs.run_step.declared.world.Slot.{Slot};
 
 /// An operand that names a slot in a frame has its address, or poison, and begin's value is the frame's address: it is
 /// used behind begin. What values of kept names may be is left to ask.

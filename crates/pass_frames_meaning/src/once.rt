@@ -2,19 +2,19 @@
 
 ghost use Rattle.std.specs.List.{Contains};
 ghost use Rattle.std.specs.Prelude.{◌≡◌, ◌≢◌, ◌∷◌, ◌++◌, ◌+◌, ℕ, Bool, List, [], filter};
-ghost use Rattle.ir_model.specs.Ty.{Ty};
-ghost use Rattle.ir_model.specs.declared.instr.Instr.{Instr};
-ghost use Rattle.ir_model.specs.declared.module.Function.{Function};
+ghost use Rattle.pass_frames_proof.specs.ir_model.Ty.{Ty};
+ghost use Rattle.pass_frames_proof.specs.ir_model.declared.instr.Instr.{Instr};
+ghost use Rattle.pass_frames_proof.specs.ir_model.declared.module.Function.{Function};
 ghost use Rattle.pass_frames_meaning.specs.Executed.{IsFirstMode};
 ghost use Rattle.pass_frames_meaning.specs.Once.{AreMadeOnce, AreOnce, IsOnceAt};
-ghost use Rattle.pass_renewed_proof.specs.Renewed.{RenewedGiven};
-ghost use Rattle.pass_renewed_proof.specs.SlotRules.{IsMadeOnce};
-ghost use Rattle.run_hooks.specs.Meanings.{renewed_hooks};
-ghost use Rattle.run_source.specs.Source.{begun};
-ghost use Rattle.run_source.specs.declared.state.State.{State as TheState};
-ghost use Rattle.run_source_tables.specs.Given.{Given};
-ghost use Rattle.run_step.specs.Step.{AtInstr, fetch};
-ghost use Rattle.run_step.specs.declared.world.Slot.{Slot};
+ghost use Rattle.pass_frames_proof.specs.pass_renewed_proof.Renewed.{RenewedGiven};
+ghost use Rattle.pass_frames_proof.specs.pass_renewed_proof.SlotRules.{IsMadeOnce};
+ghost use Rattle.pass_renewed_meaning.specs.run_hooks.Meanings.{renewed_hooks};
+ghost use Rattle.pass_frames_proof.specs.run_source.Source.{begun};
+ghost use Rattle.pass_frames_proof.specs.run_source.declared.state.State.{State as TheState};
+ghost use Rattle.pass_frames_proof.specs.run_source_tables.Given.{Given};
+ghost use Rattle.pass_frames_proof.specs.run_step.Step.{AtInstr, fetch};
+ghost use Rattle.pass_frames_proof.specs.run_step.declared.world.Slot.{Slot};
 
 /// Slots whose allocas stand before a point, each of its own alloca, stay so: behind an alloca with the slot that it
 /// makes, behind what makes none, in a block that isn't the entry, and those of one class. Where an alloca stands none

@@ -1,8 +1,8 @@
 //! New names of the framed form come in the order of the passes.
 
 ghost use Rattle.std.specs.Prelude.{◌≡◌, ℕ, Some, slice_get, true};
-ghost use Rattle.ir_model.specs.declared.instr.Instr.{Instr};
-ghost use Rattle.pass_addresses.specs.Placing.{stays, without_promise_of};
+ghost use Rattle.pass_frames_proof.specs.ir_model.declared.instr.Instr.{Instr};
+ghost use Rattle.pass_frames_proof.specs.pass_addresses.Placing.{stays, without_promise_of};
 ghost use Rattle.pass_frames_proof.specs.Code.{loaded};
 ghost use Rattle.pass_frames_proof.specs.Framings.{IsFraming};
 ghost use Rattle.pass_frames_proof.specs.Places.{Framing, instrs_at, marked};

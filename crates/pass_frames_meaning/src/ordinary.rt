@@ -1,10 +1,10 @@
 //! Ordinary instructions of coroutines stand as the laws on them ask.
 
 ghost use Rattle.std.specs.Prelude.{◌≡◌, ℕ, None, Some, true};
-ghost use Rattle.ir_base.specs.declared.outcome.Outcome.{Outcome};
-ghost use Rattle.ir_model.specs.declared.instr.Instr.{Instr};
-ghost use Rattle.ir_parts.specs.Contents.{result_of};
-ghost use Rattle.pass_cells.specs.Kept.{entry};
+ghost use Rattle.pass_frames_proof.specs.ir_base.declared.outcome.Outcome.{Outcome};
+ghost use Rattle.pass_frames_proof.specs.ir_model.declared.instr.Instr.{Instr};
+ghost use Rattle.pass_frames_proof.specs.ir_parts.Contents.{result_of};
+ghost use Rattle.pass_frames_proof.specs.pass_cells.Kept.{entry};
 ghost use Rattle.pass_frames_meaning.specs.Ordinary.{MayBeOrdinary};
 ghost use Rattle.pass_frames_meaning.specs.Plain.{IsNoAlloca};
 ghost use Rattle.pass_frames_meaning.specs.Setting.{KeepsAll, Setting};
@@ -14,11 +14,11 @@ ghost use Rattle.pass_frames_proof.specs.Operands.{IsAtFetch};
 ghost use Rattle.pass_frames_proof.specs.Places.{plan};
 ghost use Rattle.pass_frames_proof.specs.Related.{is_coroutine};
 ghost use Rattle.pass_frames_proof.specs.Stepping.{IsAtOrdinary, IsCommon, IsNotEntering};
-ghost use Rattle.run_source.specs.Source.{context_of};
-ghost use Rattle.run_source.specs.State.{function_of, work_of};
-ghost use Rattle.run_source.specs.declared.state.State.{State as TheState};
-ghost use Rattle.run_states.specs.sound_states.Sound.{IsSound};
-ghost use Rattle.run_step.specs.Step.{AtInstr, Done, Work, fetch, instr_action};
+ghost use Rattle.pass_frames_proof.specs.run_source.Source.{context_of};
+ghost use Rattle.pass_frames_proof.specs.run_source.State.{function_of, work_of};
+ghost use Rattle.pass_frames_proof.specs.run_source.declared.state.State.{State as TheState};
+ghost use Rattle.pass_frames_proof.specs.run_states.sound_states.Sound.{IsSound};
+ghost use Rattle.pass_frames_proof.specs.run_step.Step.{AtInstr, Done, Work, fetch, instr_action};
 
 /// What such a law asks of the code comes of the framing and of rules. What is left is in `MayBeOrdinary`.
 pub fn ordinary_instructions_are_ready()

@@ -4,14 +4,14 @@
 //! invariants of both runs, of the rules that a source keeps, and of good layouts.
 
 ghost use Rattle.std.specs.Prelude.{◌≡◌, false};
-ghost use Rattle.ir_base.specs.declared.outcome.Outcome.{Outcome};
+ghost use Rattle.pass_frames_proof.specs.ir_base.declared.outcome.Outcome.{Outcome};
 ghost use Rattle.pass_frames_meaning.specs.Others.{EntersCoroutines};
 ghost use Rattle.pass_frames_meaning.specs.Setting.{AreOfRuns, KeepsAll, Setting};
 ghost use Rattle.pass_frames_proof.specs.Followed.{IsFollowed};
 ghost use Rattle.pass_frames_proof.specs.Related.{AreBuiltOf, is_coroutine};
-ghost use Rattle.pass_renewed_proof.specs.Renewed.{renewed_step};
-ghost use Rattle.run_agreement.specs.Machines.{IsFine};
-ghost use Rattle.run_source.specs.declared.state.State.{State as TheState};
+ghost use Rattle.pass_frames_proof.specs.pass_renewed_proof.Renewed.{renewed_step};
+ghost use Rattle.pass_frames_proof.specs.run_agreement.Machines.{IsFine};
+ghost use Rattle.pass_frames_proof.specs.run_source.declared.state.State.{State as TheState};
 
 /// In a function that is no coroutine each step is followed that enters no coroutine. So is each of them where calls of
 /// ramps, resumes and destroys are followed.

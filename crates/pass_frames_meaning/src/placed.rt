@@ -5,7 +5,7 @@ ghost use Rattle.pass_frames_proof.specs.Framings.{IsFraming};
 ghost use Rattle.pass_frames_proof.specs.Offsets.{AreHeldOnce};
 ghost use Rattle.pass_frames_proof.specs.Places.{Framing};
 ghost use Rattle.pass_frames_proof.specs.Stepping.{AreOffsetsPlaced};
-ghost use Rattle.rule_laws.specs.rules.function_rules.Kept.{KeepsFunctionRules};
+ghost use Rattle.pass_frames_proof.specs.rule_laws.rules.function_rules.Kept.{KeepsFunctionRules};
 
 /// A frame holds each value and slot once, because each name is defined once. So the offset of a slot is that of its place
 /// among what is held.

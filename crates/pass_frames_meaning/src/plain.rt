@@ -1,9 +1,9 @@
 //! Names that stand in the framed form as they are.
 
 ghost use Rattle.std.specs.Prelude.{◌≡◌, ℕ, None, Some, slice_get};
-ghost use Rattle.ir_model.specs.declared.instr.Instr.{Instr};
-ghost use Rattle.ir_parts.specs.Contents.{result_of};
-ghost use Rattle.pass_cells.specs.Kept.{entry};
+ghost use Rattle.pass_frames_proof.specs.ir_model.declared.instr.Instr.{Instr};
+ghost use Rattle.pass_frames_proof.specs.ir_parts.Contents.{result_of};
+ghost use Rattle.pass_frames_proof.specs.pass_cells.Kept.{entry};
 ghost use Rattle.pass_frames_meaning.specs.Plain.{IsNoAlloca, IsNoGep};
 ghost use Rattle.pass_frames_proof.specs.Framings.{IsFraming};
 ghost use Rattle.pass_frames_proof.specs.Ordinary.{IsPlainName};

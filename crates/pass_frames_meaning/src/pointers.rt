@@ -1,26 +1,26 @@
 //! A value of a pointer's type is a pointer or poison, in each state of a run by hooks.
 
 ghost use Rattle.std.specs.Prelude.{◌≡◌, ℕ, true, List, ◌∷◌, Option};
-ghost use Rattle.ir_base.specs.declared.outcome.Word.{Word};
-ghost use Rattle.ir_model.specs.declared.instr.Terminator.{Terminator};
-ghost use Rattle.ir_model.specs.declared.operand.Arg.{Arg};
+ghost use Rattle.pass_frames_proof.specs.ir_base.declared.outcome.Word.{Word};
+ghost use Rattle.pass_frames_proof.specs.ir_model.declared.instr.Terminator.{Terminator};
+ghost use Rattle.pass_frames_proof.specs.ir_model.declared.operand.Arg.{Arg};
 ghost use Rattle.pass_frames_meaning.specs.Coroutines.{HasStorables};
 ghost use Rattle.pass_frames_meaning.specs.Pointers.{HasNoPointers, IsPointingState, KeepsPointing};
 ghost use Rattle.pass_frames_meaning.specs.Setting.{KeepsAll, Setting};
 ghost use Rattle.pass_frames_proof.specs.Related.{is_coroutine};
 ghost use Rattle.pass_frames_proof.specs.Returning.{FitsResult, given_value};
-ghost use Rattle.pass_renewed_proof.specs.Renewed.{RenewedGiven, renewed_step};
-ghost use Rattle.run_hooks.specs.Hooks.{Hooks, step_of};
-ghost use Rattle.run_hooks.specs.Meanings.{renewed_hooks};
-ghost use Rattle.run_hooks.specs.Reached.{AllHaveSwitches, IsReachedState};
-ghost use Rattle.run_source.specs.Source.{first_state};
-ghost use Rattle.run_source.specs.State.{function_of};
-ghost use Rattle.run_source.specs.declared.state.Activation.{Activation};
-ghost use Rattle.run_source.specs.declared.state.State.{State as TheState};
-ghost use Rattle.run_step.specs.Runs.{iterate};
-ghost use Rattle.run_step.specs.Step.{AtTerm, fetch};
-ghost use Rattle.run_types.specs.Rules.{KeepsAllTypes};
-ghost use Rattle.run_types.specs.States.{IsFittingState};
+ghost use Rattle.pass_frames_proof.specs.pass_renewed_proof.Renewed.{RenewedGiven, renewed_step};
+ghost use Rattle.pass_renewed_meaning.specs.run_hooks.Hooks.{Hooks, step_of};
+ghost use Rattle.pass_renewed_meaning.specs.run_hooks.Meanings.{renewed_hooks};
+ghost use Rattle.pass_renewed_meaning.specs.run_hooks.Reached.{AllHaveSwitches, IsReachedState};
+ghost use Rattle.pass_frames_proof.specs.run_source.Source.{first_state};
+ghost use Rattle.pass_frames_proof.specs.run_source.State.{function_of};
+ghost use Rattle.pass_frames_proof.specs.run_source.declared.state.Activation.{Activation};
+ghost use Rattle.pass_frames_proof.specs.run_source.declared.state.State.{State as TheState};
+ghost use Rattle.pass_frames_proof.specs.run_step.Runs.{iterate};
+ghost use Rattle.pass_frames_proof.specs.run_step.Step.{AtTerm, fetch};
+ghost use Rattle.pass_renewed_meaning.specs.run_types.Rules.{KeepsAllTypes};
+ghost use Rattle.pass_renewed_meaning.specs.run_types.States.{IsFittingState};
 
 /// Each step keeps it. So it is in each state of a run that makes slots anew, where no parameter of the entry is a
 /// pointer.

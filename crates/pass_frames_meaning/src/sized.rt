@@ -1,16 +1,16 @@
 //! The block of a slot is as large and as aligned as its alloca says, in each state of a run by hooks.
 
 ghost use Rattle.std.specs.Prelude.{ℕ, List};
-ghost use Rattle.ir_base.specs.declared.outcome.Word.{Word};
+ghost use Rattle.pass_frames_proof.specs.ir_base.declared.outcome.Word.{Word};
 ghost use Rattle.pass_frames_meaning.specs.Sized.{IsLonger, IsSizedAt, IsSizedState, KeepsSizes, KeepsSlotwise};
 ghost use Rattle.pass_frames_meaning.specs.Sized.{sizes_of};
-ghost use Rattle.pass_renewed_proof.specs.Renewed.{RenewedGiven, renewed_step};
-ghost use Rattle.run_hooks.specs.Hooks.{Hooks, step_of};
-ghost use Rattle.run_hooks.specs.Meanings.{renewed_hooks};
-ghost use Rattle.run_hooks.specs.Reached.{AllHaveSwitches, IsReachedState};
-ghost use Rattle.run_source.specs.Source.{first_state};
-ghost use Rattle.run_source.specs.declared.state.State.{State as TheState};
-ghost use Rattle.run_step.specs.Runs.{iterate};
+ghost use Rattle.pass_frames_proof.specs.pass_renewed_proof.Renewed.{RenewedGiven, renewed_step};
+ghost use Rattle.pass_renewed_meaning.specs.run_hooks.Hooks.{Hooks, step_of};
+ghost use Rattle.pass_renewed_meaning.specs.run_hooks.Meanings.{renewed_hooks};
+ghost use Rattle.pass_renewed_meaning.specs.run_hooks.Reached.{AllHaveSwitches, IsReachedState};
+ghost use Rattle.pass_frames_proof.specs.run_source.Source.{first_state};
+ghost use Rattle.pass_frames_proof.specs.run_source.declared.state.State.{State as TheState};
+ghost use Rattle.pass_frames_proof.specs.run_step.Runs.{iterate};
 
 /// A step makes new blocks behind the others, and leaves the size and the alignment of each. So slots keep theirs,
 /// where

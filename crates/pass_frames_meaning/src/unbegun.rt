@@ -1,18 +1,18 @@
 //! An activation that has begun no instance stands before begin, in each state of a run by hooks.
 
 ghost use Rattle.std.specs.Prelude.{ℕ, List};
-ghost use Rattle.ir_base.specs.declared.outcome.Word.{Word};
+ghost use Rattle.pass_frames_proof.specs.ir_base.declared.outcome.Word.{Word};
 ghost use Rattle.pass_frames_meaning.specs.Called.{IsCalledState};
 ghost use Rattle.pass_frames_meaning.specs.Unbegun.{IsUnbegunState, KeepsUnbegun};
-ghost use Rattle.pass_renewed_proof.specs.Renewed.{RenewedGiven, renewed_step};
-ghost use Rattle.run_hooks.specs.Away.{KeepsAllPlaceRules};
-ghost use Rattle.run_hooks.specs.Hooks.{Hooks, step_of};
-ghost use Rattle.run_hooks.specs.Meanings.{renewed_hooks};
-ghost use Rattle.run_hooks.specs.Reached.{AllHaveSwitches};
-ghost use Rattle.run_source.specs.Source.{first_state};
-ghost use Rattle.run_source.specs.declared.state.State.{State as TheState};
-ghost use Rattle.run_step.specs.Runs.{iterate};
-ghost use Rattle.run_types.specs.Rules.{KeepsAllTypes};
+ghost use Rattle.pass_frames_proof.specs.pass_renewed_proof.Renewed.{RenewedGiven, renewed_step};
+ghost use Rattle.pass_renewed_meaning.specs.run_hooks.Away.{KeepsAllPlaceRules};
+ghost use Rattle.pass_renewed_meaning.specs.run_hooks.Hooks.{Hooks, step_of};
+ghost use Rattle.pass_renewed_meaning.specs.run_hooks.Meanings.{renewed_hooks};
+ghost use Rattle.pass_renewed_meaning.specs.run_hooks.Reached.{AllHaveSwitches};
+ghost use Rattle.pass_frames_proof.specs.run_source.Source.{first_state};
+ghost use Rattle.pass_frames_proof.specs.run_source.declared.state.State.{State as TheState};
+ghost use Rattle.pass_frames_proof.specs.run_step.Runs.{iterate};
+ghost use Rattle.pass_renewed_meaning.specs.run_types.Rules.{KeepsAllTypes};
 
 /// A path leads from the entry to its place without passing begin. Each step keeps this, and so it is in each state
 /// of a

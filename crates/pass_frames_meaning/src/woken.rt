@@ -1,13 +1,13 @@
 //! Steps that enter a coroutine are followed: resumes and destroys, calls of ramps, and slots made anew.
 
 ghost use Rattle.std.specs.Prelude.{◌≡◌, ◌⊎◌, ℕ, Bool, List, None, Option, true};
-ghost use Rattle.ir_base.specs.declared.outcome.Outcome.{Outcome};
-ghost use Rattle.ir_base.specs.declared.outcome.Word.{Word};
-ghost use Rattle.ir_model.specs.Ty.{Ty};
-ghost use Rattle.ir_model.specs.declared.instr.Instr.{Instr};
-ghost use Rattle.ir_model.specs.declared.operand.Arg.{Arg};
-ghost use Rattle.ir_model.specs.declared.operand.Callee.{Callee};
-ghost use Rattle.ir_model.specs.declared.operand.Intrinsic.{Intrinsic};
+ghost use Rattle.pass_frames_proof.specs.ir_base.declared.outcome.Outcome.{Outcome};
+ghost use Rattle.pass_frames_proof.specs.ir_base.declared.outcome.Word.{Word};
+ghost use Rattle.pass_frames_proof.specs.ir_model.Ty.{Ty};
+ghost use Rattle.pass_frames_proof.specs.ir_model.declared.instr.Instr.{Instr};
+ghost use Rattle.pass_frames_proof.specs.ir_model.declared.operand.Arg.{Arg};
+ghost use Rattle.pass_frames_proof.specs.ir_model.declared.operand.Callee.{Callee};
+ghost use Rattle.pass_frames_proof.specs.ir_model.declared.operand.Intrinsic.{Intrinsic};
 ghost use Rattle.pass_frames_meaning.specs.Called.{IsCalledState};
 ghost use Rattle.pass_frames_meaning.specs.Coroutines.{HasStorables, MayFollow};
 ghost use Rattle.pass_frames_meaning.specs.Others.{EntersCoroutines};
@@ -17,18 +17,18 @@ ghost use Rattle.pass_frames_proof.specs.Anew.{HasCellsMade};
 ghost use Rattle.pass_frames_proof.specs.Followed.{IsFollowed};
 ghost use Rattle.pass_frames_proof.specs.Related.{AreBuiltOf, is_coroutine};
 ghost use Rattle.pass_frames_proof.specs.Stepping.{IsNotEntering};
-ghost use Rattle.pass_renewed_proof.specs.Renewed.{renewed_step};
-ghost use Rattle.run_agreement.specs.Machines.{IsFine};
-ghost use Rattle.run_framed.specs.Framed.{framed_state_at, given_call};
-ghost use Rattle.run_memory.specs.declared.pointer.Value.{Value};
+ghost use Rattle.pass_frames_proof.specs.pass_renewed_proof.Renewed.{renewed_step};
+ghost use Rattle.pass_frames_proof.specs.run_agreement.Machines.{IsFine};
+ghost use Rattle.pass_frames_proof.specs.run_framed.Framed.{framed_state_at, given_call};
+ghost use Rattle.pass_frames_proof.specs.run_memory.declared.pointer.Value.{Value};
 ghost use Rattle.run_slots.specs.Slots.{IsSlottedState};
-ghost use Rattle.run_source.specs.Source.{context_of, first_state};
-ghost use Rattle.run_source.specs.State.{function_of, work_of};
-ghost use Rattle.run_source.specs.declared.state.Mode.{Mode};
-ghost use Rattle.run_source.specs.declared.state.State.{State as TheState};
-ghost use Rattle.run_states.specs.sound_states.Sound.{IsSound};
-ghost use Rattle.run_step.specs.Runs.{iterate};
-ghost use Rattle.run_step.specs.Step.{AtInstr, Enter, fetch, instr_action};
+ghost use Rattle.pass_frames_proof.specs.run_source.Source.{context_of, first_state};
+ghost use Rattle.pass_frames_proof.specs.run_source.State.{function_of, work_of};
+ghost use Rattle.pass_frames_proof.specs.run_source.declared.state.Mode.{Mode};
+ghost use Rattle.pass_frames_proof.specs.run_source.declared.state.State.{State as TheState};
+ghost use Rattle.pass_frames_proof.specs.run_states.sound_states.Sound.{IsSound};
+ghost use Rattle.pass_frames_proof.specs.run_step.Runs.{iterate};
+ghost use Rattle.pass_frames_proof.specs.run_step.Step.{AtInstr, Enter, fetch, instr_action};
 
 /// A resume or destroy is followed, by a coroutine or another function, whether the coroutine makes slots anew or
 /// none.

@@ -1,6 +1,6 @@
 -- How many instructions of the framed form stand for one of the coroutine with blocks on edges, at most.
 use Rattle.std.specs.Prelude.{ℕ, length}
-use Rattle.ir_model.specs.declared.instr.Instr.{Instr}
+use Rattle.pass_frames_proof.specs.ir_model.declared.instr.Instr.{Instr}
 use Rattle.pass_frames_prices.specs.Counts.{behind_by, more_by}
 use Rattle.pass_frames_proof.specs.Places.{Framing, copies, plan}
 

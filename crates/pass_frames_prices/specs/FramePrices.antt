@@ -1,20 +1,20 @@
 -- The prices that pay for frames, by the code of the coroutine with blocks on edges and the places of its framed form.
 use Rattle.std.specs.Prelude.{◌≡◌, ◌≢◌, ◌≤◌, ℕ, ◌+◌, ◌-◌, ◌*◌, Bool, true, false, Some, Option, length, option_map}
 use Rattle.std.specs.Prelude.{not, slice_get, if◌then◌else◌, ◌&&◌, ◌==◌}
-use Rattle.ir_model.specs.Names.{function_at}
-use Rattle.ir_model.specs.declared.instr.Instr.{Instr}
-use Rattle.ir_model.specs.declared.instr.Terminator.{Terminator}
-use Rattle.ir_model.specs.declared.module.Module.{Module}
-use Rattle.ir_parts.specs.Contents.{instr_operands}
-use Rattle.ir_paths.specs.declared.point.Point.{Point}
+use Rattle.pass_frames_proof.specs.ir_model.Names.{function_at}
+use Rattle.pass_frames_proof.specs.ir_model.declared.instr.Instr.{Instr}
+use Rattle.pass_frames_proof.specs.ir_model.declared.instr.Terminator.{Terminator}
+use Rattle.pass_frames_proof.specs.ir_model.declared.module.Module.{Module}
+use Rattle.pass_frames_proof.specs.ir_parts.Contents.{instr_operands}
+use Rattle.pass_frames_proof.specs.ir_paths.declared.point.Point.{Point}
 use Rattle.pass_frames_proof.specs.Costs.{allocas_before, slot_cost}
 use Rattle.pass_frames_prices.specs.Numbers.{names_of}
 use Rattle.pass_frames_proof.specs.Passes.{block_at}
 use Rattle.pass_frames_proof.specs.Places.{Framing, edged, instrs_at, is_return}
 use Rattle.pass_frames_proof.specs.Related.{Building, is_coroutine}
-use Rattle.pass_renewed_proof.specs.Prices.{Prices}
-use Rattle.pass_renewed_proof.specs.Renewed.{Flags, renewed_from}
-use Rattle.run_source.specs.declared.state.State.{State}
+use Rattle.pass_frames_proof.specs.pass_renewed_proof.Prices.{Prices}
+use Rattle.pass_frames_proof.specs.pass_renewed_proof.Renewed.{Flags, renewed_from}
+use Rattle.pass_frames_proof.specs.run_source.declared.state.State.{State}
 
 -- ---- by code
 

@@ -1,13 +1,13 @@
 //! How much is woven in: bounds of the code of a framed form, by numbers of the coroutine with blocks on edges.
 
 ghost use Rattle.std.specs.Prelude.{◌≡◌, ◌≢◌, ◌≤◌, ◌+◌, ◌*◌, ℕ, Bool, [], None, Option, Some, false, length, slice_get, true};
-ghost use Rattle.ir_model.specs.declared.instr.Instr.{Instr};
-ghost use Rattle.ir_model.specs.declared.module.Block.{Block};
-ghost use Rattle.ir_model.specs.declared.module.Function.{Function};
-ghost use Rattle.ir_parts.specs.Contents.{instr_operands};
-ghost use Rattle.ir_paths.specs.declared.point.Point.{Point};
-ghost use Rattle.pass_cells.specs.Written.{row_at};
-ghost use Rattle.pass_edges.specs.EdgeBlocks.{with_edge_blocks};
+ghost use Rattle.pass_frames_proof.specs.ir_model.declared.instr.Instr.{Instr};
+ghost use Rattle.pass_frames_proof.specs.ir_model.declared.module.Block.{Block};
+ghost use Rattle.pass_frames_proof.specs.ir_model.declared.module.Function.{Function};
+ghost use Rattle.pass_frames_proof.specs.ir_parts.Contents.{instr_operands};
+ghost use Rattle.pass_frames_proof.specs.ir_paths.declared.point.Point.{Point};
+ghost use Rattle.pass_frames_proof.specs.pass_cells.Written.{row_at};
+ghost use Rattle.pass_frames_proof.specs.pass_edges.EdgeBlocks.{with_edge_blocks};
 ghost use Rattle.pass_frames_prices.specs.Bounds.{behind_of, more_of};
 ghost use Rattle.pass_frames_proof.specs.Code.{front_code};
 ghost use Rattle.pass_frames_proof.specs.Costs.{allocas_before, call_cost, instr_cost, jump_cost, slot_cost, whole};
@@ -17,8 +17,8 @@ ghost use Rattle.pass_frames_prices.specs.Numbers.{allocas_of_blocks, allocas_of
 ghost use Rattle.pass_frames_proof.specs.Passes.{block_at};
 ghost use Rattle.pass_frames_proof.specs.Phis.{IsOrdinaryBlock};
 ghost use Rattle.pass_frames_proof.specs.Places.{Framing, copies, edged, fetched, instrs_at, is_return, place, plan};
-ghost use Rattle.pass_renewed_proof.specs.Prices.{slots_in};
-ghost use Rattle.pass_renewed_proof.specs.Renewed.{renewed_in};
+ghost use Rattle.pass_frames_proof.specs.pass_renewed_proof.Prices.{slots_in};
+ghost use Rattle.pass_frames_proof.specs.pass_renewed_proof.Renewed.{renewed_in};
 
 /// A suspend has no more values that cross it than are kept.
 pub fn rows_are_short()

@@ -2,13 +2,13 @@
 
 ghost use Rattle.std.specs.Prelude.{◌≡◌, ◌<◌, ◌≤◌, ◌+◌, ◌-◌, ◌*◌, ℕ, false, length, None, Some, slice_get, true};
 ghost use Rattle.std.specs.Prelude.{◌&&◌, ◌==◌, if◌then◌else◌};
-ghost use Rattle.flow_solver.specs.Paths.{IsListed};
-ghost use Rattle.ir_model.specs.Names.{function_at, position_of};
-ghost use Rattle.ir_model.specs.declared.instr.Instr.{Instr};
-ghost use Rattle.ir_model.specs.declared.module.Function.{Function};
-ghost use Rattle.ir_model.specs.declared.module.Module.{Module};
-ghost use Rattle.ir_paths.specs.Paths.{targets};
-ghost use Rattle.pass_early.specs.Early.{early_module};
+ghost use Rattle.pass_frames_proof.specs.flow_solver.Paths.{IsListed};
+ghost use Rattle.pass_frames_proof.specs.ir_model.Names.{function_at, position_of};
+ghost use Rattle.pass_frames_proof.specs.ir_model.declared.instr.Instr.{Instr};
+ghost use Rattle.pass_frames_proof.specs.ir_model.declared.module.Function.{Function};
+ghost use Rattle.pass_frames_proof.specs.ir_model.declared.module.Module.{Module};
+ghost use Rattle.pass_frames_proof.specs.ir_paths.Paths.{targets};
+ghost use Rattle.pass_frames_proof.specs.pass_early.Early.{early_module};
 ghost use Rattle.pass_frames_proof.specs.Costs.{allocas_before, slot_cost};
 ghost use Rattle.pass_frames_prices.specs.FramePrices.{AreWithin, IsAfforded, IsWithin, coroutine_price, credit, first_flagged};
 ghost use Rattle.pass_frames_prices.specs.FramePrices.{frame_prices, full_price, left_at};
@@ -18,15 +18,15 @@ ghost use Rattle.pass_frames_proof.specs.Passes.{block_at};
 ghost use Rattle.pass_frames_proof.specs.Places.{Framing, edged, instrs_at, is_return};
 ghost use Rattle.pass_frames_proof.specs.Related.{AreBuilt, Building, is_coroutine};
 ghost use Rattle.pass_frames_proof.specs.Stepping.{AreGiven};
-ghost use Rattle.pass_renewed_proof.specs.Prices.{renewed_price, slots_in};
-ghost use Rattle.pass_renewed_proof.specs.Renewed.{Flags, RenewedGiven};
-ghost use Rattle.rule_laws.specs.frames.rows.Returns.{HaveOwnReturns};
-ghost use Rattle.rule_types.specs.Signatures.{first_otherwise};
-ghost use Rattle.run_agreement.specs.Costs.{cost_at};
-ghost use Rattle.run_agreement.specs.Factor.{most_operands_of_functions, most_phis_of_functions, names_of_functions};
-ghost use Rattle.run_agreement.specs.Factor.{size_factor};
-ghost use Rattle.run_agreement.specs.Machines.{Machine, state_at};
-ghost use Rattle.run_source.specs.declared.state.State.{State};
+ghost use Rattle.pass_frames_proof.specs.pass_renewed_proof.Prices.{renewed_price, slots_in};
+ghost use Rattle.pass_frames_proof.specs.pass_renewed_proof.Renewed.{Flags, RenewedGiven};
+ghost use Rattle.pass_frames_proof.specs.rule_laws.frames.rows.Returns.{HaveOwnReturns};
+ghost use Rattle.pass_frames_proof.specs.rule_types.Signatures.{first_otherwise};
+ghost use Rattle.pass_frames_proof.specs.run_agreement.Costs.{cost_at};
+ghost use Rattle.pass_frames_proof.specs.run_agreement.Factor.{most_operands_of_functions, most_phis_of_functions, names_of_functions};
+ghost use Rattle.pass_frames_proof.specs.run_agreement.Factor.{size_factor};
+ghost use Rattle.pass_frames_proof.specs.run_agreement.Machines.{Machine, state_at};
+ghost use Rattle.pass_frames_proof.specs.run_source.declared.state.State.{State};
 
 /// Each step's price is what it costs at least, in all states. Blocks on resume and destroy edges are jumps alone,
 /// which the pass of edges gives. Names and operands are counted by the step factor.

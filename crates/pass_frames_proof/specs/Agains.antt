@@ -1,23 +1,23 @@
 -- What stands in front of a block on a resume or destroy edge loads values from their fields again.
 use Rattle.std.specs.Prelude.{◌≡◌, ◌⊎◌, ◌<◌, ◌≤◌, ◌+◌, ◌*◌, ℕ, List, length, Some}
-use Rattle.flow_solver.specs.Paths.{IsListed}
-use Rattle.ir_model.specs.Ty.{ptr}
-use Rattle.pass_cells.specs.Kept.{entry}
-use Rattle.pass_cells.specs.Moves.{again_values}
-use Rattle.pass_cells.specs.declared.plan.KeptValue.{KeptValue}
-use Rattle.pass_frames.specs.Framed.{begin_of}
+use Rattle.pass_proofs.specs.flow_solver.Paths.{IsListed}
+use Rattle.pass_proofs.specs.ir_model.Ty.{ptr}
+use Rattle.pass_proofs.specs.pass_cells.Kept.{entry}
+use Rattle.pass_proofs.specs.pass_cells.Moves.{again_values}
+use Rattle.pass_proofs.specs.pass_cells.declared.plan.KeptValue.{KeptValue}
+use Rattle.pass_proofs.specs.pass_frames.Framed.{begin_of}
 use Rattle.pass_frames_proof.specs.Code.{addressed}
 use Rattle.pass_frames_proof.specs.Lines.{AreInCells, HasOwnBlocks, RunsOver, at_work}
 use Rattle.pass_frames_proof.specs.Places.{Framing, plan}
 use Rattle.pass_frames_proof.specs.Related.{AreCellsRight, AreCellsThere, IsKeptAs, IsKeptValue}
 use Rattle.pass_frames_proof.specs.Saves.{AreCellsElsewhere, AreStorable, HoldsField}
-use Rattle.run_laws.specs.access.Accessed.{Span}
-use Rattle.run_laws.specs.access.Lines.{pointer_at}
-use Rattle.run_laws.specs.memory.Pointers.{Home, IsValue}
-use Rattle.run_memory.specs.declared.pointer.Value.{Value}
-use Rattle.run_source.specs.declared.state.Activation.{Activation}
-use Rattle.run_step.specs.Step.{Context, Work}
-use Rattle.run_step.specs.Values.{Env, value_in}
+use Rattle.pass_proofs.specs.run_laws.access.Accessed.{Span}
+use Rattle.pass_proofs.specs.run_laws.access.Lines.{pointer_at}
+use Rattle.pass_proofs.specs.run_laws.memory.Pointers.{Home, IsValue}
+use Rattle.pass_proofs.specs.run_memory.declared.pointer.Value.{Value}
+use Rattle.pass_proofs.specs.run_source.declared.state.Activation.{Activation}
+use Rattle.pass_proofs.specs.run_step.Step.{Context, Work}
+use Rattle.pass_proofs.specs.run_step.Values.{Env, value_in}
 
 -- what is asked of the work in which the line begins: the cells are there, the fields of the row hold what is kept,
 -- and what doesn't cross has no value

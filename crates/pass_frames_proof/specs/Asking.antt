@@ -1,22 +1,22 @@
 -- Coro intrinsics that give a value: which instances both runs find, and what is asked of the runs.
 use Rattle.std.specs.List.{Contains}
 use Rattle.std.specs.Prelude.{◌≡◌, Bool, List, None, Ok, Option, Result, Some, false, find, option_map, slice_get, slice_set, true, ℕ}
-use Rattle.frame_contents.specs.Held.{position_of}
-use Rattle.frame_layout.specs.declared.layout.PlacedField.{PlacedField}
-use Rattle.ir_base.specs.declared.cause.Cause.{Cause}
-use Rattle.ir_base.specs.declared.outcome.Outcome.{Outcome}
-use Rattle.ir_model.specs.Ty.{Ty}
-use Rattle.ir_model.specs.declared.instr.Instr.{Instr}
-use Rattle.ir_model.specs.declared.operand.Arg.{Arg}
-use Rattle.ir_model.specs.declared.operand.Callee.{Callee}
-use Rattle.ir_model.specs.declared.operand.Intrinsic.{Intrinsic}
-use Rattle.ir_parts.specs.Contents.{instr_operands}
-use Rattle.ir_paths.specs.Slots.{promise_of}
-use Rattle.pass_addresses.specs.Placing.{without_promise_of}
-use Rattle.pass_cells.specs.Cells.{fetches_of}
-use Rattle.pass_cells.specs.Kept.{entry}
-use Rattle.pass_cells.specs.declared.plan.KeptValue.{KeptValue}
-use Rattle.pass_frames.specs.Tables.{offset_at}
+use Rattle.pass_proofs.specs.frame_contents.Held.{position_of}
+use Rattle.pass_proofs.specs.frame_layout.declared.layout.PlacedField.{PlacedField}
+use Rattle.pass_proofs.specs.ir_base.declared.cause.Cause.{Cause}
+use Rattle.pass_proofs.specs.ir_base.declared.outcome.Outcome.{Outcome}
+use Rattle.pass_proofs.specs.ir_model.Ty.{Ty}
+use Rattle.pass_proofs.specs.ir_model.declared.instr.Instr.{Instr}
+use Rattle.pass_proofs.specs.ir_model.declared.operand.Arg.{Arg}
+use Rattle.pass_proofs.specs.ir_model.declared.operand.Callee.{Callee}
+use Rattle.pass_proofs.specs.ir_model.declared.operand.Intrinsic.{Intrinsic}
+use Rattle.pass_proofs.specs.ir_parts.Contents.{instr_operands}
+use Rattle.pass_proofs.specs.ir_paths.Slots.{promise_of}
+use Rattle.pass_proofs.specs.pass_addresses.Placing.{without_promise_of}
+use Rattle.pass_proofs.specs.pass_cells.Cells.{fetches_of}
+use Rattle.pass_proofs.specs.pass_cells.Kept.{entry}
+use Rattle.pass_proofs.specs.pass_cells.declared.plan.KeptValue.{KeptValue}
+use Rattle.pass_proofs.specs.pass_frames.Tables.{offset_at}
 use Rattle.pass_frames_proof.specs.Code.{slot_table}
 use Rattle.pass_frames_proof.specs.Here.{IsHere, IsOnLine}
 use Rattle.pass_frames_proof.specs.Lines.{IsStorable}
@@ -26,21 +26,21 @@ use Rattle.pass_frames_proof.specs.Stepping.{IsNotEntering}
 use Rattle.pass_proofs.specs.addresses.rules.Addresses.{lies_in_frame}
 use Rattle.pass_proofs.specs.fetch.rules.Fetches.{AreUnfetched}
 use Rattle.pass_renewed_proof.specs.Renewed.{RenewedGiven, continue_renewed}
-use Rattle.run_framed.specs.Framed.{allocates, is_promise_kind}
-use Rattle.run_laws.specs.memory.Pointers.{Home, IsValue}
-use Rattle.run_memory.specs.declared.block.Kind.{Kind}
-use Rattle.run_memory.specs.declared.block.MemoryBlock.{MemoryBlock}
-use Rattle.run_memory.specs.declared.pointer.Value.{Value}
-use Rattle.run_source.specs.Source.{Sleeper, coro, frame_address, is_live_at, is_over}
-use Rattle.run_source.specs.State.{function_of, gives, own_instance}
-use Rattle.run_source.specs.declared.state.Instance.{Instance}
-use Rattle.run_source.specs.declared.state.State.{State}
-use Rattle.run_source.specs.declared.state.Status.{Status}
-use Rattle.run_source_tables.specs.Given.{frame_of}
-use Rattle.run_step.specs.Step.{AtInstr, fetch}
-use Rattle.run_step.specs.Values.{Env, arg_values, value_in, with_result}
-use Rattle.run_step.specs.declared.world.Slot.{Slot}
-use Rattle.run_step.specs.declared.world.World.{World}
+use Rattle.pass_proofs.specs.run_framed.Framed.{allocates, is_promise_kind}
+use Rattle.pass_proofs.specs.run_laws.memory.Pointers.{Home, IsValue}
+use Rattle.pass_proofs.specs.run_memory.declared.block.Kind.{Kind}
+use Rattle.pass_proofs.specs.run_memory.declared.block.MemoryBlock.{MemoryBlock}
+use Rattle.pass_proofs.specs.run_memory.declared.pointer.Value.{Value}
+use Rattle.pass_proofs.specs.run_source.Source.{Sleeper, coro, frame_address, is_live_at, is_over}
+use Rattle.pass_proofs.specs.run_source.State.{function_of, gives, own_instance}
+use Rattle.pass_proofs.specs.run_source.declared.state.Instance.{Instance}
+use Rattle.pass_proofs.specs.run_source.declared.state.State.{State}
+use Rattle.pass_proofs.specs.run_source.declared.state.Status.{Status}
+use Rattle.pass_proofs.specs.run_source_tables.Given.{frame_of}
+use Rattle.pass_proofs.specs.run_step.Step.{AtInstr, fetch}
+use Rattle.pass_proofs.specs.run_step.Values.{Env, arg_values, value_in, with_result}
+use Rattle.pass_proofs.specs.run_step.declared.world.Slot.{Slot}
+use Rattle.pass_proofs.specs.run_step.declared.world.World.{World}
 
 -- ---- instances
 

@@ -1,20 +1,20 @@
 -- What is asked of a state whose next step is begin.
 use Rattle.std.specs.List.{Contains}
 use Rattle.std.specs.Prelude.{◌≡◌, ◌≢◌, ◌<◌, ◌∷◌, [], Bool, None, Option, Some, false, length, map, not, slice_get, true, ℕ}
-use Rattle.flow_solver.specs.Paths.{IsListed}
-use Rattle.frame_contents.specs.Held.{position_of}
-use Rattle.ir_base.specs.declared.outcome.Outcome.{Outcome}
-use Rattle.ir_laws.specs.paths.woven_rules.Pairs.{AreDifferent}
-use Rattle.ir_model.specs.Ty.{Ty}
-use Rattle.ir_model.specs.declared.instr.Instr.{Instr}
-use Rattle.ir_model.specs.declared.operand.Arg.{Arg}
-use Rattle.ir_model.specs.declared.operand.Callee.{Callee}
-use Rattle.ir_model.specs.declared.operand.Intrinsic.{Intrinsic}
-use Rattle.ir_model.specs.declared.operand.Operand.{Operand}
-use Rattle.pass_cells.specs.Cells.{fetches_of}
-use Rattle.pass_cells.specs.Kept.{entry}
-use Rattle.pass_fetch.specs.Fetching.{fetch_of}
-use Rattle.pass_frames.specs.Tables.{offset_at}
+use Rattle.pass_proofs.specs.flow_solver.Paths.{IsListed}
+use Rattle.pass_proofs.specs.frame_contents.Held.{position_of}
+use Rattle.pass_proofs.specs.ir_base.declared.outcome.Outcome.{Outcome}
+use Rattle.pass_proofs.specs.ir_laws.paths.woven_rules.Pairs.{AreDifferent}
+use Rattle.pass_proofs.specs.ir_model.Ty.{Ty}
+use Rattle.pass_proofs.specs.ir_model.declared.instr.Instr.{Instr}
+use Rattle.pass_proofs.specs.ir_model.declared.operand.Arg.{Arg}
+use Rattle.pass_proofs.specs.ir_model.declared.operand.Callee.{Callee}
+use Rattle.pass_proofs.specs.ir_model.declared.operand.Intrinsic.{Intrinsic}
+use Rattle.pass_proofs.specs.ir_model.declared.operand.Operand.{Operand}
+use Rattle.pass_proofs.specs.pass_cells.Cells.{fetches_of}
+use Rattle.pass_proofs.specs.pass_cells.Kept.{entry}
+use Rattle.pass_proofs.specs.pass_fetch.Fetching.{fetch_of}
+use Rattle.pass_proofs.specs.pass_frames.Tables.{offset_at}
 use Rattle.pass_frames_proof.specs.Code.{slot_table}
 use Rattle.pass_frames_proof.specs.Ordinary.{IsPlainName}
 use Rattle.pass_frames_proof.specs.Places.{Framing, copies, edged, framed, instrs_at, is_return, offsets, plan}
@@ -22,20 +22,20 @@ use Rattle.pass_frames_proof.specs.Related.{Building, all_slots, is_coroutine}
 use Rattle.pass_frames_proof.specs.Slotted.{AreRangesApart, IsSlotField}
 use Rattle.pass_proofs.specs.addresses.rules.Addresses.{lies_in_frame}
 use Rattle.pass_renewed_proof.specs.Renewed.{RenewedGiven}
-use Rattle.run_framed.specs.Framed.{layout_of}
-use Rattle.run_laws.specs.transfer.Places.{IsBlank}
-use Rattle.run_memory.specs.Memory.{is_live, may_be_owned, same_kind}
-use Rattle.run_memory.specs.declared.block.Kind.{Kind}
-use Rattle.run_memory.specs.declared.block.MemoryBlock.{MemoryBlock}
-use Rattle.run_source.specs.Source.{is_among}
-use Rattle.run_source.specs.State.{own_facts, own_frame}
-use Rattle.run_source.specs.declared.state.Activation.{Activation}
-use Rattle.run_source.specs.declared.state.Instance.{Instance}
-use Rattle.run_source.specs.declared.state.Mode.{Mode}
-use Rattle.run_source.specs.declared.state.State.{State}
-use Rattle.run_source_tables.specs.Given.{frame_of}
-use Rattle.run_step.specs.Values.{pointer_to, value_in}
-use Rattle.run_step.specs.declared.world.Slot.{Slot}
+use Rattle.pass_proofs.specs.run_framed.Framed.{layout_of}
+use Rattle.pass_proofs.specs.run_laws.transfer.Places.{IsBlank}
+use Rattle.pass_proofs.specs.run_memory.Memory.{is_live, may_be_owned, same_kind}
+use Rattle.pass_proofs.specs.run_memory.declared.block.Kind.{Kind}
+use Rattle.pass_proofs.specs.run_memory.declared.block.MemoryBlock.{MemoryBlock}
+use Rattle.pass_proofs.specs.run_source.Source.{is_among}
+use Rattle.pass_proofs.specs.run_source.State.{own_facts, own_frame}
+use Rattle.pass_proofs.specs.run_source.declared.state.Activation.{Activation}
+use Rattle.pass_proofs.specs.run_source.declared.state.Instance.{Instance}
+use Rattle.pass_proofs.specs.run_source.declared.state.Mode.{Mode}
+use Rattle.pass_proofs.specs.run_source.declared.state.State.{State}
+use Rattle.pass_proofs.specs.run_source_tables.Given.{frame_of}
+use Rattle.pass_proofs.specs.run_step.Values.{pointer_to, value_in}
+use Rattle.pass_proofs.specs.run_step.declared.world.Slot.{Slot}
 
 abbrev pub begin_call : Option ℕ → Bool → Option Ty → Arg → Ty → ℕ → Instr
 begin_call result must_tail ty id t memory =

@@ -1,8 +1,8 @@
 -- Calls: what is asked of a state whose next step enters a function.
 use Rattle.std.specs.Prelude.{◌≡◌, ◌<◌, ℕ, Bool, false, List, length, slice_get, Some, Option}
-use Rattle.ir_base.specs.declared.outcome.Outcome.{Outcome}
-use Rattle.ir_model.specs.Ty.{Ty}
-use Rattle.ir_model.specs.declared.instr.Instr.{Instr}
+use Rattle.pass_proofs.specs.ir_base.declared.outcome.Outcome.{Outcome}
+use Rattle.pass_proofs.specs.ir_model.Ty.{Ty}
+use Rattle.pass_proofs.specs.ir_model.declared.instr.Instr.{Instr}
 use Rattle.pass_frames_proof.specs.Lined.{GivesNone}
 use Rattle.pass_frames_proof.specs.Operands.{IsAtFetch}
 use Rattle.pass_frames_proof.specs.Places.{edged, instrs_at}
@@ -10,13 +10,13 @@ use Rattle.pass_frames_proof.specs.Related.{Building, all_slots, is_coroutine}
 use Rattle.pass_frames_proof.specs.Returning.{IsAmong}
 use Rattle.pass_frames_proof.specs.Stepping.{IsFunctionCall, IsNotEntering, IsUnlocated, state_in}
 use Rattle.pass_renewed_proof.specs.Renewed.{RenewedGiven}
-use Rattle.run_framed.specs.Framed.{framed_context}
-use Rattle.run_laws.specs.transfer.Transfer.{IsPointedAlike, same_maps}
-use Rattle.run_memory.specs.declared.pointer.Value.{Value}
-use Rattle.run_source.specs.Source.{context_of}
-use Rattle.run_source.specs.State.{function_of, work_of}
-use Rattle.run_source.specs.declared.state.State.{State}
-use Rattle.run_step.specs.Step.{AtInstr, Enter, fetch, instr_action}
+use Rattle.pass_proofs.specs.run_framed.Framed.{framed_context}
+use Rattle.pass_proofs.specs.run_laws.transfer.Transfer.{IsPointedAlike, same_maps}
+use Rattle.pass_proofs.specs.run_memory.declared.pointer.Value.{Value}
+use Rattle.pass_proofs.specs.run_source.Source.{context_of}
+use Rattle.pass_proofs.specs.run_source.State.{function_of, work_of}
+use Rattle.pass_proofs.specs.run_source.declared.state.State.{State}
+use Rattle.pass_proofs.specs.run_step.Step.{AtInstr, Enter, fetch, instr_action}
 
 -- The next step is a call in a coroutine, by a name or through a pointer, that enters a function. No call gives a frame,
 -- since none is elided yet. What is called through a pointer fits the call in both. The address of a slot that is used

@@ -1,22 +1,22 @@
 -- What each instruction of a coroutine becomes in its framed form, over all passes.
 use Rattle.std.specs.Prelude.{ℕ, Bool, List, [], ◌∷◌, ◌++◌, Option}
-use Rattle.ir_model.specs.declared.instr.Instr.{Instr}
-use Rattle.ir_model.specs.declared.instr.Terminator.{Terminator}
-use Rattle.ir_parts.specs.Contents.{instr_operands, result_of}
-use Rattle.pass_addresses.specs.Placing.{slot_fetches}
-use Rattle.pass_cells.specs.Cells.{fetches_of}
-use Rattle.pass_cells.specs.Moves.{after_saved, saved_values}
-use Rattle.pass_cells.specs.Written.{distance_behind, save_row, stored_result}
-use Rattle.pass_copies.specs.BeginCopies.{behind as behind_begin}
-use Rattle.pass_fetch.specs.Blocks.{end_at}
-use Rattle.pass_fetch.specs.Fetching.{fetches_of_all}
-use Rattle.pass_fetch.specs.Instrs.{fetched_term, term_operands, with_fetched}
-use Rattle.pass_fetch.specs.declared.fetch.Fetch.{Fetch}
-use Rattle.pass_frames.specs.Framed.{begin_of}
+use Rattle.pass_proofs.specs.ir_model.declared.instr.Instr.{Instr}
+use Rattle.pass_proofs.specs.ir_model.declared.instr.Terminator.{Terminator}
+use Rattle.pass_proofs.specs.ir_parts.Contents.{instr_operands, result_of}
+use Rattle.pass_proofs.specs.pass_addresses.Placing.{slot_fetches}
+use Rattle.pass_proofs.specs.pass_cells.Cells.{fetches_of}
+use Rattle.pass_proofs.specs.pass_cells.Moves.{after_saved, saved_values}
+use Rattle.pass_proofs.specs.pass_cells.Written.{distance_behind, save_row, stored_result}
+use Rattle.pass_proofs.specs.pass_copies.BeginCopies.{behind as behind_begin}
+use Rattle.pass_proofs.specs.pass_fetch.Blocks.{end_at}
+use Rattle.pass_proofs.specs.pass_fetch.Fetching.{fetches_of_all}
+use Rattle.pass_proofs.specs.pass_fetch.Instrs.{fetched_term, term_operands, with_fetched}
+use Rattle.pass_proofs.specs.pass_fetch.declared.fetch.Fetch.{Fetch}
+use Rattle.pass_proofs.specs.pass_frames.Framed.{begin_of}
 use Rattle.pass_frames_proof.specs.Layers.{IsIdle, grown, passed}
 use Rattle.pass_frames_proof.specs.Passes.{block_at, fetched_before, fetches_before, phi_ends, unmarked_at}
 use Rattle.pass_frames_proof.specs.Places.{Framing, Placed, addressing_layer, copies, copying_layer, edged, instrs_at, marked, named, offsets, placed_layer, plan, unmarked, writing_layer}
-use Rattle.run_laws.specs.changed.Changed.{Each}
+use Rattle.pass_proofs.specs.run_laws.changed.Changed.{Each}
 
 -- ---- the next new names of the passes, and whether begin is ahead, where an instruction is met
 

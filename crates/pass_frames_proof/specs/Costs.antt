@@ -1,7 +1,7 @@
 -- How many steps of the framed form one step of the coroutine with blocks on edges costs, by the code of both.
 use Rattle.std.specs.Prelude.{ℕ, ◌+◌, ◌-◌, length, filter, Some, None, Option}
-use Rattle.ir_paths.specs.declared.point.Point.{Point}
-use Rattle.pass_front.specs.Front.{is_alloca}
+use Rattle.pass_proofs.specs.ir_paths.declared.point.Point.{Point}
+use Rattle.pass_proofs.specs.pass_front.Front.{is_alloca}
 use Rattle.pass_frames_proof.specs.Passes.{block_at}
 use Rattle.pass_frames_proof.specs.Places.{Framing, alloca_place, framed, instrs_at, place}
 

@@ -1,16 +1,16 @@
 -- What is asked of a state whose next step is a getelementptr of which the distance is kept.
 use Rattle.std.specs.Prelude.{◌≡◌, ◌≢◌, ◌<◌, ◌≤◌, ℕ, Bool, List, length, slice_get, Some, None, Option}
-use Rattle.ir_base.specs.declared.outcome.Outcome.{Outcome}
-use Rattle.ir_model.specs.Ty.{Ty}
-use Rattle.ir_model.specs.declared.instr.Instr.{Instr}
-use Rattle.ir_model.specs.declared.operand.Arg.{Arg}
-use Rattle.ir_model.specs.declared.operand.Operand.{Operand}
-use Rattle.ir_parts.specs.Contents.{arg_operands, instr_operands}
-use Rattle.pass_cells.specs.Kept.{entry}
-use Rattle.pass_cells.specs.Written.{distance_from}
-use Rattle.pass_cells.specs.declared.plan.KeptValue.{KeptValue}
-use Rattle.pass_distances.specs.Sums.{distance_next}
-use Rattle.pass_distances.specs.Ways.{ways_of}
+use Rattle.pass_proofs.specs.ir_base.declared.outcome.Outcome.{Outcome}
+use Rattle.pass_proofs.specs.ir_model.Ty.{Ty}
+use Rattle.pass_proofs.specs.ir_model.declared.instr.Instr.{Instr}
+use Rattle.pass_proofs.specs.ir_model.declared.operand.Arg.{Arg}
+use Rattle.pass_proofs.specs.ir_model.declared.operand.Operand.{Operand}
+use Rattle.pass_proofs.specs.ir_parts.Contents.{arg_operands, instr_operands}
+use Rattle.pass_proofs.specs.pass_cells.Kept.{entry}
+use Rattle.pass_proofs.specs.pass_cells.Written.{distance_from}
+use Rattle.pass_proofs.specs.pass_cells.declared.plan.KeptValue.{KeptValue}
+use Rattle.pass_proofs.specs.pass_distances.Sums.{distance_next}
+use Rattle.pass_proofs.specs.pass_distances.Ways.{ways_of}
 use Rattle.pass_frames_proof.specs.Code.{load_name, write_name}
 use Rattle.pass_frames_proof.specs.Distances.{AreFields, AreWaysBelow}
 use Rattle.pass_frames_proof.specs.Geps.{GoesOnFrom, IsNotName, loaded_indices}
@@ -21,12 +21,12 @@ use Rattle.pass_frames_proof.specs.Places.{Framing, edged, instrs_at, offsets, p
 use Rattle.pass_frames_proof.specs.Related.{Building, IsKeptValue, root_of}
 use Rattle.pass_frames_proof.specs.Stepping.{IsUnlocated, state_in}
 use Rattle.pass_renewed_proof.specs.Renewed.{RenewedGiven}
-use Rattle.run_laws.specs.changed.Changed.{Each}
-use Rattle.run_source.specs.Source.{context_of}
-use Rattle.run_source.specs.State.{work_of}
-use Rattle.run_source.specs.declared.state.State.{State}
-use Rattle.run_step.specs.Step.{Done, Work, instr_action}
-use Rattle.run_step.specs.Values.{distance, value_in}
+use Rattle.pass_proofs.specs.run_laws.changed.Changed.{Each}
+use Rattle.pass_proofs.specs.run_source.Source.{context_of}
+use Rattle.pass_proofs.specs.run_source.State.{work_of}
+use Rattle.pass_proofs.specs.run_source.declared.state.State.{State}
+use Rattle.pass_proofs.specs.run_step.Step.{Done, Work, instr_action}
+use Rattle.pass_proofs.specs.run_step.Values.{distance, value_in}
 
 -- the operand lies in no frame: addresses in local slots and their indices don't
 abbrev pub IsOutside : Framing → Operand → Type 0

@@ -1,17 +1,17 @@
 -- What the instructions compute that sum a distance.
 use Rattle.std.specs.Prelude.{◌≡◌, ℕ, List, [], ◌∷◌, length, pos, Some, None, Option, ◌<◌, ◌^◌}
-use Rattle.ir_model.specs.Layout.{unnamed}
-use Rattle.ir_model.specs.Ty.{Ty, int, structure}
-use Rattle.ir_model.specs.declared.module.Module.{Module}
-use Rattle.ir_model.specs.declared.operand.Arg.{Arg}
-use Rattle.ir_model.specs.declared.operand.Operand.{Operand}
-use Rattle.pass_distances.specs.Sums.{sum_instrs, sum_value}
-use Rattle.pass_distances.specs.Ways.{inner_type}
-use Rattle.pass_distances.specs.declared.way.Way.{Way}
-use Rattle.run_laws.specs.access.Lines.{Runs}
-use Rattle.run_memory.specs.declared.pointer.Value.{Value}
-use Rattle.run_step.specs.Step.{Context, Work, value_at}
-use Rattle.run_step.specs.Values.{Env, arg_value, index_of, number_at, plus, times, value_in}
+use Rattle.pass_proofs.specs.ir_model.Layout.{unnamed}
+use Rattle.pass_proofs.specs.ir_model.Ty.{Ty, int, structure}
+use Rattle.pass_proofs.specs.ir_model.declared.module.Module.{Module}
+use Rattle.pass_proofs.specs.ir_model.declared.operand.Arg.{Arg}
+use Rattle.pass_proofs.specs.ir_model.declared.operand.Operand.{Operand}
+use Rattle.pass_proofs.specs.pass_distances.Sums.{sum_instrs, sum_value}
+use Rattle.pass_proofs.specs.pass_distances.Ways.{inner_type}
+use Rattle.pass_proofs.specs.pass_distances.declared.way.Way.{Way}
+use Rattle.pass_proofs.specs.run_laws.access.Lines.{Runs}
+use Rattle.pass_proofs.specs.run_memory.declared.pointer.Value.{Value}
+use Rattle.pass_proofs.specs.run_step.Step.{Context, Work, value_at}
+use Rattle.pass_proofs.specs.run_step.Values.{Env, arg_value, index_of, number_at, plus, times, value_in}
 
 -- ---- distances as numbers
 

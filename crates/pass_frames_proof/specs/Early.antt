@@ -2,37 +2,37 @@
 -- frame, and the addresses of these go to their cells.
 use Rattle.std.specs.List.{Contains}
 use Rattle.std.specs.Prelude.{◌≡◌, ◌≢◌, ◌⊎◌, ◌+◌, ◌*◌, ◌<◌, ◌≤◌, ◌^◌, [], ◌∷◌, List, None, Some, false, length, slice_get, true, ℕ}
-use Rattle.flow_solver.specs.Paths.{IsListed}
-use Rattle.frame_contents.specs.declared.held.Holding.{Holding}
-use Rattle.ir_laws.specs.paths.woven_rules.Pairs.{AreDifferent}
-use Rattle.ir_model.specs.Ty.{ptr}
-use Rattle.ir_model.specs.declared.instr.Instr.{Instr}
-use Rattle.ir_model.specs.declared.operand.Operand.{Operand}
-use Rattle.pass_copies.specs.BeginCopies.{begin_copies}
-use Rattle.pass_copies.specs.declared.slot.EarlySlot.{EarlySlot}
-use Rattle.pass_fetch.specs.Fetching.{fetch_of}
-use Rattle.pass_frames.specs.Framed.{begin_of}
+use Rattle.pass_proofs.specs.flow_solver.Paths.{IsListed}
+use Rattle.pass_proofs.specs.frame_contents.declared.held.Holding.{Holding}
+use Rattle.pass_proofs.specs.ir_laws.paths.woven_rules.Pairs.{AreDifferent}
+use Rattle.pass_proofs.specs.ir_model.Ty.{ptr}
+use Rattle.pass_proofs.specs.ir_model.declared.instr.Instr.{Instr}
+use Rattle.pass_proofs.specs.ir_model.declared.operand.Operand.{Operand}
+use Rattle.pass_proofs.specs.pass_copies.BeginCopies.{begin_copies}
+use Rattle.pass_proofs.specs.pass_copies.declared.slot.EarlySlot.{EarlySlot}
+use Rattle.pass_proofs.specs.pass_fetch.Fetching.{fetch_of}
+use Rattle.pass_proofs.specs.pass_frames.Framed.{begin_of}
 use Rattle.pass_frames_proof.specs.Code.{addressed, slot_table}
 use Rattle.pass_frames_proof.specs.Entry.{cells_of}
 use Rattle.pass_frames_proof.specs.FromEdges.{IsEarlyInFrame}
 use Rattle.pass_frames_proof.specs.Lines.{HasOwnBlocks, RunsOver, at_work}
 use Rattle.pass_frames_proof.specs.Places.{Framing}
 use Rattle.pass_frames_proof.specs.Related.{Anything, IsCell}
-use Rattle.run_laws.specs.access.Accessed.{Span}
-use Rattle.run_laws.specs.access.Lines.{AreDisjoint, Holds, pointer_at}
-use Rattle.run_laws.specs.changed.Changed.{Each}
-use Rattle.run_laws.specs.memory.Pointers.{Home, home_of}
-use Rattle.run_laws.specs.memory.Standing.{byte_of}
-use Rattle.run_laws.specs.transfer.Places.{HasRoom, IsApartFrom, MayBeSeen}
-use Rattle.run_laws.specs.transfer.Ready.{Place, home_at}
-use Rattle.run_memory.specs.Memory.{Rights, is_live}
-use Rattle.run_memory.specs.declared.block.Byte.{Byte}
-use Rattle.run_memory.specs.declared.block.MemoryBlock.{MemoryBlock}
-use Rattle.run_memory.specs.declared.pointer.Value.{Value}
-use Rattle.run_source.specs.declared.state.Activation.{Activation}
-use Rattle.run_step.specs.Step.{Context, Work}
-use Rattle.run_step.specs.Values.{value_in}
-use Rattle.run_step.specs.declared.world.Slot.{Slot}
+use Rattle.pass_proofs.specs.run_laws.access.Accessed.{Span}
+use Rattle.pass_proofs.specs.run_laws.access.Lines.{AreDisjoint, Holds, pointer_at}
+use Rattle.pass_proofs.specs.run_laws.changed.Changed.{Each}
+use Rattle.pass_proofs.specs.run_laws.memory.Pointers.{Home, home_of}
+use Rattle.pass_proofs.specs.run_laws.memory.Standing.{byte_of}
+use Rattle.pass_proofs.specs.run_laws.transfer.Places.{HasRoom, IsApartFrom, MayBeSeen}
+use Rattle.pass_proofs.specs.run_laws.transfer.Ready.{Place, home_at}
+use Rattle.pass_proofs.specs.run_memory.Memory.{Rights, is_live}
+use Rattle.pass_proofs.specs.run_memory.declared.block.Byte.{Byte}
+use Rattle.pass_proofs.specs.run_memory.declared.block.MemoryBlock.{MemoryBlock}
+use Rattle.pass_proofs.specs.run_memory.declared.pointer.Value.{Value}
+use Rattle.pass_proofs.specs.run_source.declared.state.Activation.{Activation}
+use Rattle.pass_proofs.specs.run_step.Step.{Context, Work}
+use Rattle.pass_proofs.specs.run_step.Values.{value_in}
+use Rattle.pass_proofs.specs.run_step.declared.world.Slot.{Slot}
 
 -- what stands right behind begin
 abbrev pub copies_line : Framing → (k m : ℕ) → List EarlySlot → List Instr

@@ -1,12 +1,12 @@
 -- Jumps of a coroutine: what stands at the end of a block and in front of one, and what is executed there.
 use Rattle.std.specs.Prelude.{◌≡◌, ◌≢◌, ◌<◌, ◌≤◌, ◌+◌, ℕ, true, false, List, [], ◌∷◌, length, slice_get, Bool}
 use Rattle.std.specs.List.{Contains}
-use Rattle.ir_base.specs.declared.outcome.Outcome.{Outcome}
-use Rattle.ir_model.specs.Names.{position_of}
-use Rattle.ir_model.specs.declared.instr.Instr.{Instr}
-use Rattle.ir_model.specs.declared.instr.Phi.{Phi}
-use Rattle.ir_model.specs.declared.instr.Terminator.{Terminator}
-use Rattle.pass_copies.specs.declared.slot.EarlySlot.{EarlySlot}
+use Rattle.pass_proofs.specs.ir_base.declared.outcome.Outcome.{Outcome}
+use Rattle.pass_proofs.specs.ir_model.Names.{position_of}
+use Rattle.pass_proofs.specs.ir_model.declared.instr.Instr.{Instr}
+use Rattle.pass_proofs.specs.ir_model.declared.instr.Phi.{Phi}
+use Rattle.pass_proofs.specs.ir_model.declared.instr.Terminator.{Terminator}
+use Rattle.pass_proofs.specs.pass_copies.declared.slot.EarlySlot.{EarlySlot}
 use Rattle.pass_frames_proof.specs.Costs.{whole}
 use Rattle.pass_frames_proof.specs.Led.{RunsThrough, SparesBlocks}
 use Rattle.pass_frames_proof.specs.Lined.{GivesNone}
@@ -18,19 +18,19 @@ use Rattle.pass_frames_proof.specs.Places.{Framing, copies, edged, fetched, fram
 use Rattle.pass_frames_proof.specs.Related.{AreBuiltOf, AreCellsRight, Building, IsCellName, IsFreeOf, is_coroutine}
 use Rattle.pass_frames_proof.specs.Stepping.{IsNotEntering}
 use Rattle.pass_renewed_proof.specs.Renewed.{RenewedGiven}
-use Rattle.run_framed.specs.Framed.{frame_rights, framed_context}
-use Rattle.run_laws.specs.access.Lines.{StandAt}
-use Rattle.run_laws.specs.changed.Changed.{Each}
-use Rattle.run_laws.specs.memory.Pointers.{Home, IsValue}
-use Rattle.run_laws.specs.transfer.Transfer.{AreOver}
-use Rattle.run_memory.specs.Memory.{owner_rights}
-use Rattle.run_memory.specs.declared.pointer.Value.{Value}
-use Rattle.run_source.specs.Source.{context_of}
-use Rattle.run_source.specs.State.{function_of, work_of}
-use Rattle.run_source.specs.declared.state.State.{State}
-use Rattle.run_step.specs.Step.{AtTerm, GoTo, Work, fetch, label_of, phi_values, phis_of, term_action, with_all}
-use Rattle.run_step.specs.Values.{value_in}
-use Rattle.run_step.specs.declared.world.Slot.{Slot}
+use Rattle.pass_proofs.specs.run_framed.Framed.{frame_rights, framed_context}
+use Rattle.pass_proofs.specs.run_laws.access.Lines.{StandAt}
+use Rattle.pass_proofs.specs.run_laws.changed.Changed.{Each}
+use Rattle.pass_proofs.specs.run_laws.memory.Pointers.{Home, IsValue}
+use Rattle.pass_proofs.specs.run_laws.transfer.Transfer.{AreOver}
+use Rattle.pass_proofs.specs.run_memory.Memory.{owner_rights}
+use Rattle.pass_proofs.specs.run_memory.declared.pointer.Value.{Value}
+use Rattle.pass_proofs.specs.run_source.Source.{context_of}
+use Rattle.pass_proofs.specs.run_source.State.{function_of, work_of}
+use Rattle.pass_proofs.specs.run_source.declared.state.State.{State}
+use Rattle.pass_proofs.specs.run_step.Step.{AtTerm, GoTo, Work, fetch, label_of, phi_values, phis_of, term_action, with_all}
+use Rattle.pass_proofs.specs.run_step.Values.{value_in}
+use Rattle.pass_proofs.specs.run_step.declared.world.Slot.{Slot}
 
 -- ---- code
 

@@ -1,23 +1,23 @@
 -- The end of a block: loads for phis and for the terminator, and then addresses for both, are executed in a row. It is
 -- said of any two tables, and of the functions before the passes that fetch by them.
 use Rattle.std.specs.Prelude.{◌<◌, ◌≤◌, ℕ, List, ◌++◌, length, map, Option}
-use Rattle.ir_model.specs.declared.instr.Instr.{Instr}
-use Rattle.ir_model.specs.declared.instr.Phi.{Phi}
-use Rattle.ir_model.specs.declared.module.Function.{Function}
-use Rattle.ir_model.specs.declared.operand.Operand.{Operand}
-use Rattle.pass_fetch.specs.Blocks.{end_at, next_after_phis_by}
-use Rattle.pass_fetch.specs.Fetching.{fetches_of_all, next_after_all}
-use Rattle.pass_fetch.specs.declared.fetch.Fetch.{Fetch}
+use Rattle.pass_proofs.specs.ir_model.declared.instr.Instr.{Instr}
+use Rattle.pass_proofs.specs.ir_model.declared.instr.Phi.{Phi}
+use Rattle.pass_proofs.specs.ir_model.declared.module.Function.{Function}
+use Rattle.pass_proofs.specs.ir_model.declared.operand.Operand.{Operand}
+use Rattle.pass_proofs.specs.pass_fetch.Blocks.{end_at, next_after_phis_by}
+use Rattle.pass_proofs.specs.pass_fetch.Fetching.{fetches_of_all, next_after_all}
+use Rattle.pass_proofs.specs.pass_fetch.declared.fetch.Fetch.{Fetch}
 use Rattle.pass_frames_proof.specs.Distances.{IsBelow, SetsFrom}
 use Rattle.pass_frames_proof.specs.Fetched.{AreSeenAs, CanFetch}
 use Rattle.pass_frames_proof.specs.Led.{IsTwiceFor, seen_twice}
 use Rattle.pass_frames_proof.specs.Passes.{phi_ends}
 use Rattle.pass_frames_proof.specs.Phis.{AreBlocksSeen, CanAllComeFrom}
-use Rattle.run_laws.specs.access.Lines.{Runs}
-use Rattle.run_laws.specs.changed.Changed.{Each}
-use Rattle.run_laws.specs.memory.Pointers.{Home}
-use Rattle.run_memory.specs.declared.pointer.Value.{Value}
-use Rattle.run_step.specs.Step.{Context, Work, incoming_from}
+use Rattle.pass_proofs.specs.run_laws.access.Lines.{Runs}
+use Rattle.pass_proofs.specs.run_laws.changed.Changed.{Each}
+use Rattle.pass_proofs.specs.run_laws.memory.Pointers.{Home}
+use Rattle.pass_proofs.specs.run_memory.declared.pointer.Value.{Value}
+use Rattle.pass_proofs.specs.run_step.Step.{Context, Work, incoming_from}
 
 -- what stands at the end: f is the function whose kept operands are loaded, and h the one whose addresses are made
 abbrev pub end_line : (t u : List (Option Fetch)) → (f h : Function) → (label n m : ℕ) → (xs ys : List Operand)

@@ -1,22 +1,22 @@
 -- A resumed activation of the framed run makes its function's allocas one after another, before it enters a label.
 use Rattle.std.specs.Prelude.{◌≡◌, ◌+◌, ◌∷◌, ◌++◌, [], if◌then◌else◌, List, None, filter, length, true, ℕ}
-use Rattle.ir_base.specs.declared.outcome.Outcome.{Outcome}
-use Rattle.ir_model.specs.Layout.{size_of}
-use Rattle.ir_model.specs.declared.instr.Instr.{Instr}
-use Rattle.ir_model.specs.declared.module.Function.{Function}
-use Rattle.ir_model.specs.declared.module.Module.{Module}
+use Rattle.pass_proofs.specs.ir_base.declared.outcome.Outcome.{Outcome}
+use Rattle.pass_proofs.specs.ir_model.Layout.{size_of}
+use Rattle.pass_proofs.specs.ir_model.declared.instr.Instr.{Instr}
+use Rattle.pass_proofs.specs.ir_model.declared.module.Function.{Function}
+use Rattle.pass_proofs.specs.ir_model.declared.module.Module.{Module}
 use Rattle.pass_frames_proof.specs.Layers.{up_to, woven}
 use Rattle.pass_frames_proof.specs.Places.{Framing, instrs_at, placed_layer}
-use Rattle.pass_front.specs.Front.{is_alloca}
-use Rattle.run_framed.specs.Framed.{FramedGiven, enter_after}
-use Rattle.run_laws.specs.memory.Standing.{blank_block}
-use Rattle.run_memory.specs.declared.block.Life.{Life}
-use Rattle.run_memory.specs.declared.block.MemoryBlock.{MemoryBlock}
-use Rattle.run_source.specs.State.{function_of}
-use Rattle.run_source.specs.declared.state.Mode.{Mode}
-use Rattle.run_source.specs.declared.state.State.{State}
-use Rattle.run_step.specs.Step.{alloca_kind, has_markers, is_alignment}
-use Rattle.run_step.specs.Values.{pointer_to, with_value}
+use Rattle.pass_proofs.specs.pass_front.Front.{is_alloca}
+use Rattle.pass_proofs.specs.run_framed.Framed.{FramedGiven, enter_after}
+use Rattle.pass_proofs.specs.run_laws.memory.Standing.{blank_block}
+use Rattle.pass_proofs.specs.run_memory.declared.block.Life.{Life}
+use Rattle.pass_proofs.specs.run_memory.declared.block.MemoryBlock.{MemoryBlock}
+use Rattle.pass_proofs.specs.run_source.State.{function_of}
+use Rattle.pass_proofs.specs.run_source.declared.state.Mode.{Mode}
+use Rattle.pass_proofs.specs.run_source.declared.state.State.{State}
+use Rattle.pass_proofs.specs.run_step.Step.{alloca_kind, has_markers, is_alignment}
+use Rattle.pass_proofs.specs.run_step.Values.{pointer_to, with_value}
 
 -- the block that an alloca of a function makes, which has ended at first where it has markers
 abbrev pub made_block : Module → Function → Instr → List MemoryBlock

@@ -1,17 +1,17 @@
 -- What the loads and addresses give by which operands are fetched, where they are executed.
 use Rattle.std.specs.Prelude.{◌≡◌, ◌<◌, ◌+◌, ◌^◌, ℕ, true, List, [], ◌∷◌, length, Some, None, Option}
-use Rattle.ir_model.specs.Ty.{Ty}
-use Rattle.ir_model.specs.declared.operand.Operand.{Operand}
-use Rattle.pass_fetch.specs.Fetching.{fetch_of, fetched_operand, fetches_of_all, next_after, value_bytes}
-use Rattle.pass_fetch.specs.declared.fetch.Fetch.{Fetch}
+use Rattle.pass_proofs.specs.ir_model.Ty.{Ty}
+use Rattle.pass_proofs.specs.ir_model.declared.operand.Operand.{Operand}
+use Rattle.pass_proofs.specs.pass_fetch.Fetching.{fetch_of, fetched_operand, fetches_of_all, next_after, value_bytes}
+use Rattle.pass_proofs.specs.pass_fetch.declared.fetch.Fetch.{Fetch}
 use Rattle.pass_frames_proof.specs.Distances.{SetsFrom}
 use Rattle.pass_proofs.specs.fetch.rules.Fetches.{base_of}
-use Rattle.run_laws.specs.access.Lines.{Holds, Runs, pointer_at}
-use Rattle.run_memory.specs.Memory.{access_bytes, decode}
-use Rattle.run_memory.specs.declared.block.Byte.{Byte}
-use Rattle.run_memory.specs.declared.pointer.Value.{Value}
-use Rattle.run_step.specs.Step.{Context, Work, is_alignment, value_at}
-use Rattle.run_step.specs.Values.{access_of, value_in}
+use Rattle.pass_proofs.specs.run_laws.access.Lines.{Holds, Runs, pointer_at}
+use Rattle.pass_proofs.specs.run_memory.Memory.{access_bytes, decode}
+use Rattle.pass_proofs.specs.run_memory.declared.block.Byte.{Byte}
+use Rattle.pass_proofs.specs.run_memory.declared.pointer.Value.{Value}
+use Rattle.pass_proofs.specs.run_step.Step.{Context, Work, is_alignment, value_at}
+use Rattle.pass_proofs.specs.run_step.Values.{access_of, value_in}
 
 -- a load finds bytes where its cell lies, and an address has its base in a block
 pub record IsLoaded (c : Context) (w : Work) (ty : Ty) (cell : ℕ) (v : Value) : Type 0 where

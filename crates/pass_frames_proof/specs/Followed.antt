@@ -1,17 +1,17 @@
 -- What the framed run does for one step of the run in which slots are made anew, and the account of it.
 use Rattle.std.specs.Prelude.{◌≡◌, ℕ, ℤ, ◌-◌, ◌<◌, ◌≤◌, ◌⊎◌, List, length, slice_get, None, Option, Some}
-use Rattle.frame_layout.specs.declared.layout.Layouts.{Layouts}
-use Rattle.ir_base.specs.declared.outcome.Outcome.{Outcome}
-use Rattle.ir_base.specs.declared.outcome.Word.{Word}
-use Rattle.ir_model.specs.declared.module.Block.{Block}
+use Rattle.pass_proofs.specs.frame_layout.declared.layout.Layouts.{Layouts}
+use Rattle.pass_proofs.specs.ir_base.declared.outcome.Outcome.{Outcome}
+use Rattle.pass_proofs.specs.ir_base.declared.outcome.Word.{Word}
+use Rattle.pass_proofs.specs.ir_model.declared.module.Block.{Block}
 use Rattle.pass_frames_proof.specs.Meaning.{step_cost}
 use Rattle.pass_frames_proof.specs.Related.{AreBuiltOf, AreShownAlike, Building}
 use Rattle.pass_renewed_proof.specs.Renewed.{RenewedGiven, renewed_step}
-use Rattle.run_agreement.specs.Machines.{IsFine, iterate}
-use Rattle.run_framed.specs.Framed.{framed_given, framed_state_at, framed_step}
-use Rattle.run_source.specs.Source.{first_state}
-use Rattle.run_source.specs.State.{function_of}
-use Rattle.run_source.specs.declared.state.State.{State}
+use Rattle.pass_proofs.specs.run_agreement.Machines.{IsFine, iterate}
+use Rattle.pass_proofs.specs.run_framed.Framed.{framed_given, framed_state_at, framed_step}
+use Rattle.pass_proofs.specs.run_source.Source.{first_state}
+use Rattle.pass_proofs.specs.run_source.State.{function_of}
+use Rattle.pass_proofs.specs.run_source.declared.state.State.{State}
 
 abbrev pub instr_count : Option Block → ℕ
 instr_count None = 0

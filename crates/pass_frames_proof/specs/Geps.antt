@@ -1,26 +1,26 @@
 -- A getelementptr whose distance is kept: an ordinary step, behind which the distance is summed and stored.
 use Rattle.std.specs.Prelude.{◌≡◌, ◌≢◌, ◌≤◌, ℕ, Bool, List, ◌++◌, length, Some, None, Option}
-use Rattle.ir_model.specs.Ty.{Ty}
-use Rattle.ir_model.specs.declared.instr.Instr.{Instr}
-use Rattle.ir_model.specs.declared.operand.Arg.{Arg}
-use Rattle.ir_model.specs.declared.operand.Operand.{Operand}
-use Rattle.ir_parts.specs.Contents.{arg_operands}
-use Rattle.pass_cells.specs.Cells.{fetches_of}
-use Rattle.pass_cells.specs.Kept.{entry}
-use Rattle.pass_cells.specs.Written.{distance_behind, distance_from, stored}
-use Rattle.pass_distances.specs.Sums.{distance_next}
-use Rattle.pass_distances.specs.Ways.{ways_of}
-use Rattle.pass_fetch.specs.Fetching.{fetched_args, next_after}
-use Rattle.pass_fetch.specs.Instrs.{with_fetched}
+use Rattle.pass_proofs.specs.ir_model.Ty.{Ty}
+use Rattle.pass_proofs.specs.ir_model.declared.instr.Instr.{Instr}
+use Rattle.pass_proofs.specs.ir_model.declared.operand.Arg.{Arg}
+use Rattle.pass_proofs.specs.ir_model.declared.operand.Operand.{Operand}
+use Rattle.pass_proofs.specs.ir_parts.Contents.{arg_operands}
+use Rattle.pass_proofs.specs.pass_cells.Cells.{fetches_of}
+use Rattle.pass_proofs.specs.pass_cells.Kept.{entry}
+use Rattle.pass_proofs.specs.pass_cells.Written.{distance_behind, distance_from, stored}
+use Rattle.pass_proofs.specs.pass_distances.Sums.{distance_next}
+use Rattle.pass_proofs.specs.pass_distances.Ways.{ways_of}
+use Rattle.pass_proofs.specs.pass_fetch.Fetching.{fetched_args, next_after}
+use Rattle.pass_proofs.specs.pass_fetch.Instrs.{with_fetched}
 use Rattle.pass_frames_proof.specs.Distances.{AreFields, AreWaysBelow}
 use Rattle.pass_frames_proof.specs.Ordinary.{IsResultName, MayFetch, StepsBy}
 use Rattle.pass_frames_proof.specs.Places.{Framing, plan}
 use Rattle.pass_frames_proof.specs.Related.{root_of}
-use Rattle.run_laws.specs.changed.Changed.{Each}
-use Rattle.run_laws.specs.memory.Pointers.{Home}
-use Rattle.run_source.specs.declared.state.Activation.{Activation}
-use Rattle.run_step.specs.Step.{Context, Work}
-use Rattle.run_step.specs.Values.{Env, distance, pointer_to, value_in}
+use Rattle.pass_proofs.specs.run_laws.changed.Changed.{Each}
+use Rattle.pass_proofs.specs.run_laws.memory.Pointers.{Home}
+use Rattle.pass_proofs.specs.run_source.declared.state.Activation.{Activation}
+use Rattle.pass_proofs.specs.run_step.Step.{Context, Work}
+use Rattle.pass_proofs.specs.run_step.Values.{Env, distance, pointer_to, value_in}
 
 -- an operand isn't this name
 abbrev pub IsNotName : ℕ → Operand → Type 0

@@ -1,7 +1,7 @@
 -- What both runs are given: frames are built in a module, and names stay.
 use Rattle.std.specs.Prelude.{◌≡◌, length}
-use Rattle.ir_base.specs.declared.name.Name.{Name}
-use Rattle.ir_model.specs.Names.{function_named}
+use Rattle.pass_proofs.specs.ir_base.declared.name.Name.{Name}
+use Rattle.pass_proofs.specs.ir_model.Names.{function_named}
 use Rattle.pass_frames_proof.specs.Related.{Building}
 
 -- A function keeps its name and its place where its frame is built, and nothing else of the module changes.

@@ -1,20 +1,20 @@
 -- The next step is an instruction of a coroutine on a line of its own: its operands are fetched in front of it, and its
 -- result is stored behind it, whatever it does.
 use Rattle.std.specs.Prelude.{◌≡◌, ◌<◌, Some, false, length, slice_get, true, ℕ}
-use Rattle.ir_base.specs.declared.outcome.Outcome.{Outcome}
-use Rattle.ir_model.specs.Ty.{Ty}
-use Rattle.ir_model.specs.declared.instr.Instr.{Instr}
-use Rattle.ir_model.specs.declared.operand.Callee.{Callee}
-use Rattle.ir_model.specs.declared.operand.Intrinsic.{Intrinsic}
-use Rattle.ir_parts.specs.Contents.{instr_operands, result_of}
+use Rattle.pass_proofs.specs.ir_base.declared.outcome.Outcome.{Outcome}
+use Rattle.pass_proofs.specs.ir_model.Ty.{Ty}
+use Rattle.pass_proofs.specs.ir_model.declared.instr.Instr.{Instr}
+use Rattle.pass_proofs.specs.ir_model.declared.operand.Callee.{Callee}
+use Rattle.pass_proofs.specs.ir_model.declared.operand.Intrinsic.{Intrinsic}
+use Rattle.pass_proofs.specs.ir_parts.Contents.{instr_operands, result_of}
 use Rattle.pass_frames_proof.specs.Distances.{IsBelow}
 use Rattle.pass_frames_proof.specs.Ordinary.{IsPlainName}
 use Rattle.pass_frames_proof.specs.Places.{edged, instrs_at, is_return}
 use Rattle.pass_frames_proof.specs.Related.{Building, is_coroutine}
 use Rattle.pass_frames_proof.specs.Stepping.{AreNamesInOrder, AreOffsetsPlaced, IsBeginPlain, IsNotEntering, IsPlacedOperand, IsUnlocated, state_in}
-use Rattle.run_laws.specs.changed.Changed.{Each}
-use Rattle.run_source.specs.declared.state.Activation.{Activation}
-use Rattle.run_source.specs.declared.state.State.{State}
+use Rattle.pass_proofs.specs.run_laws.changed.Changed.{Each}
+use Rattle.pass_proofs.specs.run_source.declared.state.Activation.{Activation}
+use Rattle.pass_proofs.specs.run_source.declared.state.State.{State}
 
 -- intrinsics around which nothing else is put in: neither begin, a save, a marker nor coro.id
 abbrev pub IsLinedIntrinsic : Intrinsic → Type 0

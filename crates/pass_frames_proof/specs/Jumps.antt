@@ -1,15 +1,15 @@
 -- What is asked of the end of a block where a coroutine jumps from it, by the code of the framed form.
 use Rattle.std.specs.Prelude.{◌≡◌, ◌≤◌, ℕ, List, length, codes, slice_get, Some}
 use Rattle.std.specs.List.{Contains}
-use Rattle.ir_model.specs.Names.{block_labelled, position_of}
-use Rattle.ir_model.specs.declared.instr.Phi.{Phi}
-use Rattle.ir_model.specs.declared.instr.Terminator.{Terminator}
-use Rattle.ir_model.specs.declared.module.Block.{Block}
-use Rattle.pass_cells.specs.Cells.{fetches_of}
-use Rattle.pass_copies.specs.declared.slot.EarlySlot.{EarlySlot}
-use Rattle.pass_fetch.specs.Blocks.{with_fetches}
-use Rattle.pass_fetch.specs.Fetching.{next_after_all}
-use Rattle.pass_fetch.specs.Instrs.{fetched_term, term_operands}
+use Rattle.pass_proofs.specs.ir_model.Names.{block_labelled, position_of}
+use Rattle.pass_proofs.specs.ir_model.declared.instr.Phi.{Phi}
+use Rattle.pass_proofs.specs.ir_model.declared.instr.Terminator.{Terminator}
+use Rattle.pass_proofs.specs.ir_model.declared.module.Block.{Block}
+use Rattle.pass_proofs.specs.pass_cells.Cells.{fetches_of}
+use Rattle.pass_proofs.specs.pass_copies.declared.slot.EarlySlot.{EarlySlot}
+use Rattle.pass_proofs.specs.pass_fetch.Blocks.{with_fetches}
+use Rattle.pass_proofs.specs.pass_fetch.Fetching.{next_after_all}
+use Rattle.pass_proofs.specs.pass_fetch.Instrs.{fetched_term, term_operands}
 use Rattle.pass_frames_proof.specs.Code.{address_state, end_code, end_term, last_state, load_name, slot_table}
 use Rattle.pass_frames_proof.specs.Distances.{IsBelow}
 use Rattle.pass_frames_proof.specs.Edges.{block_to}
@@ -19,15 +19,15 @@ use Rattle.pass_frames_proof.specs.Passes.{block_at}
 use Rattle.pass_frames_proof.specs.Places.{Framing, copies, edged, framed, named, plan, unmarked}
 use Rattle.pass_frames_proof.specs.Related.{AreBuiltOf, Building}
 use Rattle.pass_renewed_proof.specs.Renewed.{RenewedGiven}
-use Rattle.run_framed.specs.Framed.{framed_context}
-use Rattle.run_laws.specs.changed.Changed.{Each}
-use Rattle.run_laws.specs.memory.Pointers.{Home}
-use Rattle.run_laws.specs.transfer.Transfer.{IsSameCase, cases_at}
-use Rattle.run_memory.specs.declared.pointer.Value.{Value}
-use Rattle.run_source.specs.Source.{context_of}
-use Rattle.run_source.specs.State.{work_of}
-use Rattle.run_source.specs.declared.state.State.{State}
-use Rattle.run_step.specs.Step.{AtTerm, Context, GoTo, Work, incoming_from, label_of, phis_of, term_action}
+use Rattle.pass_proofs.specs.run_framed.Framed.{framed_context}
+use Rattle.pass_proofs.specs.run_laws.changed.Changed.{Each}
+use Rattle.pass_proofs.specs.run_laws.memory.Pointers.{Home}
+use Rattle.pass_proofs.specs.run_laws.transfer.Transfer.{IsSameCase, cases_at}
+use Rattle.pass_proofs.specs.run_memory.declared.pointer.Value.{Value}
+use Rattle.pass_proofs.specs.run_source.Source.{context_of}
+use Rattle.pass_proofs.specs.run_source.State.{work_of}
+use Rattle.pass_proofs.specs.run_source.declared.state.State.{State}
+use Rattle.pass_proofs.specs.run_step.Step.{AtTerm, Context, GoTo, Work, incoming_from, label_of, phis_of, term_action}
 
 -- the phis of a block before and behind the two passes that fetch
 pub record PhisInPlace (x : Framing) (k : ℕ) : Type 0 where

@@ -2,9 +2,9 @@
 -- by
 -- a running state; what stands in front of the first one and behind the last one; and the terminator.
 use Rattle.std.specs.Prelude.{◌≡◌, ℕ, List, [], length, take, slice_get, option_to_list, Some, None, Option, ◌+◌, ◌∷◌, ◌++◌, if◌then◌else◌, Bool}
-use Rattle.ir_model.specs.declared.instr.Instr.{Instr}
-use Rattle.ir_model.specs.declared.instr.Terminator.{Terminator}
-use Rattle.ir_model.specs.declared.module.Block.{Block}
+use Rattle.pass_proofs.specs.ir_model.declared.instr.Instr.{Instr}
+use Rattle.pass_proofs.specs.ir_model.declared.instr.Terminator.{Terminator}
+use Rattle.pass_proofs.specs.ir_model.declared.module.Block.{Block}
 
 pub record Layer (S : Type 0) : Type 0 where
   -- what stands in front of the first instruction, and the state behind that

@@ -1,11 +1,11 @@
 -- The framed run on a straight line of its code.
 use Rattle.std.specs.Prelude.{◌≡◌, ℕ, Bool, false, is_some, ◌+◌}
-use Rattle.ir_model.specs.declared.instr.Instr.{Instr}
-use Rattle.ir_model.specs.declared.module.Module.{Module}
-use Rattle.ir_model.specs.declared.operand.Callee.{Callee}
-use Rattle.run_framed.specs.Framed.{given_ramp}
-use Rattle.run_source.specs.declared.state.State.{State}
-use Rattle.run_step.specs.Step.{Work}
+use Rattle.pass_proofs.specs.ir_model.declared.instr.Instr.{Instr}
+use Rattle.pass_proofs.specs.ir_model.declared.module.Module.{Module}
+use Rattle.pass_proofs.specs.ir_model.declared.operand.Callee.{Callee}
+use Rattle.pass_proofs.specs.run_framed.Framed.{given_ramp}
+use Rattle.pass_proofs.specs.run_source.declared.state.State.{State}
+use Rattle.pass_proofs.specs.run_step.Step.{Work}
 
 -- so many instructions further on, with a work
 abbrev pub lined : State → ℕ → Work → State

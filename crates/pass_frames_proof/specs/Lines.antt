@@ -1,29 +1,29 @@
 -- Straight lines that are woven in: they set new names and fill ranges of bytes, and nothing else.
 use Rattle.std.specs.List.{Contains}
 use Rattle.std.specs.Prelude.{◌≡◌, ◌<◌, ◌≤◌, ◌≢◌, ℕ, true, List, [], ◌∷◌, length, map, slice_get, Some}
-use Rattle.ir_laws.specs.paths.woven_rules.Pairs.{AreDifferent}
-use Rattle.ir_model.specs.Ty.{Ty, int}
-use Rattle.ir_model.specs.declared.instr.Instr.{Instr}
-use Rattle.pass_cells.specs.Kept.{entry}
-use Rattle.pass_cells.specs.Moves.{load_from, store_to}
-use Rattle.pass_cells.specs.declared.plan.KeptValue.{KeptValue}
-use Rattle.pass_fetch.specs.Fetching.{value_bytes}
+use Rattle.pass_proofs.specs.ir_laws.paths.woven_rules.Pairs.{AreDifferent}
+use Rattle.pass_proofs.specs.ir_model.Ty.{Ty, int}
+use Rattle.pass_proofs.specs.ir_model.declared.instr.Instr.{Instr}
+use Rattle.pass_proofs.specs.pass_cells.Kept.{entry}
+use Rattle.pass_proofs.specs.pass_cells.Moves.{load_from, store_to}
+use Rattle.pass_proofs.specs.pass_cells.declared.plan.KeptValue.{KeptValue}
+use Rattle.pass_proofs.specs.pass_fetch.Fetching.{value_bytes}
 use Rattle.pass_frames_proof.specs.Places.{Framing, edged, named, plan}
 use Rattle.pass_frames_proof.specs.Related.{Anything, IsCell, IsDistanceOf, IsKeptValue, root_of}
-use Rattle.run_laws.specs.access.Accessed.{Span}
-use Rattle.run_laws.specs.access.Lines.{AreDisjoint, Holds, Runs, refilled_at}
-use Rattle.run_laws.specs.changed.Changed.{Each}
-use Rattle.run_laws.specs.memory.Pointers.{Home, IsValue}
-use Rattle.run_laws.specs.memory.Standing.{IsAway}
-use Rattle.run_memory.specs.Memory.{Rights, access_bytes, is_live}
-use Rattle.run_memory.specs.declared.block.Byte.{Byte}
-use Rattle.run_memory.specs.declared.block.MemoryBlock.{MemoryBlock}
-use Rattle.run_memory.specs.declared.pointer.Value.{Value}
-use Rattle.run_source.specs.declared.state.Activation.{Activation}
-use Rattle.run_step.specs.Step.{Context, Done, Work, instr_action, is_alignment, set_value}
-use Rattle.run_step.specs.Values.{Env, access_of, stored, value_in}
-use Rattle.run_step.specs.declared.world.Slot.{Slot}
-use Rattle.run_step.specs.declared.world.World.{World}
+use Rattle.pass_proofs.specs.run_laws.access.Accessed.{Span}
+use Rattle.pass_proofs.specs.run_laws.access.Lines.{AreDisjoint, Holds, Runs, refilled_at}
+use Rattle.pass_proofs.specs.run_laws.changed.Changed.{Each}
+use Rattle.pass_proofs.specs.run_laws.memory.Pointers.{Home, IsValue}
+use Rattle.pass_proofs.specs.run_laws.memory.Standing.{IsAway}
+use Rattle.pass_proofs.specs.run_memory.Memory.{Rights, access_bytes, is_live}
+use Rattle.pass_proofs.specs.run_memory.declared.block.Byte.{Byte}
+use Rattle.pass_proofs.specs.run_memory.declared.block.MemoryBlock.{MemoryBlock}
+use Rattle.pass_proofs.specs.run_memory.declared.pointer.Value.{Value}
+use Rattle.pass_proofs.specs.run_source.declared.state.Activation.{Activation}
+use Rattle.pass_proofs.specs.run_step.Step.{Context, Done, Work, instr_action, is_alignment, set_value}
+use Rattle.pass_proofs.specs.run_step.Values.{Env, access_of, stored, value_in}
+use Rattle.pass_proofs.specs.run_step.declared.world.Slot.{Slot}
+use Rattle.pass_proofs.specs.run_step.declared.world.World.{World}
 
 -- one range behind another is filled with other bytes, each of which may be written
 pub data Fills (rights : Rights) : List Span → List MemoryBlock → List MemoryBlock → Type 0 where

@@ -1,14 +1,14 @@
 -- What the loads of kept values give.
 use Rattle.std.specs.Prelude.{ℕ, List, slice_get, Some, None, Ok, Err, Option, Result}
-use Rattle.ir_base.specs.declared.cause.Cause.{Cause}
-use Rattle.pass_cells.specs.Kept.{entry}
-use Rattle.pass_cells.specs.declared.plan.KeptValue.{KeptValue}
-use Rattle.pass_fetch.specs.Fetching.{value_bytes}
+use Rattle.pass_proofs.specs.ir_base.declared.cause.Cause.{Cause}
+use Rattle.pass_proofs.specs.pass_cells.Kept.{entry}
+use Rattle.pass_proofs.specs.pass_cells.declared.plan.KeptValue.{KeptValue}
+use Rattle.pass_proofs.specs.pass_fetch.Fetching.{value_bytes}
 use Rattle.pass_frames_proof.specs.Places.{Framing, plan}
-use Rattle.run_memory.specs.Memory.{load}
-use Rattle.run_memory.specs.declared.pointer.Value.{Value}
-use Rattle.run_step.specs.Step.{Context, Work}
-use Rattle.run_step.specs.Values.{access_of, address, value_in}
+use Rattle.pass_proofs.specs.run_memory.Memory.{load}
+use Rattle.pass_proofs.specs.run_memory.declared.pointer.Value.{Value}
+use Rattle.pass_proofs.specs.run_step.Step.{Context, Work}
+use Rattle.pass_proofs.specs.run_step.Values.{access_of, address, value_in}
 
 abbrev pub or_poison : Result Value Cause → Value
 or_poison (Err c) = Value.Poison

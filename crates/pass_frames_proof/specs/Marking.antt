@@ -1,33 +1,33 @@
 -- Lifetime markers, as they stand in a function: what is asked of a state whose next step is one.
 use Rattle.std.specs.List.{Contains}
 use Rattle.std.specs.Prelude.{◌≡◌, ◌≢◌, ◌+◌, ◌<◌, ◌≤◌, ◌^◌, ◌∷◌, [], Bool, None, Option, Some, false, length, slice_get, true, ℕ}
-use Rattle.ir_base.specs.declared.outcome.Outcome.{Outcome}
-use Rattle.ir_model.specs.Ty.{Ty}
-use Rattle.ir_model.specs.declared.instr.Instr.{Instr}
-use Rattle.ir_model.specs.declared.operand.Arg.{Arg}
-use Rattle.ir_model.specs.declared.operand.Callee.{Callee}
-use Rattle.ir_model.specs.declared.operand.Intrinsic.{Intrinsic}
-use Rattle.ir_model.specs.declared.operand.Operand.{Operand}
-use Rattle.pass_addresses.specs.Placing.{stays}
-use Rattle.pass_cells.specs.Kept.{entry}
-use Rattle.pass_copies.specs.declared.slot.EarlySlot.{EarlySlot}
+use Rattle.pass_proofs.specs.ir_base.declared.outcome.Outcome.{Outcome}
+use Rattle.pass_proofs.specs.ir_model.Ty.{Ty}
+use Rattle.pass_proofs.specs.ir_model.declared.instr.Instr.{Instr}
+use Rattle.pass_proofs.specs.ir_model.declared.operand.Arg.{Arg}
+use Rattle.pass_proofs.specs.ir_model.declared.operand.Callee.{Callee}
+use Rattle.pass_proofs.specs.ir_model.declared.operand.Intrinsic.{Intrinsic}
+use Rattle.pass_proofs.specs.ir_model.declared.operand.Operand.{Operand}
+use Rattle.pass_proofs.specs.pass_addresses.Placing.{stays}
+use Rattle.pass_proofs.specs.pass_cells.Kept.{entry}
+use Rattle.pass_proofs.specs.pass_copies.declared.slot.EarlySlot.{EarlySlot}
 use Rattle.pass_frames_proof.specs.Places.{copies, edged, instrs_at, is_return, marked, offsets, plan}
 use Rattle.pass_frames_proof.specs.Related.{AreBuiltOf, Building, is_coroutine}
 use Rattle.pass_frames_proof.specs.Slotted.{IsSlotInFrame}
 use Rattle.pass_frames_proof.specs.Stepping.{IsNotEntering}
 use Rattle.pass_proofs.specs.addresses.rules.Addresses.{lies_in_frame}
 use Rattle.pass_renewed_proof.specs.Renewed.{RenewedGiven}
-use Rattle.run_laws.specs.memory.Pointers.{home_of}
-use Rattle.run_laws.specs.transfer.Muted.{muted}
-use Rattle.run_memory.specs.Memory.{is_live, same_kind}
-use Rattle.run_memory.specs.declared.block.Kind.{Kind}
-use Rattle.run_memory.specs.declared.block.MemoryBlock.{MemoryBlock}
-use Rattle.run_source.specs.State.{function_of}
-use Rattle.run_source.specs.declared.state.Instance.{Instance}
-use Rattle.run_source.specs.declared.state.State.{State}
-use Rattle.run_step.specs.Step.{AtInstr, fetch}
-use Rattle.run_step.specs.Values.{pointer_to, value_in}
-use Rattle.run_step.specs.declared.world.Slot.{Slot}
+use Rattle.pass_proofs.specs.run_laws.memory.Pointers.{home_of}
+use Rattle.pass_proofs.specs.run_laws.transfer.Muted.{muted}
+use Rattle.pass_proofs.specs.run_memory.Memory.{is_live, same_kind}
+use Rattle.pass_proofs.specs.run_memory.declared.block.Kind.{Kind}
+use Rattle.pass_proofs.specs.run_memory.declared.block.MemoryBlock.{MemoryBlock}
+use Rattle.pass_proofs.specs.run_source.State.{function_of}
+use Rattle.pass_proofs.specs.run_source.declared.state.Instance.{Instance}
+use Rattle.pass_proofs.specs.run_source.declared.state.State.{State}
+use Rattle.pass_proofs.specs.run_step.Step.{AtInstr, fetch}
+use Rattle.pass_proofs.specs.run_step.Values.{pointer_to, value_in}
+use Rattle.pass_proofs.specs.run_step.declared.world.Slot.{Slot}
 
 -- ---- the instruction
 

@@ -1,30 +1,30 @@
 -- What building frames keeps: the states of RenewedAt of the coroutines with blocks on edges and those of FramedAt of
 -- the framed forms stand beside each other, and each step of the first pays for those of the second.
 use Rattle.std.specs.Prelude.{◌≡◌, ℕ, ℤ, ◌+◌, ◌-◌, ◌≤◌, false, List, [], ◌∷◌, Option, Err, Ok, Result, option_map, if◌then◌else◌}
-use Rattle.frame_layout.specs.declared.layout.Layouts.{Layouts}
-use Rattle.ir_base.specs.declared.cause.Cause.{Cause}
-use Rattle.ir_base.specs.declared.outcome.Word.{Word}
-use Rattle.ir_model.specs.Names.{function_at, position_of}
-use Rattle.ir_model.specs.declared.module.Frame.{Frame}
-use Rattle.ir_model.specs.declared.operand.Intrinsic.{Intrinsic}
-use Rattle.ir_paths.specs.declared.point.Point.{Point}
+use Rattle.pass_proofs.specs.frame_layout.declared.layout.Layouts.{Layouts}
+use Rattle.pass_proofs.specs.ir_base.declared.cause.Cause.{Cause}
+use Rattle.pass_proofs.specs.ir_base.declared.outcome.Word.{Word}
+use Rattle.pass_proofs.specs.ir_model.Names.{function_at, position_of}
+use Rattle.pass_proofs.specs.ir_model.declared.module.Frame.{Frame}
+use Rattle.pass_proofs.specs.ir_model.declared.operand.Intrinsic.{Intrinsic}
+use Rattle.pass_proofs.specs.ir_paths.declared.point.Point.{Point}
 use Rattle.pass_frames_proof.specs.Costs.{call_cost, instr_cost, jump_cost, resume_cost, slot_cost, whole}
 use Rattle.pass_frames_proof.specs.Places.{Framing, own_place, place}
 use Rattle.pass_frames_proof.specs.Related.{AreBuilt, AreBuiltOf, AreShownAlike, Building, is_coroutine, point_of}
-use Rattle.pass_kept_proof.specs.Kept.{Keep}
+use Rattle.pass_proofs.specs.pass_kept_proof.Kept.{Keep}
 use Rattle.pass_proofs.specs.edges.states.MovedState.{edges_split}
 use Rattle.pass_renewed_proof.specs.Prices.{renewed_machine}
 use Rattle.pass_renewed_proof.specs.Renewed.{Flags, RenewedGiven, Roots, renewed_from, renewed_given}
 use Rattle.pass_renewed_proof.specs.SlotRules.{KeepsAllSlots}
-use Rattle.run_agreement.specs.Costs.{AgreesBy}
-use Rattle.run_source.specs.Source.{Sleeper, context_of, sleeper_at}
-use Rattle.run_source.specs.State.{function_of, work_of}
-use Rattle.run_source.specs.declared.state.Activation.{Activation}
-use Rattle.run_source.specs.declared.state.Mode.{Mode}
-use Rattle.run_source.specs.declared.state.State.{State}
-use Rattle.run_states.specs.moved_states.Beside.{framed_machine}
-use Rattle.run_step.specs.Step.{Action, Coro, Enter, GoTo, Return, action_of, fetch}
-use Rattle.run_step.specs.Values.{arg_values, nth}
+use Rattle.pass_proofs.specs.run_agreement.Costs.{AgreesBy}
+use Rattle.pass_proofs.specs.run_source.Source.{Sleeper, context_of, sleeper_at}
+use Rattle.pass_proofs.specs.run_source.State.{function_of, work_of}
+use Rattle.pass_proofs.specs.run_source.declared.state.Activation.{Activation}
+use Rattle.pass_proofs.specs.run_source.declared.state.Mode.{Mode}
+use Rattle.pass_proofs.specs.run_source.declared.state.State.{State}
+use Rattle.pass_proofs.specs.run_states.moved_states.Beside.{framed_machine}
+use Rattle.pass_proofs.specs.run_step.Step.{Action, Coro, Enter, GoTo, Return, action_of, fetch}
+use Rattle.pass_proofs.specs.run_step.Values.{arg_values, nth}
 
 -- ---- what the next step costs
 

@@ -1,27 +1,27 @@
 -- The distance of an address from its local slot, which is summed and stored behind the getelementptr that makes it.
 use Rattle.std.specs.Prelude.{◌≡◌, ◌≢◌, ◌⊎◌, ◌≤◌, ℕ, List, [], ◌∷◌, length, Some, None, Option}
-use Rattle.ir_model.specs.Ty.{Ty, int}
-use Rattle.ir_model.specs.declared.module.Module.{Module}
-use Rattle.ir_model.specs.declared.operand.Arg.{Arg}
-use Rattle.pass_cells.specs.Kept.{entry}
-use Rattle.pass_cells.specs.Written.{distance_from}
-use Rattle.pass_distances.specs.Sums.{distance_instrs, distance_next}
-use Rattle.pass_distances.specs.Ways.{ways_of}
-use Rattle.pass_fetch.specs.Fetching.{fetched_arg, next_after}
-use Rattle.pass_fetch.specs.declared.fetch.Fetch.{Fetch}
+use Rattle.pass_proofs.specs.ir_model.Ty.{Ty, int}
+use Rattle.pass_proofs.specs.ir_model.declared.module.Module.{Module}
+use Rattle.pass_proofs.specs.ir_model.declared.operand.Arg.{Arg}
+use Rattle.pass_proofs.specs.pass_cells.Kept.{entry}
+use Rattle.pass_proofs.specs.pass_cells.Written.{distance_from}
+use Rattle.pass_proofs.specs.pass_distances.Sums.{distance_instrs, distance_next}
+use Rattle.pass_proofs.specs.pass_distances.Ways.{ways_of}
+use Rattle.pass_proofs.specs.pass_fetch.Fetching.{fetched_arg, next_after}
+use Rattle.pass_proofs.specs.pass_fetch.declared.fetch.Fetch.{Fetch}
 use Rattle.pass_frames_proof.specs.Distances.{AreFields, AreWaysBelow}
 use Rattle.pass_frames_proof.specs.Lines.{AreCellsRightBut, AreInCells, HasOwnBlocks, RunsOver, at_work}
 use Rattle.pass_frames_proof.specs.Places.{Framing, named, plan}
 use Rattle.pass_frames_proof.specs.Related.{Anything, AreCellsRight, IsCell, root_of}
-use Rattle.run_laws.specs.access.Accessed.{Span}
-use Rattle.run_laws.specs.memory.Pointers.{Home, IsValue}
-use Rattle.run_memory.specs.Pointers.{moved}
-use Rattle.run_memory.specs.declared.pointer.Offset.{Offset}
-use Rattle.run_memory.specs.declared.pointer.Pointer.{Pointer}
-use Rattle.run_memory.specs.declared.pointer.Value.{Value}
-use Rattle.run_source.specs.declared.state.Activation.{Activation}
-use Rattle.run_step.specs.Step.{Context, Work}
-use Rattle.run_step.specs.Values.{Env, arg_value, distance, indices_of, pointer_to, value_in}
+use Rattle.pass_proofs.specs.run_laws.access.Accessed.{Span}
+use Rattle.pass_proofs.specs.run_laws.memory.Pointers.{Home, IsValue}
+use Rattle.pass_proofs.specs.run_memory.Pointers.{moved}
+use Rattle.pass_proofs.specs.run_memory.declared.pointer.Offset.{Offset}
+use Rattle.pass_proofs.specs.run_memory.declared.pointer.Pointer.{Pointer}
+use Rattle.pass_proofs.specs.run_memory.declared.pointer.Value.{Value}
+use Rattle.pass_proofs.specs.run_source.declared.state.Activation.{Activation}
+use Rattle.pass_proofs.specs.run_step.Step.{Context, Work}
+use Rattle.pass_proofs.specs.run_step.Values.{Env, arg_value, distance, indices_of, pointer_to, value_in}
 
 -- the address is poison, or so far behind its base as the indices say
 abbrev pub IsMoved : Module → Env → Value → Value → Ty → List Arg → Type 0

@@ -1,6 +1,6 @@
 -- Where the layout of a frame has its fields and slots.
 use Rattle.std.specs.Prelude.{◌≡◌, ℕ, List, Some, slice_get}
-use Rattle.frame_contents.specs.declared.held.Holding.{Holding}
+use Rattle.pass_proofs.specs.frame_contents.declared.held.Holding.{Holding}
 
 -- no value or slot is held twice
 pub record AreHeldOnce (held : List Holding) : Type 0 where

@@ -1,19 +1,19 @@
 -- An instruction of a coroutine whose operands are fetched, whatever it does: what is asked of a state, and where its
 -- parts stand.
 use Rattle.std.specs.Prelude.{◌≡◌, ℕ, true, false, List, [], ◌∷◌, ◌++◌, ◌+◌, length, slice_get, Some}
-use Rattle.ir_model.specs.declared.instr.Instr.{Instr}
-use Rattle.ir_parts.specs.Contents.{instr_operands}
-use Rattle.pass_addresses.specs.Placing.{lies_outside, stays, without_promise_of}
-use Rattle.pass_cells.specs.Written.{save_row}
-use Rattle.pass_copies.specs.BeginCopies.{behind}
-use Rattle.pass_front.specs.Front.{is_no_alloca}
+use Rattle.pass_proofs.specs.ir_model.declared.instr.Instr.{Instr}
+use Rattle.pass_proofs.specs.ir_parts.Contents.{instr_operands}
+use Rattle.pass_proofs.specs.pass_addresses.Placing.{lies_outside, stays, without_promise_of}
+use Rattle.pass_proofs.specs.pass_cells.Written.{save_row}
+use Rattle.pass_proofs.specs.pass_copies.BeginCopies.{behind}
+use Rattle.pass_proofs.specs.pass_front.Front.{is_no_alloca}
 use Rattle.pass_frames_proof.specs.Distances.{IsBelow}
 use Rattle.pass_frames_proof.specs.Places.{Framing, copies, edged, framed, instrs_at, is_return, marked, offsets, own_place, place, plan}
 use Rattle.pass_frames_proof.specs.Related.{Building, is_coroutine}
 use Rattle.pass_frames_proof.specs.Stepping.{AreNamesInOrder, AreOffsetsPlaced, IsBeginPlain, IsNotEntering, IsPlacedOperand, state_in}
-use Rattle.run_laws.specs.access.Lines.{StandAt}
-use Rattle.run_laws.specs.changed.Changed.{Each}
-use Rattle.run_source.specs.declared.state.State.{State}
+use Rattle.pass_proofs.specs.run_laws.access.Lines.{StandAt}
+use Rattle.pass_proofs.specs.run_laws.changed.Changed.{Each}
+use Rattle.pass_proofs.specs.run_source.declared.state.State.{State}
 
 -- The next step is an instruction of a coroutine. Its operands are names of the table, slots are used behind begin, and
 -- new names come in the order of the passes.

@@ -1,24 +1,24 @@
 -- The passes that build frames, as layers: what each of them makes of a block, whose names it begins with.
 use Rattle.std.specs.Prelude.{◌≡◌, ℕ, Bool, List, [], length, replicate, take, filter, slice_get, Some, None, Option, unwrap_or, ◌++◌, if◌then◌else◌, ◌==◌}
-use Rattle.ir_model.specs.declared.instr.Instr.{Instr}
-use Rattle.ir_model.specs.declared.instr.Terminator.{Terminator}
-use Rattle.ir_model.specs.declared.module.Block.{Block}
-use Rattle.ir_model.specs.declared.module.Function.{Function}
-use Rattle.ir_model.specs.declared.module.Module.{Module}
-use Rattle.ir_parts.specs.Contents.{instr_operands, result_of}
-use Rattle.pass_addresses.specs.Placing.{lies_outside, slot_fetches, stays, without_promise_of}
-use Rattle.pass_cells.specs.Kept.{entry}
-use Rattle.pass_cells.specs.Moves.{after_again, after_saved, again_values, saved_values}
-use Rattle.pass_cells.specs.Written.{after_blocks as after_written, after_one, again_row, distance_behind, save_row, stored_phis, stored_result}
-use Rattle.pass_cells.specs.declared.plan.Plan.{Plan}
-use Rattle.pass_copies.specs.BeginCopies.{after_blocks as after_copied, after_instr, behind as behind_begin, block_front, is_fetched}
-use Rattle.pass_copies.specs.Uses.{flag_at, still_before}
-use Rattle.pass_copies.specs.declared.copying.Copying.{Copying}
-use Rattle.pass_fetch.specs.Blocks.{end_at, ends_of_blocks, next_after_blocks, next_after_phis_by}
-use Rattle.pass_fetch.specs.Fetching.{fetches_of_all}
-use Rattle.pass_fetch.specs.Instrs.{fetched_term, next_after_instr, term_operands, with_fetched}
-use Rattle.pass_fetch.specs.declared.fetch.Fetch.{Fetch}
-use Rattle.pass_front.specs.Front.{is_alloca, is_no_alloca}
+use Rattle.pass_proofs.specs.ir_model.declared.instr.Instr.{Instr}
+use Rattle.pass_proofs.specs.ir_model.declared.instr.Terminator.{Terminator}
+use Rattle.pass_proofs.specs.ir_model.declared.module.Block.{Block}
+use Rattle.pass_proofs.specs.ir_model.declared.module.Function.{Function}
+use Rattle.pass_proofs.specs.ir_model.declared.module.Module.{Module}
+use Rattle.pass_proofs.specs.ir_parts.Contents.{instr_operands, result_of}
+use Rattle.pass_proofs.specs.pass_addresses.Placing.{lies_outside, slot_fetches, stays, without_promise_of}
+use Rattle.pass_proofs.specs.pass_cells.Kept.{entry}
+use Rattle.pass_proofs.specs.pass_cells.Moves.{after_again, after_saved, again_values, saved_values}
+use Rattle.pass_proofs.specs.pass_cells.Written.{after_blocks as after_written, after_one, again_row, distance_behind, save_row, stored_phis, stored_result}
+use Rattle.pass_proofs.specs.pass_cells.declared.plan.Plan.{Plan}
+use Rattle.pass_proofs.specs.pass_copies.BeginCopies.{after_blocks as after_copied, after_instr, behind as behind_begin, block_front, is_fetched}
+use Rattle.pass_proofs.specs.pass_copies.Uses.{flag_at, still_before}
+use Rattle.pass_proofs.specs.pass_copies.declared.copying.Copying.{Copying}
+use Rattle.pass_proofs.specs.pass_fetch.Blocks.{end_at, ends_of_blocks, next_after_blocks, next_after_phis_by}
+use Rattle.pass_proofs.specs.pass_fetch.Fetching.{fetches_of_all}
+use Rattle.pass_proofs.specs.pass_fetch.Instrs.{fetched_term, next_after_instr, term_operands, with_fetched}
+use Rattle.pass_proofs.specs.pass_fetch.declared.fetch.Fetch.{Fetch}
+use Rattle.pass_proofs.specs.pass_front.Front.{is_alloca, is_no_alloca}
 use Rattle.pass_frames_proof.specs.Layers.{IsMadeBy, Layer, both, each, led_by, only, woven}
 
 -- ---- operands are fetched anew by a table; ends is what is fetched for phis at the end of the block

@@ -1,23 +1,23 @@
 -- Phis whose operands are fetched at the ends of the blocks from which they come, and stored behind their block's
 -- start.
 use Rattle.std.specs.Prelude.{◌≡◌, ◌≢◌, ℕ, false, List, [], ◌∷◌, length, map, None, Option}
-use Rattle.ir_model.specs.declared.instr.Incoming.{Incoming}
-use Rattle.ir_model.specs.declared.instr.Phi.{Phi}
-use Rattle.ir_model.specs.declared.module.Block.{Block}
-use Rattle.ir_model.specs.declared.module.Function.{Function}
-use Rattle.pass_cells.specs.Kept.{entry}
-use Rattle.pass_copies.specs.Uses.{flag_at}
-use Rattle.pass_fetch.specs.Blocks.{end_at, next_after_phi, next_after_phis}
-use Rattle.pass_fetch.specs.Fetching.{fetched_operand, next_after}
-use Rattle.pass_fetch.specs.declared.fetch.Fetch.{Fetch}
+use Rattle.pass_proofs.specs.ir_model.declared.instr.Incoming.{Incoming}
+use Rattle.pass_proofs.specs.ir_model.declared.instr.Phi.{Phi}
+use Rattle.pass_proofs.specs.ir_model.declared.module.Block.{Block}
+use Rattle.pass_proofs.specs.ir_model.declared.module.Function.{Function}
+use Rattle.pass_proofs.specs.pass_cells.Kept.{entry}
+use Rattle.pass_proofs.specs.pass_copies.Uses.{flag_at}
+use Rattle.pass_proofs.specs.pass_fetch.Blocks.{end_at, next_after_phi, next_after_phis}
+use Rattle.pass_proofs.specs.pass_fetch.Fetching.{fetched_operand, next_after}
+use Rattle.pass_proofs.specs.pass_fetch.declared.fetch.Fetch.{Fetch}
 use Rattle.pass_frames_proof.specs.Distances.{IsBelow, SetsFrom}
 use Rattle.pass_frames_proof.specs.Fetched.{CanFetch, IsSeenAs, seen_of}
 use Rattle.pass_frames_proof.specs.Passes.{block_at, phi_ends}
 use Rattle.pass_frames_proof.specs.Places.{Framing, copies, fetched, plan, written}
-use Rattle.run_laws.specs.access.Lines.{Runs}
-use Rattle.run_laws.specs.changed.Changed.{Each}
-use Rattle.run_memory.specs.declared.pointer.Value.{Value}
-use Rattle.run_step.specs.Step.{Context, Work, incoming_from}
+use Rattle.pass_proofs.specs.run_laws.access.Lines.{Runs}
+use Rattle.pass_proofs.specs.run_laws.changed.Changed.{Each}
+use Rattle.pass_proofs.specs.run_memory.declared.pointer.Value.{Value}
+use Rattle.pass_proofs.specs.run_step.Step.{Context, Work, incoming_from}
 
 -- ---- operands of phis, from one label
 

@@ -2,26 +2,26 @@
 -- become,
 -- and where its places are then.
 use Rattle.std.specs.Prelude.{ℕ, Bool, true, false, List, length, filter, Option, ◌∷◌, ◌==◌}
-use Rattle.frame_classes.specs.declared.class.SlotClass.{SlotClass}
-use Rattle.frame_contents.specs.declared.contents.Contents.{Contents}
-use Rattle.frame_layout.specs.declared.layout.Layout.{Layout}
-use Rattle.ir_model.specs.declared.instr.Instr.{Instr}
-use Rattle.ir_model.specs.declared.module.Function.{Function}
-use Rattle.ir_model.specs.declared.module.Module.{Module}
-use Rattle.ir_paths.specs.declared.point.Point.{Point}
-use Rattle.pass_addresses.specs.Placing.{without_markers, without_promise}
-use Rattle.pass_cells.specs.Cells.{fetched_function, fetches_of, named_function, written_function}
-use Rattle.pass_cells.specs.Plan.{plan_of}
-use Rattle.pass_cells.specs.Written.{entry_front as cells_front}
-use Rattle.pass_cells.specs.declared.plan.Plan.{Plan}
-use Rattle.pass_copies.specs.BeginCopies.{copied_function, copying_of, entry_front as copies_front, first_fetched}
-use Rattle.pass_copies.specs.Slots.{early_slots, resumed_at}
-use Rattle.pass_copies.specs.Uses.{flag_at, used_before}
-use Rattle.pass_copies.specs.declared.copying.Copying.{Copying}
-use Rattle.pass_edges.specs.EdgeBlocks.{with_edge_blocks}
-use Rattle.pass_frames.specs.Framed.{IsFramedCoroutine, begin_block, begin_of, celled, copied, offsets_of, placed}
-use Rattle.pass_frames.specs.Tables.{class_flags, label_flags, sizes_by_name}
-use Rattle.pass_front.specs.Front.{is_alloca, with_front_allocas}
+use Rattle.pass_proofs.specs.frame_classes.declared.class.SlotClass.{SlotClass}
+use Rattle.pass_proofs.specs.frame_contents.declared.contents.Contents.{Contents}
+use Rattle.pass_proofs.specs.frame_layout.declared.layout.Layout.{Layout}
+use Rattle.pass_proofs.specs.ir_model.declared.instr.Instr.{Instr}
+use Rattle.pass_proofs.specs.ir_model.declared.module.Function.{Function}
+use Rattle.pass_proofs.specs.ir_model.declared.module.Module.{Module}
+use Rattle.pass_proofs.specs.ir_paths.declared.point.Point.{Point}
+use Rattle.pass_proofs.specs.pass_addresses.Placing.{without_markers, without_promise}
+use Rattle.pass_proofs.specs.pass_cells.Cells.{fetched_function, fetches_of, named_function, written_function}
+use Rattle.pass_proofs.specs.pass_cells.Plan.{plan_of}
+use Rattle.pass_proofs.specs.pass_cells.Written.{entry_front as cells_front}
+use Rattle.pass_proofs.specs.pass_cells.declared.plan.Plan.{Plan}
+use Rattle.pass_proofs.specs.pass_copies.BeginCopies.{copied_function, copying_of, entry_front as copies_front, first_fetched}
+use Rattle.pass_proofs.specs.pass_copies.Slots.{early_slots, resumed_at}
+use Rattle.pass_proofs.specs.pass_copies.Uses.{flag_at, used_before}
+use Rattle.pass_proofs.specs.pass_copies.declared.copying.Copying.{Copying}
+use Rattle.pass_proofs.specs.pass_edges.EdgeBlocks.{with_edge_blocks}
+use Rattle.pass_proofs.specs.pass_frames.Framed.{IsFramedCoroutine, begin_block, begin_of, celled, copied, offsets_of, placed}
+use Rattle.pass_proofs.specs.pass_frames.Tables.{class_flags, label_flags, sizes_by_name}
+use Rattle.pass_proofs.specs.pass_front.Front.{is_alloca, with_front_allocas}
 use Rattle.pass_frames_proof.specs.Layers.{Layer, both, own_place_in, place_in, up_to}
 use Rattle.pass_frames_proof.specs.Passes.{addressed_at, allocas_led, block_at, copying_at, fetching_at, unmarked_at, writing_at}
 

@@ -1,9 +1,9 @@
 -- Addresses of slots in the frame, which are made in front of each use.
 use Rattle.std.specs.Prelude.{ℕ, Some, None, Option, ◌+◌}
-use Rattle.pass_cells.specs.Kept.{entry}
+use Rattle.pass_proofs.specs.pass_cells.Kept.{entry}
 use Rattle.pass_frames_proof.specs.Places.{Framing, offsets}
-use Rattle.run_laws.specs.access.Lines.{pointer_at}
-use Rattle.run_memory.specs.declared.pointer.Value.{Value}
+use Rattle.pass_proofs.specs.run_laws.access.Lines.{pointer_at}
+use Rattle.pass_proofs.specs.run_memory.declared.pointer.Value.{Value}
 
 abbrev pub address_by : (block start : ℕ) → Option ℕ → Value
 address_by block start None = Value.Poison

@@ -1,20 +1,20 @@
 -- Names that get values all at once are stored into their cells one after another.
 use Rattle.std.specs.Prelude.{◌≡◌, ℕ, List, [], ◌∷◌, ◌++◌, None}
-use Rattle.ir_model.specs.declared.instr.Instr.{Instr}
-use Rattle.ir_model.specs.declared.module.Param.{Param}
-use Rattle.pass_cells.specs.Kept.{entry}
-use Rattle.pass_cells.specs.Written.{stored}
-use Rattle.pass_cells.specs.declared.plan.KeptValue.{KeptValue}
-use Rattle.pass_cells.specs.declared.plan.Plan.{Plan}
+use Rattle.pass_proofs.specs.ir_model.declared.instr.Instr.{Instr}
+use Rattle.pass_proofs.specs.ir_model.declared.module.Param.{Param}
+use Rattle.pass_proofs.specs.pass_cells.Kept.{entry}
+use Rattle.pass_proofs.specs.pass_cells.Written.{stored}
+use Rattle.pass_proofs.specs.pass_cells.declared.plan.KeptValue.{KeptValue}
+use Rattle.pass_proofs.specs.pass_cells.declared.plan.Plan.{Plan}
 use Rattle.pass_frames_proof.specs.Lines.{AreInCells, IsNoRoot, IsStorable, RunsOver, at_work}
 use Rattle.pass_frames_proof.specs.Places.{Framing, plan}
 use Rattle.pass_frames_proof.specs.Related.{AreCellsRight, IsKeptValue}
-use Rattle.run_laws.specs.access.Accessed.{Span}
-use Rattle.run_laws.specs.memory.Pointers.{Home, IsValue}
-use Rattle.run_memory.specs.declared.pointer.Value.{Value}
-use Rattle.run_source.specs.declared.state.Activation.{Activation}
-use Rattle.run_step.specs.Step.{Context, Work}
-use Rattle.run_step.specs.Values.{Env, value_in}
+use Rattle.pass_proofs.specs.run_laws.access.Accessed.{Span}
+use Rattle.pass_proofs.specs.run_laws.memory.Pointers.{Home, IsValue}
+use Rattle.pass_proofs.specs.run_memory.declared.pointer.Value.{Value}
+use Rattle.pass_proofs.specs.run_source.declared.state.Activation.{Activation}
+use Rattle.pass_proofs.specs.run_step.Step.{Context, Work}
+use Rattle.pass_proofs.specs.run_step.Values.{Env, value_in}
 
 -- ---- names and their values
 

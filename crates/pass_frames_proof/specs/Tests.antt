@@ -1,9 +1,9 @@
 -- Instructions that pass a test, and passes that leave each of them in its place and put in no other.
 use Rattle.std.specs.Prelude.{◌≡◌, Bool, true, false, List, Some, None, Option}
-use Rattle.ir_model.specs.declared.instr.Instr.{Instr}
-use Rattle.ir_model.specs.declared.operand.Intrinsic.{Intrinsic}
+use Rattle.pass_proofs.specs.ir_model.declared.instr.Instr.{Instr}
+use Rattle.pass_proofs.specs.ir_model.declared.operand.Intrinsic.{Intrinsic}
 use Rattle.pass_frames_proof.specs.Layers.{Layer}
-use Rattle.run_laws.specs.changed.Changed.{Each}
+use Rattle.pass_proofs.specs.run_laws.changed.Changed.{Each}
 
 abbrev pub AllFail : (Instr → Bool) → List Instr → Type 0
 AllFail test is = Each (λ (j : Instr). test j ≡ false) is

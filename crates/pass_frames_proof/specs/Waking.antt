@@ -1,24 +1,24 @@
 -- What is asked where a suspended coroutine is woken, by a coroutine or by another function, and makes slots anew.
 use Rattle.std.specs.List.{Contains}
 use Rattle.std.specs.Prelude.{◌≡◌, ◌≢◌, ◌⊎◌, ◌+◌, ◌-◌, ◌<◌, ◌≤◌, ◌^◌, ◌∷◌, ◌++◌, [], Bool, List, None, Ok, Option, Some, false, length, slice_get, take, true, ℕ}
-use Rattle.flow_solver.specs.Paths.{IsListed}
-use Rattle.ir_base.specs.declared.outcome.Outcome.{Outcome}
-use Rattle.ir_laws.specs.paths.woven_rules.Pairs.{AreDifferent}
-use Rattle.ir_model.specs.Layout.{size_of}
-use Rattle.ir_model.specs.Names.{block_labelled, function_at}
-use Rattle.ir_model.specs.Ty.{Ty, int, ptr}
-use Rattle.ir_model.specs.declared.instr.Instr.{Instr}
-use Rattle.ir_model.specs.declared.module.Function.{Function}
-use Rattle.ir_model.specs.declared.operand.Arg.{Arg}
-use Rattle.ir_model.specs.declared.operand.Callee.{Callee}
-use Rattle.ir_model.specs.declared.operand.Intrinsic.{Intrinsic}
-use Rattle.ir_paths.specs.Slots.{allocas_in}
-use Rattle.ir_paths.specs.declared.point.Point.{Point}
-use Rattle.pass_cells.specs.Kept.{entry}
-use Rattle.pass_cells.specs.declared.plan.KeptValue.{KeptValue}
-use Rattle.pass_copies.specs.declared.slot.EarlySlot.{EarlySlot}
-use Rattle.pass_fetch.specs.Fetching.{value_bytes}
-use Rattle.pass_frames.specs.Framed.{begin_of}
+use Rattle.pass_proofs.specs.flow_solver.Paths.{IsListed}
+use Rattle.pass_proofs.specs.ir_base.declared.outcome.Outcome.{Outcome}
+use Rattle.pass_proofs.specs.ir_laws.paths.woven_rules.Pairs.{AreDifferent}
+use Rattle.pass_proofs.specs.ir_model.Layout.{size_of}
+use Rattle.pass_proofs.specs.ir_model.Names.{block_labelled, function_at}
+use Rattle.pass_proofs.specs.ir_model.Ty.{Ty, int, ptr}
+use Rattle.pass_proofs.specs.ir_model.declared.instr.Instr.{Instr}
+use Rattle.pass_proofs.specs.ir_model.declared.module.Function.{Function}
+use Rattle.pass_proofs.specs.ir_model.declared.operand.Arg.{Arg}
+use Rattle.pass_proofs.specs.ir_model.declared.operand.Callee.{Callee}
+use Rattle.pass_proofs.specs.ir_model.declared.operand.Intrinsic.{Intrinsic}
+use Rattle.pass_proofs.specs.ir_paths.Slots.{allocas_in}
+use Rattle.pass_proofs.specs.ir_paths.declared.point.Point.{Point}
+use Rattle.pass_proofs.specs.pass_cells.Kept.{entry}
+use Rattle.pass_proofs.specs.pass_cells.declared.plan.KeptValue.{KeptValue}
+use Rattle.pass_proofs.specs.pass_copies.declared.slot.EarlySlot.{EarlySlot}
+use Rattle.pass_proofs.specs.pass_fetch.Fetching.{value_bytes}
+use Rattle.pass_proofs.specs.pass_frames.Framed.{begin_of}
 use Rattle.pass_frames_proof.specs.Asking.{AreInstancesPlaced}
 use Rattle.pass_frames_proof.specs.Costs.{resume_cost}
 use Rattle.pass_frames_proof.specs.Entering.{IsGoodAlloca, allocas_up_to, front_allocas}
@@ -29,24 +29,24 @@ use Rattle.pass_frames_proof.specs.Passes.{block_at}
 use Rattle.pass_frames_proof.specs.Places.{Framing, copies, edged, framed, instrs_at, is_return, offsets, own_place, plan}
 use Rattle.pass_frames_proof.specs.Related.{AreBuiltOf, AreGone, Building, IsKeptValue, IsSuspendNumber, all_slots, below_place, is_coroutine}
 use Rattle.pass_frames_proof.specs.Stepping.{IsNotEntering, IsUnlocated, state_in}
-use Rattle.pass_kept_proof.specs.Kept.{kept}
+use Rattle.pass_proofs.specs.pass_kept_proof.Kept.{kept}
 use Rattle.pass_proofs.specs.addresses.rules.Addresses.{lies_in_frame}
 use Rattle.pass_renewed_proof.specs.Renewed.{RenewedGiven, continue_renewed, renewed_from, renewed_step}
-use Rattle.run_agreement.specs.Machines.{iterate}
-use Rattle.run_framed.specs.Framed.{begin_name, continue_framed, framed_step, reentry_values}
-use Rattle.run_laws.specs.changed.Changed.{Each}
-use Rattle.run_memory.specs.declared.pointer.Value.{Value}
-use Rattle.run_source.specs.Source.{resumed, sleeper_at}
-use Rattle.run_source.specs.State.{frame_address_of, function_of}
-use Rattle.run_source.specs.declared.state.Activation.{Activation}
-use Rattle.run_source.specs.declared.state.Instance.{Instance}
-use Rattle.run_source.specs.declared.state.Mode.{Mode}
-use Rattle.run_source.specs.declared.state.State.{State}
-use Rattle.run_source.specs.declared.state.Status.{Status}
-use Rattle.run_source_tables.specs.Given.{is_final}
-use Rattle.run_step.specs.Step.{AtInstr, fetch, has_markers}
-use Rattle.run_step.specs.Values.{Env, arg_values, nth, value_in}
-use Rattle.run_step.specs.declared.world.Slot.{Slot}
+use Rattle.pass_proofs.specs.run_agreement.Machines.{iterate}
+use Rattle.pass_proofs.specs.run_framed.Framed.{begin_name, continue_framed, framed_step, reentry_values}
+use Rattle.pass_proofs.specs.run_laws.changed.Changed.{Each}
+use Rattle.pass_proofs.specs.run_memory.declared.pointer.Value.{Value}
+use Rattle.pass_proofs.specs.run_source.Source.{resumed, sleeper_at}
+use Rattle.pass_proofs.specs.run_source.State.{frame_address_of, function_of}
+use Rattle.pass_proofs.specs.run_source.declared.state.Activation.{Activation}
+use Rattle.pass_proofs.specs.run_source.declared.state.Instance.{Instance}
+use Rattle.pass_proofs.specs.run_source.declared.state.Mode.{Mode}
+use Rattle.pass_proofs.specs.run_source.declared.state.State.{State}
+use Rattle.pass_proofs.specs.run_source.declared.state.Status.{Status}
+use Rattle.pass_proofs.specs.run_source_tables.Given.{is_final}
+use Rattle.pass_proofs.specs.run_step.Step.{AtInstr, fetch, has_markers}
+use Rattle.pass_proofs.specs.run_step.Values.{Env, arg_values, nth, value_in}
+use Rattle.pass_proofs.specs.run_step.declared.world.Slot.{Slot}
 
 -- what the framed run begins a woken activation with
 abbrev pub framed_start : Building → ℕ → Instance → Point → ℕ → Activation

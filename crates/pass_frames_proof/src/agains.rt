@@ -4,11 +4,11 @@ ghost use Rattle.std.specs.Prelude.{◌≤◌, ℕ, List, length};
 ghost use Rattle.pass_frames_proof.specs.Agains.{LoadsValues, MayLoadAgain};
 ghost use Rattle.pass_frames_proof.specs.Framings.{IsFraming};
 ghost use Rattle.pass_frames_proof.specs.Places.{Framing, named};
-ghost use Rattle.run_laws.specs.memory.Pointers.{Home};
-ghost use Rattle.run_laws.specs.memory.Standing.{AreByteRights};
-ghost use Rattle.run_source.specs.declared.state.Activation.{Activation};
-ghost use Rattle.run_step.specs.Step.{Context, Work};
-ghost use Rattle.run_step.specs.Values.{Env};
+ghost use Rattle.pass_proofs.specs.run_laws.memory.Pointers.{Home};
+ghost use Rattle.pass_proofs.specs.run_laws.memory.Standing.{AreByteRights};
+ghost use Rattle.pass_proofs.specs.run_source.declared.state.Activation.{Activation};
+ghost use Rattle.pass_proofs.specs.run_step.Step.{Context, Work};
+ghost use Rattle.pass_proofs.specs.run_step.Values.{Env};
 
 /// Each value that crosses is loaded from its field and stored into its cell. Of an address in a slot that is made anew
 /// the distance is loaded, and the address so far from the slot is stored. Then the cells are right.

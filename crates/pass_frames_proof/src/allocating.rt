@@ -1,14 +1,14 @@
 //! Allocas: of a ramp the framed run takes no step, since its call has made them; elsewhere both runs make a block.
 
 ghost use Rattle.std.specs.Prelude.{◌≡◌, ◌⊎◌, ℕ, None};
-ghost use Rattle.ir_model.specs.Ty.{Ty};
+ghost use Rattle.pass_proofs.specs.ir_model.Ty.{Ty};
 ghost use Rattle.pass_frames_proof.specs.Allocating.{IsAtOtherAlloca, IsAtRampAlloca, IsEarlyAlloca, IsFrameBehind, IsLateAlloca, IsOwnBehind, IsWholeAlloca};
 ghost use Rattle.pass_frames_proof.specs.Followed.{IsFollowed};
 ghost use Rattle.pass_frames_proof.specs.Related.{AreBuiltOf, Building};
 ghost use Rattle.pass_frames_proof.specs.Slotted.{HasListedSlots, HasSlotsApart, HasSlotsThere};
 ghost use Rattle.pass_frames_proof.specs.Stepping.{AreGiven};
 ghost use Rattle.pass_renewed_proof.specs.Renewed.{RenewedGiven};
-ghost use Rattle.run_source.specs.declared.state.State.{State};
+ghost use Rattle.pass_proofs.specs.run_source.declared.state.State.{State};
 
 /// In a function that is no coroutine both runs make a block. Of a ramp the framed one has made it at its call, where
 /// the slot lies in no frame. A slot of the frame is hidden before begin, where no access uses it, and stands in its

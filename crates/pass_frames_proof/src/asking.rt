@@ -1,27 +1,27 @@
 //! Coro intrinsics that give a value: sizes, the frame, whether it is done, and the promise.
 
 ghost use Rattle.std.specs.Prelude.{◌≡◌, ℕ, Bool, List, Ok, Option, Some};
-ghost use Rattle.ir_model.specs.Ty.{Ty};
-ghost use Rattle.ir_model.specs.declared.operand.Arg.{Arg};
-ghost use Rattle.ir_model.specs.declared.operand.Intrinsic.{Intrinsic};
-ghost use Rattle.ir_paths.specs.Windows.{operand_at};
-ghost use Rattle.ir_paths.specs.declared.point.Point.{Point};
+ghost use Rattle.pass_proofs.specs.ir_model.Ty.{Ty};
+ghost use Rattle.pass_proofs.specs.ir_model.declared.operand.Arg.{Arg};
+ghost use Rattle.pass_proofs.specs.ir_model.declared.operand.Intrinsic.{Intrinsic};
+ghost use Rattle.pass_proofs.specs.ir_paths.Windows.{operand_at};
+ghost use Rattle.pass_proofs.specs.ir_paths.declared.point.Point.{Point};
 ghost use Rattle.pass_frames_proof.specs.Asking.{AreFound, AreInstancesPlaced, GivesAlike, IsAsking, IsAtAsking, IsAtFreeing, IsAtId, IsAtOtherAsking, IsSleeperBeside, MayAsk, on_line};
 ghost use Rattle.pass_frames_proof.specs.Followed.{IsFollowed};
 ghost use Rattle.pass_frames_proof.specs.Places.{Framing, edged, framed, own_place};
 ghost use Rattle.pass_frames_proof.specs.Related.{AreBuiltOf, Building, IsSuspendNumber};
 ghost use Rattle.pass_frames_proof.specs.Stepping.{AreGiven};
 ghost use Rattle.pass_renewed_proof.specs.Renewed.{RenewedGiven};
-ghost use Rattle.run_framed.specs.Framed.{framed_coro};
-ghost use Rattle.run_laws.specs.memory.Pointers.{IsValue};
-ghost use Rattle.run_memory.specs.declared.pointer.Value.{Value};
-ghost use Rattle.run_source.specs.Source.{Continues, Sleeper, coro, frame_address, sleeper_at};
-ghost use Rattle.run_source.specs.State.{instance_at, own_instance};
-ghost use Rattle.run_source.specs.declared.state.Instance.{Instance};
-ghost use Rattle.run_source.specs.declared.state.State.{State};
-ghost use Rattle.run_source_tables.specs.Given.{has_final, is_final, is_true};
-ghost use Rattle.run_step.specs.Values.{Env, nth};
-ghost use Rattle.run_step.specs.declared.world.World.{World};
+ghost use Rattle.pass_proofs.specs.run_framed.Framed.{framed_coro};
+ghost use Rattle.pass_proofs.specs.run_laws.memory.Pointers.{IsValue};
+ghost use Rattle.pass_proofs.specs.run_memory.declared.pointer.Value.{Value};
+ghost use Rattle.pass_proofs.specs.run_source.Source.{Continues, Sleeper, coro, frame_address, sleeper_at};
+ghost use Rattle.pass_proofs.specs.run_source.State.{instance_at, own_instance};
+ghost use Rattle.pass_proofs.specs.run_source.declared.state.Instance.{Instance};
+ghost use Rattle.pass_proofs.specs.run_source.declared.state.State.{State};
+ghost use Rattle.pass_proofs.specs.run_source_tables.Given.{has_final, is_final, is_true};
+ghost use Rattle.pass_proofs.specs.run_step.Values.{Env, nth};
+ghost use Rattle.pass_proofs.specs.run_step.declared.world.World.{World};
 
 /// The instance of the topmost activation is found in both runs, and its frame address stands for the first run's. So
 /// are the instance of a frame address, and one that is suspended.

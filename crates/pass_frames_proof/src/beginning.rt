@@ -1,15 +1,15 @@
 //! Begin in the framed run: the frame comes to lie in its block, and the slots of the coroutine in the frame.
 
 ghost use Rattle.std.specs.Prelude.{ℕ, Bool, Option};
-ghost use Rattle.ir_model.specs.Ty.{Ty};
-ghost use Rattle.ir_model.specs.declared.operand.Arg.{Arg};
+ghost use Rattle.pass_proofs.specs.ir_model.Ty.{Ty};
+ghost use Rattle.pass_proofs.specs.ir_model.declared.operand.Arg.{Arg};
 ghost use Rattle.pass_frames_proof.specs.Beginning.{HasPlainSlots, IsAtBegin};
 ghost use Rattle.pass_frames_proof.specs.Followed.{IsFollowed};
 ghost use Rattle.pass_frames_proof.specs.Related.{AreBuiltOf, Building};
 ghost use Rattle.pass_frames_proof.specs.Slotted.{HasListedSlots, HasSlotsThere};
 ghost use Rattle.pass_frames_proof.specs.Stepping.{AreGiven};
 ghost use Rattle.pass_renewed_proof.specs.Renewed.{RenewedGiven};
-ghost use Rattle.run_source.specs.declared.state.State.{State};
+ghost use Rattle.pass_proofs.specs.run_source.declared.state.State.{State};
 
 /// Both runs begin at the start of one block. What the target may reach of it becomes less, and the source owns it.
 /// Slots of the frame were hidden, and stand behind begin in their fields.

@@ -1,25 +1,25 @@
 //! The distances of addresses from local slots, as instructions sum them.
 
 ghost use Rattle.std.specs.Prelude.{◌≡◌, ◌≤◌, ◌<◌, ◌^◌, ℕ, List, Option, Some, length};
-ghost use Rattle.ir_model.specs.Ty.{Ty, int};
-ghost use Rattle.ir_model.specs.declared.module.Module.{Module};
-ghost use Rattle.ir_model.specs.declared.operand.Arg.{Arg};
-ghost use Rattle.ir_model.specs.declared.operand.Operand.{Operand};
-ghost use Rattle.pass_distances.specs.Sums.{sum_next};
-ghost use Rattle.pass_distances.specs.Ways.{ways_of};
-ghost use Rattle.pass_distances.specs.declared.way.Way.{Way};
+ghost use Rattle.pass_proofs.specs.ir_model.Ty.{Ty, int};
+ghost use Rattle.pass_proofs.specs.ir_model.declared.module.Module.{Module};
+ghost use Rattle.pass_proofs.specs.ir_model.declared.operand.Arg.{Arg};
+ghost use Rattle.pass_proofs.specs.ir_model.declared.operand.Operand.{Operand};
+ghost use Rattle.pass_proofs.specs.pass_distances.Sums.{sum_next};
+ghost use Rattle.pass_proofs.specs.pass_distances.Ways.{ways_of};
+ghost use Rattle.pass_proofs.specs.pass_distances.declared.way.Way.{Way};
 ghost use Rattle.pass_frames_proof.specs.Distances.{AreFields, AreWaysBelow, IsBelow, IsNumber, SumsUp, summed};
 ghost use Rattle.pass_frames_proof.specs.Framings.{IsFraming};
 ghost use Rattle.pass_frames_proof.specs.Measured.{AreArgsStanding, MayMeasure, Measures};
 ghost use Rattle.pass_frames_proof.specs.Places.{Framing};
-ghost use Rattle.pass_fetch.specs.Fetching.{fetched_args};
-ghost use Rattle.pass_fetch.specs.declared.fetch.Fetch.{Fetch};
-ghost use Rattle.run_laws.specs.embedded.Related.{IsSameDistance};
-ghost use Rattle.run_laws.specs.memory.Pointers.{Home};
-ghost use Rattle.run_laws.specs.memory.Standing.{AreByteRights};
-ghost use Rattle.run_source.specs.declared.state.Activation.{Activation};
-ghost use Rattle.run_step.specs.Step.{Context, Work, value_at};
-ghost use Rattle.run_step.specs.Values.{Env, distance, indices_of, plus};
+ghost use Rattle.pass_proofs.specs.pass_fetch.Fetching.{fetched_args};
+ghost use Rattle.pass_proofs.specs.pass_fetch.declared.fetch.Fetch.{Fetch};
+ghost use Rattle.pass_proofs.specs.run_laws.embedded.Related.{IsSameDistance};
+ghost use Rattle.pass_proofs.specs.run_laws.memory.Pointers.{Home};
+ghost use Rattle.pass_proofs.specs.run_laws.memory.Standing.{AreByteRights};
+ghost use Rattle.pass_proofs.specs.run_source.declared.state.Activation.{Activation};
+ghost use Rattle.pass_proofs.specs.run_step.Step.{Context, Work, value_at};
+ghost use Rattle.pass_proofs.specs.run_step.Values.{Env, distance, indices_of, plus};
 
 /// The instructions are done, poison or not, set new names alone, and give the sum where no index is poison.
 pub fn distances_are_summed()

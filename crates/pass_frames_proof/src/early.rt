@@ -1,14 +1,14 @@
 //! Slots that are used before begin: what stands right behind it is executed.
 
 ghost use Rattle.std.specs.Prelude.{◌≡◌, ◌≢◌, ◌+◌, ◌<◌, ◌^◌, ℕ, List, None, false, set};
-ghost use Rattle.flow_solver.specs.Paths.{IsListed};
-ghost use Rattle.ir_model.specs.declared.instr.Instr.{Instr};
-ghost use Rattle.ir_model.specs.declared.operand.Operand.{Operand};
-ghost use Rattle.ir_parts.specs.Contents.{instr_operands};
-ghost use Rattle.pass_copies.specs.Uses.{is_access};
-ghost use Rattle.pass_copies.specs.declared.slot.EarlySlot.{EarlySlot};
-ghost use Rattle.pass_fetch.specs.Fetching.{fetch_of};
-ghost use Rattle.pass_frames.specs.Tables.{offset_at};
+ghost use Rattle.pass_proofs.specs.flow_solver.Paths.{IsListed};
+ghost use Rattle.pass_proofs.specs.ir_model.declared.instr.Instr.{Instr};
+ghost use Rattle.pass_proofs.specs.ir_model.declared.operand.Operand.{Operand};
+ghost use Rattle.pass_proofs.specs.ir_parts.Contents.{instr_operands};
+ghost use Rattle.pass_proofs.specs.pass_copies.Uses.{is_access};
+ghost use Rattle.pass_proofs.specs.pass_copies.declared.slot.EarlySlot.{EarlySlot};
+ghost use Rattle.pass_proofs.specs.pass_fetch.Fetching.{fetch_of};
+ghost use Rattle.pass_proofs.specs.pass_frames.Tables.{offset_at};
 ghost use Rattle.pass_frames_proof.specs.Code.{is_ahead, loaded, slot_table};
 ghost use Rattle.pass_frames_proof.specs.Early.{AreCopied, IsCopiedSlot, IsOfField, MayComeThere, MayCopyAll};
 ghost use Rattle.pass_frames_proof.specs.Framings.{IsFraming};
@@ -17,15 +17,15 @@ ghost use Rattle.pass_frames_proof.specs.Offsets.{AreHeldOnce};
 ghost use Rattle.pass_frames_proof.specs.Places.{Framing, Placed, copies};
 ghost use Rattle.pass_frames_proof.specs.Stepping.{IsUnlocated};
 ghost use Rattle.pass_proofs.specs.fetch.rules.Fetches.{AreUnfetched};
-ghost use Rattle.run_laws.specs.changed.Changed.{Each};
-ghost use Rattle.run_laws.specs.memory.Pointers.{Home};
-ghost use Rattle.run_laws.specs.memory.Standing.{AreByteRights};
-ghost use Rattle.run_laws.specs.transfer.Places.{AreStanding};
-ghost use Rattle.run_laws.specs.transfer.Ready.{Place, home_at};
-ghost use Rattle.run_memory.specs.Memory.{Rights};
-ghost use Rattle.run_memory.specs.declared.block.MemoryBlock.{MemoryBlock};
-ghost use Rattle.run_source.specs.declared.state.Activation.{Activation};
-ghost use Rattle.run_step.specs.Step.{Context, Work};
+ghost use Rattle.pass_proofs.specs.run_laws.changed.Changed.{Each};
+ghost use Rattle.pass_proofs.specs.run_laws.memory.Pointers.{Home};
+ghost use Rattle.pass_proofs.specs.run_laws.memory.Standing.{AreByteRights};
+ghost use Rattle.pass_proofs.specs.run_laws.transfer.Places.{AreStanding};
+ghost use Rattle.pass_proofs.specs.run_laws.transfer.Ready.{Place, home_at};
+ghost use Rattle.pass_proofs.specs.run_memory.Memory.{Rights};
+ghost use Rattle.pass_proofs.specs.run_memory.declared.block.MemoryBlock.{MemoryBlock};
+ghost use Rattle.pass_proofs.specs.run_source.declared.state.Activation.{Activation};
+ghost use Rattle.pass_proofs.specs.run_step.Step.{Context, Work};
 
 /// Each slot that is used before begin lies in the frame, where it has its place among what is held, and is as large as
 /// its field. No address is made of its temporary or of its cell, and no cell has the name of a temporary.

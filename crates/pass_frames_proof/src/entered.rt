@@ -1,15 +1,15 @@
 //! What a call of a ramp executes in front of its entry: all allocas first.
 
 ghost use Rattle.std.specs.Prelude.{◌≡◌, ◌+◌, ◌<◌, ◌≤◌, ◌++◌, ℕ, List, Some, false, length, map, slice_get};
-ghost use Rattle.flow_solver.specs.Paths.{IsListed};
-ghost use Rattle.ir_base.specs.declared.outcome.Outcome.{Outcome};
-ghost use Rattle.ir_laws.specs.paths.woven_rules.Pairs.{AreDifferent};
-ghost use Rattle.ir_model.specs.Layout.{size_of};
-ghost use Rattle.ir_model.specs.Ty.{Ty};
-ghost use Rattle.ir_model.specs.declared.instr.Instr.{Instr};
-ghost use Rattle.ir_model.specs.declared.module.Function.{Function};
-ghost use Rattle.ir_model.specs.declared.module.Module.{Module};
-ghost use Rattle.pass_fetch.specs.Fetching.{value_bytes};
+ghost use Rattle.pass_proofs.specs.flow_solver.Paths.{IsListed};
+ghost use Rattle.pass_proofs.specs.ir_base.declared.outcome.Outcome.{Outcome};
+ghost use Rattle.pass_proofs.specs.ir_laws.paths.woven_rules.Pairs.{AreDifferent};
+ghost use Rattle.pass_proofs.specs.ir_model.Layout.{size_of};
+ghost use Rattle.pass_proofs.specs.ir_model.Ty.{Ty};
+ghost use Rattle.pass_proofs.specs.ir_model.declared.instr.Instr.{Instr};
+ghost use Rattle.pass_proofs.specs.ir_model.declared.module.Function.{Function};
+ghost use Rattle.pass_proofs.specs.ir_model.declared.module.Module.{Module};
+ghost use Rattle.pass_proofs.specs.pass_fetch.Fetching.{value_bytes};
 ghost use Rattle.pass_frames_proof.specs.Entered.{AreBelow, Grows, IsAlloca, IsEntryStored, IsNewStore, IsOnEntry, IsThere, Made, made_all, made_state, names_in, temporary_of};
 ghost use Rattle.pass_frames_proof.specs.Entry.{MayPut, cells_of};
 ghost use Rattle.pass_frames_proof.specs.Framings.{IsFraming};
@@ -18,22 +18,22 @@ ghost use Rattle.pass_frames_proof.specs.Lines.{HasOwnBlocks, at_work};
 ghost use Rattle.pass_frames_proof.specs.Places.{Framing, copies, edged};
 ghost use Rattle.pass_frames_proof.specs.Related.{Anything, AreCellsThere, IsCell};
 ghost use Rattle.pass_frames_proof.specs.Stores.{IsNameGiven, given_params};
-ghost use Rattle.run_agreement.specs.Machines.{iterate};
-ghost use Rattle.run_framed.specs.Framed.{FramedGiven, frame_rights, framed_step};
-ghost use Rattle.run_laws.specs.access.Lines.{Runs, StandAt};
-ghost use Rattle.run_laws.specs.changed.Changed.{Each};
-ghost use Rattle.run_laws.specs.memory.Pointers.{Home};
-ghost use Rattle.run_laws.specs.memory.Standing.{AreByteRights};
-ghost use Rattle.run_memory.specs.declared.pointer.Value.{Value};
-ghost use Rattle.run_source.specs.State.{function_of};
-ghost use Rattle.run_source.specs.declared.state.Activation.{Activation};
-ghost use Rattle.run_source.specs.declared.state.Instance.{Instance};
-ghost use Rattle.run_source.specs.declared.state.Mode.{Mode};
-ghost use Rattle.run_source.specs.declared.state.State.{State};
-ghost use Rattle.run_step.specs.Step.{Context, Work, has_markers};
-ghost use Rattle.run_step.specs.Values.{Env};
-ghost use Rattle.run_step.specs.declared.world.Slot.{Slot};
-ghost use Rattle.run_step.specs.declared.world.World.{World};
+ghost use Rattle.pass_proofs.specs.run_agreement.Machines.{iterate};
+ghost use Rattle.pass_proofs.specs.run_framed.Framed.{FramedGiven, frame_rights, framed_step};
+ghost use Rattle.pass_proofs.specs.run_laws.access.Lines.{Runs, StandAt};
+ghost use Rattle.pass_proofs.specs.run_laws.changed.Changed.{Each};
+ghost use Rattle.pass_proofs.specs.run_laws.memory.Pointers.{Home};
+ghost use Rattle.pass_proofs.specs.run_laws.memory.Standing.{AreByteRights};
+ghost use Rattle.pass_proofs.specs.run_memory.declared.pointer.Value.{Value};
+ghost use Rattle.pass_proofs.specs.run_source.State.{function_of};
+ghost use Rattle.pass_proofs.specs.run_source.declared.state.Activation.{Activation};
+ghost use Rattle.pass_proofs.specs.run_source.declared.state.Instance.{Instance};
+ghost use Rattle.pass_proofs.specs.run_source.declared.state.Mode.{Mode};
+ghost use Rattle.pass_proofs.specs.run_source.declared.state.State.{State};
+ghost use Rattle.pass_proofs.specs.run_step.Step.{Context, Work, has_markers};
+ghost use Rattle.pass_proofs.specs.run_step.Values.{Env};
+ghost use Rattle.pass_proofs.specs.run_step.declared.world.Slot.{Slot};
+ghost use Rattle.pass_proofs.specs.run_step.declared.world.World.{World};
 
 /// Allocas in front of a ramp's entry are executed one after another. Meanwhile memory just grows. Behind them each
 /// alloca has a new block of its own.

@@ -1,21 +1,21 @@
 //! What stands behind the allocas of a ramp: addresses of temporaries, and parameters, are stored into their cells.
 
 ghost use Rattle.std.specs.Prelude.{◌≡◌, ℕ, List, length};
-ghost use Rattle.pass_cells.specs.Written.{stored_params};
-ghost use Rattle.pass_copies.specs.declared.slot.EarlySlot.{EarlySlot};
+ghost use Rattle.pass_proofs.specs.pass_cells.Written.{stored_params};
+ghost use Rattle.pass_proofs.specs.pass_copies.declared.slot.EarlySlot.{EarlySlot};
 ghost use Rattle.pass_frames_proof.specs.Entry.{ArePut, MayPut, cells_of};
 ghost use Rattle.pass_frames_proof.specs.Framings.{IsFraming};
 ghost use Rattle.pass_frames_proof.specs.Lines.{HasOwnBlocks, at_work};
 ghost use Rattle.pass_frames_proof.specs.Places.{Framing, edged, plan};
 ghost use Rattle.pass_frames_proof.specs.Related.{AreCellsThere};
 ghost use Rattle.pass_frames_proof.specs.Stores.{AreNamesStored, IsNameGiven, given_params};
-ghost use Rattle.ir_laws.specs.paths.woven_rules.Pairs.{AreDifferent};
-ghost use Rattle.run_laws.specs.changed.Changed.{Each};
-ghost use Rattle.run_laws.specs.memory.Pointers.{Home};
-ghost use Rattle.run_laws.specs.memory.Standing.{AreByteRights};
-ghost use Rattle.run_memory.specs.declared.pointer.Value.{Value};
-ghost use Rattle.run_source.specs.declared.state.Activation.{Activation};
-ghost use Rattle.run_step.specs.Step.{Context, Work, entry_values};
+ghost use Rattle.pass_proofs.specs.ir_laws.paths.woven_rules.Pairs.{AreDifferent};
+ghost use Rattle.pass_proofs.specs.run_laws.changed.Changed.{Each};
+ghost use Rattle.pass_proofs.specs.run_laws.memory.Pointers.{Home};
+ghost use Rattle.pass_proofs.specs.run_laws.memory.Standing.{AreByteRights};
+ghost use Rattle.pass_proofs.specs.run_memory.declared.pointer.Value.{Value};
+ghost use Rattle.pass_proofs.specs.run_source.declared.state.Activation.{Activation};
+ghost use Rattle.pass_proofs.specs.run_step.Step.{Context, Work, entry_values};
 
 /// Where the cells are there the parameters are stored into theirs. Then the cells are right by the values at the
 /// entry.

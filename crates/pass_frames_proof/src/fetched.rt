@@ -2,19 +2,19 @@
 //! instruction sees what they give.
 
 ghost use Rattle.std.specs.Prelude.{◌≤◌, ℕ, List, Option, length};
-ghost use Rattle.ir_model.specs.declared.instr.Instr.{Instr};
-ghost use Rattle.ir_model.specs.declared.instr.Terminator.{Terminator};
-ghost use Rattle.ir_model.specs.declared.operand.Operand.{Operand};
-ghost use Rattle.ir_parts.specs.Contents.{instr_operands};
-ghost use Rattle.pass_fetch.specs.Fetching.{next_after_all};
-ghost use Rattle.pass_fetch.specs.Instrs.{fetched_term, term_operands, with_fetched};
-ghost use Rattle.pass_fetch.specs.declared.fetch.Fetch.{Fetch};
+ghost use Rattle.pass_proofs.specs.ir_model.declared.instr.Instr.{Instr};
+ghost use Rattle.pass_proofs.specs.ir_model.declared.instr.Terminator.{Terminator};
+ghost use Rattle.pass_proofs.specs.ir_model.declared.operand.Operand.{Operand};
+ghost use Rattle.pass_proofs.specs.ir_parts.Contents.{instr_operands};
+ghost use Rattle.pass_proofs.specs.pass_fetch.Fetching.{next_after_all};
+ghost use Rattle.pass_proofs.specs.pass_fetch.Instrs.{fetched_term, term_operands, with_fetched};
+ghost use Rattle.pass_proofs.specs.pass_fetch.declared.fetch.Fetch.{Fetch};
 ghost use Rattle.pass_frames_proof.specs.Distances.{IsBelow};
 ghost use Rattle.pass_frames_proof.specs.Fetched.{AreFetched, AreSeenAs, CanFetch, IsSeenAs};
-ghost use Rattle.run_laws.specs.changed.Changed.{Each};
-ghost use Rattle.run_laws.specs.transfer.Shapes.{InstrStays, TermStays};
-ghost use Rattle.run_memory.specs.declared.pointer.Value.{Value};
-ghost use Rattle.run_step.specs.Step.{Context, Work};
+ghost use Rattle.pass_proofs.specs.run_laws.changed.Changed.{Each};
+ghost use Rattle.pass_proofs.specs.run_laws.transfer.Shapes.{InstrStays, TermStays};
+ghost use Rattle.pass_proofs.specs.run_memory.declared.pointer.Value.{Value};
+ghost use Rattle.pass_proofs.specs.run_step.Step.{Context, Work};
 
 /// What fetches operands is executed: it sets new names alone, and each operand has in its place what is given of it.
 pub fn operands_are_fetched()

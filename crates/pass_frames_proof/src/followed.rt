@@ -1,17 +1,17 @@
 //! The framed run follows the run in which slots are made anew, step by step.
 
 ghost use Rattle.std.specs.Prelude.{◌≡◌, ℕ, ℤ, List};
-ghost use Rattle.frame_layout.specs.declared.layout.Layouts.{Layouts};
-ghost use Rattle.ir_base.specs.declared.outcome.Word.{Word};
-ghost use Rattle.ir_model.specs.declared.module.Frame.{Frame};
+ghost use Rattle.pass_proofs.specs.frame_layout.declared.layout.Layouts.{Layouts};
+ghost use Rattle.pass_proofs.specs.ir_base.declared.outcome.Word.{Word};
+ghost use Rattle.pass_proofs.specs.ir_model.declared.module.Frame.{Frame};
 ghost use Rattle.pass_frames_proof.specs.Followed.{AreStepsFollowed, IsGiven};
 ghost use Rattle.pass_frames_proof.specs.Meaning.{KeepsFramedMeaning};
 ghost use Rattle.pass_frames_proof.specs.Related.{AreBuiltOf, Building};
-ghost use Rattle.pass_kept_proof.specs.Kept.{Keep};
+ghost use Rattle.pass_proofs.specs.pass_kept_proof.Kept.{Keep};
 ghost use Rattle.pass_proofs.specs.edges.states.MovedState.{edges_split};
 ghost use Rattle.pass_renewed_proof.specs.Renewed.{Flags, Roots, renewed_given};
-ghost use Rattle.run_source.specs.Source.{first_state};
-ghost use Rattle.run_source.specs.declared.state.State.{State};
+ghost use Rattle.pass_proofs.specs.run_source.Source.{first_state};
+ghost use Rattle.pass_proofs.specs.run_source.declared.state.State.{State};
 
 /// Where the starts are related and each step is followed, building frames keeps meaning by what steps cost.
 pub fn frames_keep_meaning()

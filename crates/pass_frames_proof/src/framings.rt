@@ -1,10 +1,10 @@
 //! Coroutines whose frames may be built.
 
 ghost use Rattle.std.specs.Prelude.{ℕ, List};
-ghost use Rattle.frame_contents.specs.declared.contents.Contents.{Contents};
-ghost use Rattle.frame_layout.specs.declared.layout.Layout.{Layout};
-ghost use Rattle.ir_model.specs.declared.module.Function.{Function};
-ghost use Rattle.ir_model.specs.declared.module.Module.{Module};
+ghost use Rattle.pass_proofs.specs.frame_contents.declared.contents.Contents.{Contents};
+ghost use Rattle.pass_proofs.specs.frame_layout.declared.layout.Layout.{Layout};
+ghost use Rattle.pass_proofs.specs.ir_model.declared.module.Function.{Function};
+ghost use Rattle.pass_proofs.specs.ir_model.declared.module.Module.{Module};
 ghost use Rattle.pass_frames_proof.specs.Framings.{IsFraming};
 ghost use Rattle.pass_proofs.specs.frames.rules.Buildable.{IsBuildable};
 

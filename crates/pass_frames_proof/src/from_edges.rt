@@ -12,9 +12,9 @@ ghost use Rattle.pass_frames_proof.specs.Places.{edged};
 ghost use Rattle.pass_frames_proof.specs.Related.{AreBuiltOf, Building};
 ghost use Rattle.pass_frames_proof.specs.Stepping.{AreGiven};
 ghost use Rattle.pass_renewed_proof.specs.Renewed.{RenewedGiven, renewed_step};
-ghost use Rattle.run_agreement.specs.Machines.{IsFine};
-ghost use Rattle.run_source.specs.Source.{left_windows};
-ghost use Rattle.run_source.specs.declared.state.State.{State};
+ghost use Rattle.pass_proofs.specs.run_agreement.Machines.{IsFine};
+ghost use Rattle.pass_proofs.specs.run_source.Source.{left_windows};
+ghost use Rattle.pass_proofs.specs.run_source.declared.state.State.{State};
 ghost use Rattle.std.specs.Prelude.{◌≡◌, [], ℕ, length};
 
 /// In front of a block on a resume or destroy edge addresses of slots go to their cells, and what crosses comes from

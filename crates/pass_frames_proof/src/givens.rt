@@ -1,14 +1,14 @@
 //! What both runs are given: the module with blocks on edges, and its framed form.
 
 ghost use Rattle.std.specs.Prelude.{◌≡◌, ℕ, ℤ, List, true};
-ghost use Rattle.frame_layout.specs.declared.layout.Layouts.{Layouts};
-ghost use Rattle.ir_model.specs.declared.module.Frame.{Frame};
+ghost use Rattle.pass_proofs.specs.frame_layout.declared.layout.Layouts.{Layouts};
+ghost use Rattle.pass_proofs.specs.ir_model.declared.module.Frame.{Frame};
 ghost use Rattle.pass_frames_proof.specs.Followed.{IsGiven};
 ghost use Rattle.pass_frames_proof.specs.Framings.{IsFraming};
 ghost use Rattle.pass_frames_proof.specs.Givens.{KeepsNames};
 ghost use Rattle.pass_frames_proof.specs.Related.{AreBuilt, Building, is_coroutine};
 ghost use Rattle.pass_frames_proof.specs.Stepping.{AreGiven};
-ghost use Rattle.pass_kept_proof.specs.Kept.{Keep};
+ghost use Rattle.pass_proofs.specs.pass_kept_proof.Kept.{Keep};
 ghost use Rattle.pass_proofs.specs.edges.states.MovedState.{edges_split};
 ghost use Rattle.pass_renewed_proof.specs.Renewed.{Flags, Roots, renewed_given};
 

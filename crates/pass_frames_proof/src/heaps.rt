@@ -2,19 +2,19 @@
 //! instance is let go.
 
 ghost use Rattle.std.specs.Prelude.{◌≡◌, ℕ, Bool, List, Ok, Option};
-ghost use Rattle.ir_base.specs.declared.outcome.Word.{Word};
-ghost use Rattle.ir_model.specs.Ty.{Ty};
-ghost use Rattle.ir_model.specs.declared.operand.Allocator.{Allocator};
-ghost use Rattle.ir_model.specs.declared.operand.Arg.{Arg};
+ghost use Rattle.pass_proofs.specs.ir_base.declared.outcome.Word.{Word};
+ghost use Rattle.pass_proofs.specs.ir_model.Ty.{Ty};
+ghost use Rattle.pass_proofs.specs.ir_model.declared.operand.Allocator.{Allocator};
+ghost use Rattle.pass_proofs.specs.ir_model.declared.operand.Arg.{Arg};
 ghost use Rattle.pass_frames_proof.specs.Followed.{IsFollowed};
 ghost use Rattle.pass_frames_proof.specs.Heaps.{IsAtFree, IsAtMaking, IsAtOtherFree, IsAtOtherMaking, IsGivenBack, IsGivingBack, MayMake};
 ghost use Rattle.pass_frames_proof.specs.Related.{AreBuiltOf, Building};
 ghost use Rattle.pass_frames_proof.specs.Stepping.{AreGiven};
 ghost use Rattle.pass_renewed_proof.specs.Renewed.{RenewedGiven};
-ghost use Rattle.run_laws.specs.memory.Pointers.{IsValue};
-ghost use Rattle.run_memory.specs.declared.pointer.Value.{Value};
-ghost use Rattle.run_source.specs.Source.{deallocate};
-ghost use Rattle.run_source.specs.declared.state.State.{State};
+ghost use Rattle.pass_proofs.specs.run_laws.memory.Pointers.{IsValue};
+ghost use Rattle.pass_proofs.specs.run_memory.declared.pointer.Value.{Value};
+ghost use Rattle.pass_proofs.specs.run_source.Source.{deallocate};
+ghost use Rattle.pass_proofs.specs.run_source.declared.state.State.{State};
 
 /// A block that the first run gives back is given back by the framed run too, wherever it is on a line. Where an
 /// instance is let go with it, so is the one beside it.

@@ -1,14 +1,14 @@
 //! What passes make of a block, instruction by instruction: passes behind one another, and places.
 
 ghost use Rattle.std.specs.Prelude.{◌≡◌, ℕ, ◌+◌, List, length, slice_get, Some};
-ghost use Rattle.ir_model.specs.declared.instr.Instr.{Instr};
-ghost use Rattle.ir_model.specs.declared.instr.Terminator.{Terminator};
-ghost use Rattle.ir_model.specs.declared.module.Block.{Block};
-ghost use Rattle.ir_model.specs.declared.module.Function.{Function};
+ghost use Rattle.pass_proofs.specs.ir_model.declared.instr.Instr.{Instr};
+ghost use Rattle.pass_proofs.specs.ir_model.declared.instr.Terminator.{Terminator};
+ghost use Rattle.pass_proofs.specs.ir_model.declared.module.Block.{Block};
+ghost use Rattle.pass_proofs.specs.ir_model.declared.module.Function.{Function};
 ghost use Rattle.pass_frames_proof.specs.Layers.{Layer, IsIdle, IsMadeBy, becomes, both, ended, grown, passed, place_in, state_at, woven};
-ghost use Rattle.run_laws.specs.access.Lines.{StandAt};
-ghost use Rattle.run_laws.specs.changed.Changed.{Each};
-ghost use Rattle.run_step.specs.Step.{AtTerm, fetch};
+ghost use Rattle.pass_proofs.specs.run_laws.access.Lines.{StandAt};
+ghost use Rattle.pass_proofs.specs.run_laws.changed.Changed.{Each};
+ghost use Rattle.pass_proofs.specs.run_step.Step.{AtTerm, fetch};
 
 /// A pass behind another one is a pass, instruction by instruction.
 pub fn layers_compose<S, T>()

@@ -8,8 +8,8 @@ ghost use Rattle.pass_frames_proof.specs.Places.{is_return};
 ghost use Rattle.pass_frames_proof.specs.Related.{AreBuiltOf, Building};
 ghost use Rattle.pass_frames_proof.specs.Stepping.{AreGiven};
 ghost use Rattle.pass_renewed_proof.specs.Renewed.{RenewedGiven};
-ghost use Rattle.run_source.specs.Source.{left_windows};
-ghost use Rattle.run_source.specs.declared.state.State.{State};
+ghost use Rattle.pass_proofs.specs.run_source.Source.{left_windows};
+ghost use Rattle.pass_proofs.specs.run_source.declared.state.State.{State};
 
 /// Where windows of the framed form are those of the coroutine at their places, a branch leaves the same ones. It leaves
 /// none in either run, or some in both. From a block on a resume or destroy edge it leaves none.

@@ -1,19 +1,19 @@
 //! Instructions behind a line that fetches their operands, by one table and then by another.
 
 ghost use Rattle.std.specs.Prelude.{◌≡◌, ℕ, Bool, List, Option};
-ghost use Rattle.ir_model.specs.declared.instr.Instr.{Instr};
-ghost use Rattle.ir_model.specs.declared.operand.Arg.{Arg};
-ghost use Rattle.ir_model.specs.declared.operand.Operand.{Operand};
-ghost use Rattle.pass_fetch.specs.Instrs.{with_fetched};
-ghost use Rattle.pass_fetch.specs.declared.fetch.Fetch.{Fetch};
+ghost use Rattle.pass_proofs.specs.ir_model.declared.instr.Instr.{Instr};
+ghost use Rattle.pass_proofs.specs.ir_model.declared.operand.Arg.{Arg};
+ghost use Rattle.pass_proofs.specs.ir_model.declared.operand.Operand.{Operand};
+ghost use Rattle.pass_proofs.specs.pass_fetch.Instrs.{with_fetched};
+ghost use Rattle.pass_proofs.specs.pass_fetch.declared.fetch.Fetch.{Fetch};
 ghost use Rattle.pass_frames_proof.specs.Framings.{IsFraming};
 ghost use Rattle.pass_frames_proof.specs.Led.{IsLed, LeavesMemory, MayBeLed, MayStepLed, StepsLed, StoresLed, led_line, twice_front};
 ghost use Rattle.pass_frames_proof.specs.Places.{Framing};
-ghost use Rattle.run_laws.specs.memory.Pointers.{Home};
-ghost use Rattle.run_laws.specs.memory.Standing.{AreByteRights};
-ghost use Rattle.run_memory.specs.declared.pointer.Value.{Value};
-ghost use Rattle.run_source.specs.declared.state.Activation.{Activation};
-ghost use Rattle.run_step.specs.Step.{Context, Done, Work, instr_action};
+ghost use Rattle.pass_proofs.specs.run_laws.memory.Pointers.{Home};
+ghost use Rattle.pass_proofs.specs.run_laws.memory.Standing.{AreByteRights};
+ghost use Rattle.pass_proofs.specs.run_memory.declared.pointer.Value.{Value};
+ghost use Rattle.pass_proofs.specs.run_source.declared.state.Activation.{Activation};
+ghost use Rattle.pass_proofs.specs.run_step.Step.{Context, Done, Work, instr_action};
 
 /// Operands are fetched by one table, and those that it doesn't fetch by another. Then each stands for the source's.
 pub fn operands_are_fetched_twice()

@@ -1,16 +1,16 @@
 //! The framed run on a straight line of its code.
 
 ghost use Rattle.std.specs.Prelude.{◌≡◌, ◌<◌, ℕ, List, length};
-ghost use Rattle.ir_base.specs.declared.outcome.Outcome.{Outcome};
-ghost use Rattle.ir_model.specs.declared.instr.Instr.{Instr};
+ghost use Rattle.pass_proofs.specs.ir_base.declared.outcome.Outcome.{Outcome};
+ghost use Rattle.pass_proofs.specs.ir_model.declared.instr.Instr.{Instr};
 ghost use Rattle.pass_frames_proof.specs.Lined.{GivesNone, lined};
-ghost use Rattle.run_framed.specs.Framed.{FramedGiven, framed_context, framed_step};
-ghost use Rattle.run_laws.specs.access.Lines.{Runs, StandAt};
-ghost use Rattle.run_laws.specs.changed.Changed.{Each};
-ghost use Rattle.run_source.specs.State.{function_of, work_of};
-ghost use Rattle.run_source.specs.declared.state.State.{State};
-ghost use Rattle.run_step.specs.Runs.{iterate};
-ghost use Rattle.run_step.specs.Step.{Work};
+ghost use Rattle.pass_proofs.specs.run_framed.Framed.{FramedGiven, framed_context, framed_step};
+ghost use Rattle.pass_proofs.specs.run_laws.access.Lines.{Runs, StandAt};
+ghost use Rattle.pass_proofs.specs.run_laws.changed.Changed.{Each};
+ghost use Rattle.pass_proofs.specs.run_source.State.{function_of, work_of};
+ghost use Rattle.pass_proofs.specs.run_source.declared.state.State.{State};
+ghost use Rattle.pass_proofs.specs.run_step.Runs.{iterate};
+ghost use Rattle.pass_proofs.specs.run_step.Step.{Work};
 
 /// Each instruction of a line that is done is a step of the framed run. Behind some of them it is so far on.
 pub fn lines_lead_on()

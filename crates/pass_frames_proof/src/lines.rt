@@ -2,14 +2,14 @@
 
 ghost use Rattle.std.specs.List.{Contains};
 ghost use Rattle.std.specs.Prelude.{◌<◌, ◌≤◌, ℕ, List, ◌++◌, Some, length};
-ghost use Rattle.flow_solver.specs.Paths.{IsListed};
-ghost use Rattle.ir_model.specs.Ty.{Ty};
-ghost use Rattle.ir_model.specs.declared.instr.Instr.{Instr};
-ghost use Rattle.ir_model.specs.declared.operand.Operand.{Operand};
-ghost use Rattle.pass_cells.specs.Cells.{fetches_of};
-ghost use Rattle.pass_cells.specs.Written.{row_at, stored};
-ghost use Rattle.pass_cells.specs.declared.plan.KeptValue.{KeptValue};
-ghost use Rattle.pass_intrinsics.specs.Shapes.{suspends_of};
+ghost use Rattle.pass_proofs.specs.flow_solver.Paths.{IsListed};
+ghost use Rattle.pass_proofs.specs.ir_model.Ty.{Ty};
+ghost use Rattle.pass_proofs.specs.ir_model.declared.instr.Instr.{Instr};
+ghost use Rattle.pass_proofs.specs.ir_model.declared.operand.Operand.{Operand};
+ghost use Rattle.pass_proofs.specs.pass_cells.Cells.{fetches_of};
+ghost use Rattle.pass_proofs.specs.pass_cells.Written.{row_at, stored};
+ghost use Rattle.pass_proofs.specs.pass_cells.declared.plan.KeptValue.{KeptValue};
+ghost use Rattle.pass_proofs.specs.pass_intrinsics.Shapes.{suspends_of};
 ghost use Rattle.pass_frames_proof.specs.Fetched.{CanFetch};
 ghost use Rattle.pass_frames_proof.specs.Framings.{IsFraming};
 ghost use Rattle.pass_frames_proof.specs.Lines.{AreAway, DifferAt, Fills, HasOwnBlocks, IsKeptType, IsNoRoot, IsStorable, LeavesCellsBut, LiesApart, LoadsCell, RunsOver, StoresCell, at_work, with_memory};
@@ -17,19 +17,19 @@ ghost use Rattle.pass_frames_proof.specs.Loaded.{loaded_value};
 ghost use Rattle.pass_frames_proof.specs.Places.{Framing, edged, named, plan};
 ghost use Rattle.pass_frames_proof.specs.Related.{Anything, AreCellsRight, AreFieldsRight, IsCell, IsKeptAs, IsKeptValue};
 ghost use Rattle.pass_frames_proof.specs.Saves.{HoldsField, MaySave, SavesValues};
-ghost use Rattle.run_laws.specs.access.Accessed.{Span};
-ghost use Rattle.run_laws.specs.access.Lines.{Holds};
-ghost use Rattle.run_laws.specs.embedded.Related.{AreWorlds};
-ghost use Rattle.run_laws.specs.memory.Pointers.{Home, IsValue};
-ghost use Rattle.run_laws.specs.memory.Standing.{AreByteRights};
-ghost use Rattle.run_memory.specs.Memory.{Rights};
-ghost use Rattle.run_memory.specs.declared.block.Byte.{Byte};
-ghost use Rattle.run_memory.specs.declared.block.MemoryBlock.{MemoryBlock};
-ghost use Rattle.run_memory.specs.declared.pointer.Value.{Value};
-ghost use Rattle.run_source.specs.declared.state.Activation.{Activation};
-ghost use Rattle.run_step.specs.Step.{Context, Work};
-ghost use Rattle.run_step.specs.Values.{Env, value_in};
-ghost use Rattle.run_step.specs.declared.world.World.{World};
+ghost use Rattle.pass_proofs.specs.run_laws.access.Accessed.{Span};
+ghost use Rattle.pass_proofs.specs.run_laws.access.Lines.{Holds};
+ghost use Rattle.pass_proofs.specs.run_laws.embedded.Related.{AreWorlds};
+ghost use Rattle.pass_proofs.specs.run_laws.memory.Pointers.{Home, IsValue};
+ghost use Rattle.pass_proofs.specs.run_laws.memory.Standing.{AreByteRights};
+ghost use Rattle.pass_proofs.specs.run_memory.Memory.{Rights};
+ghost use Rattle.pass_proofs.specs.run_memory.declared.block.Byte.{Byte};
+ghost use Rattle.pass_proofs.specs.run_memory.declared.block.MemoryBlock.{MemoryBlock};
+ghost use Rattle.pass_proofs.specs.run_memory.declared.pointer.Value.{Value};
+ghost use Rattle.pass_proofs.specs.run_source.declared.state.Activation.{Activation};
+ghost use Rattle.pass_proofs.specs.run_step.Step.{Context, Work};
+ghost use Rattle.pass_proofs.specs.run_step.Values.{Env, value_in};
+ghost use Rattle.pass_proofs.specs.run_step.declared.world.World.{World};
 
 /// Where ranges are filled, what other ranges hold stays. So does a source that stands in none of them.
 pub fn ranges_are_filled()

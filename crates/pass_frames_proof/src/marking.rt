@@ -1,8 +1,8 @@
 //! Lifetime markers. The framed form hasn't those of slots that lie in a frame: the framed run takes no step.
 
 ghost use Rattle.std.specs.Prelude.{◌≡◌, ℕ, Bool, Option, false, true};
-ghost use Rattle.ir_model.specs.Ty.{Ty};
-ghost use Rattle.ir_model.specs.declared.operand.Arg.{Arg};
+ghost use Rattle.pass_proofs.specs.ir_model.Ty.{Ty};
+ghost use Rattle.pass_proofs.specs.ir_model.declared.operand.Arg.{Arg};
 ghost use Rattle.pass_frames_proof.specs.Followed.{IsFollowed};
 ghost use Rattle.pass_frames_proof.specs.Marking.{
   IsAtMarker,
@@ -19,10 +19,10 @@ ghost use Rattle.pass_frames_proof.specs.Related.{AreBuiltOf, Building};
 ghost use Rattle.pass_frames_proof.specs.Slotted.{HasListedSlots, HasSlotsApart};
 ghost use Rattle.pass_frames_proof.specs.Stepping.{AreGiven};
 ghost use Rattle.pass_renewed_proof.specs.Renewed.{RenewedGiven};
-ghost use Rattle.run_memory.specs.declared.pointer.Value.{Value};
-ghost use Rattle.run_source.specs.declared.state.State.{State};
-ghost use Rattle.run_step.specs.Values.{value_in};
-ghost use Rattle.run_step.specs.declared.world.Slot.{Slot};
+ghost use Rattle.pass_proofs.specs.run_memory.declared.pointer.Value.{Value};
+ghost use Rattle.pass_proofs.specs.run_source.declared.state.State.{State};
+ghost use Rattle.pass_proofs.specs.run_step.Values.{value_in};
+ghost use Rattle.pass_proofs.specs.run_step.declared.world.Slot.{Slot};
 
 /// A marker of a slot that is made anew does nothing in the source either. Any other one starts or ends a block that is
 /// hidden before begin, or stands in its temporary, and that stands in the frame behind it, apart from all others that

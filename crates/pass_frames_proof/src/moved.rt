@@ -3,11 +3,11 @@
 ghost use Rattle.std.specs.Prelude.{ℕ, Bool, List, ◌∷◌};
 ghost use Rattle.pass_frames_proof.specs.Moved.{AreMoved, IsTopMoved, MovesRest};
 ghost use Rattle.pass_frames_proof.specs.Related.{AreBuiltOf, Building};
-ghost use Rattle.run_laws.specs.memory.Pointers.{Home};
-ghost use Rattle.run_source.specs.declared.state.Activation.{Activation};
-ghost use Rattle.run_source.specs.declared.state.Instance.{Instance};
-ghost use Rattle.run_source.specs.declared.state.State.{State};
-ghost use Rattle.run_step.specs.declared.world.World.{World};
+ghost use Rattle.pass_proofs.specs.run_laws.memory.Pointers.{Home};
+ghost use Rattle.pass_proofs.specs.run_source.declared.state.Activation.{Activation};
+ghost use Rattle.pass_proofs.specs.run_source.declared.state.Instance.{Instance};
+ghost use Rattle.pass_proofs.specs.run_source.declared.state.State.{State};
+ghost use Rattle.pass_proofs.specs.run_step.declared.world.World.{World};
 
 /// Where the ranges stay in which cells and fields stand, and homes into which pointers may be about, what activations
 /// have stays right: with the same activations, or with another one on top.

@@ -1,14 +1,14 @@
 //! The table of offsets in a frame tells of each slot, and of the field of each kept value, where the layout has it.
 
 ghost use Rattle.std.specs.Prelude.{◌≡◌, ◌<◌, ℕ, None, Some, get_or, length, slice_get, true};
-ghost use Rattle.frame_contents.specs.declared.contents.Contents.{Contents};
-ghost use Rattle.frame_contents.specs.declared.held.Holding.{Holding};
-ghost use Rattle.frame_layout.specs.declared.layout.Layout.{Layout};
-ghost use Rattle.ir_model.specs.declared.module.Function.{Function};
-ghost use Rattle.pass_cells.specs.Links.{field_name};
-ghost use Rattle.pass_edges.specs.EdgeBlocks.{with_edge_blocks};
-ghost use Rattle.pass_frames.specs.Framed.{kept_of, offsets_of};
-ghost use Rattle.pass_frames.specs.Tables.{is_slot_kind, offset_at};
+ghost use Rattle.pass_proofs.specs.frame_contents.declared.contents.Contents.{Contents};
+ghost use Rattle.pass_proofs.specs.frame_contents.declared.held.Holding.{Holding};
+ghost use Rattle.pass_proofs.specs.frame_layout.declared.layout.Layout.{Layout};
+ghost use Rattle.pass_proofs.specs.ir_model.declared.module.Function.{Function};
+ghost use Rattle.pass_proofs.specs.pass_cells.Links.{field_name};
+ghost use Rattle.pass_proofs.specs.pass_edges.EdgeBlocks.{with_edge_blocks};
+ghost use Rattle.pass_proofs.specs.pass_frames.Framed.{kept_of, offsets_of};
+ghost use Rattle.pass_proofs.specs.pass_frames.Tables.{is_slot_kind, offset_at};
 ghost use Rattle.pass_frames_proof.specs.Offsets.{AreHeldOnce};
 
 /// A slot lies at the offset of its place among what is held, and the field of a kept value at that of the value's.

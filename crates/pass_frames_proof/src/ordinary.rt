@@ -1,19 +1,19 @@
 //! Ordinary steps: an instruction that is no intrinsic does the same in the framed form, over the related memory.
 
 ghost use Rattle.std.specs.Prelude.{◌≡◌, ℕ, Bool, List, Option};
-ghost use Rattle.ir_model.specs.declared.instr.Instr.{Instr};
-ghost use Rattle.ir_model.specs.declared.operand.Arg.{Arg};
-ghost use Rattle.ir_model.specs.declared.operand.Operand.{Operand};
-ghost use Rattle.pass_fetch.specs.declared.fetch.Fetch.{Fetch};
+ghost use Rattle.pass_proofs.specs.ir_model.declared.instr.Instr.{Instr};
+ghost use Rattle.pass_proofs.specs.ir_model.declared.operand.Arg.{Arg};
+ghost use Rattle.pass_proofs.specs.ir_model.declared.operand.Operand.{Operand};
+ghost use Rattle.pass_proofs.specs.pass_fetch.declared.fetch.Fetch.{Fetch};
 ghost use Rattle.pass_frames_proof.specs.Framings.{IsFraming};
 ghost use Rattle.pass_frames_proof.specs.Ordinary.{IsMade, IsQuiet, MayBeMade, MayStep, Steps};
 ghost use Rattle.pass_frames_proof.specs.Places.{Framing};
-ghost use Rattle.run_laws.specs.memory.Pointers.{Home};
-ghost use Rattle.run_laws.specs.memory.Standing.{AreByteRights};
-ghost use Rattle.run_laws.specs.transfer.Transfer.{Maps};
-ghost use Rattle.run_memory.specs.declared.pointer.Value.{Value};
-ghost use Rattle.run_source.specs.declared.state.Activation.{Activation};
-ghost use Rattle.run_step.specs.Step.{Context, Done, Work, instr_action};
+ghost use Rattle.pass_proofs.specs.run_laws.memory.Pointers.{Home};
+ghost use Rattle.pass_proofs.specs.run_laws.memory.Standing.{AreByteRights};
+ghost use Rattle.pass_proofs.specs.run_laws.transfer.Transfer.{Maps};
+ghost use Rattle.pass_proofs.specs.run_memory.declared.pointer.Value.{Value};
+ghost use Rattle.pass_proofs.specs.run_source.declared.state.Activation.{Activation};
+ghost use Rattle.pass_proofs.specs.run_step.Step.{Context, Done, Work, instr_action};
 
 /// Where what is seen of each operand stands for what the source has, operands are fetched and the instruction does the
 /// same: of every one but those that make, mark or allocate blocks.

@@ -2,16 +2,16 @@
 //! of their own.
 
 ghost use Rattle.std.specs.Prelude.{◌≡◌, ◌<◌, ◌≤◌, ℕ, List, None, Option, Some, codes, length, slice_get};
-ghost use Rattle.ir_model.specs.declared.instr.Phi.{Phi};
-ghost use Rattle.ir_model.specs.declared.module.Block.{Block};
-ghost use Rattle.ir_model.specs.declared.module.Function.{Function};
-ghost use Rattle.pass_cells.specs.Written.{stored_phis};
-ghost use Rattle.ir_model.specs.declared.operand.Operand.{Operand};
-ghost use Rattle.pass_fetch.specs.Blocks.{next_after_phis_by, with_fetches};
-ghost use Rattle.pass_fetch.specs.Fetching.{fetch_of};
+ghost use Rattle.pass_proofs.specs.ir_model.declared.instr.Phi.{Phi};
+ghost use Rattle.pass_proofs.specs.ir_model.declared.module.Block.{Block};
+ghost use Rattle.pass_proofs.specs.ir_model.declared.module.Function.{Function};
+ghost use Rattle.pass_proofs.specs.pass_cells.Written.{stored_phis};
+ghost use Rattle.pass_proofs.specs.ir_model.declared.operand.Operand.{Operand};
+ghost use Rattle.pass_proofs.specs.pass_fetch.Blocks.{next_after_phis_by, with_fetches};
+ghost use Rattle.pass_proofs.specs.pass_fetch.Fetching.{fetch_of};
 ghost use Rattle.pass_frames_proof.specs.Edges.{ArePairs};
 ghost use Rattle.pass_frames_proof.specs.Ends.{Ends, IsPhiTwice, MayEnd, phis_twice};
-ghost use Rattle.pass_fetch.specs.declared.fetch.Fetch.{Fetch};
+ghost use Rattle.pass_proofs.specs.pass_fetch.declared.fetch.Fetch.{Fetch};
 ghost use Rattle.pass_frames_proof.specs.Code.{front_code, slot_table};
 ghost use Rattle.pass_frames_proof.specs.Framings.{IsFraming};
 ghost use Rattle.pass_frames_proof.specs.Lines.{HasOwnBlocks, at_work};
@@ -20,13 +20,13 @@ ghost use Rattle.pass_frames_proof.specs.Phis.{AreBlocksSeen, ArePhisFetched, Ca
 ghost use Rattle.pass_frames_proof.specs.Places.{Framing, fetched, framed, plan, unmarked};
 ghost use Rattle.pass_frames_proof.specs.Related.{AreCellsRight};
 ghost use Rattle.pass_frames_proof.specs.Stores.{AreNamesStored, IsNameGiven};
-ghost use Rattle.run_laws.specs.changed.Changed.{Each};
-ghost use Rattle.run_laws.specs.memory.Pointers.{Home};
-ghost use Rattle.run_laws.specs.memory.Standing.{AreByteRights};
-ghost use Rattle.run_memory.specs.declared.pointer.Value.{Value};
-ghost use Rattle.run_source.specs.declared.state.Activation.{Activation};
-ghost use Rattle.run_step.specs.Step.{Context, Work, phi_values, with_all};
-ghost use Rattle.run_step.specs.Values.{Env};
+ghost use Rattle.pass_proofs.specs.run_laws.changed.Changed.{Each};
+ghost use Rattle.pass_proofs.specs.run_laws.memory.Pointers.{Home};
+ghost use Rattle.pass_proofs.specs.run_laws.memory.Standing.{AreByteRights};
+ghost use Rattle.pass_proofs.specs.run_memory.declared.pointer.Value.{Value};
+ghost use Rattle.pass_proofs.specs.run_source.declared.state.Activation.{Activation};
+ghost use Rattle.pass_proofs.specs.run_step.Step.{Context, Work, phi_values, with_all};
+ghost use Rattle.pass_proofs.specs.run_step.Values.{Env};
 
 /// What stands at the end of a block for phis that are entered from it is executed. It sets new names alone, and each
 /// phi gets what is seen of its operand.

@@ -1,9 +1,9 @@
 //! Calls of ramps: the framed run executes the front of the entry with the call.
 
 ghost use Rattle.std.specs.Prelude.{◌≡◌, ◌≤◌, ℕ, Bool, List, Option, false, length, true};
-ghost use Rattle.ir_model.specs.declared.instr.Instr.{Instr};
-ghost use Rattle.ir_model.specs.declared.module.Module.{Module};
-ghost use Rattle.pass_copies.specs.Uses.{flag_at};
+ghost use Rattle.pass_proofs.specs.ir_model.declared.instr.Instr.{Instr};
+ghost use Rattle.pass_proofs.specs.ir_model.declared.module.Module.{Module};
+ghost use Rattle.pass_proofs.specs.pass_copies.Uses.{flag_at};
 ghost use Rattle.pass_frames_proof.specs.Calling.{HasBlocks, IsAtCall, IsAtPlainCall};
 ghost use Rattle.pass_frames_proof.specs.Followed.{IsFollowed};
 ghost use Rattle.pass_frames_proof.specs.Framings.{IsFraming};
@@ -12,10 +12,10 @@ ghost use Rattle.pass_frames_proof.specs.Ramps.{HasAllocasInFront, HasEntryFront
 ghost use Rattle.pass_frames_proof.specs.Related.{AreBuiltOf, Building, is_coroutine};
 ghost use Rattle.pass_frames_proof.specs.Stepping.{AreGiven};
 ghost use Rattle.pass_renewed_proof.specs.Renewed.{RenewedGiven};
-ghost use Rattle.rule_laws.specs.rules.function_rules.Kept.{KeepsFunctionRules};
-ghost use Rattle.run_memory.specs.declared.pointer.Value.{Value};
-ghost use Rattle.run_source.specs.declared.state.State.{State};
-ghost use Rattle.run_step.specs.Step.{has_markers};
+ghost use Rattle.pass_proofs.specs.rule_laws.rules.function_rules.Kept.{KeepsFunctionRules};
+ghost use Rattle.pass_proofs.specs.run_memory.declared.pointer.Value.{Value};
+ghost use Rattle.pass_proofs.specs.run_source.declared.state.State.{State};
+ghost use Rattle.pass_proofs.specs.run_step.Step.{has_markers};
 
 /// In front of the entry stand all allocas, and behind them stores alone: of addresses of temporaries, and of
 /// parameters.

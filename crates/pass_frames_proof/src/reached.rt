@@ -1,17 +1,17 @@
 //! Slots that lie in the frame: in front of each use their address is made, so far behind that of the frame.
 
 ghost use Rattle.std.specs.Prelude.{◌≡◌, ◌<◌, ◌+◌, ◌^◌, ℕ, List, Some, true};
-ghost use Rattle.ir_model.specs.declared.operand.Operand.{Operand};
-ghost use Rattle.pass_cells.specs.Kept.{entry};
-ghost use Rattle.pass_frames.specs.Framed.{begin_of};
+ghost use Rattle.pass_proofs.specs.ir_model.declared.operand.Operand.{Operand};
+ghost use Rattle.pass_proofs.specs.pass_cells.Kept.{entry};
+ghost use Rattle.pass_proofs.specs.pass_frames.Framed.{begin_of};
 ghost use Rattle.pass_frames_proof.specs.Code.{slot_table};
 ghost use Rattle.pass_frames_proof.specs.Fetched.{CanFetch};
 ghost use Rattle.pass_frames_proof.specs.Places.{Framing, offsets};
 ghost use Rattle.pass_frames_proof.specs.Reached.{address_in_frame};
-ghost use Rattle.run_laws.specs.access.Lines.{pointer_at};
-ghost use Rattle.run_laws.specs.memory.Pointers.{Home, IsValue, home_of};
-ghost use Rattle.run_step.specs.Step.{Context, Work};
-ghost use Rattle.run_step.specs.Values.{Env, pointer_to, value_in};
+ghost use Rattle.pass_proofs.specs.run_laws.access.Lines.{pointer_at};
+ghost use Rattle.pass_proofs.specs.run_laws.memory.Pointers.{Home, IsValue, home_of};
+ghost use Rattle.pass_proofs.specs.run_step.Step.{Context, Work};
+ghost use Rattle.pass_proofs.specs.run_step.Values.{Env, pointer_to, value_in};
 
 /// The address of a slot can be made behind begin, and stands for the slot's in the source once its home is there.
 pub fn slots_are_reached()

@@ -5,7 +5,7 @@ ghost use Rattle.pass_frames_proof.specs.Related.{AreBuiltOf, Building};
 ghost use Rattle.pass_frames_proof.specs.Saving.{IsAtSave};
 ghost use Rattle.pass_frames_proof.specs.Stepping.{AreGiven};
 ghost use Rattle.pass_renewed_proof.specs.Renewed.{RenewedGiven};
-ghost use Rattle.run_source.specs.declared.state.State.{State};
+ghost use Rattle.pass_proofs.specs.run_source.declared.state.State.{State};
 
 /// In front of a save the values that cross its suspend go to their fields. Then both instances are Suspended, and the
 /// fields are right.

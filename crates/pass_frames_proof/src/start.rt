@@ -1,15 +1,15 @@
 //! The two runs start in states that stand beside each other.
 
 ghost use Rattle.std.specs.Prelude.{◌≡◌, ◌<◌, ◌^◌, ℕ, List, Some, false, length, slice_get};
-ghost use Rattle.ir_base.specs.declared.outcome.Word.{Word};
-ghost use Rattle.ir_model.specs.Names.{function_at};
-ghost use Rattle.ir_model.specs.declared.module.Module.{Module};
+ghost use Rattle.pass_proofs.specs.ir_base.declared.outcome.Word.{Word};
+ghost use Rattle.pass_proofs.specs.ir_model.Names.{function_at};
+ghost use Rattle.pass_proofs.specs.ir_model.declared.module.Module.{Module};
 ghost use Rattle.pass_frames_proof.specs.Related.{AreBuilt, AreBuiltOf, Building, is_coroutine};
-ghost use Rattle.run_laws.specs.memory.Standing.{Embeds, own_homes};
-ghost use Rattle.run_memory.specs.Memory.{owner_rights};
-ghost use Rattle.run_memory.specs.declared.block.MemoryBlock.{MemoryBlock};
-ghost use Rattle.run_source.specs.Source.{first_state};
-ghost use Rattle.run_step.specs.Step.{first_world};
+ghost use Rattle.pass_proofs.specs.run_laws.memory.Standing.{Embeds, own_homes};
+ghost use Rattle.pass_proofs.specs.run_memory.Memory.{owner_rights};
+ghost use Rattle.pass_proofs.specs.run_memory.declared.block.MemoryBlock.{MemoryBlock};
+ghost use Rattle.pass_proofs.specs.run_source.Source.{first_state};
+ghost use Rattle.pass_proofs.specs.run_step.Step.{first_world};
 
 /// They do where the entry is no coroutine and the globals are the same in both, and stand in themselves.
 pub fn starts_stand_beside_each_other()

@@ -1,21 +1,21 @@
 //! Steps of the run in which slots are made anew, from state to state, and those of the framed run.
 
 ghost use Rattle.std.specs.Prelude.{◌≡◌, ℕ, Bool, List, Option};
-ghost use Rattle.ir_model.specs.Ty.{Ty};
-ghost use Rattle.ir_model.specs.declared.instr.Instr.{Instr};
-ghost use Rattle.ir_model.specs.declared.instr.Terminator.{Terminator};
-ghost use Rattle.ir_model.specs.declared.operand.Arg.{Arg};
-ghost use Rattle.ir_model.specs.declared.operand.Operand.{Operand};
+ghost use Rattle.pass_proofs.specs.ir_model.Ty.{Ty};
+ghost use Rattle.pass_proofs.specs.ir_model.declared.instr.Instr.{Instr};
+ghost use Rattle.pass_proofs.specs.ir_model.declared.instr.Terminator.{Terminator};
+ghost use Rattle.pass_proofs.specs.ir_model.declared.operand.Arg.{Arg};
+ghost use Rattle.pass_proofs.specs.ir_model.declared.operand.Operand.{Operand};
 ghost use Rattle.pass_frames_proof.specs.Followed.{IsFollowed};
 ghost use Rattle.pass_frames_proof.specs.Led.{LeavesMemory};
 ghost use Rattle.pass_frames_proof.specs.Related.{AreBuiltOf, Building};
 ghost use Rattle.pass_frames_proof.specs.Stepping.{AreFieldsSpared, AreGiven, GoesAsFar, HasFieldIndices, IsAtOrdinary, IsAtOther, IsAtOtherBranch, IsAtOtherCall};
 ghost use Rattle.pass_renewed_proof.specs.Renewed.{RenewedGiven};
-ghost use Rattle.run_memory.specs.declared.pointer.Value.{Value};
-ghost use Rattle.run_source.specs.Source.{context_of};
-ghost use Rattle.run_source.specs.declared.state.State.{State};
-ghost use Rattle.run_step.specs.Step.{Context, Work};
-ghost use Rattle.run_step.specs.Values.{Env, distance};
+ghost use Rattle.pass_proofs.specs.run_memory.declared.pointer.Value.{Value};
+ghost use Rattle.pass_proofs.specs.run_source.Source.{context_of};
+ghost use Rattle.pass_proofs.specs.run_source.declared.state.State.{State};
+ghost use Rattle.pass_proofs.specs.run_step.Step.{Context, Work};
+ghost use Rattle.pass_proofs.specs.run_step.Values.{Env, distance};
 
 /// In a coroutine an instruction that changes no memory is followed: its kept operands are loaded, addresses of
 /// slots in

@@ -5,7 +5,7 @@ ghost use Rattle.pass_frames_proof.specs.Related.{AreBuiltOf, Building};
 ghost use Rattle.pass_frames_proof.specs.Stepping.{AreGiven};
 ghost use Rattle.pass_frames_proof.specs.Suspending.{IsAtSuspend};
 ghost use Rattle.pass_renewed_proof.specs.Renewed.{RenewedGiven};
-ghost use Rattle.run_source.specs.declared.state.State.{State};
+ghost use Rattle.pass_proofs.specs.run_source.declared.state.State.{State};
 
 /// A suspend with its save's token gives -1 in both runs, in one step. Its switch then takes the stop edge.
 pub fn suspends_are_followed()

@@ -1,8 +1,8 @@
 //! The calls of coro intrinsics stand in the framed form where the coroutine has them, each at its own place.
 
 ghost use Rattle.std.specs.Prelude.{◌≡◌, map, true};
-ghost use Rattle.ir_model.specs.declared.operand.Intrinsic.{Intrinsic};
-ghost use Rattle.ir_paths.specs.Windows.{is_call_of, points_where};
+ghost use Rattle.pass_proofs.specs.ir_model.declared.operand.Intrinsic.{Intrinsic};
+ghost use Rattle.pass_proofs.specs.ir_paths.Windows.{is_call_of, points_where};
 ghost use Rattle.pass_frames_proof.specs.Places.{Framing, edged, framed, own_place};
 ghost use Rattle.pass_frames_proof.specs.Tests.{is_steady};
 

@@ -2,20 +2,20 @@
 use Rattle.std.proofs.Common.{◌≡◌, ℕ, zero, suc, inl, inr, Bool, List, [], ◌∷◌, ◌++◌, Some, None}
 use Rattle.std.proofs.Common.{refl, sym, ap, ◌∙◌, subst}
 use Rattle.std.specs.Prelude.{IsTrue, flat_map, slice_get}
-use Rattle.flow_facts.proofs.Chained.{IsAddress, address-complete, address-sound}
-use Rattle.flow_facts.specs.Chains.{bases_by, bases_in}
-use Rattle.flow_solver.specs.Paths.{IsListed}
-use Rattle.ir_model.specs.Ty.{Ty}
-use Rattle.ir_model.specs.declared.instr.Instr.{Instr}
-use Rattle.ir_model.specs.declared.module.Block.{Block}
-use Rattle.ir_model.specs.declared.module.Function.{Function}
-use Rattle.ir_model.specs.declared.operand.Arg.{Arg}
-use Rattle.ir_model.specs.declared.operand.Operand.{Operand}
-use Rattle.ir_paths.specs.Slots.{addresses_of, has_name}
-use Rattle.ir_paths.specs.Windows.{instr_in}
-use Rattle.ir_paths.specs.declared.point.Point.{Point}
-use Rattle.run_step.specs.Step.{AtInstr, fetch}
-use Rattle.pass_renewed_proof.proofs.Left.{instr_there}
+use Rattle.run_types.proofs.flow_facts.Chained.{IsAddress, address-complete, address-sound}
+use Rattle.run_types.specs.flow_facts.Chains.{bases_by, bases_in}
+use Rattle.run_types.specs.flow_solver.Paths.{IsListed}
+use Rattle.run_types.specs.ir_model.Ty.{Ty}
+use Rattle.run_types.specs.ir_model.declared.instr.Instr.{Instr}
+use Rattle.run_types.specs.ir_model.declared.module.Block.{Block}
+use Rattle.run_types.specs.ir_model.declared.module.Function.{Function}
+use Rattle.run_types.specs.ir_model.declared.operand.Arg.{Arg}
+use Rattle.run_types.specs.ir_model.declared.operand.Operand.{Operand}
+use Rattle.run_types.specs.ir_paths.Slots.{addresses_of, has_name}
+use Rattle.run_types.specs.ir_paths.Windows.{instr_in}
+use Rattle.run_types.specs.ir_paths.declared.point.Point.{Point}
+use Rattle.run_types.specs.run_step.Step.{AtInstr, fetch}
+use Rattle.run_types.proofs.pass_renewed_proof.Left.{instr_there}
 
 listed_left : {A : Type 0} (xs ys : List A) (x : A) → IsListed x xs → IsListed x (xs ++ ys)
 listed_left [] ys x h = absurd h

@@ -1,20 +1,20 @@
 -- What is beside each other is one to one, and shows the same.
 use Rattle.std.proofs.Common.{◌≡◌, ℕ, ◌+◌, List, [], ◌∷◌, length, map, Option, refl, ap, ◌∙◌}
-use Rattle.ir_base.specs.declared.outcome.Event.{Event}
-use Rattle.ir_model.specs.declared.module.Module.{Module}
-use Rattle.run_laws.specs.embedded.Related.{moved_event}
-use Rattle.run_laws.specs.transfer.Shapes.{Empty, Pair, Pairwise}
-use Rattle.run_memory.specs.declared.block.MemoryBlock.{MemoryBlock}
-use Rattle.run_source.specs.declared.state.Activation.{Activation}
-use Rattle.run_source.specs.declared.state.Instance.{Instance}
-use Rattle.run_source.specs.declared.state.State.{State}
-use Rattle.run_source.specs.declared.state.Status.{Status}
+use Rattle.run_types.specs.ir_base.declared.outcome.Event.{Event}
+use Rattle.run_types.specs.ir_model.declared.module.Module.{Module}
+use Rattle.run_types.specs.run_laws.embedded.Related.{moved_event}
+use Rattle.run_types.specs.run_laws.transfer.Shapes.{Empty, Pair, Pairwise}
+use Rattle.run_types.specs.run_memory.declared.block.MemoryBlock.{MemoryBlock}
+use Rattle.run_types.specs.run_source.declared.state.Activation.{Activation}
+use Rattle.run_types.specs.run_source.declared.state.Instance.{Instance}
+use Rattle.run_types.specs.run_source.declared.state.State.{State}
+use Rattle.run_types.specs.run_source.declared.state.Status.{Status}
 use Rattle.pass_renewed_meaning.specs.Followed.{AreAlike}
-use Rattle.pass_renewed_proof.specs.Beside.{AreBelow, AreInstancesBeside, IsActivationBeside, IsBeside}
-use Rattle.pass_renewed_proof.specs.Beside.{IsInstanceBeside, IsStatusBeside}
-use Rattle.pass_renewed_proof.specs.Between.{AreLikeActivations, AreLikeInstances, bare}
-use Rattle.pass_renewed_proof.specs.Ledger.{Ledger}
-use Rattle.pass_renewed_proof.specs.Renewed.{Flags, Roots}
+use Rattle.run_types.specs.pass_renewed_proof.Beside.{AreBelow, AreInstancesBeside, IsActivationBeside, IsBeside}
+use Rattle.run_types.specs.pass_renewed_proof.Beside.{IsInstanceBeside, IsStatusBeside}
+use Rattle.run_types.specs.pass_renewed_proof.Between.{AreLikeActivations, AreLikeInstances, bare}
+use Rattle.run_types.specs.pass_renewed_proof.Ledger.{Ledger}
+use Rattle.run_types.specs.pass_renewed_proof.Renewed.{Flags, Roots}
 
 module _ (m : Module) (flags : Flags) (roots : Roots) (l : Ledger) (memory target : List MemoryBlock) where
   status_alike : (x : Instance) (p q : Status) → IsStatusBeside m flags roots l memory x p q → bare q ≡ bare p

@@ -4,33 +4,33 @@ use Rattle.std.proofs.Common.{◌≡◌, ℕ, ◌+◌, ◌<◌, ◌^◌, ◌⊎�
 use Rattle.std.proofs.Common.{Some, None, Result, Ok, Err, refl, sym, ap, ◌∙◌, subst, if◌then◌else◌, ◌&&◌, ⊎_elim}
 use Rattle.std.proofs.lemmas.Bool.{false≢true}
 use Rattle.std.specs.Prelude.{IsTrue, option_and_then, option_map, slice_get}
-use Rattle.ir_base.specs.declared.cause.Cause.{Cause}
-use Rattle.ir_model.specs.Layout.{size_of}
-use Rattle.ir_model.specs.Names.{function_at}
-use Rattle.ir_model.specs.Ty.{Ty}
-use Rattle.ir_model.specs.declared.instr.Instr.{Instr}
-use Rattle.ir_model.specs.declared.module.Function.{Function}
-use Rattle.ir_model.specs.declared.operand.Operand.{Operand}
-use Rattle.ir_paths.specs.declared.point.Facts.{Facts}
-use Rattle.ir_laws.specs.facts.expanded.Tokens.{IsNamedResult}
-use Rattle.rule_windows.specs.Sets.{IsAfterEnd}
-use Rattle.run_hooks.specs.Away.{HasStop}
-use Rattle.run_laws.specs.changed.Changed.{result_at}
-use Rattle.run_laws.specs.embedded.Making.{whole_home}
-use Rattle.run_laws.specs.memory.Pointers.{home_of}
-use Rattle.run_memory.specs.Memory.{end, fresh, killed, start}
-use Rattle.run_memory.specs.declared.block.Kind.{Kind}
-use Rattle.run_source.specs.Source.{is_among, is_over, kill_late, new_slot, with_new_slots}
-use Rattle.run_source.specs.State.{numbered, own_facts, own_instance, settled, with_instance, with_memory, with_slots, work_of}
-use Rattle.run_source.specs.declared.state.Instance.{Instance}
-use Rattle.run_source.specs.declared.state.Mode.{Mode}
-use Rattle.run_source.specs.declared.state.State.{State}
-use Rattle.run_source_tables.specs.Given.{Given}
+use Rattle.run_types.specs.ir_base.declared.cause.Cause.{Cause}
+use Rattle.run_types.specs.ir_model.Layout.{size_of}
+use Rattle.run_types.specs.ir_model.Names.{function_at}
+use Rattle.run_types.specs.ir_model.Ty.{Ty}
+use Rattle.run_types.specs.ir_model.declared.instr.Instr.{Instr}
+use Rattle.run_types.specs.ir_model.declared.module.Function.{Function}
+use Rattle.run_types.specs.ir_model.declared.operand.Operand.{Operand}
+use Rattle.run_types.specs.ir_paths.declared.point.Facts.{Facts}
+use Rattle.run_types.specs.ir_laws.facts.expanded.Tokens.{IsNamedResult}
+use Rattle.run_types.specs.rule_windows.Sets.{IsAfterEnd}
+use Rattle.run_types.specs.run_hooks.Away.{HasStop}
+use Rattle.run_types.specs.run_laws.changed.Changed.{result_at}
+use Rattle.run_types.specs.run_laws.embedded.Making.{whole_home}
+use Rattle.run_types.specs.run_laws.memory.Pointers.{home_of}
+use Rattle.run_types.specs.run_memory.Memory.{end, fresh, killed, start}
+use Rattle.run_types.specs.run_memory.declared.block.Kind.{Kind}
+use Rattle.run_types.specs.run_source.Source.{is_among, is_over, kill_late, new_slot, with_new_slots}
+use Rattle.run_types.specs.run_source.State.{numbered, own_facts, own_instance, settled, with_instance, with_memory, with_slots, work_of}
+use Rattle.run_types.specs.run_source.declared.state.Instance.{Instance}
+use Rattle.run_types.specs.run_source.declared.state.Mode.{Mode}
+use Rattle.run_types.specs.run_source.declared.state.State.{State}
+use Rattle.run_types.specs.run_source_tables.Given.{Given}
 use Rattle.run_states.proofs.sound_states.Fits.{result_named}
-use Rattle.run_step.specs.Step.{AtInstr, NewSlot, Stuck, Work, alloca, alloca_kind, fetch, has_markers, if_alignment}
-use Rattle.run_step.specs.Step.{is_alignment, set_memory, set_value}
-use Rattle.run_step.specs.Values.{pointer_to}
-use Rattle.run_step.specs.declared.world.Slot.{Slot}
+use Rattle.run_types.specs.run_step.Step.{AtInstr, NewSlot, Stuck, Work, alloca, alloca_kind, fetch, has_markers, if_alignment}
+use Rattle.run_types.specs.run_step.Step.{is_alignment, set_memory, set_value}
+use Rattle.run_types.specs.run_step.Values.{pointer_to}
+use Rattle.run_types.specs.run_step.declared.world.Slot.{Slot}
 use Rattle.pass_renewed_meaning.proofs.Here.{Here, IsCase, first_act, keeps, other, own_coroutine, owns}
 use Rattle.pass_renewed_meaning.proofs.OneStep.{IsOneStep}
 use Rattle.pass_renewed_meaning.proofs.Points.{calm, ordinary}
@@ -38,24 +38,24 @@ use Rattle.pass_renewed_meaning.proofs.Tables.{facts_are, is_there, renewed_are}
 use Rattle.pass_renewed_meaning.specs.Followed.{Goes}
 use Rattle.pass_renewed_meaning.specs.Rules.{Setting}
 use Rattle.pass_renewed_meaning.specs.Runs.{first_given, second_given}
-use Rattle.pass_renewed_proof.proofs.Dying.{both_die}
-use Rattle.pass_renewed_proof.proofs.EntryBlock.{entry_before_end}
-use Rattle.pass_renewed_proof.proofs.GoingTo.{own_is}
-use Rattle.pass_renewed_proof.proofs.LateAllocas.{late_slot}
-use Rattle.pass_renewed_proof.proofs.Listing.{instance_beside, set_here, worlds_beside}
-use Rattle.pass_renewed_proof.proofs.OtherAllocas.{instance_slot, own_slot}
-use Rattle.pass_renewed_proof.proofs.Owning.{own_beside}
-use Rattle.pass_renewed_proof.proofs.Places.{made_live}
-use Rattle.pass_renewed_proof.proofs.Promising.{over_same}
-use Rattle.pass_renewed_proof.proofs.RampSlots.{no_ramp_slot, renewed_ramp_slot, same_ramp_slot}
-use Rattle.pass_renewed_proof.proofs.SlotAllocas.{begun_slot, early_slot, made_memory, set_same}
-use Rattle.pass_renewed_proof.specs.Beside.{AreSlots, Both, First, IsBeside, NoSlots, Second, place_in}
-use Rattle.pass_renewed_proof.specs.Found.{AreFound}
-use Rattle.pass_renewed_proof.specs.Ledger.{Ledger}
-use Rattle.pass_renewed_proof.specs.Making.{IsAllocaOfOther, IsAllocaOfSlot, slot_block, with_slot_of}
-use Rattle.pass_renewed_proof.specs.Renewed.{renewed_act, renewed_slot, with_life}
-use Rattle.pass_renewed_proof.specs.SlotRules.{IsAddressOf, Itself, KeepsSlots, Part}
-use Rattle.pass_renewed_proof.specs.Steps.{given_at}
+use Rattle.run_types.proofs.pass_renewed_proof.Dying.{both_die}
+use Rattle.run_types.proofs.pass_renewed_proof.EntryBlock.{entry_before_end}
+use Rattle.run_types.proofs.pass_renewed_proof.GoingTo.{own_is}
+use Rattle.run_types.proofs.pass_renewed_proof.LateAllocas.{late_slot}
+use Rattle.run_types.proofs.pass_renewed_proof.Listing.{instance_beside, set_here, worlds_beside}
+use Rattle.run_types.proofs.pass_renewed_proof.OtherAllocas.{instance_slot, own_slot}
+use Rattle.run_types.proofs.pass_renewed_proof.Owning.{own_beside}
+use Rattle.run_types.proofs.pass_renewed_proof.Places.{made_live}
+use Rattle.run_types.proofs.pass_renewed_proof.Promising.{over_same}
+use Rattle.run_types.proofs.pass_renewed_proof.RampSlots.{no_ramp_slot, renewed_ramp_slot, same_ramp_slot}
+use Rattle.run_types.proofs.pass_renewed_proof.SlotAllocas.{begun_slot, early_slot, made_memory, set_same}
+use Rattle.run_types.specs.pass_renewed_proof.Beside.{AreSlots, Both, First, IsBeside, NoSlots, Second, place_in}
+use Rattle.run_types.specs.pass_renewed_proof.Found.{AreFound}
+use Rattle.run_types.specs.pass_renewed_proof.Ledger.{Ledger}
+use Rattle.run_types.specs.pass_renewed_proof.Making.{IsAllocaOfOther, IsAllocaOfSlot, slot_block, with_slot_of}
+use Rattle.run_types.specs.pass_renewed_proof.Renewed.{renewed_act, renewed_slot, with_life}
+use Rattle.run_types.specs.pass_renewed_proof.SlotRules.{IsAddressOf, Itself, KeepsSlots, Part}
+use Rattle.run_types.specs.pass_renewed_proof.Steps.{given_at}
 
 same_ok : {A : Type 0} {a b : A} → ◌≡◌ {A = Result A Cause} (Ok a) (Ok b) → a ≡ b
 same_ok e = cc

@@ -1,27 +1,27 @@
 -- Where each step is followed both runs agree by costs.
 use Rattle.std.proofs.Common.{◌≡◌, ℕ, ◌+◌, ◌≤◌, inl, inr, List, map, refl, sym, ap, ◌∙◌, subst, arith}
 use Rattle.std.specs.Prelude.{ℤ}
-use Rattle.ir_base.specs.declared.outcome.Outcome.{Outcome}
-use Rattle.ir_base.specs.declared.outcome.Word.{Word}
-use Rattle.ir_model.specs.declared.module.Frame.{Frame}
-use Rattle.ir_model.specs.declared.module.Module.{Module}
-use Rattle.pass_kept_proof.specs.Kept.{Keep, continue_keeping}
-use Rattle.pass_kept_proof.specs.Machines.{kept_machine}
+use Rattle.run_types.specs.ir_base.declared.outcome.Outcome.{Outcome}
+use Rattle.run_types.specs.ir_base.declared.outcome.Word.{Word}
+use Rattle.run_types.specs.ir_model.declared.module.Frame.{Frame}
+use Rattle.run_types.specs.ir_model.declared.module.Module.{Module}
+use Rattle.run_types.specs.pass_kept_proof.Kept.{Keep, continue_keeping}
+use Rattle.run_types.specs.pass_kept_proof.Machines.{kept_machine}
 use Rattle.pass_renewed_meaning.proofs.Alike.{beside_alike, same_events}
 use Rattle.pass_renewed_meaning.specs.Followed.{AreAlike, AreInStep, AreStepsFollowed, Ended, Goes}
 use Rattle.pass_renewed_meaning.specs.Followed.{IsFollowed, IsOnItsWay, KeepsMeaning}
-use Rattle.pass_renewed_proof.specs.Beside.{IsBeside}
-use Rattle.pass_renewed_proof.specs.Prices.{Prices, kept_price, renewed_machine, renewed_price}
-use Rattle.pass_renewed_proof.specs.Renewed.{Flags, RenewedGiven, Roots, renewed_advance, renewed_given, renewed_step}
-use Rattle.run_agreement.proofs.Costs.{weaken_by}
-use Rattle.run_agreement.proofs.PricedLockstep.{AdvanceBy, IsPassed, SimulatesBy, lockstep_by}
-use Rattle.run_agreement.proofs.Runs.{iterate-add}
-use Rattle.run_agreement.proofs.Shows.{ShowsSame}
-use Rattle.run_agreement.specs.Machines.{IsFine, IsRunning, Machine, Seen, state_at}
-use Rattle.run_source.specs.Source.{Continues, advance_by, first_state, given, step_by}
-use Rattle.run_source.specs.declared.state.State.{State}
-use Rattle.run_source_tables.specs.Given.{Given}
-use Rattle.run_step.specs.Runs.{seen_event}
+use Rattle.run_types.specs.pass_renewed_proof.Beside.{IsBeside}
+use Rattle.run_types.specs.pass_renewed_proof.Prices.{Prices, kept_price, renewed_machine, renewed_price}
+use Rattle.run_types.specs.pass_renewed_proof.Renewed.{Flags, RenewedGiven, Roots, renewed_advance, renewed_given, renewed_step}
+use Rattle.run_types.proofs.run_agreement.Costs.{weaken_by}
+use Rattle.run_types.proofs.run_agreement.PricedLockstep.{AdvanceBy, IsPassed, SimulatesBy, lockstep_by}
+use Rattle.run_types.proofs.run_agreement.Runs.{iterate-add}
+use Rattle.run_types.proofs.run_agreement.Shows.{ShowsSame}
+use Rattle.run_types.specs.run_agreement.Machines.{IsFine, IsRunning, Machine, Seen, state_at}
+use Rattle.run_types.specs.run_source.Source.{Continues, advance_by, first_state, given, step_by}
+use Rattle.run_types.specs.run_source.declared.state.State.{State}
+use Rattle.run_types.specs.run_source_tables.Given.{Given}
+use Rattle.run_types.specs.run_step.Runs.{seen_event}
 
 -- ---- runs that are over
 

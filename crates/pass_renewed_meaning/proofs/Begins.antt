@@ -3,50 +3,50 @@ use Rattle.std.proofs.Common.{◌≡◌, ℕ, suc, ◌+◌, ◌%◌, ◌^◌, Bo
 use Rattle.std.proofs.Common.{Some, None, Result, Ok, Err, refl, sym, ap, ◌∙◌, subst, append-nil, ◌==◌, ◌&&◌}
 use Rattle.std.proofs.lemmas.Bool.{eqb-true, false≢true}
 use Rattle.std.specs.Prelude.{filter, is_none, is_some, slice_get, slice_set}
-use Rattle.ir_base.specs.declared.cause.Cause.{Cause}
-use Rattle.ir_model.specs.Names.{function_at}
-use Rattle.ir_model.specs.declared.instr.Instr.{Instr}
-use Rattle.ir_model.specs.declared.module.Function.{Function}
-use Rattle.ir_model.specs.declared.module.Module.{Module}
-use Rattle.ir_model.specs.declared.operand.Intrinsic.{Intrinsic}
-use Rattle.ir_paths.specs.Facts.{AreFactsOf}
-use Rattle.ir_paths.specs.Windows.{is_call_of}
-use Rattle.ir_paths.specs.declared.point.Facts.{Facts}
-use Rattle.frame_slots.proofs.Points.{where_complete}
-use Rattle.rule_windows.specs.Sets.{RunsOut}
-use Rattle.run_laws.specs.memory.Pointers.{Home, IsValue, home_of}
-use Rattle.run_memory.specs.Memory.{check, is_live, may_be_owned, own, owned_to, same_kind, with_block}
-use Rattle.run_memory.specs.Pointers.{moved}
-use Rattle.run_memory.specs.declared.block.Kind.{Kind}
-use Rattle.run_memory.specs.declared.block.MemoryBlock.{MemoryBlock}
-use Rattle.run_memory.specs.declared.pointer.Offset.{Offset}
-use Rattle.run_memory.specs.declared.pointer.Pointer.{Pointer}
-use Rattle.run_memory.specs.declared.pointer.Value.{Value}
-use Rattle.run_source.specs.Source.{begin, begin_at, begun, is_among, new_instance}
-use Rattle.run_source.specs.State.{function_of, gives, own_facts, own_frame, with_memory}
-use Rattle.run_source.specs.declared.state.Activation.{Activation}
-use Rattle.run_source.specs.declared.state.Instance.{Instance}
-use Rattle.run_source.specs.declared.state.State.{State}
-use Rattle.run_source_tables.specs.Given.{Given, frame_of}
-use Rattle.run_step.specs.Results.{and_then, found, ok_if}
-use Rattle.run_step.specs.Step.{block_of}
-use Rattle.run_step.specs.Values.{with_result}
-use Rattle.run_step.specs.declared.world.Slot.{Slot}
+use Rattle.run_types.specs.ir_base.declared.cause.Cause.{Cause}
+use Rattle.run_types.specs.ir_model.Names.{function_at}
+use Rattle.run_types.specs.ir_model.declared.instr.Instr.{Instr}
+use Rattle.run_types.specs.ir_model.declared.module.Function.{Function}
+use Rattle.run_types.specs.ir_model.declared.module.Module.{Module}
+use Rattle.run_types.specs.ir_model.declared.operand.Intrinsic.{Intrinsic}
+use Rattle.run_types.specs.ir_paths.Facts.{AreFactsOf}
+use Rattle.run_types.specs.ir_paths.Windows.{is_call_of}
+use Rattle.run_types.specs.ir_paths.declared.point.Facts.{Facts}
+use Rattle.run_types.proofs.frame_slots.Points.{where_complete}
+use Rattle.run_types.specs.rule_windows.Sets.{RunsOut}
+use Rattle.run_types.specs.run_laws.memory.Pointers.{Home, IsValue, home_of}
+use Rattle.run_types.specs.run_memory.Memory.{check, is_live, may_be_owned, own, owned_to, same_kind, with_block}
+use Rattle.run_types.specs.run_memory.Pointers.{moved}
+use Rattle.run_types.specs.run_memory.declared.block.Kind.{Kind}
+use Rattle.run_types.specs.run_memory.declared.block.MemoryBlock.{MemoryBlock}
+use Rattle.run_types.specs.run_memory.declared.pointer.Offset.{Offset}
+use Rattle.run_types.specs.run_memory.declared.pointer.Pointer.{Pointer}
+use Rattle.run_types.specs.run_memory.declared.pointer.Value.{Value}
+use Rattle.run_types.specs.run_source.Source.{begin, begin_at, begun, is_among, new_instance}
+use Rattle.run_types.specs.run_source.State.{function_of, gives, own_facts, own_frame, with_memory}
+use Rattle.run_types.specs.run_source.declared.state.Activation.{Activation}
+use Rattle.run_types.specs.run_source.declared.state.Instance.{Instance}
+use Rattle.run_types.specs.run_source.declared.state.State.{State}
+use Rattle.run_types.specs.run_source_tables.Given.{Given, frame_of}
+use Rattle.run_types.specs.run_step.Results.{and_then, found, ok_if}
+use Rattle.run_types.specs.run_step.Step.{block_of}
+use Rattle.run_types.specs.run_step.Values.{with_result}
+use Rattle.run_types.specs.run_step.declared.world.Slot.{Slot}
 use Rattle.pass_renewed_meaning.proofs.BegunStates.{begun_states}
 use Rattle.pass_renewed_meaning.proofs.Owned.{both_owned}
 use Rattle.pass_renewed_meaning.specs.Begins.{IsBeginOf}
-use Rattle.pass_renewed_proof.proofs.Ahead.{next_edge}
-use Rattle.pass_renewed_proof.proofs.Dying.{AreCarriedOver}
-use Rattle.pass_renewed_proof.proofs.Giving.{IsGivenName, envs, of_giving, others, unset}
-use Rattle.pass_renewed_proof.proofs.Left.{instr_there}
-use Rattle.pass_renewed_proof.proofs.Passing.{edge_on, passed_beside, unended, unstarted}
-use Rattle.pass_renewed_proof.proofs.RampSlots.{no_ramp_slot, renewed_ramp_slot, same_ramp_slot}
-use Rattle.pass_renewed_proof.proofs.Sets.{result_elsewhere}
-use Rattle.pass_renewed_proof.specs.Beside.{AreInstancesBeside, IsBeside, place_in}
-use Rattle.pass_renewed_proof.specs.Ledger.{IsMate, Ledger, Seat}
-use Rattle.pass_renewed_proof.specs.Left.{behind}
-use Rattle.pass_renewed_proof.specs.Renewed.{Flags, Roots, renewed_facts}
-use Rattle.pass_renewed_proof.specs.SlotRules.{KeepsSlots}
+use Rattle.run_types.proofs.pass_renewed_proof.Ahead.{next_edge}
+use Rattle.run_types.proofs.pass_renewed_proof.Dying.{AreCarriedOver}
+use Rattle.run_types.proofs.pass_renewed_proof.Giving.{IsGivenName, envs, of_giving, others, unset}
+use Rattle.run_types.proofs.pass_renewed_proof.Left.{instr_there}
+use Rattle.run_types.proofs.pass_renewed_proof.Passing.{edge_on, passed_beside, unended, unstarted}
+use Rattle.run_types.proofs.pass_renewed_proof.RampSlots.{no_ramp_slot, renewed_ramp_slot, same_ramp_slot}
+use Rattle.run_types.proofs.pass_renewed_proof.Sets.{result_elsewhere}
+use Rattle.run_types.specs.pass_renewed_proof.Beside.{AreInstancesBeside, IsBeside, place_in}
+use Rattle.run_types.specs.pass_renewed_proof.Ledger.{IsMate, Ledger, Seat}
+use Rattle.run_types.specs.pass_renewed_proof.Left.{behind}
+use Rattle.run_types.specs.pass_renewed_proof.Renewed.{Flags, Roots, renewed_facts}
+use Rattle.run_types.specs.pass_renewed_proof.SlotRules.{KeepsSlots}
 
 both_first : (a b : Bool) → (a && b) ≡ true → a ≡ true
 both_first true b e = refl

@@ -3,11 +3,11 @@ use Rattle.std.proofs.Common.{◌≡◌, ℕ, zero, suc, Bool, true, false, not,
 use Rattle.std.proofs.Common.{refl, sym, ap, ◌∙◌, subst, arith, Some, None, Option}
 use Rattle.std.specs.List.{Contains}
 use Rattle.std.specs.Prelude.{filter}
-use Rattle.run_source.specs.Source.{is_among}
-use Rattle.run_step.specs.declared.world.Slot.{Slot}
-use Rattle.pass_renewed_proof.proofs.Listing.{contains_first, contains_more}
-use Rattle.pass_renewed_proof.specs.Beside.{AreSlots, Both, First, NoSlots, Second}
-use Rattle.pass_renewed_proof.specs.Ledger.{Ledger}
+use Rattle.run_types.specs.run_source.Source.{is_among}
+use Rattle.run_types.specs.run_step.declared.world.Slot.{Slot}
+use Rattle.run_types.proofs.pass_renewed_proof.Listing.{contains_first, contains_more}
+use Rattle.run_types.specs.pass_renewed_proof.Beside.{AreSlots, Both, First, NoSlots, Second}
+use Rattle.run_types.specs.pass_renewed_proof.Ledger.{Ledger}
 
 -- ---- lists
 

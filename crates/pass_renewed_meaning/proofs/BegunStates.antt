@@ -3,38 +3,38 @@ use Rattle.std.proofs.Common.{◌≡◌, ◌≢◌, ℕ, suc, ◌+◌, inl, inr,
 use Rattle.std.proofs.Common.{Some, None, refl, sym, ap, ◌∙◌, subst, ⊎_elim, arith, ◌==◌}
 use Rattle.std.proofs.lemmas.Bool.{cases_eq, false≢true}
 use Rattle.std.specs.Prelude.{IsTrue, filter, option_map, slice_get}
-use Rattle.ir_model.specs.Names.{function_at}
-use Rattle.ir_model.specs.declared.module.Function.{Function}
-use Rattle.ir_model.specs.declared.module.Module.{Module}
-use Rattle.rule_windows.specs.Points.{ends}
-use Rattle.rule_windows.specs.Sets.{RunsOut}
-use Rattle.frame_classes.specs.Alive.{Unmarked}
-use Rattle.pass_kept_proof.proofs.Same.{eq_itself}
-use Rattle.run_laws.proofs.memory.Written.{same_some}
-use Rattle.run_laws.specs.embedded.Making.{whole_home}
-use Rattle.run_laws.specs.memory.Pointers.{home_of}
-use Rattle.run_memory.specs.declared.block.MemoryBlock.{MemoryBlock}
-use Rattle.run_source.specs.Source.{is_among, new_instance}
-use Rattle.run_source.specs.State.{is_suspended}
-use Rattle.run_source.specs.declared.state.Activation.{Activation}
-use Rattle.run_source.specs.declared.state.Instance.{Instance}
-use Rattle.run_source.specs.declared.state.Mode.{Mode}
-use Rattle.run_source.specs.declared.state.State.{State}
-use Rattle.run_source.specs.declared.state.Status.{Status}
-use Rattle.run_step.specs.Values.{Env}
-use Rattle.run_step.specs.declared.world.Slot.{Slot}
+use Rattle.run_types.specs.ir_model.Names.{function_at}
+use Rattle.run_types.specs.ir_model.declared.module.Function.{Function}
+use Rattle.run_types.specs.ir_model.declared.module.Module.{Module}
+use Rattle.run_types.specs.rule_windows.Points.{ends}
+use Rattle.run_types.specs.rule_windows.Sets.{RunsOut}
+use Rattle.run_types.specs.frame_classes.Alive.{Unmarked}
+use Rattle.run_types.proofs.pass_kept_proof.Same.{eq_itself}
+use Rattle.run_types.proofs.run_laws.memory.Written.{same_some}
+use Rattle.run_types.specs.run_laws.embedded.Making.{whole_home}
+use Rattle.run_types.specs.run_laws.memory.Pointers.{home_of}
+use Rattle.run_types.specs.run_memory.declared.block.MemoryBlock.{MemoryBlock}
+use Rattle.run_types.specs.run_source.Source.{is_among, new_instance}
+use Rattle.run_types.specs.run_source.State.{is_suspended}
+use Rattle.run_types.specs.run_source.declared.state.Activation.{Activation}
+use Rattle.run_types.specs.run_source.declared.state.Instance.{Instance}
+use Rattle.run_types.specs.run_source.declared.state.Mode.{Mode}
+use Rattle.run_types.specs.run_source.declared.state.State.{State}
+use Rattle.run_types.specs.run_source.declared.state.Status.{Status}
+use Rattle.run_types.specs.run_step.Values.{Env}
+use Rattle.run_types.specs.run_step.declared.world.Slot.{Slot}
 use Rattle.pass_renewed_meaning.proofs.BegunSlots.{contains_kept, instance_slots, kept_contains, ramp_slots}
-use Rattle.pass_renewed_proof.proofs.Beginning.{AreAmongNew, begun_entered, below_still, instances_begun, others_begun}
-use Rattle.pass_renewed_proof.proofs.Beginning.{seated_begun, slot_begun_kept, slots_begun}
-use Rattle.pass_renewed_proof.proofs.Anew.{below_other}
-use Rattle.pass_renewed_proof.proofs.Carried.{stand_kept}
-use Rattle.pass_renewed_proof.proofs.Made.{get_last, get_other, get_within}
-use Rattle.pass_renewed_proof.proofs.Way.{drop_avoided}
-use Rattle.pass_renewed_proof.specs.Beside.{AreInstancesBeside, Begun, Early, GoesOn, IsActivationBeside}
-use Rattle.pass_renewed_proof.specs.Beside.{IsAliveAt, IsBeside, IsEarly, IsInstanceBeside, IsOverOf, IsOwn, IsSeated}
-use Rattle.pass_renewed_proof.specs.Beside.{IsSlotBeside, IsSlotOf, Leaves, NotLeft, place_in}
-use Rattle.pass_renewed_proof.specs.Ledger.{Ledger, begun_instance, begun_ledger, begun_seat}
-use Rattle.pass_renewed_proof.specs.Renewed.{Flags, Roots}
+use Rattle.run_types.proofs.pass_renewed_proof.Beginning.{AreAmongNew, begun_entered, below_still, instances_begun, others_begun}
+use Rattle.run_types.proofs.pass_renewed_proof.Beginning.{seated_begun, slot_begun_kept, slots_begun}
+use Rattle.run_types.proofs.pass_renewed_proof.Anew.{below_other}
+use Rattle.run_types.proofs.pass_renewed_proof.Carried.{stand_kept}
+use Rattle.run_types.proofs.pass_renewed_proof.Made.{get_last, get_other, get_within}
+use Rattle.run_types.proofs.pass_renewed_proof.Way.{drop_avoided}
+use Rattle.run_types.specs.pass_renewed_proof.Beside.{AreInstancesBeside, Begun, Early, GoesOn, IsActivationBeside}
+use Rattle.run_types.specs.pass_renewed_proof.Beside.{IsAliveAt, IsBeside, IsEarly, IsInstanceBeside, IsOverOf, IsOwn, IsSeated}
+use Rattle.run_types.specs.pass_renewed_proof.Beside.{IsSlotBeside, IsSlotOf, Leaves, NotLeft, place_in}
+use Rattle.run_types.specs.pass_renewed_proof.Ledger.{Ledger, begun_instance, begun_ledger, begun_seat}
+use Rattle.run_types.specs.pass_renewed_proof.Renewed.{Flags, Roots}
 
 same_number : {a b : ℕ} → Some a ≡ Some b → a ≡ b
 same_number e = cc

@@ -1,18 +1,18 @@
 -- While a resumed activation makes its slots anew nothing is seen, and all activations and instances stay.
 use Rattle.std.proofs.Common.{◌≡◌, ℕ, zero, suc, ◌+◌, ◌<◌, List, [], ◌∷◌, length, refl, sym, ap, ◌∙◌}
 use Rattle.std.proofs.Common.{subst, arith}
-use Rattle.ir_base.specs.declared.outcome.Outcome.{Outcome}
-use Rattle.run_agreement.specs.Machines.{iterate}
-use Rattle.run_framed.specs.Framed.{at_point, with_mode}
-use Rattle.run_laws.specs.transfer.Shapes.{Pair, Pairwise}
-use Rattle.run_source.specs.State.{function_of}
-use Rattle.run_source.specs.declared.state.Mode.{Mode}
-use Rattle.run_source.specs.declared.state.State.{State}
+use Rattle.run_types.specs.ir_base.declared.outcome.Outcome.{Outcome}
+use Rattle.run_types.specs.run_agreement.Machines.{iterate}
+use Rattle.run_types.specs.run_framed.Framed.{at_point, with_mode}
+use Rattle.run_types.specs.run_laws.transfer.Shapes.{Pair, Pairwise}
+use Rattle.run_types.specs.run_source.State.{function_of}
+use Rattle.run_types.specs.run_source.declared.state.Mode.{Mode}
+use Rattle.run_types.specs.run_source.declared.state.State.{State}
 use Rattle.pass_renewed_meaning.specs.Followed.{AreAlike, IsEntering}
-use Rattle.pass_renewed_proof.proofs.Entering.{entering_step}
-use Rattle.pass_renewed_proof.specs.Between.{AreLikeActivations, AreLikeInstances}
-use Rattle.pass_renewed_proof.specs.Entering.{Anew, AreNext, made_anew}
-use Rattle.pass_renewed_proof.specs.Renewed.{RenewedGiven, renew_after, renewed_from, renewed_step}
+use Rattle.run_types.proofs.pass_renewed_proof.Entering.{entering_step}
+use Rattle.run_types.specs.pass_renewed_proof.Between.{AreLikeActivations, AreLikeInstances}
+use Rattle.run_types.specs.pass_renewed_proof.Entering.{Anew, AreNext, made_anew}
+use Rattle.run_types.specs.pass_renewed_proof.Renewed.{RenewedGiven, renew_after, renewed_from, renewed_step}
 
 -- what is seen of two states, and who is there, is the same; in the second slots are made anew
 pub record IsLike (s t : State) : Type 0 where

@@ -2,27 +2,27 @@
 use Rattle.std.proofs.Common.{◌≡◌, ℕ, Bool, true, false, List, Option, Some, None, Result, Ok, Err}
 use Rattle.std.proofs.Common.{refl, sym, ap, ◌∙◌, subst, if◌then◌else◌, arith}
 use Rattle.std.specs.Prelude.{IsTrue, slice_get}
-use Rattle.ir_base.specs.declared.cause.Cause.{Cause}
-use Rattle.ir_base.specs.declared.outcome.Word.{Word}
-use Rattle.ir_model.specs.Names.{declaration_named, function_at, function_named}
-use Rattle.ir_model.specs.Ty.{Ty}
-use Rattle.ir_model.specs.declared.instr.Instr.{Instr}
-use Rattle.ir_model.specs.declared.operand.Allocator.{Allocator}
-use Rattle.ir_model.specs.declared.operand.Arg.{Arg}
-use Rattle.ir_model.specs.declared.operand.Callee.{Callee}
-use Rattle.ir_model.specs.declared.operand.Intrinsic.{Intrinsic}
-use Rattle.ir_paths.specs.Windows.{is_call_of}
-use Rattle.run_laws.specs.embedded.Related.{HasNoSlot}
-use Rattle.run_laws.specs.embedded.Making.{IsSmall}
-use Rattle.run_memory.specs.declared.pointer.Pointer.{Pointer}
-use Rattle.run_memory.specs.declared.pointer.Value.{Value}
-use Rattle.run_source.specs.Source.{context_of, enter}
-use Rattle.run_source.specs.State.{next, settled, work_of}
-use Rattle.run_source.specs.declared.state.State.{State}
-use Rattle.run_step.specs.Step.{Action, AtInstr, Context, Coro, Deallocate, Done, Enter, GoTo, NewSlot, Return}
-use Rattle.run_step.specs.Step.{Stuck, Work, allocated, copied_bytes, done, fetch, fits_function, if_alignment, indirect_call}
-use Rattle.run_step.specs.Step.{is_alignment, named_call, observed, set_memory, with_length, words_of}
-use Rattle.run_step.specs.Values.{arg_values, nth, value_in}
+use Rattle.run_types.specs.ir_base.declared.cause.Cause.{Cause}
+use Rattle.run_types.specs.ir_base.declared.outcome.Word.{Word}
+use Rattle.run_types.specs.ir_model.Names.{declaration_named, function_at, function_named}
+use Rattle.run_types.specs.ir_model.Ty.{Ty}
+use Rattle.run_types.specs.ir_model.declared.instr.Instr.{Instr}
+use Rattle.run_types.specs.ir_model.declared.operand.Allocator.{Allocator}
+use Rattle.run_types.specs.ir_model.declared.operand.Arg.{Arg}
+use Rattle.run_types.specs.ir_model.declared.operand.Callee.{Callee}
+use Rattle.run_types.specs.ir_model.declared.operand.Intrinsic.{Intrinsic}
+use Rattle.run_types.specs.ir_paths.Windows.{is_call_of}
+use Rattle.run_types.specs.run_laws.embedded.Related.{HasNoSlot}
+use Rattle.run_types.specs.run_laws.embedded.Making.{IsSmall}
+use Rattle.run_types.specs.run_memory.declared.pointer.Pointer.{Pointer}
+use Rattle.run_types.specs.run_memory.declared.pointer.Value.{Value}
+use Rattle.run_types.specs.run_source.Source.{context_of, enter}
+use Rattle.run_types.specs.run_source.State.{next, settled, work_of}
+use Rattle.run_types.specs.run_source.declared.state.State.{State}
+use Rattle.run_types.specs.run_step.Step.{Action, AtInstr, Context, Coro, Deallocate, Done, Enter, GoTo, NewSlot, Return}
+use Rattle.run_types.specs.run_step.Step.{Stuck, Work, allocated, copied_bytes, done, fetch, fits_function, if_alignment, indirect_call}
+use Rattle.run_types.specs.run_step.Step.{is_alignment, named_call, observed, set_memory, with_length, words_of}
+use Rattle.run_types.specs.run_step.Values.{arg_values, nth, value_in}
 use Rattle.run_types.proofs.Runs.{sizes_small}
 use Rattle.run_types.specs.States.{IsMalloc, IsNew, TakesSize}
 use Rattle.pass_renewed_meaning.proofs.Here.{Here, IsCase, first_act, first_action, keeps, left_asleep, none_below, other}
@@ -32,14 +32,14 @@ use Rattle.pass_renewed_meaning.proofs.Points.{giving_call, no_part, plain_call}
 use Rattle.pass_renewed_meaning.specs.Followed.{Goes}
 use Rattle.pass_renewed_meaning.specs.Rules.{Setting}
 use Rattle.pass_renewed_meaning.specs.Runs.{first_given, second_given}
-use Rattle.pass_renewed_proof.proofs.Allocating.{allocation_beside}
-use Rattle.pass_renewed_proof.proofs.Calling.{calls_beside}
-use Rattle.pass_renewed_proof.specs.Beside.{IsBeside}
-use Rattle.pass_renewed_proof.specs.Branching.{IsCallee, IsCalling}
-use Rattle.pass_renewed_proof.specs.Making.{IsAllocating, IsGiving, allocates}
-use Rattle.pass_renewed_proof.specs.Ordinary.{IsOrdinaryInstr}
-use Rattle.pass_renewed_proof.specs.Renewed.{is_idle, renewed_act}
-use Rattle.pass_renewed_proof.specs.Steps.{given_at}
+use Rattle.run_types.proofs.pass_renewed_proof.Allocating.{allocation_beside}
+use Rattle.run_types.proofs.pass_renewed_proof.Calling.{calls_beside}
+use Rattle.run_types.specs.pass_renewed_proof.Beside.{IsBeside}
+use Rattle.run_types.specs.pass_renewed_proof.Branching.{IsCallee, IsCalling}
+use Rattle.run_types.specs.pass_renewed_proof.Making.{IsAllocating, IsGiving, allocates}
+use Rattle.run_types.specs.pass_renewed_proof.Ordinary.{IsOrdinaryInstr}
+use Rattle.run_types.specs.pass_renewed_proof.Renewed.{is_idle, renewed_act}
+use Rattle.run_types.specs.pass_renewed_proof.Steps.{given_at}
 use Rattle.pass_renewed_meaning.proofs.OrdinaryCases.{IsQuiet, done_case, plain_instr, quiet_length}
 
 same_ok : {A : Type 0} {a b : A} → ◌≡◌ {A = Result A Cause} (Ok a) (Ok b) → a ≡ b

@@ -3,27 +3,27 @@ use Rattle.std.proofs.Common.{◌≡◌, ℕ, ◌⊎◌, inl, inr, Bool, true, f
 use Rattle.std.proofs.Common.{Ok, Err, refl, sym, ap, ◌∙◌, subst, if◌then◌else◌, ⊎_elim}
 use Rattle.std.proofs.lemmas.Bool.{false≢true}
 use Rattle.std.specs.Prelude.{option_and_then, option_map}
-use Rattle.ir_base.specs.declared.cause.Cause.{Cause}
-use Rattle.ir_base.specs.declared.outcome.Outcome.{Outcome}
-use Rattle.ir_model.specs.Names.{function_at}
-use Rattle.ir_model.specs.Ty.{Ty}
-use Rattle.ir_model.specs.declared.instr.Instr.{Instr}
-use Rattle.ir_model.specs.declared.operand.Arg.{Arg}
-use Rattle.ir_model.specs.declared.operand.Callee.{Callee}
-use Rattle.ir_model.specs.declared.operand.Intrinsic.{Intrinsic}
-use Rattle.run_hooks.proofs.Left.{alike_last}
-use Rattle.run_hooks.proofs.LeftKeeping.{kept_keeps_last}
-use Rattle.run_hooks.specs.Left.{IsLastState}
-use Rattle.run_laws.specs.transfer.Shapes.{Pair}
-use Rattle.run_source.specs.Source.{after_end, change_own, end_of, finish, pop, return, returned, slots_of}
-use Rattle.run_source.specs.State.{numbered, own_instance, with_instance, with_memory}
-use Rattle.run_source.specs.declared.state.Activation.{Activation}
-use Rattle.run_source.specs.declared.state.Instance.{Instance}
-use Rattle.run_source.specs.declared.state.Mode.{Mode}
-use Rattle.run_source.specs.declared.state.State.{State}
-use Rattle.run_source.specs.declared.state.Status.{Status}
-use Rattle.run_step.specs.Runs.{seen_event}
-use Rattle.run_step.specs.Step.{AtInstr, fetch, without_slots}
+use Rattle.run_types.specs.ir_base.declared.cause.Cause.{Cause}
+use Rattle.run_types.specs.ir_base.declared.outcome.Outcome.{Outcome}
+use Rattle.run_types.specs.ir_model.Names.{function_at}
+use Rattle.run_types.specs.ir_model.Ty.{Ty}
+use Rattle.run_types.specs.ir_model.declared.instr.Instr.{Instr}
+use Rattle.run_types.specs.ir_model.declared.operand.Arg.{Arg}
+use Rattle.run_types.specs.ir_model.declared.operand.Callee.{Callee}
+use Rattle.run_types.specs.ir_model.declared.operand.Intrinsic.{Intrinsic}
+use Rattle.run_types.proofs.run_hooks.Left.{alike_last}
+use Rattle.run_types.proofs.run_hooks.LeftKeeping.{kept_keeps_last}
+use Rattle.run_types.specs.run_hooks.Left.{IsLastState}
+use Rattle.run_types.specs.run_laws.transfer.Shapes.{Pair}
+use Rattle.run_types.specs.run_source.Source.{after_end, change_own, end_of, finish, pop, return, returned, slots_of}
+use Rattle.run_types.specs.run_source.State.{numbered, own_instance, with_instance, with_memory}
+use Rattle.run_types.specs.run_source.declared.state.Activation.{Activation}
+use Rattle.run_types.specs.run_source.declared.state.Instance.{Instance}
+use Rattle.run_types.specs.run_source.declared.state.Mode.{Mode}
+use Rattle.run_types.specs.run_source.declared.state.State.{State}
+use Rattle.run_types.specs.run_source.declared.state.Status.{Status}
+use Rattle.run_types.specs.run_step.Runs.{seen_event}
+use Rattle.run_types.specs.run_step.Step.{AtInstr, fetch, without_slots}
 use Rattle.pass_renewed_meaning.proofs.Alike.{below_alike, instances_alike, same_events}
 use Rattle.pass_renewed_meaning.proofs.Here.{Here, IsCase, begun_below, keeps, other, owns}
 use Rattle.pass_renewed_meaning.proofs.OneStep.{IsOneStep}
@@ -32,15 +32,15 @@ use Rattle.pass_renewed_meaning.proofs.Points.{no_alloca, no_part, plain_call}
 use Rattle.pass_renewed_meaning.specs.Followed.{AreAlike, AreInStep, Ended, Goes, HaveEnded}
 use Rattle.pass_renewed_meaning.specs.Rules.{Setting}
 use Rattle.pass_renewed_meaning.specs.Runs.{first_given, second_given}
-use Rattle.pass_renewed_proof.proofs.Closing.{ended_beside}
-use Rattle.pass_renewed_proof.proofs.EndReturns.{back_with_nothing}
-use Rattle.pass_renewed_proof.proofs.Finishing.{finished_beside}
-use Rattle.pass_renewed_proof.proofs.GoingTo.{own_is}
-use Rattle.pass_renewed_proof.proofs.Listing.{set_here}
-use Rattle.pass_renewed_proof.proofs.Owning.{own_beside}
-use Rattle.pass_renewed_proof.specs.Beside.{AreBelow, IsBeside, IsOverOf, place_in}
-use Rattle.pass_renewed_proof.specs.Found.{AreFound}
-use Rattle.pass_renewed_proof.specs.Making.{IsEndOf}
+use Rattle.run_types.proofs.pass_renewed_proof.Closing.{ended_beside}
+use Rattle.run_types.proofs.pass_renewed_proof.EndReturns.{back_with_nothing}
+use Rattle.run_types.proofs.pass_renewed_proof.Finishing.{finished_beside}
+use Rattle.run_types.proofs.pass_renewed_proof.GoingTo.{own_is}
+use Rattle.run_types.proofs.pass_renewed_proof.Listing.{set_here}
+use Rattle.run_types.proofs.pass_renewed_proof.Owning.{own_beside}
+use Rattle.run_types.specs.pass_renewed_proof.Beside.{AreBelow, IsBeside, IsOverOf, place_in}
+use Rattle.run_types.specs.pass_renewed_proof.Found.{AreFound}
+use Rattle.run_types.specs.pass_renewed_proof.Making.{IsEndOf}
 
 same_ok : {A : Type 0} {a b : A} → ◌≡◌ {A = Result A Cause} (Ok a) (Ok b) → a ≡ b
 same_ok e = cc

@@ -3,30 +3,30 @@ use Rattle.std.proofs.Common.{◌≡◌, ℕ, ◌⊎◌, inl, inr, Bool, true, f
 use Rattle.std.proofs.Common.{Err, refl, sym, ap, ◌∙◌, subst, if◌then◌else◌, ◌&&◌, ◌==◌, arith, ⊎_elim}
 use Rattle.std.proofs.lemmas.Bool.{false≢true}
 use Rattle.std.specs.Prelude.{find, is_none, is_some, nat_le, pos, slice_get}
-use Rattle.ir_base.specs.declared.cause.Cause.{Cause}
-use Rattle.ir_model.specs.Names.{function_at}
-use Rattle.ir_model.specs.Ty.{Ty}
-use Rattle.ir_model.specs.declared.instr.Instr.{Instr}
-use Rattle.ir_model.specs.declared.operand.Allocator.{Allocator}
-use Rattle.ir_model.specs.declared.operand.Arg.{Arg}
-use Rattle.ir_model.specs.declared.operand.Callee.{Callee}
-use Rattle.ir_model.specs.declared.operand.Intrinsic.{Intrinsic}
-use Rattle.ir_paths.specs.Windows.{is_call_of, operand_at}
-use Rattle.run_laws.specs.memory.Pointers.{IsValue}
-use Rattle.run_memory.specs.Memory.{check, is_live, may_be_owned, own, owned_to, same_kind, with_block}
-use Rattle.run_memory.specs.declared.block.Kind.{Kind}
-use Rattle.run_memory.specs.declared.block.MemoryBlock.{MemoryBlock}
-use Rattle.run_memory.specs.declared.pointer.Offset.{Offset}
-use Rattle.run_memory.specs.declared.pointer.Value.{Value}
-use Rattle.run_source.specs.Source.{Sleeper, begin, begin_at, begun, frame_address, frame_of_promise, promise}
-use Rattle.run_source.specs.Source.{promise_of_frame, release, sleeper_at, sleeper_of, is_live_at, has_promise_at, deallocate, promise_block, is_over}
-use Rattle.run_source.specs.State.{frame_address_of, gives, next, own_frame, own_instance, with_memory}
-use Rattle.run_source.specs.declared.state.Instance.{Instance}
-use Rattle.run_source.specs.declared.state.State.{State}
-use Rattle.run_source_tables.specs.Given.{has_final, is_final, is_true}
-use Rattle.run_step.specs.Results.{and_then, found, ok_if}
-use Rattle.run_step.specs.Step.{AtInstr, block_of, fetch}
-use Rattle.run_step.specs.Values.{address, arg_values, integer, nth, pointer_to, truth_value}
+use Rattle.run_types.specs.ir_base.declared.cause.Cause.{Cause}
+use Rattle.run_types.specs.ir_model.Names.{function_at}
+use Rattle.run_types.specs.ir_model.Ty.{Ty}
+use Rattle.run_types.specs.ir_model.declared.instr.Instr.{Instr}
+use Rattle.run_types.specs.ir_model.declared.operand.Allocator.{Allocator}
+use Rattle.run_types.specs.ir_model.declared.operand.Arg.{Arg}
+use Rattle.run_types.specs.ir_model.declared.operand.Callee.{Callee}
+use Rattle.run_types.specs.ir_model.declared.operand.Intrinsic.{Intrinsic}
+use Rattle.run_types.specs.ir_paths.Windows.{is_call_of, operand_at}
+use Rattle.run_types.specs.run_laws.memory.Pointers.{IsValue}
+use Rattle.run_types.specs.run_memory.Memory.{check, is_live, may_be_owned, own, owned_to, same_kind, with_block}
+use Rattle.run_types.specs.run_memory.declared.block.Kind.{Kind}
+use Rattle.run_types.specs.run_memory.declared.block.MemoryBlock.{MemoryBlock}
+use Rattle.run_types.specs.run_memory.declared.pointer.Offset.{Offset}
+use Rattle.run_types.specs.run_memory.declared.pointer.Value.{Value}
+use Rattle.run_types.specs.run_source.Source.{Sleeper, begin, begin_at, begun, frame_address, frame_of_promise, promise}
+use Rattle.run_types.specs.run_source.Source.{promise_of_frame, release, sleeper_at, sleeper_of, is_live_at, has_promise_at, deallocate, promise_block, is_over}
+use Rattle.run_types.specs.run_source.State.{frame_address_of, gives, next, own_frame, own_instance, with_memory}
+use Rattle.run_types.specs.run_source.declared.state.Instance.{Instance}
+use Rattle.run_types.specs.run_source.declared.state.State.{State}
+use Rattle.run_types.specs.run_source_tables.Given.{has_final, is_final, is_true}
+use Rattle.run_types.specs.run_step.Results.{and_then, found, ok_if}
+use Rattle.run_types.specs.run_step.Step.{AtInstr, block_of, fetch}
+use Rattle.run_types.specs.run_step.Values.{address, arg_values, integer, nth, pointer_to, truth_value}
 use Rattle.pass_renewed_meaning.proofs.Begins.{begins_beside}
 use Rattle.pass_renewed_meaning.proofs.Handles.{IsInSlot, arg_there, no_instance, no_promise, stays_allocated}
 use Rattle.pass_renewed_meaning.proofs.Here.{Here, IsCase, keeps, other}
@@ -37,16 +37,16 @@ use Rattle.pass_renewed_meaning.specs.Begins.{IsBeginOf}
 use Rattle.pass_renewed_meaning.specs.Followed.{Goes}
 use Rattle.pass_renewed_meaning.specs.Rules.{Setting}
 use Rattle.pass_renewed_meaning.specs.Runs.{first_given, second_given}
-use Rattle.pass_renewed_proof.proofs.Deallocating.{deallocated_beside}
-use Rattle.pass_renewed_proof.proofs.Giving.{gives_beside}
-use Rattle.pass_renewed_proof.proofs.Owning.{own_address_stands}
-use Rattle.pass_renewed_proof.proofs.Promising.{promised_beside}
-use Rattle.pass_renewed_proof.proofs.Releasing.{freed_beside}
-use Rattle.pass_renewed_proof.proofs.Sleeping.{done_beside}
-use Rattle.pass_renewed_proof.specs.Beside.{IsBeside}
-use Rattle.pass_renewed_proof.specs.Making.{IsGiving}
-use Rattle.pass_renewed_proof.specs.Renewed.{renewed_next}
-use Rattle.pass_renewed_proof.specs.Steps.{given_at}
+use Rattle.run_types.proofs.pass_renewed_proof.Deallocating.{deallocated_beside}
+use Rattle.run_types.proofs.pass_renewed_proof.Giving.{gives_beside}
+use Rattle.run_types.proofs.pass_renewed_proof.Owning.{own_address_stands}
+use Rattle.run_types.proofs.pass_renewed_proof.Promising.{promised_beside}
+use Rattle.run_types.proofs.pass_renewed_proof.Releasing.{freed_beside}
+use Rattle.run_types.proofs.pass_renewed_proof.Sleeping.{done_beside}
+use Rattle.run_types.specs.pass_renewed_proof.Beside.{IsBeside}
+use Rattle.run_types.specs.pass_renewed_proof.Making.{IsGiving}
+use Rattle.run_types.specs.pass_renewed_proof.Renewed.{renewed_next}
+use Rattle.run_types.specs.pass_renewed_proof.Steps.{given_at}
 
 same_ok : {A : Type 0} {a b : A} → ◌≡◌ {A = Result A Cause} (Ok a) (Ok b) → a ≡ b
 same_ok e = cc

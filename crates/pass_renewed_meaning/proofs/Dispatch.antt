@@ -1,20 +1,20 @@
 -- Each step of the first run is followed: case by case over what stands at the place.
 use Rattle.std.proofs.Common.{◌≡◌, ℕ, inl, inr, Bool, List, Option, Ok, refl, sym, ap, ◌∙◌, subst}
-use Rattle.ir_base.specs.declared.outcome.Outcome.{Outcome}
-use Rattle.ir_model.specs.Names.{function_at}
-use Rattle.ir_model.specs.Ty.{Ty}
-use Rattle.ir_model.specs.declared.instr.Instr.{Instr}
-use Rattle.ir_model.specs.declared.instr.Terminator.{Terminator}
-use Rattle.ir_model.specs.declared.operand.Allocator.{Allocator}
-use Rattle.ir_model.specs.declared.operand.Arg.{Arg}
-use Rattle.ir_model.specs.declared.operand.Callee.{Callee}
-use Rattle.ir_model.specs.declared.operand.Intrinsic.{Intrinsic}
-use Rattle.pass_kept_proof.specs.Kept.{continue_keeping}
-use Rattle.run_agreement.specs.Machines.{IsFine}
-use Rattle.run_source.specs.Source.{act, context_of}
-use Rattle.run_source.specs.State.{work_of}
-use Rattle.run_source.specs.declared.state.State.{State}
-use Rattle.run_step.specs.Step.{AtInstr, AtTerm, Fetched, Nowhere, action_of, fetch}
+use Rattle.run_types.specs.ir_base.declared.outcome.Outcome.{Outcome}
+use Rattle.run_types.specs.ir_model.Names.{function_at}
+use Rattle.run_types.specs.ir_model.Ty.{Ty}
+use Rattle.run_types.specs.ir_model.declared.instr.Instr.{Instr}
+use Rattle.run_types.specs.ir_model.declared.instr.Terminator.{Terminator}
+use Rattle.run_types.specs.ir_model.declared.operand.Allocator.{Allocator}
+use Rattle.run_types.specs.ir_model.declared.operand.Arg.{Arg}
+use Rattle.run_types.specs.ir_model.declared.operand.Callee.{Callee}
+use Rattle.run_types.specs.ir_model.declared.operand.Intrinsic.{Intrinsic}
+use Rattle.run_types.specs.pass_kept_proof.Kept.{continue_keeping}
+use Rattle.run_types.specs.run_agreement.Machines.{IsFine}
+use Rattle.run_types.specs.run_source.Source.{act, context_of}
+use Rattle.run_types.specs.run_source.State.{work_of}
+use Rattle.run_types.specs.run_source.declared.state.State.{State}
+use Rattle.run_types.specs.run_step.Step.{AtInstr, AtTerm, Fetched, Nowhere, action_of, fetch}
 use Rattle.pass_renewed_meaning.proofs.AllocaCases.{alloca_case}
 use Rattle.pass_renewed_meaning.proofs.Assembly.{assembled}
 use Rattle.pass_renewed_meaning.proofs.CallCases.{function_case, malloc_case, new_case}
@@ -37,9 +37,9 @@ use Rattle.pass_renewed_meaning.specs.Followed.{AreStepsFollowed, IsFollowed, Ke
 use Rattle.pass_renewed_meaning.specs.Offsets.{first_at}
 use Rattle.pass_renewed_meaning.specs.Rules.{KeepsAll, Setting}
 use Rattle.pass_renewed_meaning.specs.Runs.{first_given, first_step, second_given}
-use Rattle.pass_renewed_proof.proofs.Start.{first_beside}
-use Rattle.pass_renewed_proof.specs.Beside.{IsBeside}
-use Rattle.pass_renewed_proof.specs.Prices.{Prices}
+use Rattle.run_types.proofs.pass_renewed_proof.Start.{first_beside}
+use Rattle.run_types.specs.pass_renewed_proof.Beside.{IsBeside}
+use Rattle.run_types.specs.pass_renewed_proof.Prices.{Prices}
 
 module _ (c : Setting) (p : Prices) (all : KeepsAll c) where
   module _ (n : ℕ) (t : State) (beside : IsBeside c.code c.flags c.roots (first_at c n) t) (runs : (first_at c n).outcome ≡

@@ -4,21 +4,21 @@ use Rattle.std.proofs.Common.{refl, sym, ap, ◌∙◌, subst, ⊎_elim, arith, 
 use Rattle.std.proofs.lemmas.Bool.{false≢true}
 use Rattle.std.specs.List.{Contains}
 use Rattle.std.specs.Prelude.{IsTrue, drop, option_map, slice_get}
-use Rattle.ir_model.specs.Names.{first_where}
-use Rattle.ir_model.specs.Ty.{Ty}
-use Rattle.ir_model.specs.declared.instr.Instr.{Instr}
-use Rattle.ir_model.specs.declared.module.Block.{Block}
-use Rattle.ir_model.specs.declared.module.Function.{Function}
-use Rattle.ir_model.specs.declared.module.Module.{Module}
-use Rattle.ir_paths.specs.declared.point.Point.{Point}
-use Rattle.pass_kept_proof.proofs.Same.{either, eq_from, eq_itself, or_left, or_right}
-use Rattle.run_step.specs.Step.{AtInstr, fetch, fetch_in, fetch_or}
+use Rattle.run_types.specs.ir_model.Names.{first_where}
+use Rattle.run_types.specs.ir_model.Ty.{Ty}
+use Rattle.run_types.specs.ir_model.declared.instr.Instr.{Instr}
+use Rattle.run_types.specs.ir_model.declared.module.Block.{Block}
+use Rattle.run_types.specs.ir_model.declared.module.Function.{Function}
+use Rattle.run_types.specs.ir_model.declared.module.Module.{Module}
+use Rattle.run_types.specs.ir_paths.declared.point.Point.{Point}
+use Rattle.run_types.proofs.pass_kept_proof.Same.{either, eq_from, eq_itself, or_left, or_right}
+use Rattle.run_types.specs.run_step.Step.{AtInstr, fetch, fetch_in, fetch_or}
 use Rattle.pass_renewed_meaning.proofs.NewSlots.{AreDistinct}
-use Rattle.pass_renewed_proof.proofs.Listing.{contains_first, contains_more}
-use Rattle.pass_renewed_proof.specs.Entering.{Anew, AreNext, anew_in, if_renewed, is_named}
-use Rattle.pass_renewed_proof.specs.Renewed.{is_renewed, renewed_from, renewed_in}
-use Rattle.pass_renewed_proof.specs.SlotRules.{KeepsSlots}
-use Rattle.pass_renewed_proof.specs.Steps.{given_at}
+use Rattle.run_types.proofs.pass_renewed_proof.Listing.{contains_first, contains_more}
+use Rattle.run_types.specs.pass_renewed_proof.Entering.{Anew, AreNext, anew_in, if_renewed, is_named}
+use Rattle.run_types.specs.pass_renewed_proof.Renewed.{is_renewed, renewed_from, renewed_in}
+use Rattle.run_types.specs.pass_renewed_proof.SlotRules.{KeepsSlots}
+use Rattle.run_types.specs.pass_renewed_proof.Steps.{given_at}
 
 -- ---- what follows stands later
 

@@ -5,34 +5,34 @@ use Rattle.std.proofs.Common.{Result, Ok, Err, refl, sym, ap, ◌∙◌, subst, 
 use Rattle.std.proofs.lemmas.Bool.{false≢true}
 use Rattle.std.specs.Prelude.{ℤ, cond, find, option_and_then, slice_get}
 use Rattle.std.specs.Option.{option_map_or}
-use Rattle.ir_base.specs.declared.cause.Cause.{Cause}
-use Rattle.ir_model.specs.Ty.{Ty, array, int, named, ptr, structure, token}
-use Rattle.ir_model.specs.declared.operand.Arg.{Arg}
-use Rattle.ir_model.specs.declared.operand.Operand.{Operand}
-use Rattle.run_laws.specs.memory.Pointers.{IsValue}
-use Rattle.run_memory.specs.Memory.{is_killed, is_owned, is_unkilled, killed}
-use Rattle.run_memory.specs.declared.block.Kind.{Kind}
-use Rattle.run_memory.specs.declared.block.MemoryBlock.{MemoryBlock}
-use Rattle.run_memory.specs.declared.pointer.Offset.{Offset}
-use Rattle.run_memory.specs.declared.pointer.Pointer.{Pointer}
-use Rattle.run_memory.specs.declared.pointer.Value.{Value}
-use Rattle.run_source.specs.Source.{deallocate, has_promise_at, if_let_go, promise_block}
-use Rattle.run_source.specs.State.{began_at, instance_at, last_from, next, numbered, with_memory}
-use Rattle.run_source.specs.declared.state.Activation.{Activation}
-use Rattle.run_source.specs.declared.state.Instance.{Instance}
-use Rattle.run_source.specs.declared.state.State.{State}
-use Rattle.run_step.specs.Results.{and_then}
-use Rattle.run_step.specs.Step.{deallocated}
-use Rattle.run_step.specs.Values.{Env, arg_values, literal, nth, operand_value, value_in}
+use Rattle.run_types.specs.ir_base.declared.cause.Cause.{Cause}
+use Rattle.run_types.specs.ir_model.Ty.{Ty, array, int, named, ptr, structure, token}
+use Rattle.run_types.specs.ir_model.declared.operand.Arg.{Arg}
+use Rattle.run_types.specs.ir_model.declared.operand.Operand.{Operand}
+use Rattle.run_types.specs.run_laws.memory.Pointers.{IsValue}
+use Rattle.run_types.specs.run_memory.Memory.{is_killed, is_owned, is_unkilled, killed}
+use Rattle.run_types.specs.run_memory.declared.block.Kind.{Kind}
+use Rattle.run_types.specs.run_memory.declared.block.MemoryBlock.{MemoryBlock}
+use Rattle.run_types.specs.run_memory.declared.pointer.Offset.{Offset}
+use Rattle.run_types.specs.run_memory.declared.pointer.Pointer.{Pointer}
+use Rattle.run_types.specs.run_memory.declared.pointer.Value.{Value}
+use Rattle.run_types.specs.run_source.Source.{deallocate, has_promise_at, if_let_go, promise_block}
+use Rattle.run_types.specs.run_source.State.{began_at, instance_at, last_from, next, numbered, with_memory}
+use Rattle.run_types.specs.run_source.declared.state.Activation.{Activation}
+use Rattle.run_types.specs.run_source.declared.state.Instance.{Instance}
+use Rattle.run_types.specs.run_source.declared.state.State.{State}
+use Rattle.run_types.specs.run_step.Results.{and_then}
+use Rattle.run_types.specs.run_step.Step.{deallocated}
+use Rattle.run_types.specs.run_step.Values.{Env, arg_values, literal, nth, operand_value, value_in}
 use Rattle.pass_renewed_meaning.proofs.Here.{Here, keeps}
 use Rattle.pass_renewed_meaning.specs.Rules.{Setting}
 use Rattle.pass_renewed_meaning.specs.Runs.{first_given, second_given}
-use Rattle.pass_renewed_proof.proofs.Listing.{instance_beside}
-use Rattle.pass_renewed_proof.proofs.Owning.{passes}
-use Rattle.pass_renewed_proof.proofs.Promising.{BothHave, instance_promise}
-use Rattle.pass_renewed_proof.proofs.Using.{globals_stand}
-use Rattle.pass_renewed_proof.specs.Ledger.{Seat}
-use Rattle.pass_renewed_proof.specs.SlotEnvs.{IsAddress}
+use Rattle.run_types.proofs.pass_renewed_proof.Listing.{instance_beside}
+use Rattle.run_types.proofs.pass_renewed_proof.Owning.{passes}
+use Rattle.run_types.proofs.pass_renewed_proof.Promising.{BothHave, instance_promise}
+use Rattle.run_types.proofs.pass_renewed_proof.Using.{globals_stand}
+use Rattle.run_types.specs.pass_renewed_proof.Ledger.{Seat}
+use Rattle.run_types.specs.pass_renewed_proof.SlotEnvs.{IsAddress}
 
 -- ---- lists
 

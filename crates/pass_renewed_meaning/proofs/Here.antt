@@ -2,25 +2,25 @@
 use Rattle.std.proofs.Common.{◌≡◌, ℕ, List, Some, Result, Ok}
 use Rattle.std.proofs.Common.{sym, ap, ◌∙◌, subst, ⊎_elim}
 use Rattle.std.specs.Prelude.{slice_get}
-use Rattle.ir_base.specs.declared.cause.Cause.{Cause}
-use Rattle.ir_base.specs.declared.outcome.Outcome.{Outcome}
-use Rattle.ir_model.specs.Names.{function_at}
-use Rattle.ir_model.specs.declared.module.Function.{Function}
-use Rattle.pass_kept_proof.specs.Kept.{continue_keeping}
-use Rattle.run_source.specs.Source.{act, context_of}
-use Rattle.run_source.specs.State.{work_of}
-use Rattle.run_source.specs.declared.state.Instance.{Instance}
-use Rattle.run_source.specs.declared.state.State.{State}
-use Rattle.run_step.specs.Step.{Action, Fetched, action_of, fetch}
-use Rattle.run_step.specs.Values.{Env}
-use Rattle.run_step.specs.declared.world.Slot.{Slot}
+use Rattle.run_types.specs.ir_base.declared.cause.Cause.{Cause}
+use Rattle.run_types.specs.ir_base.declared.outcome.Outcome.{Outcome}
+use Rattle.run_types.specs.ir_model.Names.{function_at}
+use Rattle.run_types.specs.ir_model.declared.module.Function.{Function}
+use Rattle.run_types.specs.pass_kept_proof.Kept.{continue_keeping}
+use Rattle.run_types.specs.run_source.Source.{act, context_of}
+use Rattle.run_types.specs.run_source.State.{work_of}
+use Rattle.run_types.specs.run_source.declared.state.Instance.{Instance}
+use Rattle.run_types.specs.run_source.declared.state.State.{State}
+use Rattle.run_types.specs.run_step.Step.{Action, Fetched, action_of, fetch}
+use Rattle.run_types.specs.run_step.Values.{Env}
+use Rattle.run_types.specs.run_step.declared.world.Slot.{Slot}
 use Rattle.pass_renewed_meaning.proofs.OneStep.{IsOneStep}
 use Rattle.pass_renewed_meaning.proofs.Outdone.{HaveBegun, asleep, has_instance, have_begun, outdone, same_coroutine}
 use Rattle.pass_renewed_meaning.specs.Rules.{KeepsAll, Setting}
 use Rattle.pass_renewed_meaning.specs.Runs.{IsOfRun, first_given, second_given}
-use Rattle.pass_renewed_proof.specs.Beside.{AreOutdone, HasLeftSuspended, IsBeside}
-use Rattle.pass_renewed_proof.specs.Making.{HasInstance}
-use Rattle.pass_renewed_proof.specs.SlotRules.{KeepsSlots}
+use Rattle.run_types.specs.pass_renewed_proof.Beside.{AreOutdone, HasLeftSuspended, IsBeside}
+use Rattle.run_types.specs.pass_renewed_proof.Making.{HasInstance}
+use Rattle.run_types.specs.pass_renewed_proof.SlotRules.{KeepsSlots}
 
 -- the second state has the first's topmost activation but for its values and slots
 pub record Here (c : Setting) : Type 0 where

@@ -1,3 +1,7 @@
+-- What libraries below prove, for those above.
+pub use Rattle.run_types.proofs.pass_renewed_proof as pass_renewed_proof
+pub use Rattle.run_types.proofs.run_hooks as run_hooks
+pub use Rattle.run_types.proofs as run_types
 pub mod Alike
 pub mod Assembly
 pub mod Owned

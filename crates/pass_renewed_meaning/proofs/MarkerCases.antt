@@ -2,29 +2,29 @@
 use Rattle.std.proofs.Common.{◌≡◌, ℕ, ◌⊎◌, inl, inr, Bool, true, false, List, Option, Some, None, Result, Ok, refl, sym, ap}
 use Rattle.std.proofs.Common.{◌∙◌, subst, if◌then◌else◌}
 use Rattle.std.proofs.lemmas.Bool.{false≢true}
-use Rattle.ir_base.specs.declared.cause.Cause.{Cause}
-use Rattle.ir_model.specs.Names.{function_at}
-use Rattle.ir_model.specs.Ty.{Ty}
-use Rattle.ir_model.specs.declared.instr.Instr.{Instr}
-use Rattle.ir_model.specs.declared.operand.Arg.{Arg}
-use Rattle.ir_model.specs.declared.operand.Callee.{Callee}
-use Rattle.ir_model.specs.declared.operand.Intrinsic.{Intrinsic}
-use Rattle.run_source.specs.State.{next, settled, work_of}
-use Rattle.run_step.specs.Step.{AtInstr, Work, block_of, fetch, on_block, set_memory}
-use Rattle.run_step.specs.Values.{arg_values, nth}
-use Rattle.run_memory.specs.Memory.{end, start}
+use Rattle.run_types.specs.ir_base.declared.cause.Cause.{Cause}
+use Rattle.run_types.specs.ir_model.Names.{function_at}
+use Rattle.run_types.specs.ir_model.Ty.{Ty}
+use Rattle.run_types.specs.ir_model.declared.instr.Instr.{Instr}
+use Rattle.run_types.specs.ir_model.declared.operand.Arg.{Arg}
+use Rattle.run_types.specs.ir_model.declared.operand.Callee.{Callee}
+use Rattle.run_types.specs.ir_model.declared.operand.Intrinsic.{Intrinsic}
+use Rattle.run_types.specs.run_source.State.{next, settled, work_of}
+use Rattle.run_types.specs.run_step.Step.{AtInstr, Work, block_of, fetch, on_block, set_memory}
+use Rattle.run_types.specs.run_step.Values.{arg_values, nth}
+use Rattle.run_types.specs.run_memory.Memory.{end, start}
 use Rattle.pass_renewed_meaning.proofs.Here.{Here, IsCase, keeps, left_asleep, none_below, other, second_action}
 use Rattle.pass_renewed_meaning.proofs.OneStep.{IsOneStep}
 use Rattle.pass_renewed_meaning.proofs.Points.{ordinary}
 use Rattle.pass_renewed_meaning.specs.Followed.{Goes}
 use Rattle.pass_renewed_meaning.specs.Rules.{IsMarked, Setting}
 use Rattle.pass_renewed_meaning.specs.Runs.{first_given, second_given}
-use Rattle.pass_renewed_proof.proofs.Ending.{end_beside}
-use Rattle.pass_renewed_proof.proofs.OtherMarkers.{other_ends, other_starts}
-use Rattle.pass_renewed_proof.proofs.Starting.{start_beside}
-use Rattle.pass_renewed_proof.specs.Beside.{IsBeside, place_in}
-use Rattle.pass_renewed_proof.specs.Making.{IsMarkingOther, IsMarkingSlot}
-use Rattle.pass_renewed_proof.specs.Renewed.{is_flagged, is_idle, renewed_act}
+use Rattle.run_types.proofs.pass_renewed_proof.Ending.{end_beside}
+use Rattle.run_types.proofs.pass_renewed_proof.OtherMarkers.{other_ends, other_starts}
+use Rattle.run_types.proofs.pass_renewed_proof.Starting.{start_beside}
+use Rattle.run_types.specs.pass_renewed_proof.Beside.{IsBeside, place_in}
+use Rattle.run_types.specs.pass_renewed_proof.Making.{IsMarkingOther, IsMarkingSlot}
+use Rattle.run_types.specs.pass_renewed_proof.Renewed.{is_flagged, is_idle, renewed_act}
 
 same_ok : {A : Type 0} {a b : A} → ◌≡◌ {A = Result A Cause} (Ok a) (Ok b) → a ≡ b
 same_ok e = cc

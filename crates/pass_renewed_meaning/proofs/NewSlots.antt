@@ -5,34 +5,34 @@ use Rattle.std.proofs.lemmas.Bool.{false≢true}
 use Rattle.std.proofs.lemmas.List.{length-replicate}
 use Rattle.std.specs.List.{Contains}
 use Rattle.std.specs.Prelude.{slice_get}
-use Rattle.ir_model.specs.Layout.{size_of}
-use Rattle.ir_model.specs.Names.{function_at}
-use Rattle.ir_model.specs.declared.module.Module.{Module}
-use Rattle.run_framed.specs.Framed.{at_point, with_mode}
-use Rattle.run_laws.specs.memory.Pointers.{Home, home_of}
-use Rattle.run_laws.specs.memory.Standing.{blank_block}
-use Rattle.run_memory.specs.declared.block.Byte.{Byte}
-use Rattle.run_memory.specs.declared.block.MemoryBlock.{MemoryBlock}
-use Rattle.run_source.specs.State.{function_of}
-use Rattle.run_source.specs.declared.state.Mode.{Mode}
-use Rattle.run_source.specs.declared.state.State.{State}
-use Rattle.run_step.specs.Step.{alloca_kind}
-use Rattle.run_step.specs.Values.{pointer_to, value_in}
-use Rattle.run_step.specs.declared.world.Slot.{Slot}
-use Rattle.pass_kept_proof.proofs.Same.{either}
-use Rattle.pass_renewed_proof.proofs.Anew.{about_there, anew_carried, anew_entered, anew_kept, below_other, updated_here}
-use Rattle.pass_renewed_proof.proofs.AnewAll.{AreAnew}
-use Rattle.pass_renewed_proof.proofs.Carried.{IsCarried, IsSlotKept, same_carried, same_kept}
-use Rattle.pass_renewed_proof.proofs.EnteredValues.{other_values, set_here, set_length}
-use Rattle.pass_renewed_proof.proofs.Listing.{contains_first, contains_more}
-use Rattle.pass_renewed_proof.proofs.Made.{get_last, get_other, get_there, get_within}
-use Rattle.pass_renewed_proof.proofs.Places.{grown}
-use Rattle.pass_renewed_proof.proofs.Ready.{trans_extends}
-use Rattle.pass_renewed_proof.specs.Entering.{Anew, is_named, made_all, made_anew}
-use Rattle.pass_renewed_proof.specs.Ledger.{AreEntered, Ledger, Seen, anew_ledger}
-use Rattle.pass_renewed_proof.specs.Muted.{muted}
-use Rattle.pass_renewed_proof.specs.Places.{AreStanding}
-use Rattle.pass_renewed_proof.specs.Renewed.{RenewedGiven}
+use Rattle.run_types.specs.ir_model.Layout.{size_of}
+use Rattle.run_types.specs.ir_model.Names.{function_at}
+use Rattle.run_types.specs.ir_model.declared.module.Module.{Module}
+use Rattle.run_types.specs.run_framed.Framed.{at_point, with_mode}
+use Rattle.run_types.specs.run_laws.memory.Pointers.{Home, home_of}
+use Rattle.run_types.specs.run_laws.memory.Standing.{blank_block}
+use Rattle.run_types.specs.run_memory.declared.block.Byte.{Byte}
+use Rattle.run_types.specs.run_memory.declared.block.MemoryBlock.{MemoryBlock}
+use Rattle.run_types.specs.run_source.State.{function_of}
+use Rattle.run_types.specs.run_source.declared.state.Mode.{Mode}
+use Rattle.run_types.specs.run_source.declared.state.State.{State}
+use Rattle.run_types.specs.run_step.Step.{alloca_kind}
+use Rattle.run_types.specs.run_step.Values.{pointer_to, value_in}
+use Rattle.run_types.specs.run_step.declared.world.Slot.{Slot}
+use Rattle.run_types.proofs.pass_kept_proof.Same.{either}
+use Rattle.run_types.proofs.pass_renewed_proof.Anew.{about_there, anew_carried, anew_entered, anew_kept, below_other, updated_here}
+use Rattle.run_types.proofs.pass_renewed_proof.AnewAll.{AreAnew}
+use Rattle.run_types.proofs.pass_renewed_proof.Carried.{IsCarried, IsSlotKept, same_carried, same_kept}
+use Rattle.run_types.proofs.pass_renewed_proof.EnteredValues.{other_values, set_here, set_length}
+use Rattle.run_types.proofs.pass_renewed_proof.Listing.{contains_first, contains_more}
+use Rattle.run_types.proofs.pass_renewed_proof.Made.{get_last, get_other, get_there, get_within}
+use Rattle.run_types.proofs.pass_renewed_proof.Places.{grown}
+use Rattle.run_types.proofs.pass_renewed_proof.Ready.{trans_extends}
+use Rattle.run_types.specs.pass_renewed_proof.Entering.{Anew, is_named, made_all, made_anew}
+use Rattle.run_types.specs.pass_renewed_proof.Ledger.{AreEntered, Ledger, Seen, anew_ledger}
+use Rattle.run_types.specs.pass_renewed_proof.Muted.{muted}
+use Rattle.run_types.specs.pass_renewed_proof.Places.{AreStanding}
+use Rattle.run_types.specs.pass_renewed_proof.Renewed.{RenewedGiven}
 
 -- ---- two steps
 

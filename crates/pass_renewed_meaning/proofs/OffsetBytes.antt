@@ -3,24 +3,24 @@ use Rattle.std.proofs.Common.{◌≡◌, ◌<◌, ℕ, zero, suc, ◌+◌, ◌/�
 use Rattle.std.proofs.Common.{map, Option, Some, None, Result, Ok, Err, refl, sym, ap, ◌∙◌, subst, arith, replicate, ◌&&◌, ◌==◌}
 use Rattle.std.specs.List.{AllByRecursion}
 use Rattle.std.specs.Prelude.{drop, if◌then◌else◌, nat_lt, slice_get, take}
-use Rattle.ir_base.specs.declared.cause.Cause.{Cause}
-use Rattle.run_hooks.proofs.alive.Parts.{all_append, all_where}
-use Rattle.run_memory.specs.Memory.{Rights, access_bytes, are_parts, both, bytes_at, bytes_in, check, copied, copy, decode}
-use Rattle.run_memory.specs.Memory.{digits, disowned, encode, ended, fresh, integer_from, is_constant, is_killed, is_owned}
-use Rattle.run_memory.specs.Memory.{is_unkilled, kill, killed, killed_block, load, may_be_owned, number_of, on_ok, overlaps}
-use Rattle.run_memory.specs.Memory.{own, owned_to, parts, pointer_from, range, started, store, unless_constant, with_block}
-use Rattle.run_memory.specs.Memory.{with_bytes, write, written}
-use Rattle.run_memory.specs.declared.block.Byte.{Byte}
-use Rattle.run_memory.specs.declared.block.Kind.{Kind}
-use Rattle.run_memory.specs.declared.block.Life.{Life}
-use Rattle.run_memory.specs.declared.block.MemoryBlock.{MemoryBlock}
-use Rattle.run_memory.specs.declared.pointer.Access.{Access}
-use Rattle.run_memory.specs.declared.pointer.Pointer.{Pointer}
-use Rattle.run_memory.specs.declared.pointer.Spot.{Spot}
-use Rattle.run_memory.specs.declared.pointer.Value.{Value}
-use Rattle.run_step.specs.Step.{deallocated, without_slots}
-use Rattle.run_step.specs.declared.world.Slot.{Slot}
-use Rattle.pass_renewed_proof.specs.Small.{HasSmallOffset}
+use Rattle.run_types.specs.ir_base.declared.cause.Cause.{Cause}
+use Rattle.run_types.proofs.run_hooks.alive.Parts.{all_append, all_where}
+use Rattle.run_types.specs.run_memory.Memory.{Rights, access_bytes, are_parts, both, bytes_at, bytes_in, check, copied, copy, decode}
+use Rattle.run_types.specs.run_memory.Memory.{digits, disowned, encode, ended, fresh, integer_from, is_constant, is_killed, is_owned}
+use Rattle.run_types.specs.run_memory.Memory.{is_unkilled, kill, killed, killed_block, load, may_be_owned, number_of, on_ok, overlaps}
+use Rattle.run_types.specs.run_memory.Memory.{own, owned_to, parts, pointer_from, range, started, store, unless_constant, with_block}
+use Rattle.run_types.specs.run_memory.Memory.{with_bytes, write, written}
+use Rattle.run_types.specs.run_memory.declared.block.Byte.{Byte}
+use Rattle.run_types.specs.run_memory.declared.block.Kind.{Kind}
+use Rattle.run_types.specs.run_memory.declared.block.Life.{Life}
+use Rattle.run_types.specs.run_memory.declared.block.MemoryBlock.{MemoryBlock}
+use Rattle.run_types.specs.run_memory.declared.pointer.Access.{Access}
+use Rattle.run_types.specs.run_memory.declared.pointer.Pointer.{Pointer}
+use Rattle.run_types.specs.run_memory.declared.pointer.Spot.{Spot}
+use Rattle.run_types.specs.run_memory.declared.pointer.Value.{Value}
+use Rattle.run_types.specs.run_step.Step.{deallocated, without_slots}
+use Rattle.run_types.specs.run_step.declared.world.Slot.{Slot}
+use Rattle.run_types.specs.pass_renewed_proof.Small.{HasSmallOffset}
 
 -- ---- bytes
 

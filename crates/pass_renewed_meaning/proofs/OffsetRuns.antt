@@ -2,44 +2,44 @@
 use Rattle.std.proofs.Common.{◌≡◌, ◌<◌, ℕ, zero, suc, ◌+◌, ◌^◌, Bool, true, false, not, List, [], ◌∷◌, ◌++◌, length, map}
 use Rattle.std.proofs.Common.{Option, Some, None, Result, Ok, Err, refl, sym, ap, ◌∙◌, subst, arith, if◌then◌else◌, ◌&&◌, ◌==◌}
 use Rattle.std.specs.Prelude.{filter, find, is_none, negsuc, slice_get}
-use Rattle.ir_base.specs.declared.cause.Cause.{Cause}
-use Rattle.ir_base.specs.declared.outcome.Outcome.{Outcome}
-use Rattle.ir_base.specs.declared.outcome.Word.{Word}
-use Rattle.ir_model.specs.Names.{function_at}
-use Rattle.ir_model.specs.declared.module.GlobalItem.{GlobalItem}
-use Rattle.ir_model.specs.declared.module.Module.{Module}
-use Rattle.ir_model.specs.declared.operand.Arg.{Arg}
-use Rattle.ir_model.specs.declared.operand.Intrinsic.{Intrinsic}
-use Rattle.ir_model.specs.declared.operand.Operand.{Operand}
-use Rattle.ir_paths.specs.Windows.{operand_at, suspend_of}
-use Rattle.ir_paths.specs.declared.point.Point.{Point}
-use Rattle.pass_kept_proof.specs.Kept.{Keep, continue_keeping, kept}
-use Rattle.run_agreement.specs.Machines.{iterate}
-use Rattle.run_hooks.proofs.alive.Parts.{all_append}
-use Rattle.run_hooks.proofs.alive.Places.{own_there}
-use Rattle.run_memory.specs.Memory.{access_bytes, own}
-use Rattle.run_memory.specs.declared.block.Kind.{Kind}
-use Rattle.run_memory.specs.declared.block.MemoryBlock.{MemoryBlock}
-use Rattle.run_memory.specs.declared.pointer.Pointer.{Pointer}
-use Rattle.run_memory.specs.declared.pointer.Value.{Value}
-use Rattle.run_source.specs.Source.{Sleeper, act, advance_by, after_end, begin, begun, called, context_of}
-use Rattle.run_source.specs.Source.{coro, deallocate, end_of, enter_block, finish, first_state, frame_address, frame_of_promise}
-use Rattle.run_source.specs.Source.{go_to, has_promise_at, if_let_go, is_among, is_live_at, is_over, kill_late, left_windows}
-use Rattle.run_source.specs.Source.{let_go, may_be_freed, may_leave, new_instance, new_slot, pop, promise, promise_block, push}
-use Rattle.run_source.specs.Source.{promise_of_frame, release, resumed, return, returned, save, save_for, sleeper_at, slots_of}
-use Rattle.run_source.specs.Source.{sleeper_of, step_by, suspend, with_new_slots}
-use Rattle.run_source.specs.State.{frame_address_of, function_of, gives, instance_at, next, or_undefined, own_facts, own_frame}
-use Rattle.run_source.specs.State.{own_instance, point_of, settled, with_instance, with_left, with_memory, with_slots}
-use Rattle.run_source.specs.State.{with_status, work_of}
-use Rattle.run_source.specs.declared.state.Instance.{Instance}
-use Rattle.run_source.specs.declared.state.Mode.{Mode}
-use Rattle.run_source.specs.declared.state.State.{State}
-use Rattle.run_source.specs.declared.state.Status.{Status}
-use Rattle.run_source_tables.specs.Given.{Given, is_true}
-use Rattle.run_step.specs.Results.{and_then, found, ok_if}
-use Rattle.run_step.specs.Step.{Action, Coro, Deallocate, Done, Enter, GoTo, NewSlot, Return, Stuck, Work, block_of}
-use Rattle.run_step.specs.Step.{deallocated, fetch, global_block, label_of, outcome_of, values_in, without_slots}
-use Rattle.run_step.specs.Values.{access_of, arg_values, integer, nth, operand_value, pointer_to, stored, truth_value}
+use Rattle.run_types.specs.ir_base.declared.cause.Cause.{Cause}
+use Rattle.run_types.specs.ir_base.declared.outcome.Outcome.{Outcome}
+use Rattle.run_types.specs.ir_base.declared.outcome.Word.{Word}
+use Rattle.run_types.specs.ir_model.Names.{function_at}
+use Rattle.run_types.specs.ir_model.declared.module.GlobalItem.{GlobalItem}
+use Rattle.run_types.specs.ir_model.declared.module.Module.{Module}
+use Rattle.run_types.specs.ir_model.declared.operand.Arg.{Arg}
+use Rattle.run_types.specs.ir_model.declared.operand.Intrinsic.{Intrinsic}
+use Rattle.run_types.specs.ir_model.declared.operand.Operand.{Operand}
+use Rattle.run_types.specs.ir_paths.Windows.{operand_at, suspend_of}
+use Rattle.run_types.specs.ir_paths.declared.point.Point.{Point}
+use Rattle.run_types.specs.pass_kept_proof.Kept.{Keep, continue_keeping, kept}
+use Rattle.run_types.specs.run_agreement.Machines.{iterate}
+use Rattle.run_types.proofs.run_hooks.alive.Parts.{all_append}
+use Rattle.run_types.proofs.run_hooks.alive.Places.{own_there}
+use Rattle.run_types.specs.run_memory.Memory.{access_bytes, own}
+use Rattle.run_types.specs.run_memory.declared.block.Kind.{Kind}
+use Rattle.run_types.specs.run_memory.declared.block.MemoryBlock.{MemoryBlock}
+use Rattle.run_types.specs.run_memory.declared.pointer.Pointer.{Pointer}
+use Rattle.run_types.specs.run_memory.declared.pointer.Value.{Value}
+use Rattle.run_types.specs.run_source.Source.{Sleeper, act, advance_by, after_end, begin, begun, called, context_of}
+use Rattle.run_types.specs.run_source.Source.{coro, deallocate, end_of, enter_block, finish, first_state, frame_address, frame_of_promise}
+use Rattle.run_types.specs.run_source.Source.{go_to, has_promise_at, if_let_go, is_among, is_live_at, is_over, kill_late, left_windows}
+use Rattle.run_types.specs.run_source.Source.{let_go, may_be_freed, may_leave, new_instance, new_slot, pop, promise, promise_block, push}
+use Rattle.run_types.specs.run_source.Source.{promise_of_frame, release, resumed, return, returned, save, save_for, sleeper_at, slots_of}
+use Rattle.run_types.specs.run_source.Source.{sleeper_of, step_by, suspend, with_new_slots}
+use Rattle.run_types.specs.run_source.State.{frame_address_of, function_of, gives, instance_at, next, or_undefined, own_facts, own_frame}
+use Rattle.run_types.specs.run_source.State.{own_instance, point_of, settled, with_instance, with_left, with_memory, with_slots}
+use Rattle.run_types.specs.run_source.State.{with_status, work_of}
+use Rattle.run_types.specs.run_source.declared.state.Instance.{Instance}
+use Rattle.run_types.specs.run_source.declared.state.Mode.{Mode}
+use Rattle.run_types.specs.run_source.declared.state.State.{State}
+use Rattle.run_types.specs.run_source.declared.state.Status.{Status}
+use Rattle.run_types.specs.run_source_tables.Given.{Given, is_true}
+use Rattle.run_types.specs.run_step.Results.{and_then, found, ok_if}
+use Rattle.run_types.specs.run_step.Step.{Action, Coro, Deallocate, Done, Enter, GoTo, NewSlot, Return, Stuck, Work, block_of}
+use Rattle.run_types.specs.run_step.Step.{deallocated, fetch, global_block, label_of, outcome_of, values_in, without_slots}
+use Rattle.run_types.specs.run_step.Values.{access_of, arg_values, integer, nth, operand_value, pointer_to, stored, truth_value}
 use Rattle.pass_renewed_meaning.proofs.Handles.{find_there}
 use Rattle.pass_renewed_meaning.proofs.OffsetBytes.{GivesSmall, HaveSmall, encoded}
 use Rattle.pass_renewed_meaning.proofs.OffsetBytes.{own_has, without_has}
@@ -47,7 +47,7 @@ use Rattle.pass_renewed_meaning.proofs.OffsetValues.{AllSmall, AreSmall, IsSmall
 use Rattle.pass_renewed_meaning.proofs.OffsetValues.{entry_small, kept_small, nth_small, result_small, stored_small, zero_small}
 use Rattle.pass_renewed_meaning.proofs.OrdinaryCases.{small_operand}
 use Rattle.pass_renewed_meaning.proofs.ResumeCases.{sleeper_there}
-use Rattle.pass_renewed_proof.specs.Small.{HasSmallOffset}
+use Rattle.run_types.specs.pass_renewed_proof.Small.{HasSmallOffset}
 use Rattle.pass_renewed_meaning.proofs.OffsetSteps.{IsSmallInstance, IsSmallState, IsSmallStatus, Stays}
 use Rattle.pass_renewed_meaning.proofs.OffsetSteps.{block_entered, change_small, finish_small, freed_small, gives_small}
 use Rattle.pass_renewed_meaning.proofs.OffsetSteps.{goes_small, instance_set, memory_set, next_small, pushed, return_small}

@@ -3,39 +3,39 @@ use Rattle.std.proofs.Common.{◌≡◌, ◌<◌, ℕ, zero, suc, ◌+◌, ◌^�
 use Rattle.std.proofs.Common.{Option, Some, None, Result, Ok, Err, refl, sym, ap, ◌∙◌, subst, arith, if◌then◌else◌, ◌&&◌, ◌==◌}
 use Rattle.std.specs.List.{AllByRecursion, list_all}
 use Rattle.std.specs.Prelude.{filter, slice_get, slice_set, unwrap_or}
-use Rattle.ir_base.specs.declared.cause.Cause.{Cause}
-use Rattle.ir_base.specs.declared.outcome.Outcome.{Outcome}
-use Rattle.ir_model.specs.Names.{position_of}
-use Rattle.ir_paths.specs.declared.point.Point.{Point}
-use Rattle.ir_paths.specs.declared.point.Window.{Window}
-use Rattle.run_hooks.proofs.alive.Parts.{all_where}
-use Rattle.run_hooks.proofs.Reached.{at_is}
-use Rattle.run_hooks.proofs.alive.Places.{own_there}
-use Rattle.run_memory.specs.Memory.{disown, killed}
-use Rattle.run_memory.specs.declared.block.MemoryBlock.{MemoryBlock}
-use Rattle.run_memory.specs.declared.pointer.Value.{Value}
-use Rattle.run_source.specs.Source.{branch_leaving, change_own}
-use Rattle.run_source.specs.Source.{coro, deallocate, end_of, enter_block, finish, first_state, frame_address, frame_of_promise}
-use Rattle.run_source.specs.Source.{go_to, has_promise_at, if_let_go, is_among, is_live_at, is_over, kill_late, left_windows}
-use Rattle.run_source.specs.Source.{let_go, may_be_freed, may_leave, new_instance, new_slot, pop, promise, promise_block, push}
-use Rattle.run_source.specs.Source.{promise_of_frame, release, resumed, return, returned, save, save_for, sleeper_at, slots_of}
-use Rattle.run_source.specs.Source.{sleeper_of, step_by, suspend, with_new_slots}
-use Rattle.run_source.specs.State.{function_of, gives, instance_at, next, own_facts}
-use Rattle.run_source.specs.State.{own_instance, point_of, settled, with_instance, with_left, with_memory, with_slots}
-use Rattle.run_source.specs.State.{with_status, work_of}
-use Rattle.run_source.specs.declared.state.Activation.{Activation}
-use Rattle.run_source.specs.declared.state.Instance.{Instance}
-use Rattle.run_source.specs.declared.state.State.{State}
-use Rattle.run_source.specs.declared.state.Status.{Status}
-use Rattle.run_source_tables.specs.Given.{Given}
-use Rattle.run_step.specs.Results.{and_then, found, ok_if}
-use Rattle.run_step.specs.Step.{deallocated, label_of, outcome_of, without_slots}
-use Rattle.run_step.specs.declared.world.Slot.{Slot}
+use Rattle.run_types.specs.ir_base.declared.cause.Cause.{Cause}
+use Rattle.run_types.specs.ir_base.declared.outcome.Outcome.{Outcome}
+use Rattle.run_types.specs.ir_model.Names.{position_of}
+use Rattle.run_types.specs.ir_paths.declared.point.Point.{Point}
+use Rattle.run_types.specs.ir_paths.declared.point.Window.{Window}
+use Rattle.run_types.proofs.run_hooks.alive.Parts.{all_where}
+use Rattle.run_types.proofs.run_hooks.Reached.{at_is}
+use Rattle.run_types.proofs.run_hooks.alive.Places.{own_there}
+use Rattle.run_types.specs.run_memory.Memory.{disown, killed}
+use Rattle.run_types.specs.run_memory.declared.block.MemoryBlock.{MemoryBlock}
+use Rattle.run_types.specs.run_memory.declared.pointer.Value.{Value}
+use Rattle.run_types.specs.run_source.Source.{branch_leaving, change_own}
+use Rattle.run_types.specs.run_source.Source.{coro, deallocate, end_of, enter_block, finish, first_state, frame_address, frame_of_promise}
+use Rattle.run_types.specs.run_source.Source.{go_to, has_promise_at, if_let_go, is_among, is_live_at, is_over, kill_late, left_windows}
+use Rattle.run_types.specs.run_source.Source.{let_go, may_be_freed, may_leave, new_instance, new_slot, pop, promise, promise_block, push}
+use Rattle.run_types.specs.run_source.Source.{promise_of_frame, release, resumed, return, returned, save, save_for, sleeper_at, slots_of}
+use Rattle.run_types.specs.run_source.Source.{sleeper_of, step_by, suspend, with_new_slots}
+use Rattle.run_types.specs.run_source.State.{function_of, gives, instance_at, next, own_facts}
+use Rattle.run_types.specs.run_source.State.{own_instance, point_of, settled, with_instance, with_left, with_memory, with_slots}
+use Rattle.run_types.specs.run_source.State.{with_status, work_of}
+use Rattle.run_types.specs.run_source.declared.state.Activation.{Activation}
+use Rattle.run_types.specs.run_source.declared.state.Instance.{Instance}
+use Rattle.run_types.specs.run_source.declared.state.State.{State}
+use Rattle.run_types.specs.run_source.declared.state.Status.{Status}
+use Rattle.run_types.specs.run_source_tables.Given.{Given}
+use Rattle.run_types.specs.run_step.Results.{and_then, found, ok_if}
+use Rattle.run_types.specs.run_step.Step.{deallocated, label_of, outcome_of, without_slots}
+use Rattle.run_types.specs.run_step.declared.world.Slot.{Slot}
 use Rattle.pass_renewed_meaning.proofs.OffsetBytes.{GivesSmall, HaveSmall, deallocated_has, disowned_has, killed_has}
 use Rattle.pass_renewed_meaning.proofs.OffsetBytes.{own_has, without_has}
 use Rattle.pass_renewed_meaning.proofs.OffsetValues.{AreSmall, block_small}
 use Rattle.pass_renewed_meaning.proofs.OffsetValues.{entry_small, kept_small, nth_small, result_small, stored_small, zero_small}
-use Rattle.pass_renewed_proof.specs.Small.{HasSmallOffset}
+use Rattle.run_types.specs.pass_renewed_proof.Small.{HasSmallOffset}
 
 -- ---- states
 

@@ -4,49 +4,49 @@ use Rattle.std.proofs.Common.{Some, None, Result, Ok, Err, refl, sym, ap, ◌∙
 use Rattle.std.proofs.Common.{◌==◌}
 use Rattle.std.proofs.Math.Nat.{mod-lt}
 use Rattle.std.specs.Prelude.{ℤ, slice_get, unwrap_or}
-use Rattle.ir_base.specs.declared.cause.Cause.{Cause}
-use Rattle.ir_base.specs.declared.ops.CastOp.{CastOp}
-use Rattle.ir_base.specs.declared.ops.Pred.{Pred}
-use Rattle.ir_base.specs.declared.outcome.Word.{Word}
-use Rattle.ir_model.specs.Layout.{size_of}
-use Rattle.ir_model.specs.Names.{declaration_named, function_named}
-use Rattle.ir_model.specs.Ty.{Ty, array, int, named, ptr, structure, token}
-use Rattle.ir_model.specs.declared.instr.Case.{Case}
-use Rattle.ir_model.specs.declared.instr.Instr.{Instr}
-use Rattle.ir_model.specs.declared.instr.Phi.{Phi}
-use Rattle.ir_model.specs.declared.instr.Terminator.{Terminator}
-use Rattle.ir_model.specs.declared.module.Block.{Block}
-use Rattle.ir_model.specs.declared.module.Function.{Function}
-use Rattle.ir_model.specs.declared.module.Module.{Module}
-use Rattle.ir_model.specs.declared.module.Param.{Param}
-use Rattle.ir_model.specs.declared.operand.Allocator.{Allocator}
-use Rattle.ir_model.specs.declared.operand.Arg.{Arg}
-use Rattle.ir_model.specs.declared.operand.Callee.{Callee}
-use Rattle.ir_model.specs.declared.operand.Intrinsic.{Intrinsic}
-use Rattle.pass_kept_proof.specs.Kept.{kept}
-use Rattle.run_ints.specs.Numbers.{cast}
-use Rattle.run_ints.specs.declared.num.Num.{Num}
-use Rattle.run_memory.specs.Memory.{copy, end, fresh, load, start, store}
-use Rattle.run_memory.specs.Pointers.{moved}
-use Rattle.run_memory.specs.declared.block.Kind.{Kind}
-use Rattle.run_memory.specs.declared.block.MemoryBlock.{MemoryBlock}
-use Rattle.run_memory.specs.declared.pointer.Access.{Access}
-use Rattle.run_memory.specs.declared.pointer.Pointer.{Pointer}
-use Rattle.run_memory.specs.declared.pointer.Value.{Value}
-use Rattle.run_step.specs.Step.{Action, AtInstr, AtTerm, Context, Done, Enter, Fetched, NewSlot}
-use Rattle.run_step.specs.Step.{Nowhere, Return, Stuck, Work, action_of, alloca, alloca_kind, allocated, allocator_call}
-use Rattle.run_step.specs.Step.{answer, block_of, branch, by_pred, cast_to, chosen, compared, copied_bytes, done, entry_values}
-use Rattle.run_step.specs.Step.{fits_function, has_markers, if_alignment, incoming_from, indirect_call, instr_action}
-use Rattle.run_step.specs.Step.{intrinsic_call, is_alignment, named_call, observed, on_block, phi_values, phis_of}
-use Rattle.run_step.specs.Step.{set_memory, set_value, switch, term_action, value_at, values_in, with_all, with_length}
-use Rattle.run_step.specs.Step.{with_params, words_of}
-use Rattle.run_step.specs.Values.{Env, access_of, address, arg_value, arg_values, distance, element, indices_of, literal}
-use Rattle.run_step.specs.Values.{moved_by, nth, number_at, number_of_width, operand_value, pointer_to, stored, truth_value}
-use Rattle.run_step.specs.Values.{value_in, value_of, with_result, with_value, is_in_bounds}
+use Rattle.run_types.specs.ir_base.declared.cause.Cause.{Cause}
+use Rattle.run_types.specs.ir_base.declared.ops.CastOp.{CastOp}
+use Rattle.run_types.specs.ir_base.declared.ops.Pred.{Pred}
+use Rattle.run_types.specs.ir_base.declared.outcome.Word.{Word}
+use Rattle.run_types.specs.ir_model.Layout.{size_of}
+use Rattle.run_types.specs.ir_model.Names.{declaration_named, function_named}
+use Rattle.run_types.specs.ir_model.Ty.{Ty, array, int, named, ptr, structure, token}
+use Rattle.run_types.specs.ir_model.declared.instr.Case.{Case}
+use Rattle.run_types.specs.ir_model.declared.instr.Instr.{Instr}
+use Rattle.run_types.specs.ir_model.declared.instr.Phi.{Phi}
+use Rattle.run_types.specs.ir_model.declared.instr.Terminator.{Terminator}
+use Rattle.run_types.specs.ir_model.declared.module.Block.{Block}
+use Rattle.run_types.specs.ir_model.declared.module.Function.{Function}
+use Rattle.run_types.specs.ir_model.declared.module.Module.{Module}
+use Rattle.run_types.specs.ir_model.declared.module.Param.{Param}
+use Rattle.run_types.specs.ir_model.declared.operand.Allocator.{Allocator}
+use Rattle.run_types.specs.ir_model.declared.operand.Arg.{Arg}
+use Rattle.run_types.specs.ir_model.declared.operand.Callee.{Callee}
+use Rattle.run_types.specs.ir_model.declared.operand.Intrinsic.{Intrinsic}
+use Rattle.run_types.specs.pass_kept_proof.Kept.{kept}
+use Rattle.run_types.specs.run_ints.Numbers.{cast}
+use Rattle.run_types.specs.run_ints.declared.num.Num.{Num}
+use Rattle.run_types.specs.run_memory.Memory.{copy, end, fresh, load, start, store}
+use Rattle.run_types.specs.run_memory.Pointers.{moved}
+use Rattle.run_types.specs.run_memory.declared.block.Kind.{Kind}
+use Rattle.run_types.specs.run_memory.declared.block.MemoryBlock.{MemoryBlock}
+use Rattle.run_types.specs.run_memory.declared.pointer.Access.{Access}
+use Rattle.run_types.specs.run_memory.declared.pointer.Pointer.{Pointer}
+use Rattle.run_types.specs.run_memory.declared.pointer.Value.{Value}
+use Rattle.run_types.specs.run_step.Step.{Action, AtInstr, AtTerm, Context, Done, Enter, Fetched, NewSlot}
+use Rattle.run_types.specs.run_step.Step.{Nowhere, Return, Stuck, Work, action_of, alloca, alloca_kind, allocated, allocator_call}
+use Rattle.run_types.specs.run_step.Step.{answer, block_of, branch, by_pred, cast_to, chosen, compared, copied_bytes, done, entry_values}
+use Rattle.run_types.specs.run_step.Step.{fits_function, has_markers, if_alignment, incoming_from, indirect_call, instr_action}
+use Rattle.run_types.specs.run_step.Step.{intrinsic_call, is_alignment, named_call, observed, on_block, phi_values, phis_of}
+use Rattle.run_types.specs.run_step.Step.{set_memory, set_value, switch, term_action, value_at, values_in, with_all, with_length}
+use Rattle.run_types.specs.run_step.Step.{with_params, words_of}
+use Rattle.run_types.specs.run_step.Values.{Env, access_of, address, arg_value, arg_values, distance, element, indices_of, literal}
+use Rattle.run_types.specs.run_step.Values.{moved_by, nth, number_at, number_of_width, operand_value, pointer_to, stored, truth_value}
+use Rattle.run_types.specs.run_step.Values.{value_in, value_of, with_result, with_value, is_in_bounds}
 use Rattle.pass_renewed_meaning.proofs.OffsetBytes.{GivesSmall, HaveSmall, copy_has, ended_has, fresh_has, loaded, started_has}
 use Rattle.pass_renewed_meaning.proofs.OffsetBytes.{store_has}
 use Rattle.pass_renewed_meaning.proofs.OrdinaryCases.{small_operand}
-use Rattle.pass_renewed_proof.specs.Small.{HasSmallOffset}
+use Rattle.run_types.specs.pass_renewed_proof.Small.{HasSmallOffset}
 
 -- ---- values of an activation
 

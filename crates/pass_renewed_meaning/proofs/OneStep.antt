@@ -1,36 +1,36 @@
 -- One step of the first run that one of the second follows, where nothing is resumed.
 use Rattle.std.proofs.Common.{◌≡◌, ℕ, ◌+◌, ◌<◌, ◌≤◌, ◌⊎◌, inl, inr, Bool, true, false, List, Option, Some, None}
 use Rattle.std.proofs.Common.{Result, Ok, Err, refl, sym, ap, ◌∙◌, subst, ⊎_elim, arith, if◌then◌else◌}
-use Rattle.ir_base.specs.declared.cause.Cause.{Cause}
-use Rattle.ir_base.specs.declared.outcome.Outcome.{Outcome}
-use Rattle.ir_base.specs.declared.outcome.Word.{Word}
-use Rattle.ir_model.specs.Names.{declaration_named, function_named}
-use Rattle.ir_model.specs.Ty.{Ty, array, int, named, ptr, structure, token}
-use Rattle.ir_model.specs.declared.instr.Instr.{Instr}
-use Rattle.ir_model.specs.declared.instr.Terminator.{Terminator}
-use Rattle.ir_model.specs.declared.module.Module.{Module}
-use Rattle.ir_model.specs.declared.operand.Allocator.{Allocator}
-use Rattle.ir_model.specs.declared.operand.Arg.{Arg}
-use Rattle.ir_model.specs.declared.operand.Callee.{Callee}
-use Rattle.ir_model.specs.declared.operand.Intrinsic.{Intrinsic}
-use Rattle.pass_kept_proof.specs.Kept.{continue_keeping}
-use Rattle.run_agreement.specs.Machines.{IsFine}
-use Rattle.run_memory.specs.Memory.{copy}
-use Rattle.run_memory.specs.declared.pointer.Pointer.{Pointer}
-use Rattle.run_memory.specs.declared.pointer.Value.{Value}
-use Rattle.run_source.specs.Source.{Continues, act, advance_by, context_of, step_by}
-use Rattle.run_source.specs.State.{function_of, or_undefined, work_of}
-use Rattle.run_source.specs.declared.state.Mode.{Mode}
-use Rattle.run_source.specs.declared.state.State.{State}
-use Rattle.run_source_tables.specs.Given.{Given}
-use Rattle.run_step.specs.Step.{Action, AtInstr, AtTerm, Context, Done, Enter, Fetched}
-use Rattle.run_step.specs.Step.{Nowhere, Return, Stuck, Work, action_of, branch, compared, done, fetch, fits_function}
-use Rattle.run_step.specs.Step.{if_alignment, indirect_call, is_alignment, named_call, observed, switch, with_length}
-use Rattle.run_step.specs.Step.{allocated, copied_bytes, set_memory, words_of}
-use Rattle.run_step.specs.Values.{address, arg_values, nth}
+use Rattle.run_types.specs.ir_base.declared.cause.Cause.{Cause}
+use Rattle.run_types.specs.ir_base.declared.outcome.Outcome.{Outcome}
+use Rattle.run_types.specs.ir_base.declared.outcome.Word.{Word}
+use Rattle.run_types.specs.ir_model.Names.{declaration_named, function_named}
+use Rattle.run_types.specs.ir_model.Ty.{Ty, array, int, named, ptr, structure, token}
+use Rattle.run_types.specs.ir_model.declared.instr.Instr.{Instr}
+use Rattle.run_types.specs.ir_model.declared.instr.Terminator.{Terminator}
+use Rattle.run_types.specs.ir_model.declared.module.Module.{Module}
+use Rattle.run_types.specs.ir_model.declared.operand.Allocator.{Allocator}
+use Rattle.run_types.specs.ir_model.declared.operand.Arg.{Arg}
+use Rattle.run_types.specs.ir_model.declared.operand.Callee.{Callee}
+use Rattle.run_types.specs.ir_model.declared.operand.Intrinsic.{Intrinsic}
+use Rattle.run_types.specs.pass_kept_proof.Kept.{continue_keeping}
+use Rattle.run_types.specs.run_agreement.Machines.{IsFine}
+use Rattle.run_types.specs.run_memory.Memory.{copy}
+use Rattle.run_types.specs.run_memory.declared.pointer.Pointer.{Pointer}
+use Rattle.run_types.specs.run_memory.declared.pointer.Value.{Value}
+use Rattle.run_types.specs.run_source.Source.{Continues, act, advance_by, context_of, step_by}
+use Rattle.run_types.specs.run_source.State.{function_of, or_undefined, work_of}
+use Rattle.run_types.specs.run_source.declared.state.Mode.{Mode}
+use Rattle.run_types.specs.run_source.declared.state.State.{State}
+use Rattle.run_types.specs.run_source_tables.Given.{Given}
+use Rattle.run_types.specs.run_step.Step.{Action, AtInstr, AtTerm, Context, Done, Enter, Fetched}
+use Rattle.run_types.specs.run_step.Step.{Nowhere, Return, Stuck, Work, action_of, branch, compared, done, fetch, fits_function}
+use Rattle.run_types.specs.run_step.Step.{if_alignment, indirect_call, is_alignment, named_call, observed, switch, with_length}
+use Rattle.run_types.specs.run_step.Step.{allocated, copied_bytes, set_memory, words_of}
+use Rattle.run_types.specs.run_step.Values.{address, arg_values, nth}
 use Rattle.pass_renewed_meaning.specs.Followed.{AreInStep, IsFollowed}
-use Rattle.pass_renewed_proof.specs.Prices.{Prices, anew_price, kept_price, price_in, price_of, renewed_price, resumed_by, resumed_in}
-use Rattle.pass_renewed_proof.specs.Renewed.{RenewedGiven, renewed_advance, renewed_next, renewed_step}
+use Rattle.run_types.specs.pass_renewed_proof.Prices.{Prices, anew_price, kept_price, price_in, price_of, renewed_price, resumed_by, resumed_in}
+use Rattle.run_types.specs.pass_renewed_proof.Renewed.{RenewedGiven, renewed_advance, renewed_next, renewed_step}
 
 -- ---- instructions that resume nothing
 

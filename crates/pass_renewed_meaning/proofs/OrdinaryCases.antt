@@ -2,31 +2,31 @@
 use Rattle.std.proofs.Common.{◌≡◌, ℕ, ◌<◌, ◌^◌, ◌⊎◌, inl, inr, Bool, true, false, List, Option, Some, None, Result, Ok, Err}
 use Rattle.std.proofs.Common.{refl, sym, ap, ◌∙◌, subst, if◌then◌else◌, arith}
 use Rattle.std.specs.Prelude.{ℤ}
-use Rattle.ir_base.specs.declared.cause.Cause.{Cause}
-use Rattle.ir_base.specs.declared.ops.BinOp.{BinOp}
-use Rattle.ir_base.specs.declared.ops.CastOp.{CastOp}
-use Rattle.ir_base.specs.declared.ops.Flags.{Flags}
-use Rattle.ir_base.specs.declared.ops.Pred.{Pred}
-use Rattle.ir_model.specs.Names.{declaration_named, function_at, function_named, global_named, is_local}
-use Rattle.ir_model.specs.Ty.{Ty, array, int, named, ptr, structure, token}
-use Rattle.ir_model.specs.declared.instr.Instr.{Instr}
-use Rattle.ir_model.specs.declared.module.Function.{Function}
-use Rattle.ir_model.specs.declared.module.Module.{Module}
-use Rattle.ir_model.specs.declared.operand.Arg.{Arg}
-use Rattle.ir_model.specs.declared.operand.Callee.{Callee}
-use Rattle.ir_model.specs.declared.operand.Intrinsic.{Intrinsic}
-use Rattle.ir_model.specs.declared.operand.Operand.{Operand}
-use Rattle.ir_paths.specs.Windows.{is_call_of}
-use Rattle.run_laws.specs.embedded.Related.{HasNoSlot}
-use Rattle.run_memory.specs.Memory.{copy}
-use Rattle.run_memory.specs.declared.pointer.Value.{Value}
-use Rattle.run_source.specs.Source.{context_of}
-use Rattle.run_source.specs.State.{next, settled, work_of}
-use Rattle.run_source.specs.declared.state.State.{State}
-use Rattle.run_step.specs.Step.{Action, AtInstr, Context, Coro, Deallocate, Done, Enter, GoTo, NewSlot, Return}
-use Rattle.run_step.specs.Step.{Stuck, Work, allocated, copied_bytes, done, fetch, fits_function, if_alignment, indirect_call}
-use Rattle.run_step.specs.Step.{is_alignment, named_call, observed, set_memory, with_length, words_of}
-use Rattle.run_step.specs.Values.{Env, address, address_from, arg_values, literal, nth, operand_value, value_in}
+use Rattle.run_types.specs.ir_base.declared.cause.Cause.{Cause}
+use Rattle.run_types.specs.ir_base.declared.ops.BinOp.{BinOp}
+use Rattle.run_types.specs.ir_base.declared.ops.CastOp.{CastOp}
+use Rattle.run_types.specs.ir_base.declared.ops.Flags.{Flags}
+use Rattle.run_types.specs.ir_base.declared.ops.Pred.{Pred}
+use Rattle.run_types.specs.ir_model.Names.{declaration_named, function_at, function_named, global_named, is_local}
+use Rattle.run_types.specs.ir_model.Ty.{Ty, array, int, named, ptr, structure, token}
+use Rattle.run_types.specs.ir_model.declared.instr.Instr.{Instr}
+use Rattle.run_types.specs.ir_model.declared.module.Function.{Function}
+use Rattle.run_types.specs.ir_model.declared.module.Module.{Module}
+use Rattle.run_types.specs.ir_model.declared.operand.Arg.{Arg}
+use Rattle.run_types.specs.ir_model.declared.operand.Callee.{Callee}
+use Rattle.run_types.specs.ir_model.declared.operand.Intrinsic.{Intrinsic}
+use Rattle.run_types.specs.ir_model.declared.operand.Operand.{Operand}
+use Rattle.run_types.specs.ir_paths.Windows.{is_call_of}
+use Rattle.run_types.specs.run_laws.embedded.Related.{HasNoSlot}
+use Rattle.run_types.specs.run_memory.Memory.{copy}
+use Rattle.run_types.specs.run_memory.declared.pointer.Value.{Value}
+use Rattle.run_types.specs.run_source.Source.{context_of}
+use Rattle.run_types.specs.run_source.State.{next, settled, work_of}
+use Rattle.run_types.specs.run_source.declared.state.State.{State}
+use Rattle.run_types.specs.run_step.Step.{Action, AtInstr, Context, Coro, Deallocate, Done, Enter, GoTo, NewSlot, Return}
+use Rattle.run_types.specs.run_step.Step.{Stuck, Work, allocated, copied_bytes, done, fetch, fits_function, if_alignment, indirect_call}
+use Rattle.run_types.specs.run_step.Step.{is_alignment, named_call, observed, set_memory, with_length, words_of}
+use Rattle.run_types.specs.run_step.Values.{Env, address, address_from, arg_values, literal, nth, operand_value, value_in}
 use Rattle.pass_renewed_meaning.proofs.Addresses.{address_on}
 use Rattle.pass_renewed_meaning.proofs.Here.{Here, IsCase, first_act, first_action, keeps, left_asleep, none_below, other}
 use Rattle.pass_renewed_meaning.proofs.Here.{second_action}
@@ -35,15 +35,15 @@ use Rattle.pass_renewed_meaning.proofs.Points.{IsPlain, gives_address, no_part, 
 use Rattle.pass_renewed_meaning.specs.Followed.{Goes}
 use Rattle.pass_renewed_meaning.specs.Rules.{Setting}
 use Rattle.pass_renewed_meaning.specs.Runs.{first_given, second_given}
-use Rattle.pass_renewed_proof.proofs.History.{local_is}
-use Rattle.pass_renewed_proof.proofs.Parts.{part_beside}
-use Rattle.pass_renewed_proof.proofs.Settled.{settled_beside}
-use Rattle.pass_renewed_proof.specs.Beside.{IsBeside, place_in}
-use Rattle.pass_renewed_proof.specs.Ordinary.{IsBase, IsOrdinaryInstr, IsPart, with_part}
-use Rattle.pass_renewed_proof.specs.Renewed.{is_idle, renewed_act}
-use Rattle.pass_renewed_proof.specs.SlotRules.{IsAddressOf, Itself, KeepsSlots, Part}
-use Rattle.pass_renewed_proof.specs.Small.{ComparesSmall, HasSmallOffset}
-use Rattle.pass_renewed_proof.specs.Steps.{given_at}
+use Rattle.run_types.proofs.pass_renewed_proof.History.{local_is}
+use Rattle.run_types.proofs.pass_renewed_proof.Parts.{part_beside}
+use Rattle.run_types.proofs.pass_renewed_proof.Settled.{settled_beside}
+use Rattle.run_types.specs.pass_renewed_proof.Beside.{IsBeside, place_in}
+use Rattle.run_types.specs.pass_renewed_proof.Ordinary.{IsBase, IsOrdinaryInstr, IsPart, with_part}
+use Rattle.run_types.specs.pass_renewed_proof.Renewed.{is_idle, renewed_act}
+use Rattle.run_types.specs.pass_renewed_proof.SlotRules.{IsAddressOf, Itself, KeepsSlots, Part}
+use Rattle.run_types.specs.pass_renewed_proof.Small.{ComparesSmall, HasSmallOffset}
+use Rattle.run_types.specs.pass_renewed_proof.Steps.{given_at}
 
 -- the step is done or the run is stuck
 abbrev pub IsQuiet : Action → Type 0

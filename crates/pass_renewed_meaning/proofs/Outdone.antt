@@ -3,19 +3,19 @@ use Rattle.std.proofs.Common.{◌≡◌, ℕ, zero, suc, Bool, true, false, List
 use Rattle.std.proofs.Common.{ap, ◌∙◌, subst}
 use Rattle.std.proofs.lemmas.Bool.{false≢true}
 use Rattle.std.specs.Prelude.{slice_get}
-use Rattle.ir_model.specs.declared.module.Module.{Module}
-use Rattle.pass_kept_proof.specs.Related.{coroutines}
-use Rattle.run_hooks.proofs.Left.{sleeps_at}
-use Rattle.run_hooks.specs.Left.{HaveLeft, IsAwake, sleeps}
-use Rattle.run_memory.specs.declared.block.MemoryBlock.{MemoryBlock}
-use Rattle.run_source.specs.declared.state.Activation.{Activation}
-use Rattle.run_source.specs.declared.state.Instance.{Instance}
-use Rattle.run_source.specs.declared.state.Mode.{Mode}
-use Rattle.pass_renewed_proof.proofs.Made.{get_there}
-use Rattle.pass_renewed_proof.specs.Beside.{AreBelow, AreOutdone, AreUnbegun, GoesOn, HasLeftSuspended, Leaves, NotLeft}
-use Rattle.pass_renewed_proof.specs.Ledger.{Ledger}
-use Rattle.pass_renewed_proof.specs.Making.{HasInstance}
-use Rattle.pass_renewed_proof.specs.Renewed.{Flags, Roots}
+use Rattle.run_types.specs.ir_model.declared.module.Module.{Module}
+use Rattle.run_types.specs.pass_kept_proof.Related.{coroutines}
+use Rattle.run_types.proofs.run_hooks.Left.{sleeps_at}
+use Rattle.run_types.specs.run_hooks.Left.{HaveLeft, IsAwake, sleeps}
+use Rattle.run_types.specs.run_memory.declared.block.MemoryBlock.{MemoryBlock}
+use Rattle.run_types.specs.run_source.declared.state.Activation.{Activation}
+use Rattle.run_types.specs.run_source.declared.state.Instance.{Instance}
+use Rattle.run_types.specs.run_source.declared.state.Mode.{Mode}
+use Rattle.run_types.proofs.pass_renewed_proof.Made.{get_there}
+use Rattle.run_types.specs.pass_renewed_proof.Beside.{AreBelow, AreOutdone, AreUnbegun, GoesOn, HasLeftSuspended, Leaves, NotLeft}
+use Rattle.run_types.specs.pass_renewed_proof.Ledger.{Ledger}
+use Rattle.run_types.specs.pass_renewed_proof.Making.{HasInstance}
+use Rattle.run_types.specs.pass_renewed_proof.Renewed.{Flags, Roots}
 
 same_number : {i j : ℕ} → Some i ≡ Some j → i ≡ j
 same_number e = cc

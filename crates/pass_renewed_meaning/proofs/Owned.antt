@@ -3,28 +3,28 @@ use Rattle.std.proofs.Common.{◌≡◌, ◌≢◌, ℕ, ◌+◌, ◌<◌, ◌�
 use Rattle.std.proofs.Common.{refl, sym, ap, ◌∙◌, subst, ⊎_elim, ◌||◌, ◌==◌, arith}
 use Rattle.std.proofs.lemmas.Bool.{cases_eq}
 use Rattle.std.specs.Prelude.{option_map, slice_get}
-use Rattle.ir_model.specs.declared.module.Module.{Module}
-use Rattle.run_laws.proofs.access.Turned.{owned_reowns, rights_turn}
-use Rattle.run_laws.proofs.embedded.Mirrors.{bounds_changed, nulls_changed}
-use Rattle.run_laws.proofs.memory.Written.{changed_elsewhere, changed_here, same_some}
-use Rattle.run_laws.specs.access.Changed.{home_block}
-use Rattle.run_laws.specs.access.Rights.{IsApartFrom, IsOnlyPlace, MayTurn}
-use Rattle.run_laws.specs.embedded.Making.{whole_home}
-use Rattle.run_laws.specs.embedded.Marks.{IsAlone}
-use Rattle.run_laws.specs.memory.Pointers.{Home, home_of}
-use Rattle.run_laws.specs.memory.Standing.{HasRights, IsOpen, byte_of}
-use Rattle.run_memory.specs.Memory.{is_below, is_live, meets, owned_to, owner_rights, with_block}
-use Rattle.run_memory.specs.declared.block.Byte.{Byte}
-use Rattle.run_memory.specs.declared.block.MemoryBlock.{MemoryBlock}
-use Rattle.pass_renewed_proof.proofs.Alike.{IsAlike, alike_carried, alike_entered, alike_kept, is_alone}
-use Rattle.pass_renewed_proof.proofs.AlikeMarks.{nulls_alike}
-use Rattle.pass_renewed_proof.proofs.Dying.{AreCarriedOver}
-use Rattle.pass_renewed_proof.proofs.Muted.{muted_change}
-use Rattle.pass_renewed_proof.proofs.Places.{muted_at}
-use Rattle.pass_renewed_proof.specs.Ledger.{AreEntered, IsMate, Ledger}
-use Rattle.pass_renewed_proof.specs.Muted.{ended_if, muted}
-use Rattle.pass_renewed_proof.specs.Places.{AreStanding}
-use Rattle.pass_renewed_proof.specs.Small.{small_rights}
+use Rattle.run_types.specs.ir_model.declared.module.Module.{Module}
+use Rattle.run_types.proofs.run_laws.access.Turned.{owned_reowns, rights_turn}
+use Rattle.run_types.proofs.run_laws.embedded.Mirrors.{bounds_changed, nulls_changed}
+use Rattle.run_types.proofs.run_laws.memory.Written.{changed_elsewhere, changed_here, same_some}
+use Rattle.run_types.specs.run_laws.access.Changed.{home_block}
+use Rattle.run_types.specs.run_laws.access.Rights.{IsApartFrom, IsOnlyPlace, MayTurn}
+use Rattle.run_types.specs.run_laws.embedded.Making.{whole_home}
+use Rattle.run_types.specs.run_laws.embedded.Marks.{IsAlone}
+use Rattle.run_types.specs.run_laws.memory.Pointers.{Home, home_of}
+use Rattle.run_types.specs.run_laws.memory.Standing.{HasRights, IsOpen, byte_of}
+use Rattle.run_types.specs.run_memory.Memory.{is_below, is_live, meets, owned_to, owner_rights, with_block}
+use Rattle.run_types.specs.run_memory.declared.block.Byte.{Byte}
+use Rattle.run_types.specs.run_memory.declared.block.MemoryBlock.{MemoryBlock}
+use Rattle.run_types.proofs.pass_renewed_proof.Alike.{IsAlike, alike_carried, alike_entered, alike_kept, is_alone}
+use Rattle.run_types.proofs.pass_renewed_proof.AlikeMarks.{nulls_alike}
+use Rattle.run_types.proofs.pass_renewed_proof.Dying.{AreCarriedOver}
+use Rattle.run_types.proofs.pass_renewed_proof.Muted.{muted_change}
+use Rattle.run_types.proofs.pass_renewed_proof.Places.{muted_at}
+use Rattle.run_types.specs.pass_renewed_proof.Ledger.{AreEntered, IsMate, Ledger}
+use Rattle.run_types.specs.pass_renewed_proof.Muted.{ended_if, muted}
+use Rattle.run_types.specs.pass_renewed_proof.Places.{AreStanding}
+use Rattle.run_types.specs.pass_renewed_proof.Small.{small_rights}
 
 owned_alike : (size : ℕ) → IsAlike (owned_to size)
 owned_alike size = record {

@@ -1,17 +1,17 @@
 -- The rules of places, with the windows that the first run looks up.
 use Rattle.std.proofs.Common.{◌≡◌, ℕ, map, Option, Some, None, refl, sym, ap, ◌∙◌, subst}
 use Rattle.std.specs.Prelude.{All, slice_get, unwrap_or}
-use Rattle.ir_model.specs.Names.{function_at, no_function}
-use Rattle.ir_model.specs.declared.module.Function.{Function}
-use Rattle.ir_model.specs.declared.module.Module.{Module}
-use Rattle.ir_paths.proofs.Right.{facts_of_right}
-use Rattle.ir_paths.specs.Facts.{IsWindow, all_facts, facts_of}
-use Rattle.ir_paths.specs.Windows.{saves_of}
-use Rattle.ir_paths.specs.declared.point.Facts.{Facts}
-use Rattle.ir_paths.specs.declared.point.Window.{Window}
-use Rattle.run_hooks.specs.Away.{KeepsAllPlaceRules}
-use Rattle.run_hooks.specs.Reached.{AllHaveSwitches}
-use Rattle.run_source_tables.specs.Given.{facts_at}
+use Rattle.run_types.specs.ir_model.Names.{function_at, no_function}
+use Rattle.run_types.specs.ir_model.declared.module.Function.{Function}
+use Rattle.run_types.specs.ir_model.declared.module.Module.{Module}
+use Rattle.run_types.proofs.ir_paths.Right.{facts_of_right}
+use Rattle.run_types.specs.ir_paths.Facts.{IsWindow, all_facts, facts_of}
+use Rattle.run_types.specs.ir_paths.Windows.{saves_of}
+use Rattle.run_types.specs.ir_paths.declared.point.Facts.{Facts}
+use Rattle.run_types.specs.ir_paths.declared.point.Window.{Window}
+use Rattle.run_types.specs.run_hooks.Away.{KeepsAllPlaceRules}
+use Rattle.run_types.specs.run_hooks.Reached.{AllHaveSwitches}
+use Rattle.run_types.specs.run_source_tables.Given.{facts_at}
 use Rattle.pass_renewed_meaning.proofs.Tables.{none, plain_facts, plain_missing}
 use Rattle.pass_renewed_meaning.specs.Rules.{KeepsAll, Setting}
 use Rattle.pass_renewed_meaning.specs.Runs.{first_given}

@@ -1,27 +1,27 @@
 -- What stands at a place, and the names that it gives, by the rules.
 use Rattle.std.proofs.Common.{◌≡◌, ℕ, Bool, true, false, List, Option, Some, sym, ap, ◌∙◌, subst}
 use Rattle.std.proofs.lemmas.Bool.{false≢true}
-use Rattle.ir_model.specs.Names.{function_at}
-use Rattle.ir_model.specs.Ty.{Ty}
-use Rattle.ir_model.specs.declared.instr.Instr.{Instr}
-use Rattle.ir_model.specs.declared.module.Function.{Function}
-use Rattle.ir_model.specs.declared.module.Module.{Module}
-use Rattle.ir_model.specs.declared.operand.Arg.{Arg}
-use Rattle.ir_model.specs.declared.operand.Callee.{Callee}
-use Rattle.ir_model.specs.declared.operand.Intrinsic.{Intrinsic}
-use Rattle.ir_model.specs.declared.operand.Operand.{Operand}
-use Rattle.ir_paths.specs.Windows.{is_call_of}
-use Rattle.ir_paths.specs.declared.point.Point.{Point}
-use Rattle.pass_kept_proof.specs.SuspendRules.{IsCallAt}
-use Rattle.run_source.specs.declared.state.Activation.{Activation}
-use Rattle.run_step.specs.Step.{AtInstr, AtTerm, fetch}
-use Rattle.pass_renewed_proof.specs.Ahead.{IsBehindSuspendCall}
-use Rattle.pass_renewed_proof.specs.Beside.{place_in}
-use Rattle.pass_renewed_proof.specs.Making.{IsGiving}
-use Rattle.pass_renewed_proof.specs.Ordinary.{IsCalm, IsOrdinary}
-use Rattle.pass_renewed_proof.specs.Renewed.{Roots}
-use Rattle.pass_renewed_proof.specs.SlotRules.{IsAddressOf, IsMadeOnce, Itself, KeepsSlots, Part}
-use Rattle.pass_renewed_proof.specs.Steps.{given_at}
+use Rattle.run_types.specs.ir_model.Names.{function_at}
+use Rattle.run_types.specs.ir_model.Ty.{Ty}
+use Rattle.run_types.specs.ir_model.declared.instr.Instr.{Instr}
+use Rattle.run_types.specs.ir_model.declared.module.Function.{Function}
+use Rattle.run_types.specs.ir_model.declared.module.Module.{Module}
+use Rattle.run_types.specs.ir_model.declared.operand.Arg.{Arg}
+use Rattle.run_types.specs.ir_model.declared.operand.Callee.{Callee}
+use Rattle.run_types.specs.ir_model.declared.operand.Intrinsic.{Intrinsic}
+use Rattle.run_types.specs.ir_model.declared.operand.Operand.{Operand}
+use Rattle.run_types.specs.ir_paths.Windows.{is_call_of}
+use Rattle.run_types.specs.ir_paths.declared.point.Point.{Point}
+use Rattle.run_types.specs.pass_kept_proof.SuspendRules.{IsCallAt}
+use Rattle.run_types.specs.run_source.declared.state.Activation.{Activation}
+use Rattle.run_types.specs.run_step.Step.{AtInstr, AtTerm, fetch}
+use Rattle.run_types.specs.pass_renewed_proof.Ahead.{IsBehindSuspendCall}
+use Rattle.run_types.specs.pass_renewed_proof.Beside.{place_in}
+use Rattle.run_types.specs.pass_renewed_proof.Making.{IsGiving}
+use Rattle.run_types.specs.pass_renewed_proof.Ordinary.{IsCalm, IsOrdinary}
+use Rattle.run_types.specs.pass_renewed_proof.Renewed.{Roots}
+use Rattle.run_types.specs.pass_renewed_proof.SlotRules.{IsAddressOf, IsMadeOnce, Itself, KeepsSlots, Part}
+use Rattle.run_types.specs.pass_renewed_proof.Steps.{given_at}
 
 pub same_instr : {i j : Instr} → AtInstr i ≡ AtInstr j → i ≡ j
 same_instr e = cc

@@ -1,9 +1,9 @@
 -- Addresses that were handed on, once they are moved to slots that were made anew.
 use Rattle.std.proofs.Common.{◌≡◌, ℕ, zero, suc, [], ◌∷◌, Option, Some, None, refl, sym, ap, ◌∙◌}
-use Rattle.run_memory.specs.declared.pointer.Pointer.{Pointer}
-use Rattle.run_memory.specs.declared.pointer.Value.{Value}
-use Rattle.run_step.specs.Values.{Env, pointer_to, value_in, value_or_poison}
-use Rattle.pass_renewed_proof.specs.Renewed.{in_new_slot, renewed_value, renewed_values}
+use Rattle.run_types.specs.run_memory.declared.pointer.Pointer.{Pointer}
+use Rattle.run_types.specs.run_memory.declared.pointer.Value.{Value}
+use Rattle.run_types.specs.run_step.Values.{Env, pointer_to, value_in, value_or_poison}
+use Rattle.run_types.specs.pass_renewed_proof.Renewed.{in_new_slot, renewed_value, renewed_values}
 
 new_poison : (r : Value) → in_new_slot r Value.Poison ≡ Value.Poison
 new_poison Value.Poison = refl

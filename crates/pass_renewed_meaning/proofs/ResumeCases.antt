@@ -2,42 +2,42 @@
 use Rattle.std.proofs.Common.{◌≡◌, ℕ, zero, suc, ◌+◌, ◌<◌, ◌≤◌, ◌⊎◌, inl, inr, Bool, true, false, not, List, [], ◌∷◌, length}
 use Rattle.std.proofs.Common.{Option, Some, None, Result, Ok, Err, refl, sym, ap, ◌∙◌, subst, arith, ⊎_elim, ◌||◌}
 use Rattle.std.specs.Prelude.{slice_get, IsTrue}
-use Rattle.ir_base.specs.declared.cause.Cause.{Cause}
-use Rattle.ir_base.specs.declared.outcome.Outcome.{Outcome}
-use Rattle.ir_model.specs.Names.{function_at, position_of}
-use Rattle.ir_model.specs.Ty.{Ty}
-use Rattle.ir_model.specs.declared.instr.Instr.{Instr}
-use Rattle.ir_model.specs.declared.module.Block.{Block}
-use Rattle.ir_model.specs.declared.module.Function.{Function}
-use Rattle.ir_model.specs.declared.operand.Arg.{Arg}
-use Rattle.ir_model.specs.declared.operand.Callee.{Callee}
-use Rattle.ir_model.specs.declared.operand.Intrinsic.{Intrinsic}
-use Rattle.ir_paths.specs.Paths.{entry_point, has_point, same_point}
-use Rattle.ir_paths.specs.Windows.{destroy_label, is_call_of, resume_label}
-use Rattle.ir_paths.specs.declared.point.Point.{Point}
-use Rattle.ir_laws.specs.facts.expanded.Tokens.{IsNamedResult}
-use Rattle.pass_kept_proof.specs.Kept.{continue_keeping}
-use Rattle.pass_kept_proof.specs.Needed.{BranchesTo}
-use Rattle.rule_windows.specs.Windows.{own_edges}
-use Rattle.run_agreement.specs.Costs.{cost_from}
-use Rattle.run_agreement.specs.Machines.{iterate}
-use Rattle.run_hooks.specs.Away.{HasStop}
-use Rattle.run_laws.specs.memory.Pointers.{IsValue}
-use Rattle.run_memory.specs.declared.pointer.Pointer.{Pointer}
-use Rattle.run_memory.specs.declared.pointer.Value.{Value}
-use Rattle.run_source.specs.Source.{Sleeper, context_of, sleeper_at, sleeper_of}
-use Rattle.run_source.specs.State.{began_at, instance_at, last_from, or_undefined, work_of}
-use Rattle.run_source.specs.declared.state.Instance.{Instance}
-use Rattle.run_source.specs.declared.state.Mode.{Mode}
-use Rattle.run_source.specs.declared.state.State.{State}
-use Rattle.run_source.specs.declared.state.Status.{Status}
-use Rattle.run_source_tables.specs.Given.{is_final}
+use Rattle.run_types.specs.ir_base.declared.cause.Cause.{Cause}
+use Rattle.run_types.specs.ir_base.declared.outcome.Outcome.{Outcome}
+use Rattle.run_types.specs.ir_model.Names.{function_at, position_of}
+use Rattle.run_types.specs.ir_model.Ty.{Ty}
+use Rattle.run_types.specs.ir_model.declared.instr.Instr.{Instr}
+use Rattle.run_types.specs.ir_model.declared.module.Block.{Block}
+use Rattle.run_types.specs.ir_model.declared.module.Function.{Function}
+use Rattle.run_types.specs.ir_model.declared.operand.Arg.{Arg}
+use Rattle.run_types.specs.ir_model.declared.operand.Callee.{Callee}
+use Rattle.run_types.specs.ir_model.declared.operand.Intrinsic.{Intrinsic}
+use Rattle.run_types.specs.ir_paths.Paths.{entry_point, has_point, same_point}
+use Rattle.run_types.specs.ir_paths.Windows.{destroy_label, is_call_of, resume_label}
+use Rattle.run_types.specs.ir_paths.declared.point.Point.{Point}
+use Rattle.run_types.specs.ir_laws.facts.expanded.Tokens.{IsNamedResult}
+use Rattle.run_types.specs.pass_kept_proof.Kept.{continue_keeping}
+use Rattle.run_types.specs.pass_kept_proof.Needed.{BranchesTo}
+use Rattle.run_types.specs.rule_windows.Windows.{own_edges}
+use Rattle.run_types.specs.run_agreement.Costs.{cost_from}
+use Rattle.run_types.specs.run_agreement.Machines.{iterate}
+use Rattle.run_types.specs.run_hooks.Away.{HasStop}
+use Rattle.run_types.specs.run_laws.memory.Pointers.{IsValue}
+use Rattle.run_types.specs.run_memory.declared.pointer.Pointer.{Pointer}
+use Rattle.run_types.specs.run_memory.declared.pointer.Value.{Value}
+use Rattle.run_types.specs.run_source.Source.{Sleeper, context_of, sleeper_at, sleeper_of}
+use Rattle.run_types.specs.run_source.State.{began_at, instance_at, last_from, or_undefined, work_of}
+use Rattle.run_types.specs.run_source.declared.state.Instance.{Instance}
+use Rattle.run_types.specs.run_source.declared.state.Mode.{Mode}
+use Rattle.run_types.specs.run_source.declared.state.State.{State}
+use Rattle.run_types.specs.run_source.declared.state.Status.{Status}
+use Rattle.run_types.specs.run_source_tables.Given.{is_final}
 use Rattle.run_states.proofs.sound_states.Fits.{result_named}
 use Rattle.run_states.specs.sound_states.Sound.{IsSoundStatus}
-use Rattle.run_step.specs.Results.{and_then, found, ok_if}
-use Rattle.run_step.specs.Step.{AtInstr, action_of, fetch, fetch_in, phis_of}
-use Rattle.run_step.specs.Values.{arg_values, nth}
-use Rattle.run_laws.specs.changed.Changed.{result_at}
+use Rattle.run_types.specs.run_step.Results.{and_then, found, ok_if}
+use Rattle.run_types.specs.run_step.Step.{AtInstr, action_of, fetch, fetch_in, phis_of}
+use Rattle.run_types.specs.run_step.Values.{arg_values, nth}
+use Rattle.run_types.specs.run_laws.changed.Changed.{result_at}
 use Rattle.pass_renewed_meaning.proofs.Handles.{IsInSlot, arg_there, no_instance}
 use Rattle.pass_renewed_meaning.proofs.Here.{Here, first_act, first_action, keeps, other}
 use Rattle.pass_renewed_meaning.proofs.Points.{giving_call}
@@ -46,17 +46,17 @@ use Rattle.pass_renewed_meaning.specs.Followed.{Goes, IsFollowed, IsOnItsWay}
 use Rattle.pass_renewed_meaning.specs.Resumes.{IsResuming}
 use Rattle.pass_renewed_meaning.specs.Rules.{Setting}
 use Rattle.pass_renewed_meaning.specs.Runs.{first_given, first_step, second_given}
-use Rattle.pass_renewed_proof.proofs.Finishing.{found_in}
-use Rattle.pass_renewed_proof.proofs.Next.{prices_add}
-use Rattle.pass_renewed_proof.specs.Entering.{Anew, anew_in, price_of_all}
-use Rattle.pass_renewed_proof.proofs.Sleeping.{sleeper_beside}
-use Rattle.pass_renewed_proof.specs.Beside.{IsBeside}
-use Rattle.pass_renewed_proof.specs.Found.{IsSleeperBeside}
-use Rattle.pass_renewed_proof.specs.Making.{IsGiving}
-use Rattle.pass_renewed_proof.specs.Prices.{Prices, anew_price, kept_price, price_in, price_of, renewed_price, resumed_in}
-use Rattle.pass_renewed_proof.specs.Prices.{coroutine_of, resumed_by, slots_from, slots_in}
-use Rattle.pass_renewed_proof.specs.Renewed.{continue_renewed, renewed_advance, renewed_next, renewed_step}
-use Rattle.pass_renewed_proof.specs.Steps.{given_at}
+use Rattle.run_types.proofs.pass_renewed_proof.Finishing.{found_in}
+use Rattle.run_types.proofs.pass_renewed_proof.Next.{prices_add}
+use Rattle.run_types.specs.pass_renewed_proof.Entering.{Anew, anew_in, price_of_all}
+use Rattle.run_types.proofs.pass_renewed_proof.Sleeping.{sleeper_beside}
+use Rattle.run_types.specs.pass_renewed_proof.Beside.{IsBeside}
+use Rattle.run_types.specs.pass_renewed_proof.Found.{IsSleeperBeside}
+use Rattle.run_types.specs.pass_renewed_proof.Making.{IsGiving}
+use Rattle.run_types.specs.pass_renewed_proof.Prices.{Prices, anew_price, kept_price, price_in, price_of, renewed_price, resumed_in}
+use Rattle.run_types.specs.pass_renewed_proof.Prices.{coroutine_of, resumed_by, slots_from, slots_in}
+use Rattle.run_types.specs.pass_renewed_proof.Renewed.{continue_renewed, renewed_advance, renewed_next, renewed_step}
+use Rattle.run_types.specs.pass_renewed_proof.Steps.{given_at}
 
 same_ok : {A : Type 0} {a b : A} → ◌≡◌ {A = Result A Cause} (Ok a) (Ok b) → a ≡ b
 same_ok e = cc

@@ -6,71 +6,71 @@ use Rattle.std.proofs.lemmas.Bool.{false≢true}
 use Rattle.std.proofs.lemmas.List.{length-replicate}
 use Rattle.std.specs.List.{Contains}
 use Rattle.std.specs.Prelude.{IsTrue, slice_get}
-use Rattle.ir_model.specs.Layout.{size_of}
-use Rattle.ir_model.specs.Names.{function_at, position_of}
-use Rattle.ir_model.specs.Ty.{Ty}
-use Rattle.ir_model.specs.declared.instr.Instr.{Instr}
-use Rattle.ir_model.specs.declared.instr.Terminator.{Terminator}
-use Rattle.ir_model.specs.declared.module.Block.{Block}
-use Rattle.ir_model.specs.declared.module.Function.{Function}
-use Rattle.ir_model.specs.declared.module.Module.{Module}
-use Rattle.ir_model.specs.declared.operand.Callee.{Callee}
-use Rattle.ir_model.specs.declared.operand.Intrinsic.{Intrinsic}
-use Rattle.ir_paths.specs.Paths.{entry_point, has_point, nexts}
-use Rattle.ir_paths.specs.Windows.{is_call_of}
-use Rattle.ir_paths.specs.declared.point.Point.{Point}
-use Rattle.frame_classes.specs.Alive.{MayBeAlive}
-use Rattle.frame_classes.specs.Classes.{suspends}
-use Rattle.frame_slots.proofs.Points.{where_sound}
-use Rattle.pass_kept_proof.proofs.Same.{kept_at, kept_wide}
-use Rattle.pass_kept_proof.specs.Kept.{kept}
-use Rattle.pass_kept_proof.specs.Needed.{BranchesTo}
-use Rattle.pass_kept_proof.specs.SuspendRules.{IsCallAt}
-use Rattle.rule_windows.specs.Points.{ends}
-use Rattle.rule_windows.specs.Sets.{RunsOut}
-use Rattle.rule_windows.specs.Windows.{own_edges}
-use Rattle.run_laws.specs.memory.Pointers.{Home}
-use Rattle.run_laws.specs.memory.Standing.{blank_block}
-use Rattle.run_memory.specs.Memory.{same_kind}
-use Rattle.run_memory.specs.declared.block.Byte.{Byte}
-use Rattle.run_memory.specs.declared.block.Kind.{Kind}
-use Rattle.run_memory.specs.declared.block.MemoryBlock.{MemoryBlock}
-use Rattle.run_memory.specs.declared.pointer.Value.{Value}
-use Rattle.run_source.specs.Source.{resumed}
-use Rattle.run_source.specs.declared.state.Activation.{Activation}
-use Rattle.run_source.specs.declared.state.Instance.{Instance}
-use Rattle.run_source.specs.declared.state.State.{State}
-use Rattle.run_source.specs.declared.state.Status.{Status}
-use Rattle.run_step.specs.Step.{AtInstr, AtTerm, alloca_kind, block_of, fetch}
-use Rattle.run_step.specs.Values.{Env, pointer_to, value_in}
-use Rattle.run_step.specs.declared.world.Slot.{Slot}
+use Rattle.run_types.specs.ir_model.Layout.{size_of}
+use Rattle.run_types.specs.ir_model.Names.{function_at, position_of}
+use Rattle.run_types.specs.ir_model.Ty.{Ty}
+use Rattle.run_types.specs.ir_model.declared.instr.Instr.{Instr}
+use Rattle.run_types.specs.ir_model.declared.instr.Terminator.{Terminator}
+use Rattle.run_types.specs.ir_model.declared.module.Block.{Block}
+use Rattle.run_types.specs.ir_model.declared.module.Function.{Function}
+use Rattle.run_types.specs.ir_model.declared.module.Module.{Module}
+use Rattle.run_types.specs.ir_model.declared.operand.Callee.{Callee}
+use Rattle.run_types.specs.ir_model.declared.operand.Intrinsic.{Intrinsic}
+use Rattle.run_types.specs.ir_paths.Paths.{entry_point, has_point, nexts}
+use Rattle.run_types.specs.ir_paths.Windows.{is_call_of}
+use Rattle.run_types.specs.ir_paths.declared.point.Point.{Point}
+use Rattle.run_types.specs.frame_classes.Alive.{MayBeAlive}
+use Rattle.run_types.specs.frame_classes.Classes.{suspends}
+use Rattle.run_types.proofs.frame_slots.Points.{where_sound}
+use Rattle.run_types.proofs.pass_kept_proof.Same.{kept_at, kept_wide}
+use Rattle.run_types.specs.pass_kept_proof.Kept.{kept}
+use Rattle.run_types.specs.pass_kept_proof.Needed.{BranchesTo}
+use Rattle.run_types.specs.pass_kept_proof.SuspendRules.{IsCallAt}
+use Rattle.run_types.specs.rule_windows.Points.{ends}
+use Rattle.run_types.specs.rule_windows.Sets.{RunsOut}
+use Rattle.run_types.specs.rule_windows.Windows.{own_edges}
+use Rattle.run_types.specs.run_laws.memory.Pointers.{Home}
+use Rattle.run_types.specs.run_laws.memory.Standing.{blank_block}
+use Rattle.run_types.specs.run_memory.Memory.{same_kind}
+use Rattle.run_types.specs.run_memory.declared.block.Byte.{Byte}
+use Rattle.run_types.specs.run_memory.declared.block.Kind.{Kind}
+use Rattle.run_types.specs.run_memory.declared.block.MemoryBlock.{MemoryBlock}
+use Rattle.run_types.specs.run_memory.declared.pointer.Value.{Value}
+use Rattle.run_types.specs.run_source.Source.{resumed}
+use Rattle.run_types.specs.run_source.declared.state.Activation.{Activation}
+use Rattle.run_types.specs.run_source.declared.state.Instance.{Instance}
+use Rattle.run_types.specs.run_source.declared.state.State.{State}
+use Rattle.run_types.specs.run_source.declared.state.Status.{Status}
+use Rattle.run_types.specs.run_step.Step.{AtInstr, AtTerm, alloca_kind, block_of, fetch}
+use Rattle.run_types.specs.run_step.Values.{Env, pointer_to, value_in}
+use Rattle.run_types.specs.run_step.declared.world.Slot.{Slot}
 use Rattle.pass_renewed_meaning.proofs.EntrySlots.{IsEntrySlot, distinct, each_next, flagged_named, of_name}
 use Rattle.pass_renewed_meaning.proofs.NewSlots.{AreNewSlots, IsMadeNew, all_new}
 use Rattle.pass_renewed_meaning.proofs.Renaming.{plain_value, root_value}
-use Rattle.pass_renewed_proof.proofs.Ahead.{branch_edge, leads_more, next_edge}
-use Rattle.pass_renewed_proof.proofs.EnteredValues.{made_length, other_values}
-use Rattle.pass_renewed_proof.proofs.History.{fetch_is}
-use Rattle.pass_renewed_proof.proofs.Left.{call_listed}
-use Rattle.pass_renewed_proof.proofs.Next.{entry_slots}
-use Rattle.pass_renewed_proof.proofs.Ordinary.{own_address, roots_of}
-use Rattle.pass_renewed_proof.proofs.Passing.{unended}
-use Rattle.pass_renewed_proof.proofs.Phis.{no_call_term, no_end_term, term_there}
-use Rattle.pass_renewed_proof.proofs.Settled.{seated_in}
-use Rattle.pass_renewed_proof.proofs.SlotEnvs.{kept_stand, renewed_stand}
-use Rattle.pass_renewed_proof.proofs.Steps.{cut_at}
-use Rattle.pass_renewed_proof.proofs.Way.{alive_more, barred_first, barred_used, resumed_first}
-use Rattle.pass_renewed_proof.specs.Beside.{AreKeptBeside, AreOthers, AreSlots, Begun, IsActivationBeside, IsEarly}
-use Rattle.pass_renewed_proof.specs.Beside.{IsKeptSlot, IsOther, IsOtherValue, IsOwn, IsPassed, IsSeated, IsSlotBeside}
-use Rattle.pass_renewed_proof.specs.Beside.{IsTold, MayStand, NoSlots, Second}
-use Rattle.pass_renewed_proof.specs.Entering.{Anew, AreNext, anew_in, is_named, made_all}
-use Rattle.pass_renewed_proof.specs.Ledger.{AreEntered, IsFresh, IsOfAlloca, Ledger, Seat}
-use Rattle.pass_renewed_proof.specs.Left.{behind}
-use Rattle.pass_renewed_proof.specs.Muted.{muted}
-use Rattle.pass_renewed_proof.specs.Places.{AreStanding, IsReady}
-use Rattle.pass_renewed_proof.specs.Renewed.{RenewedGiven, renewed_values}
-use Rattle.pass_renewed_proof.specs.SlotEnvs.{AreMadeAnew, AreRoots, AreSlotEnvs}
-use Rattle.pass_renewed_proof.specs.SlotRules.{KeepsAllSlots, KeepsSlots}
-use Rattle.pass_renewed_proof.specs.Steps.{given_at}
+use Rattle.run_types.proofs.pass_renewed_proof.Ahead.{branch_edge, leads_more, next_edge}
+use Rattle.run_types.proofs.pass_renewed_proof.EnteredValues.{made_length, other_values}
+use Rattle.run_types.proofs.pass_renewed_proof.History.{fetch_is}
+use Rattle.run_types.proofs.pass_renewed_proof.Left.{call_listed}
+use Rattle.run_types.proofs.pass_renewed_proof.Next.{entry_slots}
+use Rattle.run_types.proofs.pass_renewed_proof.Ordinary.{own_address, roots_of}
+use Rattle.run_types.proofs.pass_renewed_proof.Passing.{unended}
+use Rattle.run_types.proofs.pass_renewed_proof.Phis.{no_call_term, no_end_term, term_there}
+use Rattle.run_types.proofs.pass_renewed_proof.Settled.{seated_in}
+use Rattle.run_types.proofs.pass_renewed_proof.SlotEnvs.{kept_stand, renewed_stand}
+use Rattle.run_types.proofs.pass_renewed_proof.Steps.{cut_at}
+use Rattle.run_types.proofs.pass_renewed_proof.Way.{alive_more, barred_first, barred_used, resumed_first}
+use Rattle.run_types.specs.pass_renewed_proof.Beside.{AreKeptBeside, AreOthers, AreSlots, Begun, IsActivationBeside, IsEarly}
+use Rattle.run_types.specs.pass_renewed_proof.Beside.{IsKeptSlot, IsOther, IsOtherValue, IsOwn, IsPassed, IsSeated, IsSlotBeside}
+use Rattle.run_types.specs.pass_renewed_proof.Beside.{IsTold, MayStand, NoSlots, Second}
+use Rattle.run_types.specs.pass_renewed_proof.Entering.{Anew, AreNext, anew_in, is_named, made_all}
+use Rattle.run_types.specs.pass_renewed_proof.Ledger.{AreEntered, IsFresh, IsOfAlloca, Ledger, Seat}
+use Rattle.run_types.specs.pass_renewed_proof.Left.{behind}
+use Rattle.run_types.specs.pass_renewed_proof.Muted.{muted}
+use Rattle.run_types.specs.pass_renewed_proof.Places.{AreStanding, IsReady}
+use Rattle.run_types.specs.pass_renewed_proof.Renewed.{RenewedGiven, renewed_values}
+use Rattle.run_types.specs.pass_renewed_proof.SlotEnvs.{AreMadeAnew, AreRoots, AreSlotEnvs}
+use Rattle.run_types.specs.pass_renewed_proof.SlotRules.{KeepsAllSlots, KeepsSlots}
+use Rattle.run_types.specs.pass_renewed_proof.Steps.{given_at}
 
 -- ---- lists, and points
 

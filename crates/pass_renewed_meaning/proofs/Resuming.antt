@@ -3,49 +3,49 @@
 use Rattle.std.proofs.Common.{◌≡◌, ℕ, suc, ◌+◌, ◌<◌, true, false, List, [], ◌∷◌, length, Option, Some, None, refl, sym, ap}
 use Rattle.std.proofs.Common.{◌∙◌, subst, arith}
 use Rattle.std.specs.Prelude.{slice_get, slice_set}
-use Rattle.ir_base.specs.declared.outcome.Outcome.{Outcome}
-use Rattle.ir_model.specs.Names.{function_at, position_of}
-use Rattle.ir_model.specs.declared.instr.Instr.{Instr}
-use Rattle.ir_model.specs.declared.module.Function.{Function}
-use Rattle.ir_model.specs.declared.module.Module.{Module}
-use Rattle.pass_kept_proof.specs.Kept.{continue_keeping, kept}
-use Rattle.run_agreement.specs.Machines.{iterate}
-use Rattle.run_agreement.specs.Costs.{cost_from}
-use Rattle.run_framed.specs.Framed.{at_point, with_mode}
-use Rattle.run_memory.specs.declared.block.MemoryBlock.{MemoryBlock}
-use Rattle.run_source.specs.Source.{Sleeper, resumed}
-use Rattle.run_source.specs.State.{is_suspended, with_instance}
-use Rattle.run_source.specs.declared.state.Activation.{Activation}
-use Rattle.run_source.specs.declared.state.Instance.{Instance}
-use Rattle.run_source.specs.declared.state.Mode.{Mode}
-use Rattle.run_source.specs.declared.state.State.{State}
-use Rattle.run_source.specs.declared.state.Status.{Status}
-use Rattle.run_source_tables.specs.Given.{Given}
-use Rattle.run_step.specs.Step.{block_of, label_of, phi_values, phis_of, values_in, with_all}
-use Rattle.run_step.specs.Values.{Env, value_in}
+use Rattle.run_types.specs.ir_base.declared.outcome.Outcome.{Outcome}
+use Rattle.run_types.specs.ir_model.Names.{function_at, position_of}
+use Rattle.run_types.specs.ir_model.declared.instr.Instr.{Instr}
+use Rattle.run_types.specs.ir_model.declared.module.Function.{Function}
+use Rattle.run_types.specs.ir_model.declared.module.Module.{Module}
+use Rattle.run_types.specs.pass_kept_proof.Kept.{continue_keeping, kept}
+use Rattle.run_types.specs.run_agreement.Machines.{iterate}
+use Rattle.run_types.specs.run_agreement.Costs.{cost_from}
+use Rattle.run_types.specs.run_framed.Framed.{at_point, with_mode}
+use Rattle.run_types.specs.run_memory.declared.block.MemoryBlock.{MemoryBlock}
+use Rattle.run_types.specs.run_source.Source.{Sleeper, resumed}
+use Rattle.run_types.specs.run_source.State.{is_suspended, with_instance}
+use Rattle.run_types.specs.run_source.declared.state.Activation.{Activation}
+use Rattle.run_types.specs.run_source.declared.state.Instance.{Instance}
+use Rattle.run_types.specs.run_source.declared.state.Mode.{Mode}
+use Rattle.run_types.specs.run_source.declared.state.State.{State}
+use Rattle.run_types.specs.run_source.declared.state.Status.{Status}
+use Rattle.run_types.specs.run_source_tables.Given.{Given}
+use Rattle.run_types.specs.run_step.Step.{block_of, label_of, phi_values, phis_of, values_in, with_all}
+use Rattle.run_types.specs.run_step.Values.{Env, value_in}
 use Rattle.pass_renewed_meaning.proofs.Alike.{beside_alike, same_events}
 use Rattle.pass_renewed_meaning.proofs.Between.{IsLike, alike_of, like_on}
 use Rattle.pass_renewed_meaning.proofs.NewSlots.{AreNewSlots}
 use Rattle.pass_renewed_meaning.proofs.Resumed.{made, new, next, resumed_beside, vs, xs}
 use Rattle.pass_renewed_meaning.specs.Followed.{AreAlike, IsOnItsWay}
 use Rattle.pass_renewed_meaning.specs.Resumes.{IsResuming}
-use Rattle.pass_renewed_proof.proofs.Carried.{AreBelowCarried, IsActivationCarried, activation_kept, below_kept}
-use Rattle.pass_renewed_proof.proofs.Carried.{instances_kept, kept_slot_on, same_carried, same_kept, slot_kept}
-use Rattle.pass_renewed_proof.proofs.Entering.{entering_run}
-use Rattle.pass_renewed_proof.proofs.Leaving.{running_beside}
-use Rattle.pass_renewed_proof.proofs.Listing.{set_here}
-use Rattle.pass_renewed_proof.proofs.Next.{entering_costs}
-use Rattle.pass_renewed_proof.proofs.Passing.{edge_on, passed_beside, unended, unstarted}
-use Rattle.pass_renewed_proof.specs.Beside.{AreSlots, IsBeside, IsSeated, place_in}
-use Rattle.pass_renewed_proof.specs.Entering.{Anew, AreNext, anew_in, made_all, made_anew, price_of_all}
-use Rattle.pass_renewed_proof.specs.Found.{IsSleeperBeside}
-use Rattle.pass_renewed_proof.specs.Ledger.{Ledger}
-use Rattle.pass_renewed_proof.specs.Muted.{muted}
-use Rattle.pass_renewed_proof.specs.Places.{AreStanding}
-use Rattle.pass_renewed_proof.specs.Prices.{Prices, renewed_price}
-use Rattle.pass_renewed_proof.specs.Renewed.{RenewedGiven, continue_renewed, renew_after}
-use Rattle.pass_renewed_proof.specs.Renewed.{renewed_from, renewed_step, renewed_values, with_renewed}
-use Rattle.pass_renewed_proof.specs.SlotRules.{KeepsAllSlots}
+use Rattle.run_types.proofs.pass_renewed_proof.Carried.{AreBelowCarried, IsActivationCarried, activation_kept, below_kept}
+use Rattle.run_types.proofs.pass_renewed_proof.Carried.{instances_kept, kept_slot_on, same_carried, same_kept, slot_kept}
+use Rattle.run_types.proofs.pass_renewed_proof.Entering.{entering_run}
+use Rattle.run_types.proofs.pass_renewed_proof.Leaving.{running_beside}
+use Rattle.run_types.proofs.pass_renewed_proof.Listing.{set_here}
+use Rattle.run_types.proofs.pass_renewed_proof.Next.{entering_costs}
+use Rattle.run_types.proofs.pass_renewed_proof.Passing.{edge_on, passed_beside, unended, unstarted}
+use Rattle.run_types.specs.pass_renewed_proof.Beside.{AreSlots, IsBeside, IsSeated, place_in}
+use Rattle.run_types.specs.pass_renewed_proof.Entering.{Anew, AreNext, anew_in, made_all, made_anew, price_of_all}
+use Rattle.run_types.specs.pass_renewed_proof.Found.{IsSleeperBeside}
+use Rattle.run_types.specs.pass_renewed_proof.Ledger.{Ledger}
+use Rattle.run_types.specs.pass_renewed_proof.Muted.{muted}
+use Rattle.run_types.specs.pass_renewed_proof.Places.{AreStanding}
+use Rattle.run_types.specs.pass_renewed_proof.Prices.{Prices, renewed_price}
+use Rattle.run_types.specs.pass_renewed_proof.Renewed.{RenewedGiven, continue_renewed, renew_after}
+use Rattle.run_types.specs.pass_renewed_proof.Renewed.{renewed_from, renewed_step, renewed_values, with_renewed}
+use Rattle.run_types.specs.pass_renewed_proof.SlotRules.{KeepsAllSlots}
 
 -- ---- what the slots that are made anew leave as it was
 

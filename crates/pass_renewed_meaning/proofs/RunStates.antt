@@ -1,32 +1,32 @@
 -- What is known of each state of the first run.
 use Rattle.std.proofs.Common.{◌≡◌, ℕ, zero, suc, ◌+◌, List, [], ◌∷◌, length, refl, sym, ◌∙◌, subst}
-use Rattle.ir_model.specs.Names.{function_at, position_of}
-use Rattle.pass_kept_proof.proofs.Same.{kept_wide}
-use Rattle.pass_kept_proof.specs.Kept.{Keep, continue_keeping, kept}
-use Rattle.pass_kept_proof.specs.Machines.{kept_machine}
-use Rattle.run_agreement.proofs.Runs.{iterate-add}
-use Rattle.run_agreement.specs.Machines.{iterate, state_at}
-use Rattle.run_hooks.proofs.Keeping.{kept_keeps}
-use Rattle.run_hooks.proofs.Left.{states_last}
-use Rattle.run_hooks.proofs.LeftKeeping.{kept_keeps_last}
-use Rattle.run_hooks.proofs.PlacedKeeping.{kept_keeps_placed}
-use Rattle.run_hooks.proofs.PlacedSteps.{states_placed}
-use Rattle.run_hooks.proofs.Reaching.{states_reached}
-use Rattle.run_hooks.proofs.Steps.{same_runs, source_step}
-use Rattle.run_hooks.specs.Away.{IsPlacedState}
-use Rattle.run_hooks.specs.Hooks.{hooked_state_at, step_of}
-use Rattle.run_hooks.specs.Left.{IsLastState}
-use Rattle.run_hooks.specs.Meanings.{kept_hooks}
-use Rattle.run_hooks.specs.Reached.{IsReachedState}
-use Rattle.run_source.specs.Source.{first_state, step_by}
-use Rattle.run_source.specs.declared.state.State.{State}
-use Rattle.run_source_tables.specs.Given.{Given}
+use Rattle.run_types.specs.ir_model.Names.{function_at, position_of}
+use Rattle.run_types.proofs.pass_kept_proof.Same.{kept_wide}
+use Rattle.run_types.specs.pass_kept_proof.Kept.{Keep, continue_keeping, kept}
+use Rattle.run_types.specs.pass_kept_proof.Machines.{kept_machine}
+use Rattle.run_types.proofs.run_agreement.Runs.{iterate-add}
+use Rattle.run_types.specs.run_agreement.Machines.{iterate, state_at}
+use Rattle.run_types.proofs.run_hooks.Keeping.{kept_keeps}
+use Rattle.run_types.proofs.run_hooks.Left.{states_last}
+use Rattle.run_types.proofs.run_hooks.LeftKeeping.{kept_keeps_last}
+use Rattle.run_types.proofs.run_hooks.PlacedKeeping.{kept_keeps_placed}
+use Rattle.run_types.proofs.run_hooks.PlacedSteps.{states_placed}
+use Rattle.run_types.proofs.run_hooks.Reaching.{states_reached}
+use Rattle.run_types.proofs.run_hooks.Steps.{same_runs, source_step}
+use Rattle.run_types.specs.run_hooks.Away.{IsPlacedState}
+use Rattle.run_types.specs.run_hooks.Hooks.{hooked_state_at, step_of}
+use Rattle.run_types.specs.run_hooks.Left.{IsLastState}
+use Rattle.run_types.specs.run_hooks.Meanings.{kept_hooks}
+use Rattle.run_types.specs.run_hooks.Reached.{IsReachedState}
+use Rattle.run_types.specs.run_source.Source.{first_state, step_by}
+use Rattle.run_types.specs.run_source.declared.state.State.{State}
+use Rattle.run_types.specs.run_source_tables.Given.{Given}
 use Rattle.run_states.proofs.sound_states.Acts.{continue_sound}
 use Rattle.run_states.proofs.sound_states.Steps.{first_sound, step_sound}
 use Rattle.run_states.specs.sound_states.Sound.{IsSound, IsSoundStatus, KeepsSound}
-use Rattle.run_memory.specs.declared.pointer.Value.{Value}
-use Rattle.run_step.specs.Step.{label_of, phi_values, phis_of, with_all}
-use Rattle.run_step.specs.Values.{Env, with_value}
+use Rattle.run_types.specs.run_memory.declared.pointer.Value.{Value}
+use Rattle.run_types.specs.run_step.Step.{label_of, phi_values, phis_of, with_all}
+use Rattle.run_types.specs.run_step.Values.{Env, with_value}
 use Rattle.run_types.proofs.Meanings.{kept_keeps_fitting}
 use Rattle.run_types.proofs.Runs.{states_fit}
 use Rattle.run_types.specs.States.{IsFittingState}
@@ -34,7 +34,7 @@ use Rattle.std.specs.Prelude.{slice_get}
 use Rattle.pass_renewed_meaning.proofs.Places.{has_switches, place_rules}
 use Rattle.pass_renewed_meaning.specs.Rules.{KeepsAll, Setting}
 use Rattle.pass_renewed_meaning.specs.Runs.{IsOfRun, first_given}
-use Rattle.pass_renewed_proof.proofs.EnteredValues.{set_length}
+use Rattle.run_types.proofs.pass_renewed_proof.EnteredValues.{set_length}
 
 -- ---- as many values as names, where a resume hands on some
 

@@ -2,44 +2,44 @@
 use Rattle.std.proofs.Common.{◌≡◌, ℕ, ◌⊎◌, inl, inr, Bool, true, false, not, List, length, Option, Some, None, Result, Ok, Err}
 use Rattle.std.proofs.Common.{refl, sym, ap, ◌∙◌, subst}
 use Rattle.std.specs.Prelude.{negsuc, slice_get}
-use Rattle.ir_base.specs.declared.cause.Cause.{Cause}
-use Rattle.ir_model.specs.Names.{function_at}
-use Rattle.ir_model.specs.Ty.{Ty}
-use Rattle.ir_model.specs.declared.instr.Instr.{Instr}
-use Rattle.ir_model.specs.declared.operand.Arg.{Arg}
-use Rattle.ir_model.specs.declared.operand.Callee.{Callee}
-use Rattle.ir_model.specs.declared.operand.Intrinsic.{Intrinsic}
-use Rattle.ir_model.specs.declared.operand.Operand.{Operand}
-use Rattle.ir_paths.specs.Windows.{IsInWindow, is_call_of, operand_at, suspend_of}
-use Rattle.ir_paths.specs.declared.point.Point.{Point}
-use Rattle.pass_kept_proof.proofs.Rules.{suspend_is_suspend}
-use Rattle.pass_kept_proof.specs.SuspendRules.{IsCallAt}
-use Rattle.rule_windows.specs.Sets.{IsAfterEnd}
-use Rattle.run_hooks.proofs.alive.Order.{token_there}
-use Rattle.run_hooks.specs.Away.{AtEnd, Behind, IsAway, IsBehind, IsClear, IsWaiting, Waits, point_in}
-use Rattle.run_memory.specs.declared.pointer.Value.{Value}
-use Rattle.run_source.specs.Source.{save, save_before, save_for, suspend}
-use Rattle.run_source.specs.State.{gives, next, own_instance, with_instance, with_left}
-use Rattle.run_source.specs.declared.state.Instance.{Instance}
-use Rattle.run_source.specs.declared.state.State.{State}
-use Rattle.run_source.specs.declared.state.Status.{Status}
-use Rattle.run_step.specs.Results.{and_then, found, ok_if}
-use Rattle.run_step.specs.Step.{AtInstr, fetch}
-use Rattle.run_step.specs.Values.{integer}
+use Rattle.run_types.specs.ir_base.declared.cause.Cause.{Cause}
+use Rattle.run_types.specs.ir_model.Names.{function_at}
+use Rattle.run_types.specs.ir_model.Ty.{Ty}
+use Rattle.run_types.specs.ir_model.declared.instr.Instr.{Instr}
+use Rattle.run_types.specs.ir_model.declared.operand.Arg.{Arg}
+use Rattle.run_types.specs.ir_model.declared.operand.Callee.{Callee}
+use Rattle.run_types.specs.ir_model.declared.operand.Intrinsic.{Intrinsic}
+use Rattle.run_types.specs.ir_model.declared.operand.Operand.{Operand}
+use Rattle.run_types.specs.ir_paths.Windows.{IsInWindow, is_call_of, operand_at, suspend_of}
+use Rattle.run_types.specs.ir_paths.declared.point.Point.{Point}
+use Rattle.run_types.proofs.pass_kept_proof.Rules.{suspend_is_suspend}
+use Rattle.run_types.specs.pass_kept_proof.SuspendRules.{IsCallAt}
+use Rattle.run_types.specs.rule_windows.Sets.{IsAfterEnd}
+use Rattle.run_types.proofs.run_hooks.alive.Order.{token_there}
+use Rattle.run_types.specs.run_hooks.Away.{AtEnd, Behind, IsAway, IsBehind, IsClear, IsWaiting, Waits, point_in}
+use Rattle.run_types.specs.run_memory.declared.pointer.Value.{Value}
+use Rattle.run_types.specs.run_source.Source.{save, save_before, save_for, suspend}
+use Rattle.run_types.specs.run_source.State.{gives, next, own_instance, with_instance, with_left}
+use Rattle.run_types.specs.run_source.declared.state.Instance.{Instance}
+use Rattle.run_types.specs.run_source.declared.state.State.{State}
+use Rattle.run_types.specs.run_source.declared.state.Status.{Status}
+use Rattle.run_types.specs.run_step.Results.{and_then, found, ok_if}
+use Rattle.run_types.specs.run_step.Step.{AtInstr, fetch}
+use Rattle.run_types.specs.run_step.Values.{integer}
 use Rattle.pass_renewed_meaning.proofs.Here.{Here, IsCase, keeps, none_below, other, own_coroutine}
 use Rattle.pass_renewed_meaning.proofs.OneStep.{IsOneStep}
 use Rattle.pass_renewed_meaning.proofs.Points.{giving_call, no_call, no_switch, ordinary}
 use Rattle.pass_renewed_meaning.specs.Followed.{Goes}
 use Rattle.pass_renewed_meaning.specs.Rules.{Setting}
 use Rattle.pass_renewed_meaning.specs.Runs.{first_given, second_given}
-use Rattle.pass_renewed_proof.proofs.Giving.{gives_beside}
-use Rattle.pass_renewed_proof.proofs.GoingTo.{as_many, own_is}
-use Rattle.pass_renewed_proof.proofs.Owning.{own_beside}
-use Rattle.pass_renewed_proof.proofs.SavePoints.{save_saves, suspend_saves}
-use Rattle.pass_renewed_proof.proofs.Saving.{saved_beside}
-use Rattle.pass_renewed_proof.specs.Beside.{IsBeside, place_in}
-use Rattle.pass_renewed_proof.specs.Found.{AreFound}
-use Rattle.pass_renewed_proof.specs.Making.{IsGiving, IsSaveOf, IsSuspendOf}
+use Rattle.run_types.proofs.pass_renewed_proof.Giving.{gives_beside}
+use Rattle.run_types.proofs.pass_renewed_proof.GoingTo.{as_many, own_is}
+use Rattle.run_types.proofs.pass_renewed_proof.Owning.{own_beside}
+use Rattle.run_types.proofs.pass_renewed_proof.SavePoints.{save_saves, suspend_saves}
+use Rattle.run_types.proofs.pass_renewed_proof.Saving.{saved_beside}
+use Rattle.run_types.specs.pass_renewed_proof.Beside.{IsBeside, place_in}
+use Rattle.run_types.specs.pass_renewed_proof.Found.{AreFound}
+use Rattle.run_types.specs.pass_renewed_proof.Making.{IsGiving, IsSaveOf, IsSuspendOf}
 
 same_ok : {A : Type 0} {a b : A} → ◌≡◌ {A = Result A Cause} (Ok a) (Ok b) → a ≡ b
 same_ok e = cc

@@ -1,16 +1,16 @@
 -- The facts that both runs look up of a function.
 use Rattle.std.proofs.Common.{◌≡◌, ℕ, zero, suc, List, [], ◌∷◌, map, Option, Some, None, refl, sym, ap, ◌∙◌, subst}
 use Rattle.std.specs.Prelude.{slice_get, unwrap_or}
-use Rattle.ir_model.specs.Names.{function_at, no_function}
-use Rattle.ir_model.specs.declared.instr.Instr.{Instr}
-use Rattle.ir_model.specs.declared.module.Function.{Function}
-use Rattle.ir_model.specs.declared.module.Module.{Module}
-use Rattle.ir_paths.proofs.Right.{facts_of_right}
-use Rattle.ir_paths.specs.Facts.{AreFactsOf, all_facts, facts_of}
-use Rattle.ir_paths.specs.declared.point.Facts.{Facts}
-use Rattle.run_source_tables.specs.Given.{facts_at}
-use Rattle.run_step.specs.Step.{AtInstr, fetch}
-use Rattle.pass_renewed_proof.specs.Renewed.{Flags, facts_from, renewed_facts}
+use Rattle.run_types.specs.ir_model.Names.{function_at, no_function}
+use Rattle.run_types.specs.ir_model.declared.instr.Instr.{Instr}
+use Rattle.run_types.specs.ir_model.declared.module.Function.{Function}
+use Rattle.run_types.specs.ir_model.declared.module.Module.{Module}
+use Rattle.run_types.proofs.ir_paths.Right.{facts_of_right}
+use Rattle.run_types.specs.ir_paths.Facts.{AreFactsOf, all_facts, facts_of}
+use Rattle.run_types.specs.ir_paths.declared.point.Facts.{Facts}
+use Rattle.run_types.specs.run_source_tables.Given.{facts_at}
+use Rattle.run_types.specs.run_step.Step.{AtInstr, fetch}
+use Rattle.run_types.specs.pass_renewed_proof.Renewed.{Flags, facts_from, renewed_facts}
 
 -- ---- lists
 

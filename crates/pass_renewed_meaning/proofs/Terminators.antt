@@ -2,40 +2,40 @@
 use Rattle.std.proofs.Common.{◌≡◌, ℕ, Bool, true, false, List, [], ◌∷◌, length, Option, Some, None, Result, Ok, Err, refl, sym, ap}
 use Rattle.std.proofs.Common.{◌∙◌, subst, if◌then◌else◌, ◌==◌}
 use Rattle.std.specs.List.{list_all}
-use Rattle.ir_base.specs.declared.cause.Cause.{Cause}
-use Rattle.ir_base.specs.declared.outcome.Outcome.{Outcome}
-use Rattle.ir_model.specs.Names.{function_at, position_of}
-use Rattle.ir_model.specs.Ty.{int}
-use Rattle.ir_model.specs.declared.instr.Case.{Case}
-use Rattle.ir_model.specs.declared.instr.Terminator.{Terminator}
-use Rattle.ir_model.specs.declared.operand.Arg.{Arg}
-use Rattle.ir_model.specs.declared.operand.Operand.{Operand}
-use Rattle.ir_paths.specs.Facts.{IsWindow}
-use Rattle.ir_paths.specs.Windows.{end_block}
-use Rattle.ir_paths.specs.declared.point.Point.{Point}
-use Rattle.ir_paths.specs.declared.point.Window.{Window}
-use Rattle.pass_kept_proof.proofs.Actions.{SameAction, action_same}
-use Rattle.pass_kept_proof.proofs.Same.{same_all}
-use Rattle.pass_kept_proof.specs.Kept.{continue_keeping}
-use Rattle.pass_kept_proof.specs.Needed.{BranchesTo}
-use Rattle.run_agreement.specs.Machines.{IsRunning}
-use Rattle.run_hooks.proofs.Placing.{each_is, pair_window, window_pair}
-use Rattle.run_hooks.specs.Away.{HasStop}
-use Rattle.run_hooks.specs.Left.{HaveLeft, IsLastState}
-use Rattle.run_laws.specs.transfer.Shapes.{Pair}
-use Rattle.run_memory.specs.declared.pointer.Value.{Value}
-use Rattle.run_source.specs.Source.{advance_by, branch_leaving, context_of, enter_block, go_to, left_windows}
-use Rattle.run_source.specs.Source.{may_leave, pop, return, returned}
-use Rattle.run_source.specs.State.{or_undefined, own_facts, own_instance, with_left, with_status, work_of}
-use Rattle.run_source.specs.declared.state.Activation.{Activation}
-use Rattle.run_source.specs.declared.state.Instance.{Instance}
-use Rattle.run_source.specs.declared.state.State.{State}
-use Rattle.run_source.specs.declared.state.Status.{Status}
-use Rattle.run_source_tables.specs.Given.{Given}
-use Rattle.run_step.specs.Results.{and_then, found, ok_if}
-use Rattle.run_step.specs.Step.{Action, AtTerm, GoTo, Nowhere, Return}
-use Rattle.run_step.specs.Step.{Stuck, action_of, branch, fetch, outcome_of, switch, target_of, value_at}
-use Rattle.run_step.specs.Values.{arg_value}
+use Rattle.run_types.specs.ir_base.declared.cause.Cause.{Cause}
+use Rattle.run_types.specs.ir_base.declared.outcome.Outcome.{Outcome}
+use Rattle.run_types.specs.ir_model.Names.{function_at, position_of}
+use Rattle.run_types.specs.ir_model.Ty.{int}
+use Rattle.run_types.specs.ir_model.declared.instr.Case.{Case}
+use Rattle.run_types.specs.ir_model.declared.instr.Terminator.{Terminator}
+use Rattle.run_types.specs.ir_model.declared.operand.Arg.{Arg}
+use Rattle.run_types.specs.ir_model.declared.operand.Operand.{Operand}
+use Rattle.run_types.specs.ir_paths.Facts.{IsWindow}
+use Rattle.run_types.specs.ir_paths.Windows.{end_block}
+use Rattle.run_types.specs.ir_paths.declared.point.Point.{Point}
+use Rattle.run_types.specs.ir_paths.declared.point.Window.{Window}
+use Rattle.run_types.proofs.pass_kept_proof.Actions.{SameAction, action_same}
+use Rattle.run_types.proofs.pass_kept_proof.Same.{same_all}
+use Rattle.run_types.specs.pass_kept_proof.Kept.{continue_keeping}
+use Rattle.run_types.specs.pass_kept_proof.Needed.{BranchesTo}
+use Rattle.run_types.specs.run_agreement.Machines.{IsRunning}
+use Rattle.run_types.proofs.run_hooks.Placing.{each_is, pair_window, window_pair}
+use Rattle.run_types.specs.run_hooks.Away.{HasStop}
+use Rattle.run_types.specs.run_hooks.Left.{HaveLeft, IsLastState}
+use Rattle.run_types.specs.run_laws.transfer.Shapes.{Pair}
+use Rattle.run_types.specs.run_memory.declared.pointer.Value.{Value}
+use Rattle.run_types.specs.run_source.Source.{advance_by, branch_leaving, context_of, enter_block, go_to, left_windows}
+use Rattle.run_types.specs.run_source.Source.{may_leave, pop, return, returned}
+use Rattle.run_types.specs.run_source.State.{or_undefined, own_facts, own_instance, with_left, with_status, work_of}
+use Rattle.run_types.specs.run_source.declared.state.Activation.{Activation}
+use Rattle.run_types.specs.run_source.declared.state.Instance.{Instance}
+use Rattle.run_types.specs.run_source.declared.state.State.{State}
+use Rattle.run_types.specs.run_source.declared.state.Status.{Status}
+use Rattle.run_types.specs.run_source_tables.Given.{Given}
+use Rattle.run_types.specs.run_step.Results.{and_then, found, ok_if}
+use Rattle.run_types.specs.run_step.Step.{Action, AtTerm, GoTo, Nowhere, Return}
+use Rattle.run_types.specs.run_step.Step.{Stuck, action_of, branch, fetch, outcome_of, switch, target_of, value_at}
+use Rattle.run_types.specs.run_step.Values.{arg_value}
 use Rattle.pass_renewed_meaning.proofs.Alike.{below_alike, instances_alike}
 use Rattle.pass_renewed_meaning.proofs.Here.{Here, IsCase, begun_below, first_act, first_action, keeps, left_asleep}
 use Rattle.pass_renewed_meaning.proofs.Here.{none_below, other, second_action}
@@ -46,13 +46,13 @@ use Rattle.pass_renewed_meaning.proofs.Tables.{same_windows}
 use Rattle.pass_renewed_meaning.specs.Followed.{AreAlike, Ended, Goes}
 use Rattle.pass_renewed_meaning.specs.Rules.{Setting}
 use Rattle.pass_renewed_meaning.specs.Runs.{first_given, first_step, second_given}
-use Rattle.pass_renewed_proof.proofs.GoingTo.{gone_to}
-use Rattle.pass_renewed_proof.proofs.Returns.{back_to_caller, run_ends}
-use Rattle.pass_renewed_proof.proofs.SameBranches.{same_label}
-use Rattle.pass_renewed_proof.specs.Ahead.{IsBehindSuspendCall}
-use Rattle.pass_renewed_proof.specs.Beside.{AreBelow, AreOutdone}
-use Rattle.pass_renewed_proof.specs.Branching.{AreWindowsOf, IsBranching}
-use Rattle.pass_renewed_proof.specs.Renewed.{renewed_act}
+use Rattle.run_types.proofs.pass_renewed_proof.GoingTo.{gone_to}
+use Rattle.run_types.proofs.pass_renewed_proof.Returns.{back_to_caller, run_ends}
+use Rattle.run_types.proofs.pass_renewed_proof.SameBranches.{same_label}
+use Rattle.run_types.specs.pass_renewed_proof.Ahead.{IsBehindSuspendCall}
+use Rattle.run_types.specs.pass_renewed_proof.Beside.{AreBelow, AreOutdone}
+use Rattle.run_types.specs.pass_renewed_proof.Branching.{AreWindowsOf, IsBranching}
+use Rattle.run_types.specs.pass_renewed_proof.Renewed.{renewed_act}
 
 same_ok : {A : Type 0} {a b : A} → ◌≡◌ {A = Result A Cause} (Ok a) (Ok b) → a ≡ b
 same_ok e = cc

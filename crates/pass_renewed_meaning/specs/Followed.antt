@@ -1,23 +1,23 @@
 -- What the run that makes slots anew does for one step of the run before, and what that costs.
 use Rattle.std.specs.Prelude.{◌≡◌, ℕ, ℤ, List, ◌∷◌, ◌≤◌, ◌<◌}
-use Rattle.ir_base.specs.declared.outcome.Outcome.{Outcome}
-use Rattle.ir_base.specs.declared.outcome.Word.{Word}
-use Rattle.ir_model.specs.declared.module.Frame.{Frame}
-use Rattle.ir_model.specs.declared.module.Module.{Module}
-use Rattle.pass_kept_proof.specs.Kept.{Keep, continue_keeping}
-use Rattle.pass_kept_proof.specs.Machines.{kept_machine}
-use Rattle.pass_renewed_proof.specs.Beside.{IsBeside}
-use Rattle.pass_renewed_proof.specs.Between.{AreLikeActivations, AreLikeInstances}
-use Rattle.pass_renewed_proof.specs.Prices.{Prices, kept_price, renewed_machine, renewed_price}
-use Rattle.pass_renewed_proof.specs.Renewed.{Flags, RenewedGiven, Roots, renewed_given, renewed_step}
-use Rattle.run_agreement.specs.Costs.{AgreesBy, cost_from}
-use Rattle.run_agreement.specs.Machines.{IsFine, IsRunning, iterate, state_at}
-use Rattle.run_laws.specs.transfer.Shapes.{Pairwise}
-use Rattle.run_source.specs.Source.{given, returned, step_by}
-use Rattle.run_source.specs.declared.state.Mode.{Mode}
-use Rattle.run_source.specs.declared.state.State.{State}
-use Rattle.run_source_tables.specs.Given.{Given}
-use Rattle.run_step.specs.Runs.{seen_of}
+use Rattle.run_types.specs.ir_base.declared.outcome.Outcome.{Outcome}
+use Rattle.run_types.specs.ir_base.declared.outcome.Word.{Word}
+use Rattle.run_types.specs.ir_model.declared.module.Frame.{Frame}
+use Rattle.run_types.specs.ir_model.declared.module.Module.{Module}
+use Rattle.run_types.specs.pass_kept_proof.Kept.{Keep, continue_keeping}
+use Rattle.run_types.specs.pass_kept_proof.Machines.{kept_machine}
+use Rattle.run_types.specs.pass_renewed_proof.Beside.{IsBeside}
+use Rattle.run_types.specs.pass_renewed_proof.Between.{AreLikeActivations, AreLikeInstances}
+use Rattle.run_types.specs.pass_renewed_proof.Prices.{Prices, kept_price, renewed_machine, renewed_price}
+use Rattle.run_types.specs.pass_renewed_proof.Renewed.{Flags, RenewedGiven, Roots, renewed_given, renewed_step}
+use Rattle.run_types.specs.run_agreement.Costs.{AgreesBy, cost_from}
+use Rattle.run_types.specs.run_agreement.Machines.{IsFine, IsRunning, iterate, state_at}
+use Rattle.run_types.specs.run_laws.transfer.Shapes.{Pairwise}
+use Rattle.run_types.specs.run_source.Source.{given, returned, step_by}
+use Rattle.run_types.specs.run_source.declared.state.Mode.{Mode}
+use Rattle.run_types.specs.run_source.declared.state.State.{State}
+use Rattle.run_types.specs.run_source_tables.Given.{Given}
+use Rattle.run_types.specs.run_step.Runs.{seen_of}
 
 -- ---- states
 

@@ -1,11 +1,11 @@
 -- Offsets of 64 bits in the states of the first run.
 use Rattle.std.specs.Prelude.{ℕ}
-use Rattle.pass_kept_proof.specs.Machines.{kept_machine}
-use Rattle.run_agreement.specs.Machines.{state_at}
-use Rattle.run_source.specs.declared.state.State.{State}
-use Rattle.run_step.specs.Values.{value_in}
+use Rattle.run_types.specs.pass_kept_proof.Machines.{kept_machine}
+use Rattle.run_types.specs.run_agreement.Machines.{state_at}
+use Rattle.run_types.specs.run_source.declared.state.State.{State}
+use Rattle.run_types.specs.run_step.Values.{value_in}
 use Rattle.pass_renewed_meaning.specs.Rules.{Setting}
-use Rattle.pass_renewed_proof.specs.Small.{HasSmallOffset}
+use Rattle.run_types.specs.pass_renewed_proof.Small.{HasSmallOffset}
 
 -- a state of the first run
 abbrev pub first_at : Setting → ℕ → State

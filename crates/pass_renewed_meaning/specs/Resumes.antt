@@ -1,17 +1,17 @@
 -- Where an instance is resumed or destroyed, and where its new activation goes on.
 use Rattle.std.specs.Prelude.{◌≡◌, ◌<◌, ◌+◌, ℕ, [], None, Some, IsTrue, length, slice_get}
-use Rattle.ir_model.specs.Names.{function_at, position_of}
-use Rattle.ir_model.specs.declared.instr.Instr.{Instr}
-use Rattle.ir_model.specs.declared.module.Block.{Block}
-use Rattle.ir_model.specs.declared.module.Module.{Module}
-use Rattle.ir_paths.specs.Paths.{entry_point, has_point}
-use Rattle.pass_kept_proof.specs.Needed.{BranchesTo}
-use Rattle.rule_windows.specs.Windows.{own_edges}
-use Rattle.run_source.specs.Source.{Sleeper}
-use Rattle.run_source.specs.declared.state.State.{State}
-use Rattle.run_step.specs.Step.{fetch, phis_of}
-use Rattle.pass_renewed_proof.specs.Making.{IsGiving}
-use Rattle.pass_renewed_proof.specs.Renewed.{Flags, Roots}
+use Rattle.run_types.specs.ir_model.Names.{function_at, position_of}
+use Rattle.run_types.specs.ir_model.declared.instr.Instr.{Instr}
+use Rattle.run_types.specs.ir_model.declared.module.Block.{Block}
+use Rattle.run_types.specs.ir_model.declared.module.Module.{Module}
+use Rattle.run_types.specs.ir_paths.Paths.{entry_point, has_point}
+use Rattle.run_types.specs.pass_kept_proof.Needed.{BranchesTo}
+use Rattle.run_types.specs.rule_windows.Windows.{own_edges}
+use Rattle.run_types.specs.run_source.Source.{Sleeper}
+use Rattle.run_types.specs.run_source.declared.state.State.{State}
+use Rattle.run_types.specs.run_step.Step.{fetch, phis_of}
+use Rattle.run_types.specs.pass_renewed_proof.Making.{IsGiving}
+use Rattle.run_types.specs.pass_renewed_proof.Renewed.{Flags, Roots}
 
 -- a call at the activation's place resumes or destroys the instance, which goes on at the label, along its suspend's own
 -- edge

@@ -1,31 +1,31 @@
 -- What steps ask of a function besides what is asked of its slots; each part is a consequence of rules by which modules
 -- are refused, or of blocks on edges.
 use Rattle.std.specs.Prelude.{◌≡◌, ◌⊎◌, ◌<◌, ◌^◌, ℕ, ℤ, Bool, List, [], Option, slice_get}
-use Rattle.ir_base.specs.declared.outcome.Word.{Word}
-use Rattle.ir_model.specs.Layout.{size_of}
-use Rattle.ir_model.specs.Names.{function_at, position_of}
-use Rattle.ir_model.specs.Ty.{Ty}
-use Rattle.ir_model.specs.declared.instr.Instr.{Instr}
-use Rattle.ir_model.specs.declared.module.Frame.{Frame}
-use Rattle.ir_model.specs.declared.module.Function.{Function}
-use Rattle.ir_model.specs.declared.module.Module.{Module}
-use Rattle.ir_model.specs.declared.operand.Arg.{Arg}
-use Rattle.ir_model.specs.declared.operand.Callee.{Callee}
-use Rattle.ir_model.specs.declared.operand.Intrinsic.{Intrinsic}
-use Rattle.ir_model.specs.declared.operand.Operand.{Operand}
-use Rattle.ir_paths.specs.Windows.{destroy_label, operand_at, resume_label}
-use Rattle.ir_paths.specs.declared.point.Point.{Point}
-use Rattle.ir_laws.specs.facts.sound_states.Named.{AreLocalsNamed}
-use Rattle.pass_kept_proof.specs.Kept.{Keep}
-use Rattle.pass_kept_proof.specs.SuspendRules.{IsCallAt}
-use Rattle.run_hooks.specs.Away.{KeepsPlaceRules}
-use Rattle.run_laws.specs.embedded.Related.{HasBytes}
-use Rattle.run_step.specs.Step.{AtInstr, fetch, phis_of}
+use Rattle.run_types.specs.ir_base.declared.outcome.Word.{Word}
+use Rattle.run_types.specs.ir_model.Layout.{size_of}
+use Rattle.run_types.specs.ir_model.Names.{function_at, position_of}
+use Rattle.run_types.specs.ir_model.Ty.{Ty}
+use Rattle.run_types.specs.ir_model.declared.instr.Instr.{Instr}
+use Rattle.run_types.specs.ir_model.declared.module.Frame.{Frame}
+use Rattle.run_types.specs.ir_model.declared.module.Function.{Function}
+use Rattle.run_types.specs.ir_model.declared.module.Module.{Module}
+use Rattle.run_types.specs.ir_model.declared.operand.Arg.{Arg}
+use Rattle.run_types.specs.ir_model.declared.operand.Callee.{Callee}
+use Rattle.run_types.specs.ir_model.declared.operand.Intrinsic.{Intrinsic}
+use Rattle.run_types.specs.ir_model.declared.operand.Operand.{Operand}
+use Rattle.run_types.specs.ir_paths.Windows.{destroy_label, operand_at, resume_label}
+use Rattle.run_types.specs.ir_paths.declared.point.Point.{Point}
+use Rattle.run_types.specs.ir_laws.facts.sound_states.Named.{AreLocalsNamed}
+use Rattle.run_types.specs.pass_kept_proof.Kept.{Keep}
+use Rattle.run_types.specs.pass_kept_proof.SuspendRules.{IsCallAt}
+use Rattle.run_types.specs.run_hooks.Away.{KeepsPlaceRules}
+use Rattle.run_types.specs.run_laws.embedded.Related.{HasBytes}
+use Rattle.run_types.specs.run_step.Step.{AtInstr, fetch, phis_of}
 use Rattle.run_types.specs.Rules.{KeepsAllTypes}
 use Rattle.run_types.specs.States.{AreArguments}
-use Rattle.pass_renewed_proof.specs.Ledger.{AreSmallGlobals}
-use Rattle.pass_renewed_proof.specs.Renewed.{Flags, Roots}
-use Rattle.pass_renewed_proof.specs.SlotRules.{IsMadeOnce, KeepsAllSlots}
+use Rattle.run_types.specs.pass_renewed_proof.Ledger.{AreSmallGlobals}
+use Rattle.run_types.specs.pass_renewed_proof.Renewed.{Flags, Roots}
+use Rattle.run_types.specs.pass_renewed_proof.SlotRules.{IsMadeOnce, KeepsAllSlots}
 
 -- a lifetime marker takes a name that an alloca alone gives
 pub record IsMarked (f : Function) (args : List Arg) : Type 0 where

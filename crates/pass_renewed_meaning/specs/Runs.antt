@@ -1,16 +1,16 @@
 -- What is known of each state of the first run: the invariants that steps ask for.
-use Rattle.pass_kept_proof.specs.Kept.{continue_keeping}
-use Rattle.run_hooks.specs.Away.{IsPlacedState}
-use Rattle.run_hooks.specs.Left.{IsLastState}
-use Rattle.run_hooks.specs.Meanings.{kept_hooks}
-use Rattle.run_hooks.specs.Reached.{IsReachedState}
-use Rattle.run_source.specs.Source.{given, step_by}
-use Rattle.run_source.specs.declared.state.State.{State}
-use Rattle.run_source_tables.specs.Given.{Given}
+use Rattle.run_types.specs.pass_kept_proof.Kept.{continue_keeping}
+use Rattle.run_types.specs.run_hooks.Away.{IsPlacedState}
+use Rattle.run_types.specs.run_hooks.Left.{IsLastState}
+use Rattle.run_types.specs.run_hooks.Meanings.{kept_hooks}
+use Rattle.run_types.specs.run_hooks.Reached.{IsReachedState}
+use Rattle.run_types.specs.run_source.Source.{given, step_by}
+use Rattle.run_types.specs.run_source.declared.state.State.{State}
+use Rattle.run_types.specs.run_source_tables.Given.{Given}
 use Rattle.run_states.specs.sound_states.Sound.{IsSound}
 use Rattle.run_types.specs.States.{IsFittingState}
 use Rattle.pass_renewed_meaning.specs.Rules.{Setting}
-use Rattle.pass_renewed_proof.specs.Renewed.{RenewedGiven, renewed_given}
+use Rattle.run_types.specs.pass_renewed_proof.Renewed.{RenewedGiven, renewed_given}
 
 -- what both runs are given
 abbrev pub first_given : Setting → Given

@@ -15,32 +15,32 @@
 #![tactic(auto)]
 
 ghost use Rattle.std.specs.Prelude.{ℕ, ℤ, List, Ok, Option, Some, length, slice_get, ◌≡◌, ◌<◌};
-ghost use Rattle.ir_base.specs.declared.outcome.Outcome.{Outcome};
-ghost use Rattle.ir_base.specs.declared.outcome.Word.{Word};
-ghost use Rattle.ir_model.specs.Names.{function_at};
-ghost use Rattle.ir_model.specs.declared.instr.Instr.{Instr as TheInstr};
-ghost use Rattle.ir_model.specs.declared.module.Frame.{Frame};
-ghost use Rattle.ir_model.specs.declared.module.Module.{Module};
-ghost use Rattle.ir_paths.specs.Facts.{AreFactsOf};
-ghost use Rattle.pass_kept_proof.specs.Kept.{Keep, continue_keeping};
+ghost use Rattle.run_types.specs.ir_base.declared.outcome.Outcome.{Outcome};
+ghost use Rattle.run_types.specs.ir_base.declared.outcome.Word.{Word};
+ghost use Rattle.run_types.specs.ir_model.Names.{function_at};
+ghost use Rattle.run_types.specs.ir_model.declared.instr.Instr.{Instr as TheInstr};
+ghost use Rattle.run_types.specs.ir_model.declared.module.Frame.{Frame};
+ghost use Rattle.run_types.specs.ir_model.declared.module.Module.{Module};
+ghost use Rattle.run_types.specs.ir_paths.Facts.{AreFactsOf};
+ghost use Rattle.run_types.specs.pass_kept_proof.Kept.{Keep, continue_keeping};
 ghost use Rattle.pass_renewed_meaning.specs.Begins.{IsBeginOf};
 ghost use Rattle.pass_renewed_meaning.specs.Followed.{AreStepsFollowed, IsOnItsWay, KeepsMeaning};
 ghost use Rattle.pass_renewed_meaning.specs.Offsets.{AreOffsetsSmall};
 ghost use Rattle.pass_renewed_meaning.specs.Resumes.{IsResuming};
 ghost use Rattle.pass_renewed_meaning.specs.Rules.{KeepsAll, Setting};
-ghost use Rattle.pass_renewed_proof.specs.Beside.{IsBeside};
-ghost use Rattle.pass_renewed_proof.specs.Entering.{anew_in};
-ghost use Rattle.pass_renewed_proof.specs.Found.{IsSleeperBeside};
-ghost use Rattle.pass_renewed_proof.specs.Prices.{Prices};
-ghost use Rattle.pass_renewed_proof.specs.Renewed.{Flags, RenewedGiven, Roots, continue_renewed, renewed_facts, renewed_step};
-ghost use Rattle.pass_renewed_proof.specs.SlotRules.{KeepsAllSlots, KeepsSlots};
-ghost use Rattle.run_agreement.specs.Machines.{iterate};
-ghost use Rattle.run_laws.specs.memory.Pointers.{IsValue};
-ghost use Rattle.run_memory.specs.declared.pointer.Value.{Value as TheValue};
-ghost use Rattle.run_source.specs.Source.{Sleeper, begin, first_state};
-ghost use Rattle.run_source.specs.State.{function_of, own_facts};
-ghost use Rattle.run_source.specs.declared.state.State.{State as TheState};
-ghost use Rattle.run_source_tables.specs.Given.{Given};
+ghost use Rattle.run_types.specs.pass_renewed_proof.Beside.{IsBeside};
+ghost use Rattle.run_types.specs.pass_renewed_proof.Entering.{anew_in};
+ghost use Rattle.run_types.specs.pass_renewed_proof.Found.{IsSleeperBeside};
+ghost use Rattle.run_types.specs.pass_renewed_proof.Prices.{Prices};
+ghost use Rattle.run_types.specs.pass_renewed_proof.Renewed.{Flags, RenewedGiven, Roots, continue_renewed, renewed_facts, renewed_step};
+ghost use Rattle.run_types.specs.pass_renewed_proof.SlotRules.{KeepsAllSlots, KeepsSlots};
+ghost use Rattle.run_types.specs.run_agreement.Machines.{iterate};
+ghost use Rattle.run_types.specs.run_laws.memory.Pointers.{IsValue};
+ghost use Rattle.run_types.specs.run_memory.declared.pointer.Value.{Value as TheValue};
+ghost use Rattle.run_types.specs.run_source.Source.{Sleeper, begin, first_state};
+ghost use Rattle.run_types.specs.run_source.State.{function_of, own_facts};
+ghost use Rattle.run_types.specs.run_source.declared.state.State.{State as TheState};
+ghost use Rattle.run_types.specs.run_source_tables.Given.{Given};
 
 /// A run in which a resume hands on some values agrees with that in which slots are made anew, by what their steps
 /// cost.

@@ -3,17 +3,17 @@ use Rattle.std.proofs.Common.{◌≡◌, ◌≢◌, ℕ, zero, suc, ◌⊎◌, i
 use Rattle.std.proofs.Common.{◌∙◌, subst}
 use Rattle.std.proofs.lemmas.Bool.{false≢true}
 use Rattle.std.specs.Prelude.{IsTrue, ℤ}
-use Rattle.flow_solver.specs.Paths.{IsListed}
-use Rattle.ir_base.specs.declared.name.Name.{Name}
-use Rattle.ir_model.specs.Names.{is_local}
-use Rattle.ir_model.specs.Ty.{Ty, array, int, named, ptr, structure, token}
-use Rattle.ir_model.specs.declared.instr.Instr.{Instr}
-use Rattle.ir_model.specs.declared.operand.Allocator.{Allocator}
-use Rattle.ir_model.specs.declared.operand.Arg.{Arg}
-use Rattle.ir_model.specs.declared.operand.Callee.{Callee}
-use Rattle.ir_model.specs.declared.operand.Intrinsic.{Intrinsic}
-use Rattle.ir_model.specs.declared.operand.Operand.{Operand}
-use Rattle.ir_paths.specs.Slots.{is_in_args}
+use Rattle.pass_kept_proof.specs.flow_solver.Paths.{IsListed}
+use Rattle.pass_kept_proof.specs.ir_base.declared.name.Name.{Name}
+use Rattle.pass_kept_proof.specs.ir_model.Names.{is_local}
+use Rattle.pass_kept_proof.specs.ir_model.Ty.{Ty, array, int, named, ptr, structure, token}
+use Rattle.pass_kept_proof.specs.ir_model.declared.instr.Instr.{Instr}
+use Rattle.pass_kept_proof.specs.ir_model.declared.operand.Allocator.{Allocator}
+use Rattle.pass_kept_proof.specs.ir_model.declared.operand.Arg.{Arg}
+use Rattle.pass_kept_proof.specs.ir_model.declared.operand.Callee.{Callee}
+use Rattle.pass_kept_proof.specs.ir_model.declared.operand.Intrinsic.{Intrinsic}
+use Rattle.pass_kept_proof.specs.ir_model.declared.operand.Operand.{Operand}
+use Rattle.pass_kept_proof.specs.ir_paths.Slots.{is_in_args}
 use Rattle.pass_kept_proof.proofs.Same.{eq_itself, or_left, or_right}
 use Rattle.pass_kept_proof.specs.Needed.{reads_at}
 use Rattle.run_laws.specs.access.Accessed.{accessed, by_copy, call_accesses, instr_accesses, intrinsic_accesses}
@@ -22,11 +22,11 @@ use Rattle.run_laws.specs.access.Changed.{IsNoneOf}
 use Rattle.run_laws.specs.changed.Changed.{Each}
 use Rattle.run_laws.specs.embedded.Related.{HasNoSlot}
 use Rattle.run_laws.specs.memory.Pointers.{Home, IsValue, home_of}
-use Rattle.run_memory.specs.declared.pointer.Offset.{Offset}
-use Rattle.run_memory.specs.declared.pointer.Pointer.{Pointer}
-use Rattle.run_memory.specs.declared.pointer.Value.{Value}
-use Rattle.run_step.specs.Step.{AtInstr, AtTerm, Context, Fetched, Nowhere, Work, value_at}
-use Rattle.run_step.specs.Values.{address, address_of, arg_values, literal, nth, operand_value, value_in}
+use Rattle.pass_kept_proof.specs.run_memory.declared.pointer.Offset.{Offset}
+use Rattle.pass_kept_proof.specs.run_memory.declared.pointer.Pointer.{Pointer}
+use Rattle.pass_kept_proof.specs.run_memory.declared.pointer.Value.{Value}
+use Rattle.pass_kept_proof.specs.run_step.Step.{AtInstr, AtTerm, Context, Fetched, Nowhere, Work, value_at}
+use Rattle.pass_kept_proof.specs.run_step.Values.{address, address_of, arg_values, literal, nth, operand_value, value_in}
 use Rattle.pass_renewed_proof.proofs.Shown.{each_append}
 use Rattle.pass_renewed_proof.specs.Ready.{IsPlaced, Place}
 

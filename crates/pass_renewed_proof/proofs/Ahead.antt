@@ -1,23 +1,23 @@
 -- A local slot isn't used behind a suspend without a start where it was used before.
 use Rattle.std.proofs.Common.{◌≡◌, ℕ, zero, suc, ◌+◌, ◌⊎◌, inl, inr, Bool, true, false, List, [], ◌∷◌, ◌++◌, length, map, Option, Some, None, refl, sym, ap, ◌∙◌, subst, arith, if◌then◌else◌, ◌&&◌, ◌||◌, ◌==◌}
 use Rattle.std.specs.Prelude.{IsTrue, nat_lt, slice_get}
-use Rattle.ir_model.specs.Names.{position_of}
-use Rattle.ir_model.specs.declared.instr.Instr.{Instr}
-use Rattle.ir_model.specs.declared.module.Block.{Block}
-use Rattle.ir_model.specs.declared.module.Function.{Function}
-use Rattle.ir_paths.specs.Paths.{IsPath, Leads, block_points, entry_point, has_point, nexts, nexts_in, same_point, targets}
-use Rattle.ir_paths.specs.Slots.{end_points, has_name, is_escaped, points_at}
-use Rattle.ir_paths.specs.Windows.{end_block}
-use Rattle.ir_paths.specs.declared.point.Point.{Point}
+use Rattle.pass_kept_proof.specs.ir_model.Names.{position_of}
+use Rattle.pass_kept_proof.specs.ir_model.declared.instr.Instr.{Instr}
+use Rattle.pass_kept_proof.specs.ir_model.declared.module.Block.{Block}
+use Rattle.pass_kept_proof.specs.ir_model.declared.module.Function.{Function}
+use Rattle.pass_kept_proof.specs.ir_paths.Paths.{IsPath, Leads, block_points, entry_point, has_point, nexts, nexts_in, same_point, targets}
+use Rattle.pass_kept_proof.specs.ir_paths.Slots.{end_points, has_name, is_escaped, points_at}
+use Rattle.pass_kept_proof.specs.ir_paths.Windows.{end_block}
+use Rattle.pass_kept_proof.specs.ir_paths.declared.point.Point.{Point}
 use Rattle.pass_kept_proof.proofs.Same.{either, neither, or_left, or_right, eq_itself}
 use Rattle.pass_kept_proof.specs.Needed.{BranchesTo}
-use Rattle.run_step.specs.Step.{AtInstr, fetch, fetch_in, fetch_or}
+use Rattle.pass_kept_proof.specs.run_step.Step.{AtInstr, fetch, fetch_in, fetch_or}
 use Rattle.pass_renewed_proof.specs.Ahead.{IsNoStart, IsUsedAhead, IsUsedBefore, IsUsedBehind, WasUsed, enters, on_edge, passes, used}
 use Rattle.frame_classes.specs.Alive.{MayBeAlive}
 use Rattle.frame_classes.specs.Classes.{NeedsFrame, parting, suspends, Across, Alive, Away}
 use Rattle.rule_slots.specs.Early.{end_at, instr_count}
 use Rattle.frame_slots.specs.Spots.{At, Comes, IsBehind, IsStart, IsUse, LeadsFrom, On, OnEdge, Later, Spot, point_at}
-use Rattle.rule_windows.specs.Windows.{own_edges}
+use Rattle.pass_kept_proof.specs.rule_windows.Windows.{own_edges}
 use Rattle.rule_window_values.specs.Kept.{front}
 
 -- ---- edges

@@ -4,7 +4,7 @@ use Rattle.std.proofs.Common.{Some, None, refl, sym, ap, ◌∙◌, subst, ◌||
 use Rattle.std.proofs.lemmas.Bool.{false≢true}
 use Rattle.std.proofs.lemmas.List.{length-replicate}
 use Rattle.std.specs.Prelude.{nat_lt, option_map, slice_get}
-use Rattle.ir_model.specs.declared.module.Module.{Module}
+use Rattle.pass_kept_proof.specs.ir_model.declared.module.Module.{Module}
 use Rattle.run_laws.proofs.embedded.Mirrors.{bounds_changed, dies_embedded, nulls_changed, nulls_dead, starts_embedded}
 use Rattle.run_laws.proofs.memory.Itself.{owner_rights_fit}
 use Rattle.run_laws.proofs.memory.Written.{changed_here}
@@ -12,13 +12,13 @@ use Rattle.run_laws.specs.embedded.Making.{whole_home}
 use Rattle.run_laws.specs.embedded.Marks.{LivesAgain, MayStart, anew}
 use Rattle.run_laws.specs.memory.Pointers.{Home, home_of}
 use Rattle.run_laws.specs.memory.Standing.{HasRights}
-use Rattle.run_memory.specs.Memory.{ended, is_below, is_killed, is_live, killed_block, may_compare_at, meets}
-use Rattle.run_memory.specs.Memory.{owner_rights, start, started, with_block}
-use Rattle.run_memory.specs.Pointers.{moved}
-use Rattle.run_memory.specs.declared.block.Byte.{Byte}
-use Rattle.run_memory.specs.declared.block.Life.{Life}
-use Rattle.run_memory.specs.declared.block.MemoryBlock.{MemoryBlock}
-use Rattle.run_memory.specs.declared.pointer.Offset.{Offset}
+use Rattle.pass_kept_proof.specs.run_memory.Memory.{ended, is_below, is_killed, is_live, killed_block, may_compare_at, meets}
+use Rattle.pass_kept_proof.specs.run_memory.Memory.{owner_rights, start, started, with_block}
+use Rattle.pass_kept_proof.specs.run_memory.Pointers.{moved}
+use Rattle.pass_kept_proof.specs.run_memory.declared.block.Byte.{Byte}
+use Rattle.pass_kept_proof.specs.run_memory.declared.block.Life.{Life}
+use Rattle.pass_kept_proof.specs.run_memory.declared.block.MemoryBlock.{MemoryBlock}
+use Rattle.pass_kept_proof.specs.run_memory.declared.pointer.Offset.{Offset}
 use Rattle.pass_renewed_proof.proofs.Alike.{IsAlike, is_alone}
 use Rattle.pass_renewed_proof.proofs.Anew.{present_block}
 use Rattle.pass_renewed_proof.proofs.Markers.{ended_dead, ends, started_blank, starts}

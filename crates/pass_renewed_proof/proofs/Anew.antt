@@ -4,11 +4,11 @@ use Rattle.std.proofs.Common.{length-append, Option, Some, None, refl, sym, ap, 
 use Rattle.std.proofs.Common.{if◌then◌else◌, ◌==◌}
 use Rattle.std.proofs.lemmas.Bool.{cases_eq, cases_lt, false≢true}
 use Rattle.std.specs.Prelude.{option_map, slice_get}
-use Rattle.ir_model.specs.declared.module.Module.{Module}
+use Rattle.pass_kept_proof.specs.ir_model.declared.module.Module.{Module}
 use Rattle.run_laws.proofs.memory.Written.{same_some}
 use Rattle.run_laws.specs.access.Changed.{IsFull}
 use Rattle.run_laws.specs.memory.Pointers.{Home, home_of}
-use Rattle.run_memory.specs.declared.block.MemoryBlock.{MemoryBlock}
+use Rattle.pass_kept_proof.specs.run_memory.declared.block.MemoryBlock.{MemoryBlock}
 use Rattle.pass_renewed_proof.proofs.Carried.{IsCarried, IsSlotKept}
 use Rattle.pass_renewed_proof.proofs.Made.{get_last, get_none, get_other, get_there, get_within}
 use Rattle.pass_renewed_proof.proofs.Places.{muted_at}

@@ -3,35 +3,35 @@ use Rattle.std.proofs.Common.{◌≡◌, ℕ, ◌<◌, ◌⊎◌, inl, inr, true
 use Rattle.std.proofs.Common.{Some, None, refl, sym, ap, ◌∙◌, subst, ⊎_elim, arith}
 use Rattle.std.proofs.lemmas.Bool.{false≢true}
 use Rattle.std.specs.Prelude.{IsTrue, nat_lt, slice_get}
-use Rattle.flow_solver.specs.Paths.{IsListed}
-use Rattle.ir_model.specs.Names.{function_at, is_local, position_of}
-use Rattle.ir_model.specs.declared.instr.Incoming.{Incoming}
-use Rattle.ir_model.specs.declared.instr.Instr.{Instr}
-use Rattle.ir_model.specs.declared.instr.Phi.{Phi}
-use Rattle.ir_model.specs.declared.instr.Terminator.{Terminator}
-use Rattle.ir_model.specs.declared.module.Block.{Block}
-use Rattle.ir_model.specs.declared.module.Function.{Function}
-use Rattle.ir_model.specs.declared.module.Module.{Module}
-use Rattle.ir_model.specs.declared.operand.Allocator.{Allocator}
-use Rattle.ir_model.specs.declared.operand.Arg.{Arg}
-use Rattle.ir_model.specs.declared.operand.Callee.{Callee}
-use Rattle.ir_model.specs.declared.operand.Intrinsic.{Intrinsic}
-use Rattle.ir_paths.specs.Paths.{entry_point}
-use Rattle.ir_paths.specs.Slots.{addresses_of, has_name, is_escaped, is_in_args, occurs_in_phi}
-use Rattle.ir_paths.specs.Windows.{IsInWindow, end_block, suspend_of}
-use Rattle.ir_paths.specs.declared.point.Point.{Point}
+use Rattle.pass_kept_proof.specs.flow_solver.Paths.{IsListed}
+use Rattle.pass_kept_proof.specs.ir_model.Names.{function_at, is_local, position_of}
+use Rattle.pass_kept_proof.specs.ir_model.declared.instr.Incoming.{Incoming}
+use Rattle.pass_kept_proof.specs.ir_model.declared.instr.Instr.{Instr}
+use Rattle.pass_kept_proof.specs.ir_model.declared.instr.Phi.{Phi}
+use Rattle.pass_kept_proof.specs.ir_model.declared.instr.Terminator.{Terminator}
+use Rattle.pass_kept_proof.specs.ir_model.declared.module.Block.{Block}
+use Rattle.pass_kept_proof.specs.ir_model.declared.module.Function.{Function}
+use Rattle.pass_kept_proof.specs.ir_model.declared.module.Module.{Module}
+use Rattle.pass_kept_proof.specs.ir_model.declared.operand.Allocator.{Allocator}
+use Rattle.pass_kept_proof.specs.ir_model.declared.operand.Arg.{Arg}
+use Rattle.pass_kept_proof.specs.ir_model.declared.operand.Callee.{Callee}
+use Rattle.pass_kept_proof.specs.ir_model.declared.operand.Intrinsic.{Intrinsic}
+use Rattle.pass_kept_proof.specs.ir_paths.Paths.{entry_point}
+use Rattle.pass_kept_proof.specs.ir_paths.Slots.{addresses_of, has_name, is_escaped, is_in_args, occurs_in_phi}
+use Rattle.pass_kept_proof.specs.ir_paths.Windows.{IsInWindow, end_block, suspend_of}
+use Rattle.pass_kept_proof.specs.ir_paths.declared.point.Point.{Point}
 use Rattle.frame_classes.specs.Classes.{MeetsLater}
 use Rattle.frame_slots.specs.Spots.{IsUse, On, Spot}
 use Rattle.pass_kept_proof.specs.Needed.{phis_give}
 use Rattle.pass_kept_proof.specs.SuspendRules.{IsCallAt}
-use Rattle.rule_uses.specs.Uses.{local_of}
+use Rattle.pass_kept_proof.specs.rule_uses.Uses.{local_of}
 use Rattle.rule_window_values.specs.Kept.{TakesFrom, phis_in}
-use Rattle.run_source.specs.declared.state.Activation.{Activation}
-use Rattle.run_source.specs.declared.state.Mode.{Mode}
-use Rattle.run_source.specs.declared.state.State.{State}
-use Rattle.run_step.specs.Step.{AtInstr, AtTerm, Fetched, fetch, incoming_from, label_of, phi_values}
-use Rattle.run_step.specs.Step.{phis_of, values_in, with_all}
-use Rattle.run_step.specs.Values.{Env}
+use Rattle.pass_kept_proof.specs.run_source.declared.state.Activation.{Activation}
+use Rattle.pass_kept_proof.specs.run_source.declared.state.Mode.{Mode}
+use Rattle.pass_kept_proof.specs.run_source.declared.state.State.{State}
+use Rattle.pass_kept_proof.specs.run_step.Step.{AtInstr, AtTerm, Fetched, fetch, incoming_from, label_of, phi_values}
+use Rattle.pass_kept_proof.specs.run_step.Step.{phis_of, values_in, with_all}
+use Rattle.pass_kept_proof.specs.run_step.Values.{Env}
 use Rattle.pass_renewed_proof.proofs.Ahead.{IsEnd, branch_edge, get_within}
 use Rattle.pass_renewed_proof.proofs.Carried.{envs_on}
 use Rattle.pass_renewed_proof.proofs.Exposing.{phi_escapes}
@@ -52,7 +52,7 @@ use Rattle.pass_renewed_proof.specs.Left.{AtEnd, AtSuspend, AtSwitch, Behind, Be
 use Rattle.pass_renewed_proof.specs.Renewed.{Flags, Roots}
 use Rattle.pass_renewed_proof.specs.SlotEnvs.{AreRoots, AreSlotEnvs}
 use Rattle.pass_renewed_proof.specs.SlotRules.{KeepsSlots}
-use Rattle.rule_windows.specs.Sets.{IsAfterEnd}
+use Rattle.pass_kept_proof.specs.rule_windows.Sets.{IsAfterEnd}
 use Rattle.pass_renewed_proof.proofs.Phis.{all_set, any_listed, args_of, block_there, no_call_term, no_end_term}
 use Rattle.pass_renewed_proof.proofs.Phis.{not_given, phi_taking, same_phis, taken, term_there}
 

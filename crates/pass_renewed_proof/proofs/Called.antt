@@ -5,24 +5,24 @@ use Rattle.std.proofs.Common.{None, refl, sym, ap, ◌∙◌, subst, ⊎_elim, a
 use Rattle.std.proofs.lemmas.Bool.{false≢true}
 use Rattle.std.specs.List.{Contains, list_any}
 use Rattle.std.specs.Prelude.{IsFalse}
-use Rattle.ir_model.specs.Names.{function_at}
-use Rattle.ir_model.specs.declared.module.Module.{Module}
-use Rattle.ir_model.specs.declared.module.Param.{Param}
+use Rattle.pass_kept_proof.specs.ir_model.Names.{function_at}
+use Rattle.pass_kept_proof.specs.ir_model.declared.module.Module.{Module}
+use Rattle.pass_kept_proof.specs.ir_model.declared.module.Param.{Param}
 use Rattle.pass_kept_proof.proofs.Same.{neither}
 use Rattle.pass_kept_proof.specs.Crossing.{is_param}
 use Rattle.run_laws.specs.embedded.Related.{AreValues}
 use Rattle.run_laws.specs.memory.Pointers.{IsValue}
-use Rattle.run_memory.specs.declared.block.MemoryBlock.{MemoryBlock}
-use Rattle.run_memory.specs.declared.pointer.Value.{Value}
-use Rattle.run_source.specs.Source.{called}
-use Rattle.run_source.specs.declared.state.Instance.{Instance}
-use Rattle.run_source.specs.declared.state.Mode.{Mode}
-use Rattle.run_source.specs.declared.state.State.{State}
-use Rattle.run_step.specs.Step.{block_of, entry_values}
-use Rattle.run_step.specs.Step.{with_params}
-use Rattle.run_step.specs.Values.{Env, pointer_to, value_in}
-use Rattle.run_step.specs.declared.world.Slot.{Slot}
-use Rattle.run_step.specs.declared.world.World.{World}
+use Rattle.pass_kept_proof.specs.run_memory.declared.block.MemoryBlock.{MemoryBlock}
+use Rattle.pass_kept_proof.specs.run_memory.declared.pointer.Value.{Value}
+use Rattle.pass_kept_proof.specs.run_source.Source.{called}
+use Rattle.pass_kept_proof.specs.run_source.declared.state.Instance.{Instance}
+use Rattle.pass_kept_proof.specs.run_source.declared.state.Mode.{Mode}
+use Rattle.pass_kept_proof.specs.run_source.declared.state.State.{State}
+use Rattle.pass_kept_proof.specs.run_step.Step.{block_of, entry_values}
+use Rattle.pass_kept_proof.specs.run_step.Step.{with_params}
+use Rattle.pass_kept_proof.specs.run_step.Values.{Env, pointer_to, value_in}
+use Rattle.pass_kept_proof.specs.run_step.declared.world.Slot.{Slot}
+use Rattle.pass_kept_proof.specs.run_step.declared.world.World.{World}
 use Rattle.pass_renewed_proof.proofs.Phis.{set_one}
 use Rattle.pass_renewed_proof.proofs.Ordinary.{own_address, roots_of}
 use Rattle.pass_renewed_proof.proofs.Start.{blank_poison, params_others}

@@ -3,35 +3,35 @@ use Rattle.std.proofs.Common.{◌≡◌, ℕ, ◌+◌, ◌⊎◌, inl, inr, Bool
 use Rattle.std.proofs.Common.{Some}
 use Rattle.std.proofs.Common.{None, refl, sym, ap, ◌∙◌, subst, if◌then◌else◌, ◌==◌}
 use Rattle.std.specs.Prelude.{IsTrue, slice_get, ℤ}
-use Rattle.ir_base.specs.declared.cause.Cause.{Cause}
-use Rattle.ir_base.specs.declared.outcome.Word.{Word}
-use Rattle.ir_model.specs.Names.{declaration_named, function_at, function_named}
-use Rattle.ir_model.specs.Ty.{Ty}
-use Rattle.ir_model.specs.declared.instr.Instr.{Instr}
-use Rattle.ir_model.specs.declared.module.Block.{Block}
-use Rattle.ir_model.specs.declared.module.Function.{Function}
-use Rattle.ir_model.specs.declared.module.Module.{Module}
-use Rattle.ir_model.specs.declared.operand.Arg.{Arg}
-use Rattle.ir_model.specs.declared.operand.Callee.{Callee}
-use Rattle.ir_paths.specs.Slots.{exposes, is_escaped, is_in_args}
-use Rattle.ir_paths.specs.Windows.{instr_in}
-use Rattle.ir_paths.specs.declared.point.Point.{Point}
+use Rattle.pass_kept_proof.specs.ir_base.declared.cause.Cause.{Cause}
+use Rattle.pass_kept_proof.specs.ir_base.declared.outcome.Word.{Word}
+use Rattle.pass_kept_proof.specs.ir_model.Names.{declaration_named, function_at, function_named}
+use Rattle.pass_kept_proof.specs.ir_model.Ty.{Ty}
+use Rattle.pass_kept_proof.specs.ir_model.declared.instr.Instr.{Instr}
+use Rattle.pass_kept_proof.specs.ir_model.declared.module.Block.{Block}
+use Rattle.pass_kept_proof.specs.ir_model.declared.module.Function.{Function}
+use Rattle.pass_kept_proof.specs.ir_model.declared.module.Module.{Module}
+use Rattle.pass_kept_proof.specs.ir_model.declared.operand.Arg.{Arg}
+use Rattle.pass_kept_proof.specs.ir_model.declared.operand.Callee.{Callee}
+use Rattle.pass_kept_proof.specs.ir_paths.Slots.{exposes, is_escaped, is_in_args}
+use Rattle.pass_kept_proof.specs.ir_paths.Windows.{instr_in}
+use Rattle.pass_kept_proof.specs.ir_paths.declared.point.Point.{Point}
 use Rattle.frame_slots.specs.Spots.{At}
 use Rattle.pass_kept_proof.proofs.Same.{eq_itself, or_left, or_right}
 use Rattle.pass_kept_proof.specs.Needed.{reads_at}
 use Rattle.run_laws.specs.embedded.Related.{AreValues, HasNoSlot}
 use Rattle.run_laws.specs.memory.Pointers.{Home, IsValue}
-use Rattle.run_memory.specs.Memory.{owner_rights}
-use Rattle.run_memory.specs.declared.pointer.Pointer.{Pointer}
-use Rattle.run_memory.specs.declared.pointer.Value.{Value}
-use Rattle.run_source.specs.Source.{called, mode_of, push}
-use Rattle.run_source.specs.State.{work_of}
-use Rattle.run_source.specs.declared.state.Activation.{Activation}
-use Rattle.run_source.specs.declared.state.Mode.{Mode}
-use Rattle.run_source.specs.declared.state.State.{State}
-use Rattle.run_step.specs.Step.{AtInstr, Context, Enter, Fetched, Stuck, action_of, fetch}
-use Rattle.run_step.specs.Step.{fits_function, named_call, indirect_call, observed, words_of}
-use Rattle.run_step.specs.Values.{arg_values, value_in}
+use Rattle.pass_kept_proof.specs.run_memory.Memory.{owner_rights}
+use Rattle.pass_kept_proof.specs.run_memory.declared.pointer.Pointer.{Pointer}
+use Rattle.pass_kept_proof.specs.run_memory.declared.pointer.Value.{Value}
+use Rattle.pass_kept_proof.specs.run_source.Source.{called, mode_of, push}
+use Rattle.pass_kept_proof.specs.run_source.State.{work_of}
+use Rattle.pass_kept_proof.specs.run_source.declared.state.Activation.{Activation}
+use Rattle.pass_kept_proof.specs.run_source.declared.state.Mode.{Mode}
+use Rattle.pass_kept_proof.specs.run_source.declared.state.State.{State}
+use Rattle.pass_kept_proof.specs.run_step.Step.{AtInstr, Context, Enter, Fetched, Stuck, action_of, fetch}
+use Rattle.pass_kept_proof.specs.run_step.Step.{fits_function, named_call, indirect_call, observed, words_of}
+use Rattle.pass_kept_proof.specs.run_step.Values.{arg_values, value_in}
 use Rattle.pass_renewed_proof.proofs.Ahead.{next_edge}
 use Rattle.pass_renewed_proof.proofs.Carried.{envs_on, made_no_slot}
 use Rattle.pass_renewed_proof.proofs.Exposing.{instr_escapes}

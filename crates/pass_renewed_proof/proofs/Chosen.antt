@@ -5,17 +5,17 @@ use Rattle.std.proofs.Common.{◌==◌}
 use Rattle.std.proofs.lemmas.Bool.{cases_lt, false≢true}
 use Rattle.std.specs.Prelude.{IsTrue}
 use Rattle.std.specs.List.{list_any}
-use Rattle.flow_solver.specs.Paths.{IsListed}
+use Rattle.pass_kept_proof.specs.flow_solver.Paths.{IsListed}
 use Rattle.pass_kept_proof.proofs.Same.{either, neither}
 use Rattle.pass_kept_proof.specs.Needed.{reads_at}
 use Rattle.run_laws.specs.changed.Changed.{Each}
 use Rattle.run_laws.specs.memory.Pointers.{Home, IsValue}
-use Rattle.run_memory.specs.Pointers.{moved}
-use Rattle.run_memory.specs.declared.pointer.Offset.{Offset}
-use Rattle.run_memory.specs.declared.pointer.Pointer.{Pointer}
-use Rattle.run_memory.specs.declared.pointer.Value.{Value}
-use Rattle.run_step.specs.Step.{Fetched}
-use Rattle.run_step.specs.Values.{Env, pointer_to, value_in, value_or_poison}
+use Rattle.pass_kept_proof.specs.run_memory.Pointers.{moved}
+use Rattle.pass_kept_proof.specs.run_memory.declared.pointer.Offset.{Offset}
+use Rattle.pass_kept_proof.specs.run_memory.declared.pointer.Pointer.{Pointer}
+use Rattle.pass_kept_proof.specs.run_memory.declared.pointer.Value.{Value}
+use Rattle.pass_kept_proof.specs.run_step.Step.{Fetched}
+use Rattle.pass_kept_proof.specs.run_step.Values.{Env, pointer_to, value_in, value_or_poison}
 use Rattle.pass_renewed_proof.proofs.Made.{get_past}
 use Rattle.pass_renewed_proof.specs.Chosen.{IsPlaceOf, both_blocks, names_below, place_by, places_at, places_of}
 use Rattle.pass_renewed_proof.specs.Chosen.{with_place}

@@ -3,28 +3,28 @@ use Rattle.std.proofs.Common.{◌≡◌, ◌≢◌, ℕ, ◌+◌, inr, Bool, tru
 use Rattle.std.proofs.Common.{Result, Ok, sym, ap, ◌∙◌, subst, ⊎_elim, if◌then◌else◌}
 use Rattle.std.proofs.lemmas.Bool.{false≢true}
 use Rattle.std.specs.Prelude.{IsTrue, option_and_then, option_map, slice_get}
-use Rattle.ir_base.specs.declared.cause.Cause.{Cause}
-use Rattle.ir_model.specs.Names.{function_at}
-use Rattle.ir_model.specs.declared.instr.Instr.{Instr}
-use Rattle.ir_model.specs.declared.module.Function.{Function}
-use Rattle.ir_model.specs.declared.module.Module.{Module}
-use Rattle.ir_model.specs.declared.operand.Callee.{Callee}
-use Rattle.ir_model.specs.declared.operand.Intrinsic.{Intrinsic}
-use Rattle.ir_paths.specs.Paths.{has_point, nexts}
-use Rattle.ir_paths.specs.Windows.{is_call_of}
+use Rattle.pass_kept_proof.specs.ir_base.declared.cause.Cause.{Cause}
+use Rattle.pass_kept_proof.specs.ir_model.Names.{function_at}
+use Rattle.pass_kept_proof.specs.ir_model.declared.instr.Instr.{Instr}
+use Rattle.pass_kept_proof.specs.ir_model.declared.module.Function.{Function}
+use Rattle.pass_kept_proof.specs.ir_model.declared.module.Module.{Module}
+use Rattle.pass_kept_proof.specs.ir_model.declared.operand.Callee.{Callee}
+use Rattle.pass_kept_proof.specs.ir_model.declared.operand.Intrinsic.{Intrinsic}
+use Rattle.pass_kept_proof.specs.ir_paths.Paths.{has_point, nexts}
+use Rattle.pass_kept_proof.specs.ir_paths.Windows.{is_call_of}
 use Rattle.pass_kept_proof.specs.SuspendRules.{IsCallAt}
-use Rattle.rule_windows.specs.Sets.{IsAfterEnd}
-use Rattle.run_memory.specs.declared.pointer.Value.{Value}
-use Rattle.run_source.specs.Source.{after_end, change_own, end_of, finish, slots_of}
-use Rattle.run_source.specs.State.{gives, numbered, own_instance, with_memory}
-use Rattle.run_source.specs.declared.state.Activation.{Activation}
-use Rattle.run_source.specs.declared.state.Instance.{Instance}
-use Rattle.run_source.specs.declared.state.Mode.{Mode}
-use Rattle.run_source.specs.declared.state.State.{State}
-use Rattle.run_source.specs.declared.state.Status.{Status}
-use Rattle.run_step.specs.Step.{without_slots}
-use Rattle.run_step.specs.declared.world.Slot.{Slot}
-use Rattle.run_step.specs.Values.{truth_value, with_result}
+use Rattle.pass_kept_proof.specs.rule_windows.Sets.{IsAfterEnd}
+use Rattle.pass_kept_proof.specs.run_memory.declared.pointer.Value.{Value}
+use Rattle.pass_kept_proof.specs.run_source.Source.{after_end, change_own, end_of, finish, slots_of}
+use Rattle.pass_kept_proof.specs.run_source.State.{gives, numbered, own_instance, with_memory}
+use Rattle.pass_kept_proof.specs.run_source.declared.state.Activation.{Activation}
+use Rattle.pass_kept_proof.specs.run_source.declared.state.Instance.{Instance}
+use Rattle.pass_kept_proof.specs.run_source.declared.state.Mode.{Mode}
+use Rattle.pass_kept_proof.specs.run_source.declared.state.State.{State}
+use Rattle.pass_kept_proof.specs.run_source.declared.state.Status.{Status}
+use Rattle.pass_kept_proof.specs.run_step.Step.{without_slots}
+use Rattle.pass_kept_proof.specs.run_step.declared.world.Slot.{Slot}
+use Rattle.pass_kept_proof.specs.run_step.Values.{truth_value, with_result}
 use Rattle.pass_renewed_proof.proofs.Ahead.{next_edge}
 use Rattle.pass_renewed_proof.proofs.Carried.{same_carried, same_kept, slots_on}
 use Rattle.pass_renewed_proof.proofs.Finishing.{finished_beside}

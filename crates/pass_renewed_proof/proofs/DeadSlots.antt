@@ -3,16 +3,16 @@ use Rattle.std.proofs.Common.{◌≡◌, ◌≢◌, ℕ, zero, suc, ◌≤◌, �
 use Rattle.std.proofs.Common.{length, Option, Some, None, refl, sym, ap, ◌∙◌, subst, ⊎_elim, arith}
 use Rattle.std.proofs.lemmas.Bool.{cases_eq, false≢true}
 use Rattle.std.specs.List.{Contains}
-use Rattle.ir_model.specs.declared.module.Module.{Module}
+use Rattle.pass_kept_proof.specs.ir_model.declared.module.Module.{Module}
 use Rattle.run_laws.proofs.memory.Written.{changed_elsewhere}
 use Rattle.run_laws.specs.changed.Changed.{Each}
 use Rattle.run_laws.specs.memory.Pointers.{Home, home_of}
-use Rattle.run_memory.specs.Memory.{killed, killed_block}
-use Rattle.run_memory.specs.declared.block.MemoryBlock.{MemoryBlock}
-use Rattle.run_source.specs.declared.state.Activation.{Activation}
-use Rattle.run_source.specs.declared.state.Instance.{Instance}
-use Rattle.run_step.specs.Step.{without_slots}
-use Rattle.run_step.specs.declared.world.Slot.{Slot}
+use Rattle.pass_kept_proof.specs.run_memory.Memory.{killed, killed_block}
+use Rattle.pass_kept_proof.specs.run_memory.declared.block.MemoryBlock.{MemoryBlock}
+use Rattle.pass_kept_proof.specs.run_source.declared.state.Activation.{Activation}
+use Rattle.pass_kept_proof.specs.run_source.declared.state.Instance.{Instance}
+use Rattle.pass_kept_proof.specs.run_step.Step.{without_slots}
+use Rattle.pass_kept_proof.specs.run_step.declared.world.Slot.{Slot}
 use Rattle.pass_renewed_proof.proofs.Departing.{AreLeft, both_depart, slot_departs, not_live}
 use Rattle.pass_renewed_proof.proofs.Places.{hiding_it}
 use Rattle.pass_renewed_proof.proofs.Used.{lives_shown}

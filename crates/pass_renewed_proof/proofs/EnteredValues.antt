@@ -1,12 +1,12 @@
 -- The values of an activation that has made its slots anew.
 use Rattle.std.proofs.Common.{◌≡◌, ℕ, zero, suc, ◌<◌, ◌⊎◌, inl, inr, Bool, true, false, List, [], ◌∷◌, length, refl, sym, ap, ◌∙◌, subst, arith, ◌==◌}
 use Rattle.std.proofs.lemmas.Bool.{false≢true}
-use Rattle.run_memory.specs.declared.pointer.Value.{Value}
-use Rattle.run_source.specs.declared.state.Mode.{Mode}
-use Rattle.run_source.specs.declared.state.State.{State}
+use Rattle.pass_kept_proof.specs.run_memory.declared.pointer.Value.{Value}
+use Rattle.pass_kept_proof.specs.run_source.declared.state.Mode.{Mode}
+use Rattle.pass_kept_proof.specs.run_source.declared.state.State.{State}
 use Rattle.run_framed.specs.Framed.{at_point, with_mode}
 use Rattle.pass_kept_proof.proofs.Same.{either, neither}
-use Rattle.run_step.specs.Values.{Env, pointer_to, value_in, with_value}
+use Rattle.pass_kept_proof.specs.run_step.Values.{Env, pointer_to, value_in, with_value}
 use Rattle.pass_renewed_proof.proofs.Sets.{set_elsewhere}
 use Rattle.pass_renewed_proof.specs.Entering.{Anew, is_named, made_all, made_anew}
 use Rattle.pass_renewed_proof.specs.Renewed.{RenewedGiven}

@@ -1,23 +1,23 @@
 -- A resumed activation makes a flagged slot anew in one step, and goes on to the next one or to its label.
 use Rattle.std.proofs.Common.{[], ◌∷◌, None, ◌≡◌, ℕ, ◌+◌, Bool, true, List, length, refl, ap, ◌∙◌, if◌then◌else◌}
-use Rattle.run_memory.specs.Memory.{end, fresh, start}
-use Rattle.run_memory.specs.declared.block.Kind.{Kind}
-use Rattle.run_memory.specs.declared.block.MemoryBlock.{MemoryBlock}
-use Rattle.ir_base.specs.declared.cause.Cause.{Cause}
-use Rattle.ir_base.specs.declared.outcome.Outcome.{Outcome}
-use Rattle.run_source.specs.Source.{context_of}
-use Rattle.run_source.specs.State.{function_of, or_undefined, settled, with_memory, work_of}
-use Rattle.run_source.specs.declared.state.Mode.{Mode}
-use Rattle.run_source.specs.declared.state.State.{State}
-use Rattle.run_agreement.specs.Machines.{iterate}
+use Rattle.pass_kept_proof.specs.run_memory.Memory.{end, fresh, start}
+use Rattle.pass_kept_proof.specs.run_memory.declared.block.Kind.{Kind}
+use Rattle.pass_kept_proof.specs.run_memory.declared.block.MemoryBlock.{MemoryBlock}
+use Rattle.pass_kept_proof.specs.ir_base.declared.cause.Cause.{Cause}
+use Rattle.pass_kept_proof.specs.ir_base.declared.outcome.Outcome.{Outcome}
+use Rattle.pass_kept_proof.specs.run_source.Source.{context_of}
+use Rattle.pass_kept_proof.specs.run_source.State.{function_of, or_undefined, settled, with_memory, work_of}
+use Rattle.pass_kept_proof.specs.run_source.declared.state.Mode.{Mode}
+use Rattle.pass_kept_proof.specs.run_source.declared.state.State.{State}
+use Rattle.pass_kept_proof.specs.run_agreement.Machines.{iterate}
 use Rattle.run_framed.specs.Framed.{at_point, with_mode}
-use Rattle.ir_model.specs.Layout.{size_of}
-use Rattle.ir_model.specs.Ty.{Ty}
-use Rattle.ir_model.specs.declared.instr.Instr.{Instr}
-use Rattle.ir_model.specs.declared.module.Function.{Function}
-use Rattle.run_step.specs.Step.{Action, AtInstr, Stuck, alloca, alloca_kind, fetch, has_markers, is_alignment, set_memory, set_value}
-use Rattle.run_step.specs.Values.{pointer_to}
-use Rattle.run_step.specs.declared.world.Slot.{Slot}
+use Rattle.pass_kept_proof.specs.ir_model.Layout.{size_of}
+use Rattle.pass_kept_proof.specs.ir_model.Ty.{Ty}
+use Rattle.pass_kept_proof.specs.ir_model.declared.instr.Instr.{Instr}
+use Rattle.pass_kept_proof.specs.ir_model.declared.module.Function.{Function}
+use Rattle.pass_kept_proof.specs.run_step.Step.{Action, AtInstr, Stuck, alloca, alloca_kind, fetch, has_markers, is_alignment, set_memory, set_value}
+use Rattle.pass_kept_proof.specs.run_step.Values.{pointer_to}
+use Rattle.pass_kept_proof.specs.run_step.declared.world.Slot.{Slot}
 use Rattle.pass_renewed_proof.proofs.Places.{made_live}
 use Rattle.pass_renewed_proof.specs.Entering.{Anew, AreNext, made_all, made_anew}
 use Rattle.pass_renewed_proof.specs.Renewed.{RenewedGiven, renew_after, renewed_act, renewed_advance, renewed_from, renewed_next, renewed_slot, renewed_step}

@@ -4,20 +4,20 @@ use Rattle.std.proofs.Common.{refl, ap, ◌∙◌, ⊎_elim, arith, ◌==◌, �
 use Rattle.std.proofs.lemmas.Bool.{false≢true}
 use Rattle.std.specs.Prelude.{slice_get}
 use Rattle.std.specs.List.{list_any}
-use Rattle.ir_model.specs.Names.{is_local}
-use Rattle.ir_model.specs.Ty.{Ty}
-use Rattle.ir_model.specs.declared.instr.Instr.{Instr}
-use Rattle.ir_model.specs.declared.module.Block.{Block}
-use Rattle.ir_model.specs.declared.module.Function.{Function}
-use Rattle.ir_model.specs.declared.operand.Arg.{Arg}
-use Rattle.ir_model.specs.declared.operand.Callee.{Callee}
-use Rattle.ir_model.specs.declared.operand.Intrinsic.{Intrinsic}
-use Rattle.ir_model.specs.declared.operand.Operand.{Operand}
-use Rattle.ir_paths.specs.Slots.{addresses_of, exposed_in_block, exposes, has_name, is_escaped, is_in_args}
-use Rattle.ir_paths.specs.Slots.{occurs_in_phi, occurs_in_term}
+use Rattle.pass_kept_proof.specs.ir_model.Names.{is_local}
+use Rattle.pass_kept_proof.specs.ir_model.Ty.{Ty}
+use Rattle.pass_kept_proof.specs.ir_model.declared.instr.Instr.{Instr}
+use Rattle.pass_kept_proof.specs.ir_model.declared.module.Block.{Block}
+use Rattle.pass_kept_proof.specs.ir_model.declared.module.Function.{Function}
+use Rattle.pass_kept_proof.specs.ir_model.declared.operand.Arg.{Arg}
+use Rattle.pass_kept_proof.specs.ir_model.declared.operand.Callee.{Callee}
+use Rattle.pass_kept_proof.specs.ir_model.declared.operand.Intrinsic.{Intrinsic}
+use Rattle.pass_kept_proof.specs.ir_model.declared.operand.Operand.{Operand}
+use Rattle.pass_kept_proof.specs.ir_paths.Slots.{addresses_of, exposed_in_block, exposes, has_name, is_escaped, is_in_args}
+use Rattle.pass_kept_proof.specs.ir_paths.Slots.{occurs_in_phi, occurs_in_term}
 use Rattle.pass_kept_proof.proofs.Same.{either, or_left, or_right}
 use Rattle.run_laws.specs.changed.Changed.{Each, values_of}
-use Rattle.run_step.specs.Step.{AtInstr, fetch, fetch_in, fetch_or}
+use Rattle.pass_kept_proof.specs.run_step.Step.{AtInstr, fetch, fetch_in, fetch_or}
 use Rattle.pass_renewed_proof.specs.Ordinary.{IsBase}
 use Rattle.pass_renewed_proof.specs.Shown.{spread_by}
 

@@ -3,15 +3,15 @@ use Rattle.std.proofs.Common.{◌≡◌, ◌≢◌, ℕ, ◌+◌, ◌<◌, ◌�
 use Rattle.std.proofs.Common.{length, Option, Some, None, refl, sym, ap, ◌∙◌, subst, ⊎_elim, arith, ◌||◌, ◌==◌}
 use Rattle.std.proofs.lemmas.Bool.{cases_eq, false≢true}
 use Rattle.std.specs.Prelude.{slice_get}
-use Rattle.ir_model.specs.declared.module.Function.{Function}
-use Rattle.ir_model.specs.declared.module.Module.{Module}
-use Rattle.ir_paths.specs.declared.point.Point.{Point}
+use Rattle.pass_kept_proof.specs.ir_model.declared.module.Function.{Function}
+use Rattle.pass_kept_proof.specs.ir_model.declared.module.Module.{Module}
+use Rattle.pass_kept_proof.specs.ir_paths.declared.point.Point.{Point}
 use Rattle.run_laws.proofs.memory.Written.{changed_elsewhere}
 use Rattle.run_laws.specs.memory.Pointers.{Home, home_of}
-use Rattle.run_memory.specs.Memory.{is_live, killed, killed_block}
-use Rattle.run_memory.specs.declared.block.MemoryBlock.{MemoryBlock}
-use Rattle.run_source.specs.declared.state.Activation.{Activation}
-use Rattle.run_source.specs.declared.state.Instance.{Instance}
+use Rattle.pass_kept_proof.specs.run_memory.Memory.{is_live, killed, killed_block}
+use Rattle.pass_kept_proof.specs.run_memory.declared.block.MemoryBlock.{MemoryBlock}
+use Rattle.pass_kept_proof.specs.run_source.declared.state.Activation.{Activation}
+use Rattle.pass_kept_proof.specs.run_source.declared.state.Instance.{Instance}
 use Rattle.pass_renewed_proof.proofs.Carried.{AreBelowCarried, IsCarried, IsInstanceCarried, below_kept}
 use Rattle.pass_renewed_proof.proofs.Carried.{instances_kept}
 use Rattle.pass_renewed_proof.proofs.Departing.{AreLeft, full_killed, unowned_killed}

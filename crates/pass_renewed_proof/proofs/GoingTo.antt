@@ -4,24 +4,24 @@ use Rattle.std.proofs.Common.{Some, None, Result, Ok, refl, sym, ap, ◌∙◌, 
 use Rattle.std.proofs.lemmas.Bool.{false≢true}
 use Rattle.std.specs.List.{list_all}
 use Rattle.std.specs.Prelude.{filter, option_and_then, option_map, slice_get}
-use Rattle.ir_base.specs.declared.cause.Cause.{Cause}
-use Rattle.ir_model.specs.Names.{function_at}
-use Rattle.ir_model.specs.declared.module.Module.{Module}
-use Rattle.ir_paths.specs.Paths.{entry_point}
-use Rattle.ir_paths.specs.Windows.{leaves}
-use Rattle.ir_paths.specs.declared.point.Point.{Point}
-use Rattle.ir_paths.specs.declared.point.Window.{Window}
-use Rattle.run_memory.specs.declared.block.MemoryBlock.{MemoryBlock}
-use Rattle.run_source.specs.Source.{branch_leaving, enter_block, go_to, is_save, left_windows, may_leave}
-use Rattle.run_source.specs.State.{function_of, is_suspended, numbered, own_facts, own_instance, with_left}
-use Rattle.run_source.specs.State.{with_status}
-use Rattle.run_source.specs.declared.state.Activation.{Activation}
-use Rattle.run_source.specs.declared.state.Instance.{Instance}
-use Rattle.run_source.specs.declared.state.Saved.{Saved}
-use Rattle.run_source.specs.declared.state.State.{State}
-use Rattle.run_source.specs.declared.state.Status.{Status}
-use Rattle.run_source_tables.specs.Given.{Given}
-use Rattle.run_step.specs.Results.{and_then, found, ok_if}
+use Rattle.pass_kept_proof.specs.ir_base.declared.cause.Cause.{Cause}
+use Rattle.pass_kept_proof.specs.ir_model.Names.{function_at}
+use Rattle.pass_kept_proof.specs.ir_model.declared.module.Module.{Module}
+use Rattle.pass_kept_proof.specs.ir_paths.Paths.{entry_point}
+use Rattle.pass_kept_proof.specs.ir_paths.Windows.{leaves}
+use Rattle.pass_kept_proof.specs.ir_paths.declared.point.Point.{Point}
+use Rattle.pass_kept_proof.specs.ir_paths.declared.point.Window.{Window}
+use Rattle.pass_kept_proof.specs.run_memory.declared.block.MemoryBlock.{MemoryBlock}
+use Rattle.pass_kept_proof.specs.run_source.Source.{branch_leaving, enter_block, go_to, is_save, left_windows, may_leave}
+use Rattle.pass_kept_proof.specs.run_source.State.{function_of, is_suspended, numbered, own_facts, own_instance, with_left}
+use Rattle.pass_kept_proof.specs.run_source.State.{with_status}
+use Rattle.pass_kept_proof.specs.run_source.declared.state.Activation.{Activation}
+use Rattle.pass_kept_proof.specs.run_source.declared.state.Instance.{Instance}
+use Rattle.pass_kept_proof.specs.run_source.declared.state.Saved.{Saved}
+use Rattle.pass_kept_proof.specs.run_source.declared.state.State.{State}
+use Rattle.pass_kept_proof.specs.run_source.declared.state.Status.{Status}
+use Rattle.pass_kept_proof.specs.run_source_tables.Given.{Given}
+use Rattle.pass_kept_proof.specs.run_step.Results.{and_then, found, ok_if}
 use Rattle.pass_renewed_proof.proofs.Branching.{branched_beside, entered_block}
 use Rattle.pass_renewed_proof.proofs.Leaving.{left_window}
 use Rattle.pass_renewed_proof.proofs.Owning.{own_beside}

@@ -2,21 +2,21 @@
 use Rattle.std.proofs.Common.{◌≡◌, ℕ, ◌⊎◌, inl, inr, Bool, true, false, List, [], ◌∷◌, length, Option, Some, None, refl, sym, ap, ◌∙◌, subst, arith, ◌&&◌, ◌==◌}
 use Rattle.std.proofs.lemmas.Bool.{false≢true}
 use Rattle.std.specs.Prelude.{slice_get}
-use Rattle.ir_model.specs.Names.{is_local, same_intrinsic}
-use Rattle.ir_model.specs.declared.instr.Instr.{Instr}
-use Rattle.ir_model.specs.declared.module.Block.{Block}
-use Rattle.ir_model.specs.declared.module.Function.{Function}
-use Rattle.ir_model.specs.declared.operand.Callee.{Callee}
-use Rattle.ir_model.specs.declared.operand.Intrinsic.{Intrinsic}
-use Rattle.ir_model.specs.declared.operand.Operand.{Operand}
-use Rattle.ir_paths.specs.Paths.{IsPath, Leads, has_point, nexts, same_point}
-use Rattle.ir_paths.specs.Slots.{is_escaped}
-use Rattle.ir_paths.specs.Windows.{IsInWindow, call_operand, instr_at, instr_in, is_call_of, points_where, suspend_of}
-use Rattle.ir_paths.specs.declared.point.Point.{Point}
+use Rattle.pass_kept_proof.specs.ir_model.Names.{is_local, same_intrinsic}
+use Rattle.pass_kept_proof.specs.ir_model.declared.instr.Instr.{Instr}
+use Rattle.pass_kept_proof.specs.ir_model.declared.module.Block.{Block}
+use Rattle.pass_kept_proof.specs.ir_model.declared.module.Function.{Function}
+use Rattle.pass_kept_proof.specs.ir_model.declared.operand.Callee.{Callee}
+use Rattle.pass_kept_proof.specs.ir_model.declared.operand.Intrinsic.{Intrinsic}
+use Rattle.pass_kept_proof.specs.ir_model.declared.operand.Operand.{Operand}
+use Rattle.pass_kept_proof.specs.ir_paths.Paths.{IsPath, Leads, has_point, nexts, same_point}
+use Rattle.pass_kept_proof.specs.ir_paths.Slots.{is_escaped}
+use Rattle.pass_kept_proof.specs.ir_paths.Windows.{IsInWindow, call_operand, instr_at, instr_in, is_call_of, points_where, suspend_of}
+use Rattle.pass_kept_proof.specs.ir_paths.declared.point.Point.{Point}
 use Rattle.pass_kept_proof.proofs.Rules.{leads_between}
 use Rattle.pass_kept_proof.proofs.Same.{neither}
 use Rattle.pass_kept_proof.specs.SuspendRules.{IsCallAt}
-use Rattle.run_step.specs.Step.{AtInstr, fetch, fetch_in, fetch_or}
+use Rattle.pass_kept_proof.specs.run_step.Step.{AtInstr, fetch, fetch_in, fetch_or}
 use Rattle.pass_renewed_proof.proofs.Ahead.{leads_more, not_in_either, used_on}
 use Rattle.pass_renewed_proof.specs.Ahead.{IsNoStart, IsUsedBefore}
 use Rattle.pass_renewed_proof.specs.SlotRules.{IsMarkerAt}

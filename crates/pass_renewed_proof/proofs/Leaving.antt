@@ -4,22 +4,22 @@ use Rattle.std.proofs.Common.{refl, sym, ap, ◌∙◌, subst, ⊎_elim}
 use Rattle.std.proofs.lemmas.Bool.{cases_eq, false≢true}
 use Rattle.std.specs.List.{Contains}
 use Rattle.std.specs.Prelude.{slice_get, slice_set, ◌&&◌, ◌||◌}
-use Rattle.ir_model.specs.Names.{function_at}
-use Rattle.ir_model.specs.declared.module.Function.{Function}
-use Rattle.ir_model.specs.declared.module.Module.{Module}
-use Rattle.ir_paths.specs.Paths.{entry_point, has_point, same_point}
-use Rattle.ir_paths.specs.Windows.{IsInWindow}
-use Rattle.ir_paths.specs.declared.point.Point.{Point}
+use Rattle.pass_kept_proof.specs.ir_model.Names.{function_at}
+use Rattle.pass_kept_proof.specs.ir_model.declared.module.Function.{Function}
+use Rattle.pass_kept_proof.specs.ir_model.declared.module.Module.{Module}
+use Rattle.pass_kept_proof.specs.ir_paths.Paths.{entry_point, has_point, same_point}
+use Rattle.pass_kept_proof.specs.ir_paths.Windows.{IsInWindow}
+use Rattle.pass_kept_proof.specs.ir_paths.declared.point.Point.{Point}
 use Rattle.pass_kept_proof.proofs.Rules.{suspend_is_suspend}
-use Rattle.rule_windows.specs.Sets.{IsAfterEnd}
+use Rattle.pass_kept_proof.specs.rule_windows.Sets.{IsAfterEnd}
 use Rattle.run_laws.proofs.memory.Written.{same_some}
-use Rattle.run_source.specs.Source.{is_over}
-use Rattle.run_source.specs.State.{is_finished, is_suspended, with_instance, with_left}
-use Rattle.run_source.specs.declared.state.Activation.{Activation}
-use Rattle.run_source.specs.declared.state.Instance.{Instance}
-use Rattle.run_source.specs.declared.state.State.{State}
-use Rattle.run_source.specs.declared.state.Status.{Status}
-use Rattle.run_step.specs.declared.world.Slot.{Slot}
+use Rattle.pass_kept_proof.specs.run_source.Source.{is_over}
+use Rattle.pass_kept_proof.specs.run_source.State.{is_finished, is_suspended, with_instance, with_left}
+use Rattle.pass_kept_proof.specs.run_source.declared.state.Activation.{Activation}
+use Rattle.pass_kept_proof.specs.run_source.declared.state.Instance.{Instance}
+use Rattle.pass_kept_proof.specs.run_source.declared.state.State.{State}
+use Rattle.pass_kept_proof.specs.run_source.declared.state.Status.{Status}
+use Rattle.pass_kept_proof.specs.run_step.declared.world.Slot.{Slot}
 use Rattle.pass_renewed_proof.proofs.Branching.{branched_beside, entered_block}
 use Rattle.pass_renewed_proof.proofs.Left.{after_along}
 use Rattle.pass_renewed_proof.proofs.Listing.{instance_beside, instances_on, instances_set, set_here, set_other}

@@ -4,27 +4,27 @@ use Rattle.std.proofs.Common.{Option, Some, None, refl, sym, ap, ◌∙◌, subs
 use Rattle.std.proofs.lemmas.Bool.{false≢true}
 use Rattle.std.specs.List.{cons_option}
 use Rattle.std.specs.Prelude.{filter_map, option_map, slice_get}
-use Rattle.ir_model.specs.Names.{position_of}
-use Rattle.ir_model.specs.declared.instr.Instr.{Instr}
-use Rattle.ir_model.specs.declared.module.Block.{Block}
-use Rattle.ir_model.specs.declared.module.Function.{Function}
-use Rattle.ir_model.specs.declared.operand.Intrinsic.{Intrinsic}
-use Rattle.ir_paths.specs.Facts.{IsWindow}
-use Rattle.ir_paths.specs.Paths.{IsPath, Leads, entry_point, has_point, nexts, nexts_in, same_point, targets}
-use Rattle.ir_paths.specs.Windows.{IsInWindow, end_block, instr_in, is_call_of, leaves, points_where, suspend_of}
-use Rattle.ir_paths.specs.declared.point.Point.{Point}
-use Rattle.ir_paths.specs.declared.point.Window.{Window}
+use Rattle.pass_kept_proof.specs.ir_model.Names.{position_of}
+use Rattle.pass_kept_proof.specs.ir_model.declared.instr.Instr.{Instr}
+use Rattle.pass_kept_proof.specs.ir_model.declared.module.Block.{Block}
+use Rattle.pass_kept_proof.specs.ir_model.declared.module.Function.{Function}
+use Rattle.pass_kept_proof.specs.ir_model.declared.operand.Intrinsic.{Intrinsic}
+use Rattle.pass_kept_proof.specs.ir_paths.Facts.{IsWindow}
+use Rattle.pass_kept_proof.specs.ir_paths.Paths.{IsPath, Leads, entry_point, has_point, nexts, nexts_in, same_point, targets}
+use Rattle.pass_kept_proof.specs.ir_paths.Windows.{IsInWindow, end_block, instr_in, is_call_of, leaves, points_where, suspend_of}
+use Rattle.pass_kept_proof.specs.ir_paths.declared.point.Point.{Point}
+use Rattle.pass_kept_proof.specs.ir_paths.declared.point.Window.{Window}
 use Rattle.pass_kept_proof.proofs.Rules.{leads_between}
 use Rattle.pass_kept_proof.proofs.Same.{either, neither, same_point_same}
 use Rattle.pass_kept_proof.specs.SuspendRules.{IsCallAt}
-use Rattle.run_step.specs.Step.{AtInstr, fetch, fetch_in, fetch_or}
+use Rattle.pass_kept_proof.specs.run_step.Step.{AtInstr, fetch, fetch_in, fetch_or}
 use Rattle.pass_renewed_proof.proofs.Ahead.{get_within, leads_more, next_edge, not_in_either}
 use Rattle.pass_renewed_proof.specs.Ahead.{IsBehindSuspendCall}
 use Rattle.pass_renewed_proof.specs.Left.{AtEnd, AtSuspend, AtSwitch, Behind, Between, IsLeftBy, behind}
 use Rattle.rule_slots.specs.Closed.{IsClosed, IsInOneOf}
 use Rattle.frame_slots.proofs.Points.{where_complete}
-use Rattle.rule_windows.specs.Points.{ends}
-use Rattle.rule_windows.specs.Sets.{IsAfterEnd}
+use Rattle.pass_kept_proof.specs.rule_windows.Points.{ends}
+use Rattle.pass_kept_proof.specs.rule_windows.Sets.{IsAfterEnd}
 
 -- ---- edges
 

@@ -1,3 +1,13 @@
+-- What libraries below prove, for those above.
+pub use Rattle.flow_facts.proofs as flow_facts
+pub use Rattle.frame_slots.proofs as frame_slots
+pub use Rattle.pass_kept_proof.proofs.ir_paths as ir_paths
+pub use Rattle.pass_kept_proof.proofs as pass_kept_proof
+pub use Rattle.pass_kept_proof.proofs.run_agreement as run_agreement
+pub use Rattle.pass_kept_proof.proofs.run_ints as run_ints
+pub use Rattle.run_laws.proofs as run_laws
+pub use Rattle.pass_kept_proof.proofs.run_source as run_source
+pub use Rattle.pass_kept_proof.proofs.run_step as run_step
 pub mod Muted
 pub mod MutedSteps
 pub mod Shown

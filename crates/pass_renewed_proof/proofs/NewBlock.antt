@@ -3,13 +3,13 @@ use Rattle.std.proofs.Common.{◌≡◌, ◌≢◌, ℕ, ◌+◌, true, List, []
 use Rattle.std.proofs.Common.{length-append, Some, None, refl, sym, ap, ◌∙◌, subst, ⊎_elim, arith}
 use Rattle.std.proofs.lemmas.Bool.{cases_eq, false≢true}
 use Rattle.std.specs.Prelude.{slice_get}
-use Rattle.ir_model.specs.declared.module.Module.{Module}
+use Rattle.pass_kept_proof.specs.ir_model.declared.module.Module.{Module}
 use Rattle.run_laws.proofs.memory.Homes.{append_extends}
 use Rattle.run_laws.proofs.memory.Written.{same_some}
 use Rattle.run_laws.specs.embedded.Making.{whole_home}
 use Rattle.run_laws.specs.memory.Pointers.{Home, home_of}
-use Rattle.run_memory.specs.Memory.{is_live}
-use Rattle.run_memory.specs.declared.block.MemoryBlock.{MemoryBlock}
+use Rattle.pass_kept_proof.specs.run_memory.Memory.{is_live}
+use Rattle.pass_kept_proof.specs.run_memory.declared.block.MemoryBlock.{MemoryBlock}
 use Rattle.pass_renewed_proof.proofs.Anew.{about_there, below_other, updated_here, updated_other}
 use Rattle.pass_renewed_proof.proofs.Carried.{IsCarried, IsSlotKept}
 use Rattle.pass_renewed_proof.proofs.Grown.{future_more, home_before, home_now, kept_before, longer, muted_was}

@@ -3,19 +3,19 @@
 use Rattle.std.proofs.Common.{◌≡◌, ℕ, zero, suc, ◌+◌, Bool, true, false, List, [], ◌∷◌, length, drop, Option, Some}
 use Rattle.std.proofs.Common.{None, refl, sym, ap, ◌∙◌, arith, if◌then◌else◌, ◌==◌}
 use Rattle.std.specs.Prelude.{option_map, slice_get}
-use Rattle.ir_model.specs.Names.{first_where}
-use Rattle.ir_model.specs.Ty.{Ty}
-use Rattle.ir_model.specs.declared.instr.Instr.{Instr}
-use Rattle.ir_model.specs.declared.module.Block.{Block}
-use Rattle.ir_model.specs.declared.module.Function.{Function}
-use Rattle.ir_paths.specs.declared.point.Point.{Point}
-use Rattle.run_agreement.specs.Costs.{cost_from}
+use Rattle.pass_kept_proof.specs.ir_model.Names.{first_where}
+use Rattle.pass_kept_proof.specs.ir_model.Ty.{Ty}
+use Rattle.pass_kept_proof.specs.ir_model.declared.instr.Instr.{Instr}
+use Rattle.pass_kept_proof.specs.ir_model.declared.module.Block.{Block}
+use Rattle.pass_kept_proof.specs.ir_model.declared.module.Function.{Function}
+use Rattle.pass_kept_proof.specs.ir_paths.declared.point.Point.{Point}
+use Rattle.pass_kept_proof.specs.run_agreement.Costs.{cost_from}
 use Rattle.run_framed.specs.Framed.{at_point, with_mode}
-use Rattle.run_source.specs.State.{function_of}
-use Rattle.run_source.specs.declared.state.Mode.{Mode}
-use Rattle.run_source.specs.declared.state.State.{State}
-use Rattle.ir_base.specs.declared.outcome.Outcome.{Outcome}
-use Rattle.run_step.specs.Step.{AtInstr, fetch, fetch_in, fetch_or}
+use Rattle.pass_kept_proof.specs.run_source.State.{function_of}
+use Rattle.pass_kept_proof.specs.run_source.declared.state.Mode.{Mode}
+use Rattle.pass_kept_proof.specs.run_source.declared.state.State.{State}
+use Rattle.pass_kept_proof.specs.ir_base.declared.outcome.Outcome.{Outcome}
+use Rattle.pass_kept_proof.specs.run_step.Step.{AtInstr, fetch, fetch_in, fetch_or}
 use Rattle.pass_renewed_proof.proofs.Entering.{entering_step}
 use Rattle.pass_renewed_proof.specs.Entering.{Anew, AreAligned, AreNext, anew_in, if_renewed, made_anew, price_of_all}
 use Rattle.pass_renewed_proof.specs.Prices.{Prices, renewed_price, slots_from}

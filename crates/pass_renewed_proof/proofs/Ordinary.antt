@@ -3,11 +3,11 @@
 use Rattle.std.proofs.Common.{◌≡◌, ℕ, zero, suc, ◌<◌, Bool, true, List, [], ◌∷◌, length, Option, Some, refl, sym}
 use Rattle.std.proofs.Common.{ap, ◌∙◌, subst, ⊎_elim, ◌==◌, nat_le}
 use Rattle.std.specs.Prelude.{IsTrue, slice_get, ℤ}
-use Rattle.ir_model.specs.Names.{function_at}
-use Rattle.ir_model.specs.declared.module.Function.{Function}
-use Rattle.ir_model.specs.declared.module.Module.{Module}
-use Rattle.ir_paths.specs.Slots.{addresses_of, addresses_within, has_name, is_gep}
-use Rattle.ir_paths.specs.Windows.{points_where}
+use Rattle.pass_kept_proof.specs.ir_model.Names.{function_at}
+use Rattle.pass_kept_proof.specs.ir_model.declared.module.Function.{Function}
+use Rattle.pass_kept_proof.specs.ir_model.declared.module.Module.{Module}
+use Rattle.pass_kept_proof.specs.ir_paths.Slots.{addresses_of, addresses_within, has_name, is_gep}
+use Rattle.pass_kept_proof.specs.ir_paths.Windows.{points_where}
 use Rattle.frame_slots.specs.Spots.{At, IsUse}
 use Rattle.pass_kept_proof.proofs.Same.{eq_itself, or_left}
 use Rattle.run_laws.specs.changed.Changed.{Each}
@@ -18,14 +18,14 @@ use Rattle.run_laws.proofs.access.Reading.{as_many}
 use Rattle.run_laws.specs.access.Accessed.{Span, writes}
 use Rattle.run_laws.specs.access.Changed.{IsFull, LeavesBytes, WritesOnly}
 use Rattle.run_laws.proofs.embedded.Refills.{step_only}
-use Rattle.run_memory.specs.Memory.{bytes_in, is_live, owner_rights}
-use Rattle.run_memory.specs.declared.block.MemoryBlock.{MemoryBlock}
-use Rattle.run_memory.specs.declared.pointer.Value.{Value}
-use Rattle.run_source.specs.declared.state.Activation.{Activation}
-use Rattle.run_source.specs.declared.state.Instance.{Instance}
-use Rattle.run_step.specs.Step.{Context, Done, Fetched, Work, action_of, fetch}
-use Rattle.run_step.specs.Values.{pointer_to, value_in}
-use Rattle.run_step.specs.declared.world.World.{World}
+use Rattle.pass_kept_proof.specs.run_memory.Memory.{bytes_in, is_live, owner_rights}
+use Rattle.pass_kept_proof.specs.run_memory.declared.block.MemoryBlock.{MemoryBlock}
+use Rattle.pass_kept_proof.specs.run_memory.declared.pointer.Value.{Value}
+use Rattle.pass_kept_proof.specs.run_source.declared.state.Activation.{Activation}
+use Rattle.pass_kept_proof.specs.run_source.declared.state.Instance.{Instance}
+use Rattle.pass_kept_proof.specs.run_step.Step.{Context, Done, Fetched, Work, action_of, fetch}
+use Rattle.pass_kept_proof.specs.run_step.Values.{pointer_to, value_in}
+use Rattle.pass_kept_proof.specs.run_step.declared.world.World.{World}
 use Rattle.pass_renewed_proof.proofs.Carried.{same_alloca}
 use Rattle.pass_renewed_proof.proofs.Ready.{each_map, fade, stood_length, used_step}
 use Rattle.pass_renewed_proof.proofs.ShownSteps.{step_shown}

@@ -5,33 +5,33 @@ use Rattle.std.proofs.Common.{if◌then◌else◌}
 use Rattle.std.proofs.lemmas.Bool.{cases_eq, false≢true}
 use Rattle.std.proofs.lemmas.List.{length-replicate}
 use Rattle.std.specs.Prelude.{slice_get, slice_set}
-use Rattle.ir_model.specs.Layout.{size_of}
-use Rattle.ir_model.specs.Names.{function_at}
-use Rattle.ir_model.specs.Ty.{Ty}
-use Rattle.ir_model.specs.declared.instr.Instr.{Instr}
-use Rattle.ir_model.specs.declared.module.Function.{Function}
-use Rattle.ir_model.specs.declared.module.Module.{Module}
+use Rattle.pass_kept_proof.specs.ir_model.Layout.{size_of}
+use Rattle.pass_kept_proof.specs.ir_model.Names.{function_at}
+use Rattle.pass_kept_proof.specs.ir_model.Ty.{Ty}
+use Rattle.pass_kept_proof.specs.ir_model.declared.instr.Instr.{Instr}
+use Rattle.pass_kept_proof.specs.ir_model.declared.module.Function.{Function}
+use Rattle.pass_kept_proof.specs.ir_model.declared.module.Module.{Module}
 use Rattle.run_laws.proofs.memory.Changes.{target_changes}
 use Rattle.run_laws.proofs.memory.Itself.{owner_rights_fit}
 use Rattle.run_laws.proofs.memory.Written.{changed_elsewhere, same_some}
 use Rattle.run_laws.specs.embedded.Making.{whole_home}
 use Rattle.run_laws.specs.memory.Pointers.{Home, IsValue, home_of}
 use Rattle.run_laws.specs.memory.Standing.{Embeds, blank_block}
-use Rattle.run_memory.specs.Memory.{is_live, may_compare_at, owner_rights, same_kind, with_block}
-use Rattle.run_memory.specs.Pointers.{moved, offset_of}
-use Rattle.run_memory.specs.declared.block.Byte.{Byte}
-use Rattle.run_memory.specs.declared.block.Kind.{Kind}
-use Rattle.run_memory.specs.declared.block.Life.{Life}
-use Rattle.run_memory.specs.declared.block.MemoryBlock.{MemoryBlock}
-use Rattle.run_memory.specs.declared.pointer.Offset.{Offset}
-use Rattle.run_memory.specs.declared.pointer.Pointer.{Pointer}
-use Rattle.run_memory.specs.declared.pointer.Value.{Value}
-use Rattle.run_source.specs.State.{with_instance, with_slots}
-use Rattle.run_source.specs.declared.state.Instance.{Instance}
-use Rattle.run_source.specs.declared.state.State.{State}
-use Rattle.run_step.specs.Step.{alloca_kind}
-use Rattle.run_step.specs.Values.{pointer_to}
-use Rattle.run_step.specs.declared.world.World.{World}
+use Rattle.pass_kept_proof.specs.run_memory.Memory.{is_live, may_compare_at, owner_rights, same_kind, with_block}
+use Rattle.pass_kept_proof.specs.run_memory.Pointers.{moved, offset_of}
+use Rattle.pass_kept_proof.specs.run_memory.declared.block.Byte.{Byte}
+use Rattle.pass_kept_proof.specs.run_memory.declared.block.Kind.{Kind}
+use Rattle.pass_kept_proof.specs.run_memory.declared.block.Life.{Life}
+use Rattle.pass_kept_proof.specs.run_memory.declared.block.MemoryBlock.{MemoryBlock}
+use Rattle.pass_kept_proof.specs.run_memory.declared.pointer.Offset.{Offset}
+use Rattle.pass_kept_proof.specs.run_memory.declared.pointer.Pointer.{Pointer}
+use Rattle.pass_kept_proof.specs.run_memory.declared.pointer.Value.{Value}
+use Rattle.pass_kept_proof.specs.run_source.State.{with_instance, with_slots}
+use Rattle.pass_kept_proof.specs.run_source.declared.state.Instance.{Instance}
+use Rattle.pass_kept_proof.specs.run_source.declared.state.State.{State}
+use Rattle.pass_kept_proof.specs.run_step.Step.{alloca_kind}
+use Rattle.pass_kept_proof.specs.run_step.Values.{pointer_to}
+use Rattle.pass_kept_proof.specs.run_step.declared.world.World.{World}
 use Rattle.pass_renewed_proof.proofs.Anew.{about_there}
 use Rattle.pass_renewed_proof.proofs.Giving.{gives_at}
 use Rattle.pass_renewed_proof.proofs.Grown.{block_stands, home_before, home_now, muted_was, not_hidden}

@@ -3,20 +3,20 @@ use Rattle.std.proofs.Common.{◌≡◌, ℕ, zero, suc, ◌+◌, Bool, true, fa
 use Rattle.std.proofs.Common.{sym, ap, ◌∙◌, subst, arith, if◌then◌else◌, ◌&&◌, ◌==◌}
 use Rattle.std.proofs.lemmas.Bool.{false≢true}
 use Rattle.std.specs.Prelude.{option_and_then, option_map, slice_get}
-use Rattle.ir_model.specs.declared.module.Module.{Module}
+use Rattle.pass_kept_proof.specs.ir_model.declared.module.Module.{Module}
 use Rattle.run_laws.specs.embedded.Making.{whole_home}
 use Rattle.run_laws.specs.memory.Pointers.{Home, IsValue, home_of}
-use Rattle.run_memory.specs.Pointers.{moved, offset_of}
-use Rattle.run_memory.specs.declared.block.MemoryBlock.{MemoryBlock}
-use Rattle.run_memory.specs.declared.pointer.Offset.{Offset}
-use Rattle.run_memory.specs.declared.pointer.Pointer.{Pointer}
-use Rattle.run_memory.specs.declared.pointer.Value.{Value}
-use Rattle.run_source.specs.Source.{frame_address}
-use Rattle.run_source.specs.State.{address_in, began_at, instance_at, last_from, last_where, numbered}
-use Rattle.run_source.specs.State.{or_else, own_instance}
-use Rattle.run_source.specs.declared.state.Activation.{Activation}
-use Rattle.run_source.specs.declared.state.Instance.{Instance}
-use Rattle.run_source.specs.declared.state.State.{State}
+use Rattle.pass_kept_proof.specs.run_memory.Pointers.{moved, offset_of}
+use Rattle.pass_kept_proof.specs.run_memory.declared.block.MemoryBlock.{MemoryBlock}
+use Rattle.pass_kept_proof.specs.run_memory.declared.pointer.Offset.{Offset}
+use Rattle.pass_kept_proof.specs.run_memory.declared.pointer.Pointer.{Pointer}
+use Rattle.pass_kept_proof.specs.run_memory.declared.pointer.Value.{Value}
+use Rattle.pass_kept_proof.specs.run_source.Source.{frame_address}
+use Rattle.pass_kept_proof.specs.run_source.State.{address_in, began_at, instance_at, last_from, last_where, numbered}
+use Rattle.pass_kept_proof.specs.run_source.State.{or_else, own_instance}
+use Rattle.pass_kept_proof.specs.run_source.declared.state.Activation.{Activation}
+use Rattle.pass_kept_proof.specs.run_source.declared.state.Instance.{Instance}
+use Rattle.pass_kept_proof.specs.run_source.declared.state.State.{State}
 use Rattle.pass_renewed_proof.proofs.Listing.{instance_beside}
 use Rattle.pass_renewed_proof.specs.Beside.{AreInstancesBeside, IsBeside, IsInstanceBeside}
 use Rattle.pass_renewed_proof.specs.Found.{AreFound}

@@ -3,31 +3,31 @@ use Rattle.std.proofs.Common.{◌≡◌, ℕ, ◌+◌, ◌<◌, ◌⊎◌, inl, 
 use Rattle.std.proofs.Common.{refl, sym, ap, ◌∙◌, subst, ⊎_elim, arith, if◌then◌else◌, ◌&&◌, ◌==◌}
 use Rattle.std.proofs.lemmas.Bool.{cases_eq, cases_lt}
 use Rattle.std.specs.Prelude.{IsTrue, slice_get, not, ℤ}
-use Rattle.ir_model.specs.Names.{function_at}
-use Rattle.ir_model.specs.Ty.{Ty}
-use Rattle.ir_model.specs.declared.instr.Instr.{Instr}
-use Rattle.ir_model.specs.declared.module.Function.{Function}
-use Rattle.ir_model.specs.declared.module.Module.{Module}
-use Rattle.ir_model.specs.declared.operand.Arg.{Arg}
-use Rattle.ir_model.specs.declared.operand.Operand.{Operand}
-use Rattle.ir_paths.specs.declared.point.Point.{Point}
+use Rattle.pass_kept_proof.specs.ir_model.Names.{function_at}
+use Rattle.pass_kept_proof.specs.ir_model.Ty.{Ty}
+use Rattle.pass_kept_proof.specs.ir_model.declared.instr.Instr.{Instr}
+use Rattle.pass_kept_proof.specs.ir_model.declared.module.Function.{Function}
+use Rattle.pass_kept_proof.specs.ir_model.declared.module.Module.{Module}
+use Rattle.pass_kept_proof.specs.ir_model.declared.operand.Arg.{Arg}
+use Rattle.pass_kept_proof.specs.ir_model.declared.operand.Operand.{Operand}
+use Rattle.pass_kept_proof.specs.ir_paths.declared.point.Point.{Point}
 use Rattle.pass_kept_proof.proofs.Same.{eq_itself, or_left}
 use Rattle.pass_kept_proof.specs.Needed.{reads_at}
 use Rattle.run_laws.specs.embedded.Related.{HasBytes, HasDistance, HasNoSlot, IsSameDistance}
 use Rattle.run_laws.specs.memory.Pointers.{Home, IsValue}
-use Rattle.run_memory.specs.Memory.{owner_rights}
-use Rattle.run_memory.specs.Pointers.{moved}
-use Rattle.run_memory.specs.declared.block.MemoryBlock.{MemoryBlock}
-use Rattle.run_memory.specs.declared.pointer.Offset.{Offset}
-use Rattle.run_memory.specs.declared.pointer.Pointer.{Pointer}
-use Rattle.run_memory.specs.declared.pointer.Value.{Value}
-use Rattle.run_source.specs.declared.state.Activation.{Activation}
-use Rattle.run_source.specs.State.{settled, work_of}
-use Rattle.run_source.specs.declared.state.Instance.{Instance}
-use Rattle.run_source.specs.declared.state.State.{State}
-use Rattle.run_step.specs.Step.{AtInstr, Context, Fetched, Work, fetch}
-use Rattle.run_step.specs.Values.{Env, distance, element, indices_of, is_in_bounds, pointer_to, value_in, with_value}
-use Rattle.run_step.specs.declared.world.World.{World}
+use Rattle.pass_kept_proof.specs.run_memory.Memory.{owner_rights}
+use Rattle.pass_kept_proof.specs.run_memory.Pointers.{moved}
+use Rattle.pass_kept_proof.specs.run_memory.declared.block.MemoryBlock.{MemoryBlock}
+use Rattle.pass_kept_proof.specs.run_memory.declared.pointer.Offset.{Offset}
+use Rattle.pass_kept_proof.specs.run_memory.declared.pointer.Pointer.{Pointer}
+use Rattle.pass_kept_proof.specs.run_memory.declared.pointer.Value.{Value}
+use Rattle.pass_kept_proof.specs.run_source.declared.state.Activation.{Activation}
+use Rattle.pass_kept_proof.specs.run_source.State.{settled, work_of}
+use Rattle.pass_kept_proof.specs.run_source.declared.state.Instance.{Instance}
+use Rattle.pass_kept_proof.specs.run_source.declared.state.State.{State}
+use Rattle.pass_kept_proof.specs.run_step.Step.{AtInstr, Context, Fetched, Work, fetch}
+use Rattle.pass_kept_proof.specs.run_step.Values.{Env, distance, element, indices_of, is_in_bounds, pointer_to, value_in, with_value}
+use Rattle.pass_kept_proof.specs.run_step.declared.world.World.{World}
 use Rattle.pass_renewed_proof.proofs.Ahead.{next_edge}
 use Rattle.pass_renewed_proof.proofs.Carried.{others_on, same_carried, same_kept}
 use Rattle.pass_renewed_proof.proofs.Chosen.{beyond, placed, target_of}

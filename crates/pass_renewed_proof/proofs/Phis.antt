@@ -4,19 +4,19 @@ use Rattle.std.proofs.Common.{Some, None, refl, sym, ap, ◌∙◌, ⊎_elim, ar
 use Rattle.std.proofs.lemmas.Bool.{false≢true}
 use Rattle.std.specs.List.{list_any}
 use Rattle.std.specs.Prelude.{IsFalse, slice_get}
-use Rattle.flow_solver.specs.Paths.{IsListed}
-use Rattle.ir_model.specs.Names.{is_local}
-use Rattle.ir_model.specs.declared.instr.Incoming.{Incoming}
-use Rattle.ir_model.specs.declared.instr.Phi.{Phi}
-use Rattle.ir_model.specs.declared.instr.Terminator.{Terminator}
-use Rattle.ir_model.specs.declared.module.Block.{Block}
-use Rattle.ir_model.specs.declared.module.Function.{Function}
-use Rattle.ir_model.specs.declared.module.Module.{Module}
-use Rattle.ir_model.specs.declared.operand.Arg.{Arg}
-use Rattle.ir_model.specs.declared.operand.Intrinsic.{Intrinsic}
-use Rattle.ir_paths.specs.Paths.{has_point}
-use Rattle.ir_paths.specs.Slots.{is_in_args}
-use Rattle.ir_paths.specs.declared.point.Point.{Point}
+use Rattle.pass_kept_proof.specs.flow_solver.Paths.{IsListed}
+use Rattle.pass_kept_proof.specs.ir_model.Names.{is_local}
+use Rattle.pass_kept_proof.specs.ir_model.declared.instr.Incoming.{Incoming}
+use Rattle.pass_kept_proof.specs.ir_model.declared.instr.Phi.{Phi}
+use Rattle.pass_kept_proof.specs.ir_model.declared.instr.Terminator.{Terminator}
+use Rattle.pass_kept_proof.specs.ir_model.declared.module.Block.{Block}
+use Rattle.pass_kept_proof.specs.ir_model.declared.module.Function.{Function}
+use Rattle.pass_kept_proof.specs.ir_model.declared.module.Module.{Module}
+use Rattle.pass_kept_proof.specs.ir_model.declared.operand.Arg.{Arg}
+use Rattle.pass_kept_proof.specs.ir_model.declared.operand.Intrinsic.{Intrinsic}
+use Rattle.pass_kept_proof.specs.ir_paths.Paths.{has_point}
+use Rattle.pass_kept_proof.specs.ir_paths.Slots.{is_in_args}
+use Rattle.pass_kept_proof.specs.ir_paths.declared.point.Point.{Point}
 use Rattle.frame_slots.specs.Uses.{ends_of}
 use Rattle.pass_kept_proof.proofs.Same.{either, neither, or_left, or_right}
 use Rattle.pass_kept_proof.specs.Needed.{BranchesTo, phis_give}
@@ -24,11 +24,11 @@ use Rattle.pass_kept_proof.specs.SuspendRules.{IsCallAt}
 use Rattle.rule_window_values.specs.Kept.{phis_in}
 use Rattle.run_laws.specs.embedded.Related.{AreValues}
 use Rattle.run_laws.specs.memory.Pointers.{Home, IsValue}
-use Rattle.run_memory.specs.declared.pointer.Value.{Value}
-use Rattle.run_step.specs.Step.{AtInstr, AtTerm, Fetched, Nowhere, fetch, fetch_in, incoming_from, phi_values}
-use Rattle.run_step.specs.Step.{phis_of, with_all}
-use Rattle.run_step.specs.Values.{Env, arg_values, operand_value, value_in, with_value}
-use Rattle.run_step.specs.declared.world.World.{World}
+use Rattle.pass_kept_proof.specs.run_memory.declared.pointer.Value.{Value}
+use Rattle.pass_kept_proof.specs.run_step.Step.{AtInstr, AtTerm, Fetched, Nowhere, fetch, fetch_in, incoming_from, phi_values}
+use Rattle.pass_kept_proof.specs.run_step.Step.{phis_of, with_all}
+use Rattle.pass_kept_proof.specs.run_step.Values.{Env, arg_values, operand_value, value_in, with_value}
+use Rattle.pass_kept_proof.specs.run_step.declared.world.World.{World}
 use Rattle.pass_renewed_proof.proofs.Giving.{given_set}
 use Rattle.pass_renewed_proof.proofs.History.{no_marker}
 use Rattle.pass_renewed_proof.proofs.Sets.{set_elsewhere}

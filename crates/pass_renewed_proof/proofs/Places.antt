@@ -2,14 +2,14 @@
 use Rattle.std.proofs.Common.{◌≡◌, ◌≢◌, ℕ, zero, suc, ◌+◌, ◌%◌, ◌^◌, ◌<◌, ◌≤◌, inl, Bool, true, false, not, List, [], ◌∷◌, ◌++◌, length, get_or, Option, Some, None, refl, sym, ap, ◌∙◌, subst, ⊎_elim, arith, if◌then◌else◌, ◌&&◌, ◌||◌, ◌==◌, nat_le}
 use Rattle.std.proofs.lemmas.Bool.{cases_eq, false≢true}
 use Rattle.std.specs.Prelude.{slice_get, option_map}
-use Rattle.run_memory.specs.Memory.{end, ended, fresh, is_below, is_live, killed_block, may_compare, may_compare_at, owner_rights, start, started, with_block}
-use Rattle.run_memory.specs.Pointers.{moved}
-use Rattle.run_memory.specs.declared.block.Byte.{Byte}
-use Rattle.run_memory.specs.declared.block.Kind.{Kind}
-use Rattle.run_memory.specs.declared.block.MemoryBlock.{MemoryBlock}
-use Rattle.run_memory.specs.declared.pointer.Offset.{Offset}
-use Rattle.run_memory.specs.declared.pointer.Pointer.{Pointer}
-use Rattle.run_memory.specs.declared.pointer.Value.{Value}
+use Rattle.pass_kept_proof.specs.run_memory.Memory.{end, ended, fresh, is_below, is_live, killed_block, may_compare, may_compare_at, owner_rights, start, started, with_block}
+use Rattle.pass_kept_proof.specs.run_memory.Pointers.{moved}
+use Rattle.pass_kept_proof.specs.run_memory.declared.block.Byte.{Byte}
+use Rattle.pass_kept_proof.specs.run_memory.declared.block.Kind.{Kind}
+use Rattle.pass_kept_proof.specs.run_memory.declared.block.MemoryBlock.{MemoryBlock}
+use Rattle.pass_kept_proof.specs.run_memory.declared.pointer.Offset.{Offset}
+use Rattle.pass_kept_proof.specs.run_memory.declared.pointer.Pointer.{Pointer}
+use Rattle.pass_kept_proof.specs.run_memory.declared.pointer.Value.{Value}
 use Rattle.run_laws.proofs.memory.Changes.{blank_stands, reseated, target_changes, target_grows}
 use Rattle.run_laws.proofs.memory.Itself.{owner_rights_fit}
 use Rattle.run_laws.proofs.memory.Written.{changed_elsewhere, changed_here, same_some}

@@ -6,32 +6,32 @@ use Rattle.std.proofs.lemmas.Bool.{eqb-true, false≢true}
 use Rattle.std.specs.Option.{option_map_or}
 use Rattle.std.specs.Prelude.{IsTrue, cond, find, option_and_then, option_map, option_to_list, slice_get}
 use Rattle.pass_kept_proof.proofs.Same.{or_left}
-use Rattle.ir_base.specs.declared.cause.Cause.{Cause}
-use Rattle.ir_model.specs.Names.{function_at}
-use Rattle.ir_model.specs.declared.instr.Instr.{Instr}
-use Rattle.ir_model.specs.declared.module.Module.{Module}
-use Rattle.ir_model.specs.declared.operand.Operand.{Operand}
-use Rattle.ir_paths.specs.Slots.{has_name, promise_of}
+use Rattle.pass_kept_proof.specs.ir_base.declared.cause.Cause.{Cause}
+use Rattle.pass_kept_proof.specs.ir_model.Names.{function_at}
+use Rattle.pass_kept_proof.specs.ir_model.declared.instr.Instr.{Instr}
+use Rattle.pass_kept_proof.specs.ir_model.declared.module.Module.{Module}
+use Rattle.pass_kept_proof.specs.ir_model.declared.operand.Operand.{Operand}
+use Rattle.pass_kept_proof.specs.ir_paths.Slots.{has_name, promise_of}
 use Rattle.frame_classes.specs.Classes.{Promise}
 use Rattle.run_laws.proofs.memory.Written.{same_some}
 use Rattle.run_laws.specs.embedded.Making.{whole_home}
 use Rattle.run_laws.specs.memory.Pointers.{Home, IsValue, home_of}
-use Rattle.run_memory.specs.Memory.{is_live}
-use Rattle.run_memory.specs.Pointers.{moved, offset_of}
-use Rattle.run_memory.specs.declared.block.MemoryBlock.{MemoryBlock}
-use Rattle.run_memory.specs.declared.pointer.Offset.{Offset}
-use Rattle.run_memory.specs.declared.pointer.Pointer.{Pointer}
-use Rattle.run_memory.specs.declared.pointer.Value.{Value}
-use Rattle.run_source.specs.Source.{block_of_slot, frame_of_promise, has_promise_at, is_live_at, is_over, promise}
-use Rattle.run_source.specs.Source.{promise_block, promise_of_frame}
-use Rattle.run_source.specs.State.{frame_address_of, gives, instance_at, is_finished}
-use Rattle.run_source.specs.declared.state.Instance.{Instance}
-use Rattle.run_source.specs.declared.state.State.{State}
-use Rattle.run_source.specs.declared.state.Status.{Status}
-use Rattle.run_source_tables.specs.Given.{Given, is_true}
-use Rattle.run_step.specs.Results.{and_then, found, ok_if}
-use Rattle.run_step.specs.Values.{pointer_to}
-use Rattle.run_step.specs.declared.world.Slot.{Slot}
+use Rattle.pass_kept_proof.specs.run_memory.Memory.{is_live}
+use Rattle.pass_kept_proof.specs.run_memory.Pointers.{moved, offset_of}
+use Rattle.pass_kept_proof.specs.run_memory.declared.block.MemoryBlock.{MemoryBlock}
+use Rattle.pass_kept_proof.specs.run_memory.declared.pointer.Offset.{Offset}
+use Rattle.pass_kept_proof.specs.run_memory.declared.pointer.Pointer.{Pointer}
+use Rattle.pass_kept_proof.specs.run_memory.declared.pointer.Value.{Value}
+use Rattle.pass_kept_proof.specs.run_source.Source.{block_of_slot, frame_of_promise, has_promise_at, is_live_at, is_over, promise}
+use Rattle.pass_kept_proof.specs.run_source.Source.{promise_block, promise_of_frame}
+use Rattle.pass_kept_proof.specs.run_source.State.{frame_address_of, gives, instance_at, is_finished}
+use Rattle.pass_kept_proof.specs.run_source.declared.state.Instance.{Instance}
+use Rattle.pass_kept_proof.specs.run_source.declared.state.State.{State}
+use Rattle.pass_kept_proof.specs.run_source.declared.state.Status.{Status}
+use Rattle.pass_kept_proof.specs.run_source_tables.Given.{Given, is_true}
+use Rattle.pass_kept_proof.specs.run_step.Results.{and_then, found, ok_if}
+use Rattle.pass_kept_proof.specs.run_step.Values.{pointer_to}
+use Rattle.pass_kept_proof.specs.run_step.declared.world.Slot.{Slot}
 use Rattle.pass_renewed_proof.proofs.Anew.{present_block}
 use Rattle.pass_renewed_proof.proofs.Giving.{gives_beside}
 use Rattle.pass_renewed_proof.proofs.Owning.{address_of, found_beside}

@@ -4,19 +4,19 @@ use Rattle.std.proofs.Common.{ap, ◌∙◌, ◌||◌, ◌&&◌, ◌==◌, arith
 use Rattle.std.proofs.lemmas.List.Folds.{list_any-append}
 use Rattle.std.proofs.lemmas.Map.Views.{any-filter_same}
 use Rattle.std.specs.Prelude.{IsTrue, filter, flat_map, slice_get}
-use Rattle.ir_model.specs.Ty.{Ty}
-use Rattle.ir_model.specs.declared.instr.Instr.{Instr}
-use Rattle.ir_model.specs.declared.instr.Terminator.{Terminator}
-use Rattle.ir_model.specs.declared.module.Block.{Block}
-use Rattle.ir_model.specs.declared.module.Function.{Function}
-use Rattle.ir_model.specs.declared.module.Module.{Module}
-use Rattle.ir_paths.specs.Facts.{AreFactsOf}
-use Rattle.ir_paths.specs.Slots.{allocas_in, allocas_of, has_name}
-use Rattle.ir_paths.specs.declared.point.Facts.{Facts}
+use Rattle.pass_kept_proof.specs.ir_model.Ty.{Ty}
+use Rattle.pass_kept_proof.specs.ir_model.declared.instr.Instr.{Instr}
+use Rattle.pass_kept_proof.specs.ir_model.declared.instr.Terminator.{Terminator}
+use Rattle.pass_kept_proof.specs.ir_model.declared.module.Block.{Block}
+use Rattle.pass_kept_proof.specs.ir_model.declared.module.Function.{Function}
+use Rattle.pass_kept_proof.specs.ir_model.declared.module.Module.{Module}
+use Rattle.pass_kept_proof.specs.ir_paths.Facts.{AreFactsOf}
+use Rattle.pass_kept_proof.specs.ir_paths.Slots.{allocas_in, allocas_of, has_name}
+use Rattle.pass_kept_proof.specs.ir_paths.declared.point.Facts.{Facts}
 use Rattle.pass_kept_proof.proofs.Same.{eq_itself, or_left}
-use Rattle.run_source.specs.Source.{is_among}
-use Rattle.run_step.specs.Step.{AtInstr, fetch_in, fetch_or}
-use Rattle.run_step.specs.declared.world.Slot.{Slot}
+use Rattle.pass_kept_proof.specs.run_source.Source.{is_among}
+use Rattle.pass_kept_proof.specs.run_step.Step.{AtInstr, fetch_in, fetch_or}
+use Rattle.pass_kept_proof.specs.run_step.declared.world.Slot.{Slot}
 use Rattle.pass_renewed_proof.specs.Renewed.{renewed_facts}
 use Rattle.pass_renewed_proof.specs.SlotRules.{KeepsSlots}
 

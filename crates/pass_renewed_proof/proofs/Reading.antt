@@ -3,23 +3,23 @@ use Rattle.std.proofs.Common.{◌≡◌, ℕ, zero, suc, Bool, true, false, List
 use Rattle.std.proofs.Common.{ap, ◌∙◌, arith, ◌==◌, ◌||◌}
 use Rattle.std.proofs.lemmas.Bool.{false≢true}
 use Rattle.std.specs.Prelude.{IsTrue, slice_get}
-use Rattle.ir_model.specs.Names.{is_local}
-use Rattle.ir_model.specs.Ty.{Ty}
-use Rattle.ir_model.specs.declared.instr.Instr.{Instr}
-use Rattle.ir_model.specs.declared.module.Block.{Block}
-use Rattle.ir_model.specs.declared.module.Function.{Function}
-use Rattle.ir_model.specs.declared.operand.Arg.{Arg}
-use Rattle.ir_model.specs.declared.operand.Callee.{Callee}
-use Rattle.ir_model.specs.declared.operand.Intrinsic.{Intrinsic}
-use Rattle.ir_paths.specs.Slots.{addresses_of, has_name, is_in_args, occurs}
-use Rattle.ir_paths.specs.Windows.{instr_in, operand_at}
-use Rattle.ir_paths.specs.declared.point.Point.{Point}
+use Rattle.pass_kept_proof.specs.ir_model.Names.{is_local}
+use Rattle.pass_kept_proof.specs.ir_model.Ty.{Ty}
+use Rattle.pass_kept_proof.specs.ir_model.declared.instr.Instr.{Instr}
+use Rattle.pass_kept_proof.specs.ir_model.declared.module.Block.{Block}
+use Rattle.pass_kept_proof.specs.ir_model.declared.module.Function.{Function}
+use Rattle.pass_kept_proof.specs.ir_model.declared.operand.Arg.{Arg}
+use Rattle.pass_kept_proof.specs.ir_model.declared.operand.Callee.{Callee}
+use Rattle.pass_kept_proof.specs.ir_model.declared.operand.Intrinsic.{Intrinsic}
+use Rattle.pass_kept_proof.specs.ir_paths.Slots.{addresses_of, has_name, is_in_args, occurs}
+use Rattle.pass_kept_proof.specs.ir_paths.Windows.{instr_in, operand_at}
+use Rattle.pass_kept_proof.specs.ir_paths.declared.point.Point.{Point}
 use Rattle.frame_slots.specs.Spots.{At, IsUse}
 use Rattle.frame_slots.specs.Uses.{ByInstr, ByTerm, UsesAt, is_no_use_in}
 use Rattle.pass_kept_proof.proofs.Same.{or_left, or_right}
 use Rattle.pass_kept_proof.specs.Needed.{reads, reads_at, reads_intrinsic}
 use Rattle.run_laws.specs.embedded.Related.{HasNoSlot}
-use Rattle.run_step.specs.Step.{AtInstr, fetch, fetch_in, fetch_or}
+use Rattle.pass_kept_proof.specs.run_step.Step.{AtInstr, fetch, fetch_in, fetch_or}
 
 in_args : (v : ℕ) (args : List Arg) (k : ℕ) → is_local v (operand_at args k) ≡ true → is_in_args v args ≡ true
 in_args v [] k h = absurd (false≢true h)

@@ -3,19 +3,19 @@ use Rattle.std.proofs.Common.{◌≡◌, ◌≢◌, ℕ, suc, ◌+◌, ◌^◌, 
 use Rattle.std.proofs.lemmas.Bool.{cases_eq, false≢true}
 use Rattle.std.proofs.lemmas.List.{get_or-set_same, length-set}
 use Rattle.std.specs.Prelude.{not, option_map, slice_get, ◌&&◌, ◌==◌}
-use Rattle.run_memory.specs.Memory.{may_compare_at, owner_rights}
-use Rattle.run_memory.specs.Pointers.{moved}
-use Rattle.run_memory.specs.declared.block.MemoryBlock.{MemoryBlock}
-use Rattle.run_memory.specs.declared.pointer.Offset.{Offset}
-use Rattle.run_memory.specs.declared.pointer.Pointer.{Pointer}
-use Rattle.run_memory.specs.declared.pointer.Value.{Value}
-use Rattle.run_memory.specs.declared.block.Byte.{Byte}
-use Rattle.flow_solver.specs.Paths.{IsListed}
+use Rattle.pass_kept_proof.specs.run_memory.Memory.{may_compare_at, owner_rights}
+use Rattle.pass_kept_proof.specs.run_memory.Pointers.{moved}
+use Rattle.pass_kept_proof.specs.run_memory.declared.block.MemoryBlock.{MemoryBlock}
+use Rattle.pass_kept_proof.specs.run_memory.declared.pointer.Offset.{Offset}
+use Rattle.pass_kept_proof.specs.run_memory.declared.pointer.Pointer.{Pointer}
+use Rattle.pass_kept_proof.specs.run_memory.declared.pointer.Value.{Value}
+use Rattle.pass_kept_proof.specs.run_memory.declared.block.Byte.{Byte}
+use Rattle.pass_kept_proof.specs.flow_solver.Paths.{IsListed}
 use Rattle.run_laws.proofs.memory.Homes.{byte_on, move_extends, value_on}
 use Rattle.run_laws.specs.memory.Pointers.{Extends, Home, IsByte, IsValue, home_of, nowhere}
 use Rattle.run_laws.specs.memory.Standing.{HasBounds, HasRights, IsAlignment, IsOpen, byte_of}
-use Rattle.run_step.specs.Step.{Context, Fetched, Work, action_of}
-use Rattle.run_step.specs.Values.{element}
+use Rattle.pass_kept_proof.specs.run_step.Step.{Context, Fetched, Work, action_of}
+use Rattle.pass_kept_proof.specs.run_step.Values.{element}
 use Rattle.pass_renewed_proof.proofs.Muted.{element_muted, muted_get}
 use Rattle.pass_renewed_proof.proofs.Places.{forgotten, muted_at, seated, showing_it, showing_others, unowned_compares}
 use Rattle.pass_renewed_proof.proofs.Steps.{step_over}

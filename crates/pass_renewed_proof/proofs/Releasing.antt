@@ -4,18 +4,18 @@ use Rattle.std.proofs.Common.{sym, ap, ◌∙◌, ◌+◌, arith, subst, ⊎_eli
 use Rattle.std.proofs.lemmas.Bool.{cases_eq}
 use Rattle.std.specs.List.{Contains}
 use Rattle.std.specs.Prelude.{option_and_then, option_map, slice_get, slice_set}
-use Rattle.ir_model.specs.Names.{function_at}
-use Rattle.ir_model.specs.declared.instr.Instr.{Instr}
-use Rattle.ir_model.specs.declared.module.Module.{Module}
+use Rattle.pass_kept_proof.specs.ir_model.Names.{function_at}
+use Rattle.pass_kept_proof.specs.ir_model.declared.instr.Instr.{Instr}
+use Rattle.pass_kept_proof.specs.ir_model.declared.module.Module.{Module}
 use Rattle.run_laws.proofs.memory.Written.{same_some}
 use Rattle.run_laws.specs.memory.Pointers.{IsValue}
-use Rattle.run_memory.specs.declared.pointer.Value.{Value}
-use Rattle.run_source.specs.Source.{change_own, frame_address, is_over, release}
-use Rattle.run_source.specs.State.{gives, is_suspended, numbered, own_instance, with_instance}
-use Rattle.run_source.specs.declared.state.Activation.{Activation}
-use Rattle.run_source.specs.declared.state.Instance.{Instance}
-use Rattle.run_source.specs.declared.state.State.{State}
-use Rattle.run_step.specs.declared.world.Slot.{Slot}
+use Rattle.pass_kept_proof.specs.run_memory.declared.pointer.Value.{Value}
+use Rattle.pass_kept_proof.specs.run_source.Source.{change_own, frame_address, is_over, release}
+use Rattle.pass_kept_proof.specs.run_source.State.{gives, is_suspended, numbered, own_instance, with_instance}
+use Rattle.pass_kept_proof.specs.run_source.declared.state.Activation.{Activation}
+use Rattle.pass_kept_proof.specs.run_source.declared.state.Instance.{Instance}
+use Rattle.pass_kept_proof.specs.run_source.declared.state.State.{State}
+use Rattle.pass_kept_proof.specs.run_step.declared.world.Slot.{Slot}
 use Rattle.pass_renewed_proof.proofs.Giving.{gives_beside}
 use Rattle.pass_renewed_proof.proofs.Listing.{instances_on, instances_set, set_here, set_other, status_like}
 use Rattle.pass_renewed_proof.proofs.Owning.{address_of, own_beside}

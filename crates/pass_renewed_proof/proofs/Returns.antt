@@ -3,35 +3,35 @@ use Rattle.std.proofs.Common.{◌≡◌, ◌≢◌, ℕ, Bool, true, false, List
 use Rattle.std.proofs.Common.{None, Result, Ok, Err, refl, sym, ap, ◌∙◌, subst, ⊎_elim, ◌==◌}
 use Rattle.std.proofs.lemmas.Bool.{false≢true}
 use Rattle.std.specs.Prelude.{IsTrue, option_map, slice_get, ℤ}
-use Rattle.ir_base.specs.declared.cause.Cause.{Cause}
-use Rattle.ir_base.specs.declared.outcome.Event.{Event}
-use Rattle.ir_base.specs.declared.outcome.Outcome.{Outcome}
-use Rattle.ir_model.specs.Names.{function_at}
-use Rattle.ir_model.specs.declared.instr.Instr.{Instr}
-use Rattle.ir_model.specs.declared.instr.Terminator.{Terminator}
-use Rattle.ir_model.specs.declared.module.Block.{Block}
-use Rattle.ir_model.specs.declared.module.Function.{Function}
-use Rattle.ir_model.specs.declared.module.Module.{Module}
-use Rattle.ir_model.specs.declared.operand.Arg.{Arg}
-use Rattle.ir_model.specs.declared.operand.Intrinsic.{Intrinsic}
-use Rattle.ir_paths.specs.Slots.{has_name, is_escaped, occurs_in_term}
-use Rattle.ir_paths.specs.Paths.{targets}
-use Rattle.ir_paths.specs.Windows.{resume_label}
-use Rattle.ir_paths.specs.declared.point.Point.{Point}
+use Rattle.pass_kept_proof.specs.ir_base.declared.cause.Cause.{Cause}
+use Rattle.pass_kept_proof.specs.ir_base.declared.outcome.Event.{Event}
+use Rattle.pass_kept_proof.specs.ir_base.declared.outcome.Outcome.{Outcome}
+use Rattle.pass_kept_proof.specs.ir_model.Names.{function_at}
+use Rattle.pass_kept_proof.specs.ir_model.declared.instr.Instr.{Instr}
+use Rattle.pass_kept_proof.specs.ir_model.declared.instr.Terminator.{Terminator}
+use Rattle.pass_kept_proof.specs.ir_model.declared.module.Block.{Block}
+use Rattle.pass_kept_proof.specs.ir_model.declared.module.Function.{Function}
+use Rattle.pass_kept_proof.specs.ir_model.declared.module.Module.{Module}
+use Rattle.pass_kept_proof.specs.ir_model.declared.operand.Arg.{Arg}
+use Rattle.pass_kept_proof.specs.ir_model.declared.operand.Intrinsic.{Intrinsic}
+use Rattle.pass_kept_proof.specs.ir_paths.Slots.{has_name, is_escaped, occurs_in_term}
+use Rattle.pass_kept_proof.specs.ir_paths.Paths.{targets}
+use Rattle.pass_kept_proof.specs.ir_paths.Windows.{resume_label}
+use Rattle.pass_kept_proof.specs.ir_paths.declared.point.Point.{Point}
 use Rattle.frame_slots.specs.Spots.{At}
 use Rattle.pass_kept_proof.specs.Needed.{reads_at}
 use Rattle.run_laws.specs.embedded.Related.{HasNoSlot, moved_event}
-use Rattle.run_memory.specs.Memory.{owner_rights}
-use Rattle.run_memory.specs.declared.pointer.Value.{Value}
-use Rattle.run_source.specs.Source.{given_back, pop, return, returned}
-use Rattle.run_source.specs.State.{work_of}
-use Rattle.run_source.specs.declared.state.Activation.{Activation}
-use Rattle.run_source.specs.declared.state.State.{State}
-use Rattle.run_step.specs.Results.{and_then}
-use Rattle.run_step.specs.Runs.{seen_event, seen_of}
-use Rattle.run_step.specs.Step.{AtTerm, Fetched, Return, action_of, fetch, fetch_in, fetch_or}
-use Rattle.run_step.specs.Step.{outcome_of, without_slots}
-use Rattle.run_step.specs.Values.{Env, arg_value}
+use Rattle.pass_kept_proof.specs.run_memory.Memory.{owner_rights}
+use Rattle.pass_kept_proof.specs.run_memory.declared.pointer.Value.{Value}
+use Rattle.pass_kept_proof.specs.run_source.Source.{given_back, pop, return, returned}
+use Rattle.pass_kept_proof.specs.run_source.State.{work_of}
+use Rattle.pass_kept_proof.specs.run_source.declared.state.Activation.{Activation}
+use Rattle.pass_kept_proof.specs.run_source.declared.state.State.{State}
+use Rattle.pass_kept_proof.specs.run_step.Results.{and_then}
+use Rattle.pass_kept_proof.specs.run_step.Runs.{seen_event, seen_of}
+use Rattle.pass_kept_proof.specs.run_step.Step.{AtTerm, Fetched, Return, action_of, fetch, fetch_in, fetch_or}
+use Rattle.pass_kept_proof.specs.run_step.Step.{outcome_of, without_slots}
+use Rattle.pass_kept_proof.specs.run_step.Values.{Env, arg_value}
 use Rattle.pass_renewed_proof.proofs.Phis.{no_call_term}
 use Rattle.pass_renewed_proof.proofs.Departing.{AreLeft}
 use Rattle.pass_renewed_proof.proofs.Exposing.{term_escapes}

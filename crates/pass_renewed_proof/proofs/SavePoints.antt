@@ -2,23 +2,23 @@
 use Rattle.std.proofs.Common.{◌≡◌, ℕ, ◌⊎◌, inl, inr, Bool, true, false, List, [], ◌∷◌}
 use Rattle.std.proofs.Common.{Option, refl, sym, ◌∙◌, subst, ⊎_elim}
 use Rattle.std.specs.Prelude.{IsTrue}
-use Rattle.ir_model.specs.Names.{function_at}
-use Rattle.ir_model.specs.declared.instr.Instr.{Instr}
-use Rattle.ir_model.specs.declared.module.Function.{Function}
-use Rattle.ir_model.specs.declared.module.Module.{Module}
-use Rattle.ir_model.specs.declared.operand.Intrinsic.{Intrinsic}
-use Rattle.ir_paths.specs.Paths.{IsPath, Leads, has_point, nexts}
-use Rattle.ir_paths.specs.Windows.{IsInWindow, end_block, is_call_of, points_where}
-use Rattle.ir_paths.specs.declared.point.Point.{Point}
+use Rattle.pass_kept_proof.specs.ir_model.Names.{function_at}
+use Rattle.pass_kept_proof.specs.ir_model.declared.instr.Instr.{Instr}
+use Rattle.pass_kept_proof.specs.ir_model.declared.module.Function.{Function}
+use Rattle.pass_kept_proof.specs.ir_model.declared.module.Module.{Module}
+use Rattle.pass_kept_proof.specs.ir_model.declared.operand.Intrinsic.{Intrinsic}
+use Rattle.pass_kept_proof.specs.ir_paths.Paths.{IsPath, Leads, has_point, nexts}
+use Rattle.pass_kept_proof.specs.ir_paths.Windows.{IsInWindow, end_block, is_call_of, points_where}
+use Rattle.pass_kept_proof.specs.ir_paths.declared.point.Point.{Point}
 use Rattle.frame_classes.specs.Alive.{MayBeAlive}
 use Rattle.frame_classes.specs.Classes.{suspends}
 use Rattle.frame_slots.specs.Uses.{ends_of}
 use Rattle.pass_kept_proof.proofs.Rules.{suspend_is_suspend}
 use Rattle.pass_kept_proof.specs.SuspendRules.{IsCallAt}
 use Rattle.rule_slots.specs.Closed.{IsClosed}
-use Rattle.rule_windows.specs.Points.{ends}
-use Rattle.rule_windows.specs.Sets.{IsAfterEnd, RunsOut}
-use Rattle.run_source.specs.declared.state.Activation.{Activation}
+use Rattle.pass_kept_proof.specs.rule_windows.Points.{ends}
+use Rattle.pass_kept_proof.specs.rule_windows.Sets.{IsAfterEnd, RunsOut}
+use Rattle.pass_kept_proof.specs.run_source.declared.state.Activation.{Activation}
 use Rattle.pass_renewed_proof.proofs.Ahead.{leads_more, next_edge}
 use Rattle.pass_renewed_proof.proofs.History.{alive_at_suspend, no_marker, no_start, save_ends, save_starts}
 use Rattle.pass_renewed_proof.proofs.History.{used_at_suspend}
@@ -30,7 +30,7 @@ use Rattle.pass_renewed_proof.specs.Left.{IsLeftBy, behind}
 use Rattle.pass_renewed_proof.specs.Making.{IsSaveOf}
 use Rattle.pass_renewed_proof.specs.Renewed.{Flags, Roots}
 use Rattle.pass_renewed_proof.specs.SlotRules.{IsMarkerAt, KeepsSlots}
-use Rattle.ir_model.specs.declared.operand.Callee.{Callee}
+use Rattle.pass_kept_proof.specs.ir_model.declared.operand.Callee.{Callee}
 use Rattle.pass_renewed_proof.proofs.Passing.{unended, unstarted}
 use Rattle.pass_renewed_proof.specs.Left.{AtSwitch}
 use Rattle.pass_renewed_proof.specs.Making.{IsSuspendOf}

@@ -4,15 +4,15 @@ use Rattle.std.proofs.Common.{length, Option, Some, None, refl, sym, ap, ◌∙�
 use Rattle.std.proofs.lemmas.Bool.{cases_lt, false≢true}
 use Rattle.std.specs.Prelude.{IsTrue, slice_get, ℤ}
 use Rattle.std.specs.List.{Contains}
-use Rattle.flow_solver.specs.Paths.{IsListed}
-use Rattle.ir_model.specs.Names.{function_at}
-use Rattle.ir_model.specs.Ty.{Ty, array, int, named, ptr, structure, token}
-use Rattle.ir_model.specs.declared.instr.Instr.{Instr}
-use Rattle.ir_model.specs.declared.module.Function.{Function}
-use Rattle.ir_model.specs.declared.module.Module.{Module}
-use Rattle.ir_model.specs.declared.operand.Operand.{Operand}
-use Rattle.ir_paths.specs.Paths.{has_point}
-use Rattle.ir_paths.specs.declared.point.Point.{Point}
+use Rattle.pass_kept_proof.specs.flow_solver.Paths.{IsListed}
+use Rattle.pass_kept_proof.specs.ir_model.Names.{function_at}
+use Rattle.pass_kept_proof.specs.ir_model.Ty.{Ty, array, int, named, ptr, structure, token}
+use Rattle.pass_kept_proof.specs.ir_model.declared.instr.Instr.{Instr}
+use Rattle.pass_kept_proof.specs.ir_model.declared.module.Function.{Function}
+use Rattle.pass_kept_proof.specs.ir_model.declared.module.Module.{Module}
+use Rattle.pass_kept_proof.specs.ir_model.declared.operand.Operand.{Operand}
+use Rattle.pass_kept_proof.specs.ir_paths.Paths.{has_point}
+use Rattle.pass_kept_proof.specs.ir_paths.declared.point.Point.{Point}
 use Rattle.frame_classes.specs.Classes.{NeedsFrame}
 use Rattle.frame_slots.specs.Spots.{At, IsUse}
 use Rattle.frame_slots.specs.Uses.{ends_of}
@@ -23,19 +23,19 @@ use Rattle.run_laws.specs.changed.Changed.{Each}
 use Rattle.run_laws.specs.embedded.Refilled.{AreRefilled}
 use Rattle.run_laws.specs.embedded.Related.{HasBytes, HasDistance, HasNoSlot}
 use Rattle.run_laws.specs.memory.Pointers.{Extends, Home, IsValue, home_of}
-use Rattle.run_memory.specs.Memory.{is_live, owner_rights, same_kind}
-use Rattle.run_memory.specs.declared.block.Kind.{Kind}
-use Rattle.run_memory.specs.declared.block.MemoryBlock.{MemoryBlock}
-use Rattle.run_memory.specs.Pointers.{moved}
-use Rattle.run_memory.specs.declared.pointer.Pointer.{Pointer}
-use Rattle.run_memory.specs.declared.pointer.Value.{Value}
-use Rattle.run_source.specs.State.{is_suspended, settled, work_of}
-use Rattle.run_source.specs.declared.state.Activation.{Activation}
-use Rattle.run_source.specs.declared.state.Instance.{Instance}
-use Rattle.run_source.specs.declared.state.State.{State}
-use Rattle.run_step.specs.Step.{AtInstr, Context, Done, Fetched, Work, action_of, fetch}
-use Rattle.run_step.specs.Values.{literal, operand_value, pointer_to, value_in}
-use Rattle.run_step.specs.declared.world.Slot.{Slot}
+use Rattle.pass_kept_proof.specs.run_memory.Memory.{is_live, owner_rights, same_kind}
+use Rattle.pass_kept_proof.specs.run_memory.declared.block.Kind.{Kind}
+use Rattle.pass_kept_proof.specs.run_memory.declared.block.MemoryBlock.{MemoryBlock}
+use Rattle.pass_kept_proof.specs.run_memory.Pointers.{moved}
+use Rattle.pass_kept_proof.specs.run_memory.declared.pointer.Pointer.{Pointer}
+use Rattle.pass_kept_proof.specs.run_memory.declared.pointer.Value.{Value}
+use Rattle.pass_kept_proof.specs.run_source.State.{is_suspended, settled, work_of}
+use Rattle.pass_kept_proof.specs.run_source.declared.state.Activation.{Activation}
+use Rattle.pass_kept_proof.specs.run_source.declared.state.Instance.{Instance}
+use Rattle.pass_kept_proof.specs.run_source.declared.state.State.{State}
+use Rattle.pass_kept_proof.specs.run_step.Step.{AtInstr, Context, Done, Fetched, Work, action_of, fetch}
+use Rattle.pass_kept_proof.specs.run_step.Values.{literal, operand_value, pointer_to, value_in}
+use Rattle.pass_kept_proof.specs.run_step.declared.world.Slot.{Slot}
 use Rattle.pass_renewed_proof.proofs.Accessing.{not_accessed}
 use Rattle.pass_renewed_proof.proofs.Ahead.{next_edge, used_at}
 use Rattle.pass_renewed_proof.proofs.Anew.{home_past}

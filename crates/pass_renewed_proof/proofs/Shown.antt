@@ -1,20 +1,20 @@
 -- What the operations of the memory leave has no pointer into some blocks, where what is stored has none.
 use Rattle.std.proofs.Common.{◌≡◌, ℕ, zero, suc, ◌⊎◌, inl, inr, Bool, true, false, List, [], ◌∷◌, ◌++◌, length, take, drop, replicate, Option, Some, None, Result, Ok, Err, refl, subst, if◌then◌else◌, ◌+◌, ◌/◌}
 use Rattle.std.specs.Prelude.{slice_get, slice_set}
-use Rattle.run_memory.specs.Memory.{Rights, access_bytes, are_parts, both, bytes_at, bytes_in, copied, copy, decode, digits, encode, end, ended, fresh, integer_from, is_constant, is_killed, load, number_of, on_ok, overlaps, parts, pointer_from, range, start, started, store, unless_constant, with_block, with_bytes, write}
-use Rattle.run_memory.specs.declared.block.Byte.{Byte}
-use Rattle.run_memory.specs.declared.block.Kind.{Kind}
-use Rattle.run_memory.specs.declared.block.Life.{Life}
-use Rattle.run_memory.specs.declared.block.MemoryBlock.{MemoryBlock}
-use Rattle.run_memory.specs.declared.pointer.Access.{Access}
-use Rattle.run_memory.specs.declared.pointer.Pointer.{Pointer}
-use Rattle.run_memory.specs.declared.pointer.Spot.{Spot}
-use Rattle.run_memory.specs.declared.pointer.Value.{Value}
-use Rattle.ir_base.specs.declared.cause.Cause.{Cause}
-use Rattle.run_ints.specs.declared.num.Num.{Num}
-use Rattle.run_step.specs.Step.{on_block}
-use Rattle.run_step.specs.Values.{Env, element, number_of_width, stored, value_of, value_or_poison, with_result, with_value}
-use Rattle.run_memory.specs.Pointers.{moved}
+use Rattle.pass_kept_proof.specs.run_memory.Memory.{Rights, access_bytes, are_parts, both, bytes_at, bytes_in, copied, copy, decode, digits, encode, end, ended, fresh, integer_from, is_constant, is_killed, load, number_of, on_ok, overlaps, parts, pointer_from, range, start, started, store, unless_constant, with_block, with_bytes, write}
+use Rattle.pass_kept_proof.specs.run_memory.declared.block.Byte.{Byte}
+use Rattle.pass_kept_proof.specs.run_memory.declared.block.Kind.{Kind}
+use Rattle.pass_kept_proof.specs.run_memory.declared.block.Life.{Life}
+use Rattle.pass_kept_proof.specs.run_memory.declared.block.MemoryBlock.{MemoryBlock}
+use Rattle.pass_kept_proof.specs.run_memory.declared.pointer.Access.{Access}
+use Rattle.pass_kept_proof.specs.run_memory.declared.pointer.Pointer.{Pointer}
+use Rattle.pass_kept_proof.specs.run_memory.declared.pointer.Spot.{Spot}
+use Rattle.pass_kept_proof.specs.run_memory.declared.pointer.Value.{Value}
+use Rattle.pass_kept_proof.specs.ir_base.declared.cause.Cause.{Cause}
+use Rattle.pass_kept_proof.specs.run_ints.declared.num.Num.{Num}
+use Rattle.pass_kept_proof.specs.run_step.Step.{on_block}
+use Rattle.pass_kept_proof.specs.run_step.Values.{Env, element, number_of_width, stored, value_of, value_or_poison, with_result, with_value}
+use Rattle.pass_kept_proof.specs.run_memory.Pointers.{moved}
 use Rattle.pass_renewed_proof.proofs.Muted.{shown_address}
 use Rattle.pass_renewed_proof.specs.Muted.{IsShown}
 use Rattle.pass_renewed_proof.specs.Shown.{AreShownBlocks, AreShownBytes, IsShownByte, KeepsShown}

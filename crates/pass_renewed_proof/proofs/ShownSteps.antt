@@ -1,29 +1,29 @@
 -- An ordinary step spreads no pointer into some blocks, where none of the operands that it may spread is one.
 use Rattle.std.proofs.Common.{◌≡◌, ℕ, Bool, true, false, List, [], ◌∷◌, length, Option, Some, None, Result, Ok, Err, refl, if◌then◌else◌}
 use Rattle.std.specs.Prelude.{slice_get}
-use Rattle.run_memory.specs.Memory.{compare, end, fresh, load}
-use Rattle.run_memory.specs.declared.block.MemoryBlock.{MemoryBlock}
-use Rattle.run_memory.specs.declared.pointer.Pointer.{Pointer}
-use Rattle.run_memory.specs.declared.pointer.Value.{Value}
-use Rattle.ir_base.specs.declared.cause.Cause.{Cause}
-use Rattle.ir_base.specs.declared.ops.CastOp.{CastOp}
-use Rattle.ir_base.specs.declared.ops.Pred.{Pred}
-use Rattle.ir_base.specs.declared.outcome.Word.{Word}
-use Rattle.run_ints.specs.Numbers.{binary}
-use Rattle.run_ints.specs.declared.num.Num.{Num}
-use Rattle.ir_model.specs.Layout.{size_of}
-use Rattle.ir_model.specs.Names.{declaration_named, function_named}
-use Rattle.ir_model.specs.Ty.{Ty, array, int, named, ptr, structure, token}
-use Rattle.ir_model.specs.declared.instr.Case.{Case}
-use Rattle.ir_model.specs.declared.instr.Instr.{Instr}
-use Rattle.ir_model.specs.declared.instr.Terminator.{Terminator}
-use Rattle.ir_model.specs.declared.operand.Allocator.{Allocator}
-use Rattle.ir_model.specs.declared.operand.Arg.{Arg}
-use Rattle.ir_model.specs.declared.operand.Callee.{Callee}
-use Rattle.ir_model.specs.declared.operand.Intrinsic.{Intrinsic}
-use Rattle.run_step.specs.Step.{Action, AtInstr, AtTerm, Context, Done, Enter, Fetched, Nowhere, Stuck, Work, action_of, alloca, alloca_kind, allocator_call, block_of, branch, by_pred, cast_to, chosen, compared, copied_bytes, done, fits_function, has_markers, if_alignment, indirect_call, instr_action, intrinsic_call, is_alignment, named_call, observed, set_memory, set_value, switch, term_action, value_at, with_length, words_of}
-use Rattle.run_step.specs.Values.{access_of, address, arg_value, arg_values, distance, indices_of, literal, nth, number_at, stored, truth_value, value_in, value_of}
-use Rattle.run_ints.specs.Numbers.{cast}
+use Rattle.pass_kept_proof.specs.run_memory.Memory.{compare, end, fresh, load}
+use Rattle.pass_kept_proof.specs.run_memory.declared.block.MemoryBlock.{MemoryBlock}
+use Rattle.pass_kept_proof.specs.run_memory.declared.pointer.Pointer.{Pointer}
+use Rattle.pass_kept_proof.specs.run_memory.declared.pointer.Value.{Value}
+use Rattle.pass_kept_proof.specs.ir_base.declared.cause.Cause.{Cause}
+use Rattle.pass_kept_proof.specs.ir_base.declared.ops.CastOp.{CastOp}
+use Rattle.pass_kept_proof.specs.ir_base.declared.ops.Pred.{Pred}
+use Rattle.pass_kept_proof.specs.ir_base.declared.outcome.Word.{Word}
+use Rattle.pass_kept_proof.specs.run_ints.Numbers.{binary}
+use Rattle.pass_kept_proof.specs.run_ints.declared.num.Num.{Num}
+use Rattle.pass_kept_proof.specs.ir_model.Layout.{size_of}
+use Rattle.pass_kept_proof.specs.ir_model.Names.{declaration_named, function_named}
+use Rattle.pass_kept_proof.specs.ir_model.Ty.{Ty, array, int, named, ptr, structure, token}
+use Rattle.pass_kept_proof.specs.ir_model.declared.instr.Case.{Case}
+use Rattle.pass_kept_proof.specs.ir_model.declared.instr.Instr.{Instr}
+use Rattle.pass_kept_proof.specs.ir_model.declared.instr.Terminator.{Terminator}
+use Rattle.pass_kept_proof.specs.ir_model.declared.operand.Allocator.{Allocator}
+use Rattle.pass_kept_proof.specs.ir_model.declared.operand.Arg.{Arg}
+use Rattle.pass_kept_proof.specs.ir_model.declared.operand.Callee.{Callee}
+use Rattle.pass_kept_proof.specs.ir_model.declared.operand.Intrinsic.{Intrinsic}
+use Rattle.pass_kept_proof.specs.run_step.Step.{Action, AtInstr, AtTerm, Context, Done, Enter, Fetched, Nowhere, Stuck, Work, action_of, alloca, alloca_kind, allocator_call, block_of, branch, by_pred, cast_to, chosen, compared, copied_bytes, done, fits_function, has_markers, if_alignment, indirect_call, instr_action, intrinsic_call, is_alignment, named_call, observed, set_memory, set_value, switch, term_action, value_at, with_length, words_of}
+use Rattle.pass_kept_proof.specs.run_step.Values.{access_of, address, arg_value, arg_values, distance, indices_of, literal, nth, number_at, stored, truth_value, value_in, value_of}
+use Rattle.pass_kept_proof.specs.run_ints.Numbers.{cast}
 use Rattle.pass_renewed_proof.proofs.Shown.{IsShownResult, copy_shown, element_shown, ended_shown, fresh_shown, keeps_itself, load_shown, result_shown, set_shown, started_shown, store_shown, stored_shown, value_shown}
 use Rattle.pass_renewed_proof.specs.Muted.{IsShown, IsShownOperand}
 use Rattle.pass_renewed_proof.specs.Shown.{AreShownBlocks, IsShownAction, spread_at}

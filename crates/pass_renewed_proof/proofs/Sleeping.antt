@@ -1,21 +1,21 @@
 -- The suspended instance of a frame address is found in both runs, and coro.done says the same of it.
 use Rattle.std.proofs.Common.{◌≡◌, ℕ, Bool, true, false, Option, Some, None, Ok, Err, Result, refl, sym, ap, ◌∙◌, subst}
-use Rattle.ir_base.specs.declared.cause.Cause.{Cause}
-use Rattle.ir_model.specs.Names.{function_at}
-use Rattle.ir_model.specs.declared.instr.Instr.{Instr}
-use Rattle.ir_model.specs.declared.module.Function.{Function}
-use Rattle.ir_model.specs.declared.module.Module.{Module}
-use Rattle.ir_paths.specs.declared.point.Point.{Point}
+use Rattle.pass_kept_proof.specs.ir_base.declared.cause.Cause.{Cause}
+use Rattle.pass_kept_proof.specs.ir_model.Names.{function_at}
+use Rattle.pass_kept_proof.specs.ir_model.declared.instr.Instr.{Instr}
+use Rattle.pass_kept_proof.specs.ir_model.declared.module.Function.{Function}
+use Rattle.pass_kept_proof.specs.ir_model.declared.module.Module.{Module}
+use Rattle.pass_kept_proof.specs.ir_paths.declared.point.Point.{Point}
 use Rattle.run_laws.specs.memory.Pointers.{IsValue}
-use Rattle.run_memory.specs.declared.pointer.Value.{Value}
-use Rattle.run_source.specs.Source.{Sleeper, done_at, sleeper_at, sleeper_of}
-use Rattle.run_source.specs.State.{gives, instance_at}
-use Rattle.run_source.specs.declared.state.Instance.{Instance}
-use Rattle.run_source.specs.declared.state.State.{State}
-use Rattle.run_source.specs.declared.state.Status.{Status}
-use Rattle.run_source_tables.specs.Given.{Given, has_final, is_final}
-use Rattle.run_step.specs.Results.{and_then, found, ok_if}
-use Rattle.run_step.specs.Values.{truth_value}
+use Rattle.pass_kept_proof.specs.run_memory.declared.pointer.Value.{Value}
+use Rattle.pass_kept_proof.specs.run_source.Source.{Sleeper, done_at, sleeper_at, sleeper_of}
+use Rattle.pass_kept_proof.specs.run_source.State.{gives, instance_at}
+use Rattle.pass_kept_proof.specs.run_source.declared.state.Instance.{Instance}
+use Rattle.pass_kept_proof.specs.run_source.declared.state.State.{State}
+use Rattle.pass_kept_proof.specs.run_source.declared.state.Status.{Status}
+use Rattle.pass_kept_proof.specs.run_source_tables.Given.{Given, has_final, is_final}
+use Rattle.pass_kept_proof.specs.run_step.Results.{and_then, found, ok_if}
+use Rattle.pass_kept_proof.specs.run_step.Values.{truth_value}
 use Rattle.pass_renewed_proof.proofs.Giving.{gives_beside}
 use Rattle.pass_renewed_proof.proofs.Owning.{found_beside}
 use Rattle.pass_renewed_proof.specs.Beside.{IsBeside, IsInstanceBeside, IsStatusBeside}

@@ -1,16 +1,16 @@
 -- What is handed on stands for what it stood for, once the addresses in slots are moved to the slots that were made anew.
 use Rattle.std.proofs.Common.{◌≡◌, ℕ, zero, suc, ◌⊎◌, inl, inr, Bool, true, false, List, [], ◌∷◌, length, Option, Some, None, refl, sym, ap, ◌∙◌, subst, ⊎_elim, arith}
 use Rattle.std.proofs.lemmas.Bool.{cases_eq}
-use Rattle.run_memory.specs.Pointers.{moved, offset_of}
-use Rattle.run_memory.specs.declared.pointer.Offset.{Offset}
-use Rattle.run_memory.specs.declared.pointer.Pointer.{Pointer}
-use Rattle.run_memory.specs.declared.pointer.Value.{Value}
+use Rattle.pass_kept_proof.specs.run_memory.Pointers.{moved, offset_of}
+use Rattle.pass_kept_proof.specs.run_memory.declared.pointer.Offset.{Offset}
+use Rattle.pass_kept_proof.specs.run_memory.declared.pointer.Pointer.{Pointer}
+use Rattle.pass_kept_proof.specs.run_memory.declared.pointer.Value.{Value}
 use Rattle.pass_kept_proof.proofs.Same.{kept_at, kept_wide}
 use Rattle.pass_kept_proof.specs.Kept.{kept}
 use Rattle.run_laws.proofs.memory.Homes.{value_on}
 use Rattle.run_laws.specs.memory.Pointers.{Extends, Home, IsValue}
-use Rattle.run_step.specs.Step.{Work}
-use Rattle.run_step.specs.Values.{Env, pointer_to, value_in, value_or_poison}
+use Rattle.pass_kept_proof.specs.run_step.Step.{Work}
+use Rattle.pass_kept_proof.specs.run_step.Values.{Env, pointer_to, value_in, value_or_poison}
 use Rattle.pass_renewed_proof.proofs.Steps.{cut_at}
 use Rattle.pass_renewed_proof.specs.Renewed.{in_new_slot, renewed_value, renewed_values}
 use Rattle.pass_renewed_proof.specs.SlotEnvs.{AreMadeAnew, AreRoots, AreSlotEnvs, IsAddress}

@@ -4,30 +4,30 @@ use Rattle.std.proofs.Common.{◌≡◌, ℕ, zero, suc, ◌+◌, ◌^◌, ◌<�
 use Rattle.std.proofs.Common.{Some, None, refl}
 use Rattle.std.proofs.Common.{ap, ◌∙◌, if◌then◌else◌, ◌&&◌, ◌==◌, Result, Ok, arith}
 use Rattle.std.specs.Prelude.{nat_lt, slice_get}
-use Rattle.ir_base.specs.declared.cause.Cause.{Cause}
-use Rattle.ir_base.specs.declared.ops.Pred.{Pred}
-use Rattle.ir_model.specs.Ty.{Ty, array, int, named, ptr, structure, token}
-use Rattle.ir_model.specs.declared.instr.Instr.{Instr}
-use Rattle.ir_model.specs.declared.operand.Arg.{Arg}
-use Rattle.ir_model.specs.declared.operand.Callee.{Callee}
-use Rattle.ir_model.specs.declared.operand.Intrinsic.{Intrinsic}
+use Rattle.pass_kept_proof.specs.ir_base.declared.cause.Cause.{Cause}
+use Rattle.pass_kept_proof.specs.ir_base.declared.ops.Pred.{Pred}
+use Rattle.pass_kept_proof.specs.ir_model.Ty.{Ty, array, int, named, ptr, structure, token}
+use Rattle.pass_kept_proof.specs.ir_model.declared.instr.Instr.{Instr}
+use Rattle.pass_kept_proof.specs.ir_model.declared.operand.Arg.{Arg}
+use Rattle.pass_kept_proof.specs.ir_model.declared.operand.Callee.{Callee}
+use Rattle.pass_kept_proof.specs.ir_model.declared.operand.Intrinsic.{Intrinsic}
 use Rattle.run_laws.proofs.memory.Itself.{owner_rights_fit}
 use Rattle.run_laws.specs.memory.Pointers.{Home, home_of}
 use Rattle.run_laws.specs.memory.Standing.{AreByteRights, Embeds}
-use Rattle.run_memory.specs.Memory.{access_bytes, both, check, compare, copied, copy, decode, encode, is_compared}
-use Rattle.run_memory.specs.Memory.{is_inside, is_live, is_within, bytes_at, load, may_compare, may_compare_at, on_ok}
-use Rattle.run_memory.specs.Memory.{owner_rights, range, range_at, store, unless_constant, write}
-use Rattle.run_memory.specs.Pointers.{same_pointer}
-use Rattle.run_memory.specs.declared.block.MemoryBlock.{MemoryBlock}
-use Rattle.run_memory.specs.declared.pointer.Access.{Access}
-use Rattle.run_memory.specs.declared.pointer.Offset.{Offset}
-use Rattle.run_memory.specs.declared.pointer.Pointer.{Pointer}
-use Rattle.run_memory.specs.declared.pointer.Spot.{Spot}
-use Rattle.run_memory.specs.declared.pointer.Value.{Value}
-use Rattle.run_step.specs.Step.{AtInstr, AtTerm, Context, Fetched, Nowhere, Work, action_of, compared}
-use Rattle.run_step.specs.Step.{copied_bytes}
-use Rattle.run_step.specs.Step.{done, if_alignment, set_memory, set_value, by_pred, value_at, with_length}
-use Rattle.run_step.specs.Values.{access_of, address, arg_value, arg_values, nth, stored, truth_value}
+use Rattle.pass_kept_proof.specs.run_memory.Memory.{access_bytes, both, check, compare, copied, copy, decode, encode, is_compared}
+use Rattle.pass_kept_proof.specs.run_memory.Memory.{is_inside, is_live, is_within, bytes_at, load, may_compare, may_compare_at, on_ok}
+use Rattle.pass_kept_proof.specs.run_memory.Memory.{owner_rights, range, range_at, store, unless_constant, write}
+use Rattle.pass_kept_proof.specs.run_memory.Pointers.{same_pointer}
+use Rattle.pass_kept_proof.specs.run_memory.declared.block.MemoryBlock.{MemoryBlock}
+use Rattle.pass_kept_proof.specs.run_memory.declared.pointer.Access.{Access}
+use Rattle.pass_kept_proof.specs.run_memory.declared.pointer.Offset.{Offset}
+use Rattle.pass_kept_proof.specs.run_memory.declared.pointer.Pointer.{Pointer}
+use Rattle.pass_kept_proof.specs.run_memory.declared.pointer.Spot.{Spot}
+use Rattle.pass_kept_proof.specs.run_memory.declared.pointer.Value.{Value}
+use Rattle.pass_kept_proof.specs.run_step.Step.{AtInstr, AtTerm, Context, Fetched, Nowhere, Work, action_of, compared}
+use Rattle.pass_kept_proof.specs.run_step.Step.{copied_bytes}
+use Rattle.pass_kept_proof.specs.run_step.Step.{done, if_alignment, set_memory, set_value, by_pred, value_at, with_length}
+use Rattle.pass_kept_proof.specs.run_step.Values.{access_of, address, arg_value, arg_values, nth, stored, truth_value}
 use Rattle.pass_renewed_proof.specs.Small.{ComparesSmall, HasSmallOffset, small_rights}
 
 -- ---- memories

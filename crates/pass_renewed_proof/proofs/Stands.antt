@@ -4,25 +4,25 @@ use Rattle.std.proofs.Common.{◌≡◌, ℕ, ◌+◌, ◌<◌, ◌⊎◌, inl, 
 use Rattle.std.proofs.Common.{Option, Some, None, refl, sym, ap, ◌∙◌, subst, ⊎_elim, arith, if◌then◌else◌, ◌==◌, nat_lt}
 use Rattle.std.proofs.lemmas.Bool.{false≢true}
 use Rattle.std.specs.Prelude.{slice_get}
-use Rattle.ir_model.specs.Names.{function_at}
-use Rattle.ir_model.specs.declared.module.Block.{Block}
-use Rattle.ir_model.specs.declared.module.Function.{Function}
-use Rattle.ir_model.specs.declared.module.Module.{Module}
-use Rattle.ir_paths.specs.Paths.{IsPath, entry_point, has_point, nexts, nexts_in, same_point, targets}
-use Rattle.ir_paths.specs.Slots.{end_points}
-use Rattle.ir_model.specs.declared.operand.Intrinsic.{Intrinsic}
-use Rattle.ir_paths.specs.Windows.{destroy_label, end_block, resume_label}
-use Rattle.ir_paths.specs.declared.point.Point.{Point}
+use Rattle.pass_kept_proof.specs.ir_model.Names.{function_at}
+use Rattle.pass_kept_proof.specs.ir_model.declared.module.Block.{Block}
+use Rattle.pass_kept_proof.specs.ir_model.declared.module.Function.{Function}
+use Rattle.pass_kept_proof.specs.ir_model.declared.module.Module.{Module}
+use Rattle.pass_kept_proof.specs.ir_paths.Paths.{IsPath, entry_point, has_point, nexts, nexts_in, same_point, targets}
+use Rattle.pass_kept_proof.specs.ir_paths.Slots.{end_points}
+use Rattle.pass_kept_proof.specs.ir_model.declared.operand.Intrinsic.{Intrinsic}
+use Rattle.pass_kept_proof.specs.ir_paths.Windows.{destroy_label, end_block, resume_label}
+use Rattle.pass_kept_proof.specs.ir_paths.declared.point.Point.{Point}
 use Rattle.frame_classes.proofs.Coming.{end_complete}
 use Rattle.frame_classes.specs.Classes.{MeetsLater, NeedsFrame}
 use Rattle.frame_slots.specs.Spots.{At, Comes, IsUse, Spot, point_at}
 use Rattle.pass_kept_proof.proofs.Same.{either, same_point_same}
 use Rattle.pass_kept_proof.specs.SuspendRules.{IsCallAt}
 use Rattle.rule_slots.specs.Closed.{IsClosed}
-use Rattle.run_memory.specs.declared.block.MemoryBlock.{MemoryBlock}
-use Rattle.run_source.specs.declared.state.Activation.{Activation}
-use Rattle.run_source.specs.declared.state.Instance.{Instance}
-use Rattle.run_source.specs.declared.state.Mode.{Mode}
+use Rattle.pass_kept_proof.specs.run_memory.declared.block.MemoryBlock.{MemoryBlock}
+use Rattle.pass_kept_proof.specs.run_source.declared.state.Activation.{Activation}
+use Rattle.pass_kept_proof.specs.run_source.declared.state.Instance.{Instance}
+use Rattle.pass_kept_proof.specs.run_source.declared.state.Mode.{Mode}
 use Rattle.pass_renewed_proof.proofs.Left.{left_closed}
 use Rattle.pass_renewed_proof.proofs.Way.{away_unused, barred_unused, meets_in}
 use Rattle.pass_renewed_proof.specs.Ahead.{HasAwayUse, IsBehindSuspendCall}
@@ -32,7 +32,7 @@ use Rattle.pass_renewed_proof.specs.Left.{IsLeftAt, IsLeftBy}
 use Rattle.pass_renewed_proof.specs.Ordinary.{IsOrdinary}
 use Rattle.pass_renewed_proof.specs.Renewed.{Flags, Roots}
 use Rattle.pass_renewed_proof.specs.Way.{IsResumedAt}
-use Rattle.rule_windows.specs.Windows.{own_edges}
+use Rattle.pass_kept_proof.specs.rule_windows.Windows.{own_edges}
 
 -- ---- a resumed activation comes to the end block at its first point alone
 

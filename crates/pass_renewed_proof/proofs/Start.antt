@@ -4,41 +4,41 @@ use Rattle.std.proofs.Common.{map, replicate, get_or, Option, Some, None, refl, 
 use Rattle.std.proofs.Common.{nat_le, ◌==◌}
 use Rattle.std.proofs.lemmas.Bool.{cases_lt, false≢true}
 use Rattle.std.specs.Prelude.{All, slice_get, ℤ, ◌/◌}
-use Rattle.ir_base.specs.declared.outcome.Word.{Word}
-use Rattle.ir_model.specs.Names.{declaration_named, function_at, function_named, global_named, same_name}
-use Rattle.ir_model.specs.Ty.{Ty, array, int, named, ptr, structure, token}
-use Rattle.ir_model.specs.declared.module.GlobalItem.{GlobalItem}
-use Rattle.ir_model.specs.declared.module.Module.{Module}
-use Rattle.ir_model.specs.declared.module.Param.{Param}
-use Rattle.ir_model.specs.declared.operand.Operand.{Operand}
+use Rattle.pass_kept_proof.specs.ir_base.declared.outcome.Word.{Word}
+use Rattle.pass_kept_proof.specs.ir_model.Names.{declaration_named, function_at, function_named, global_named, same_name}
+use Rattle.pass_kept_proof.specs.ir_model.Ty.{Ty, array, int, named, ptr, structure, token}
+use Rattle.pass_kept_proof.specs.ir_model.declared.module.GlobalItem.{GlobalItem}
+use Rattle.pass_kept_proof.specs.ir_model.declared.module.Module.{Module}
+use Rattle.pass_kept_proof.specs.ir_model.declared.module.Param.{Param}
+use Rattle.pass_kept_proof.specs.ir_model.declared.operand.Operand.{Operand}
 use Rattle.ir_tables.proofs.Tables.{first_where-within}
 use Rattle.pass_kept_proof.proofs.Same.{neither}
 use Rattle.pass_kept_proof.specs.Kept.{Keep}
 use Rattle.std.specs.List.{Contains, list_any}
 use Rattle.std.proofs.lemmas.List.{length-map}
-use Rattle.run_ints.specs.declared.num.Num.{Num}
+use Rattle.pass_kept_proof.specs.run_ints.declared.num.Num.{Num}
 use Rattle.run_laws.proofs.memory.Itself.{stands_in_itself}
 use Rattle.run_laws.proofs.memory.Written.{same_some}
 use Rattle.run_laws.specs.changed.Changed.{Each}
 use Rattle.run_laws.specs.embedded.Making.{whole_home}
 use Rattle.run_laws.specs.memory.Pointers.{Home, IsValue, home_of}
 use Rattle.run_laws.specs.memory.Standing.{AreOffsets, Embeds, HasBounds, byte_of, own_homes}
-use Rattle.run_memory.proofs.Digits.{length-encode}
-use Rattle.run_memory.specs.Memory.{access_bytes, digits, encode, may_compare_at, owner_rights, parts}
-use Rattle.run_memory.specs.Pointers.{moved}
-use Rattle.run_memory.specs.Whole.{AreWhole, IsWhole}
-use Rattle.run_memory.specs.declared.block.Byte.{Byte}
-use Rattle.run_memory.specs.declared.block.MemoryBlock.{MemoryBlock}
-use Rattle.run_memory.specs.declared.pointer.Access.{Access}
-use Rattle.run_memory.specs.declared.pointer.Offset.{Offset}
-use Rattle.run_memory.specs.declared.pointer.Pointer.{Pointer}
-use Rattle.run_memory.specs.declared.pointer.Value.{Value}
-use Rattle.run_source.specs.Source.{called, first_state}
-use Rattle.run_source.specs.declared.state.Mode.{Mode}
-use Rattle.run_step.specs.Step.{block_of, entry_values, first_world, global_block, with_params}
-use Rattle.run_step.specs.Values.{Env, access_of, address, address_from, literal, number_of_width, operand_value}
-use Rattle.run_step.specs.Values.{pointer_to, stored, value_in, value_of, with_value}
-use Rattle.run_step.specs.declared.world.Slot.{Slot}
+use Rattle.pass_kept_proof.proofs.run_memory.Digits.{length-encode}
+use Rattle.pass_kept_proof.specs.run_memory.Memory.{access_bytes, digits, encode, may_compare_at, owner_rights, parts}
+use Rattle.pass_kept_proof.specs.run_memory.Pointers.{moved}
+use Rattle.pass_kept_proof.specs.run_memory.Whole.{AreWhole, IsWhole}
+use Rattle.pass_kept_proof.specs.run_memory.declared.block.Byte.{Byte}
+use Rattle.pass_kept_proof.specs.run_memory.declared.block.MemoryBlock.{MemoryBlock}
+use Rattle.pass_kept_proof.specs.run_memory.declared.pointer.Access.{Access}
+use Rattle.pass_kept_proof.specs.run_memory.declared.pointer.Offset.{Offset}
+use Rattle.pass_kept_proof.specs.run_memory.declared.pointer.Pointer.{Pointer}
+use Rattle.pass_kept_proof.specs.run_memory.declared.pointer.Value.{Value}
+use Rattle.pass_kept_proof.specs.run_source.Source.{called, first_state}
+use Rattle.pass_kept_proof.specs.run_source.declared.state.Mode.{Mode}
+use Rattle.pass_kept_proof.specs.run_step.Step.{block_of, entry_values, first_world, global_block, with_params}
+use Rattle.pass_kept_proof.specs.run_step.Values.{Env, access_of, address, address_from, literal, number_of_width, operand_value}
+use Rattle.pass_kept_proof.specs.run_step.Values.{pointer_to, stored, value_in, value_of, with_value}
+use Rattle.pass_kept_proof.specs.run_step.declared.world.Slot.{Slot}
 use Rattle.pass_renewed_proof.proofs.Made.{get_none, get_within}
 use Rattle.pass_renewed_proof.proofs.Places.{unowned_compares}
 use Rattle.pass_renewed_proof.proofs.Sets.{set_elsewhere}

@@ -3,18 +3,18 @@ use Rattle.std.proofs.Common.{◌≡◌, ◌≢◌, ℕ, ◌+◌, ◌≤◌, ◌
 use Rattle.std.proofs.Common.{Option, Some, refl, sym, ap, ◌∙◌, subst, ⊎_elim, arith}
 use Rattle.std.proofs.lemmas.Bool.{cases_eq, false≢true}
 use Rattle.std.specs.Prelude.{IsTrue, slice_get, ℤ}
-use Rattle.ir_model.specs.Names.{function_at, is_local}
-use Rattle.ir_model.specs.Ty.{Ty}
-use Rattle.ir_model.specs.declared.instr.Instr.{Instr}
-use Rattle.ir_model.specs.declared.module.Function.{Function}
-use Rattle.ir_model.specs.declared.module.Module.{Module}
-use Rattle.ir_model.specs.declared.operand.Arg.{Arg}
-use Rattle.ir_model.specs.declared.operand.Callee.{Callee}
-use Rattle.ir_model.specs.declared.operand.Intrinsic.{Intrinsic}
-use Rattle.ir_paths.specs.Paths.{has_point}
-use Rattle.ir_paths.specs.Slots.{is_escaped}
-use Rattle.ir_paths.specs.Windows.{end_block}
-use Rattle.ir_paths.specs.declared.point.Point.{Point}
+use Rattle.pass_kept_proof.specs.ir_model.Names.{function_at, is_local}
+use Rattle.pass_kept_proof.specs.ir_model.Ty.{Ty}
+use Rattle.pass_kept_proof.specs.ir_model.declared.instr.Instr.{Instr}
+use Rattle.pass_kept_proof.specs.ir_model.declared.module.Function.{Function}
+use Rattle.pass_kept_proof.specs.ir_model.declared.module.Module.{Module}
+use Rattle.pass_kept_proof.specs.ir_model.declared.operand.Arg.{Arg}
+use Rattle.pass_kept_proof.specs.ir_model.declared.operand.Callee.{Callee}
+use Rattle.pass_kept_proof.specs.ir_model.declared.operand.Intrinsic.{Intrinsic}
+use Rattle.pass_kept_proof.specs.ir_paths.Paths.{has_point}
+use Rattle.pass_kept_proof.specs.ir_paths.Slots.{is_escaped}
+use Rattle.pass_kept_proof.specs.ir_paths.Windows.{end_block}
+use Rattle.pass_kept_proof.specs.ir_paths.declared.point.Point.{Point}
 use Rattle.frame_classes.specs.Alive.{MayBeAlive, Started}
 use Rattle.frame_classes.specs.Classes.{NeedsFrame, parting}
 use Rattle.frame_slots.proofs.Points.{where_complete}
@@ -23,16 +23,16 @@ use Rattle.frame_slots.specs.Uses.{starts_of}
 use Rattle.frame_slots.specs.Uses as uses
 use Rattle.pass_kept_proof.proofs.Same.{eq_itself}
 use Rattle.run_laws.specs.memory.Pointers.{Home, home_of}
-use Rattle.run_memory.specs.Memory.{owner_rights, start}
-use Rattle.run_memory.specs.declared.block.MemoryBlock.{MemoryBlock}
-use Rattle.run_memory.specs.declared.pointer.Value.{Value}
-use Rattle.run_source.specs.State.{is_suspended, next, settled, work_of}
-use Rattle.run_source.specs.declared.state.Activation.{Activation}
-use Rattle.run_source.specs.declared.state.Instance.{Instance}
-use Rattle.run_source.specs.declared.state.Mode.{Mode}
-use Rattle.run_source.specs.declared.state.State.{State}
-use Rattle.run_step.specs.Step.{AtInstr, Done, Work, action_of, block_of, on_block, set_memory}
-use Rattle.run_step.specs.Values.{Env, pointer_to, value_in}
+use Rattle.pass_kept_proof.specs.run_memory.Memory.{owner_rights, start}
+use Rattle.pass_kept_proof.specs.run_memory.declared.block.MemoryBlock.{MemoryBlock}
+use Rattle.pass_kept_proof.specs.run_memory.declared.pointer.Value.{Value}
+use Rattle.pass_kept_proof.specs.run_source.State.{is_suspended, next, settled, work_of}
+use Rattle.pass_kept_proof.specs.run_source.declared.state.Activation.{Activation}
+use Rattle.pass_kept_proof.specs.run_source.declared.state.Instance.{Instance}
+use Rattle.pass_kept_proof.specs.run_source.declared.state.Mode.{Mode}
+use Rattle.pass_kept_proof.specs.run_source.declared.state.State.{State}
+use Rattle.pass_kept_proof.specs.run_step.Step.{AtInstr, Done, Work, action_of, block_of, on_block, set_memory}
+use Rattle.pass_kept_proof.specs.run_step.Values.{Env, pointer_to, value_in}
 use Rattle.pass_renewed_proof.proofs.Ahead.{used_on}
 use Rattle.pass_renewed_proof.proofs.Carried.{same_alloca, same_func, same_instance}
 use Rattle.pass_renewed_proof.proofs.Carried.{AreBelowCarried, IsInstanceCarried, below_kept, instances_kept}

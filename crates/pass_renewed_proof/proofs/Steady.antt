@@ -1,14 +1,14 @@
 -- The distance of a getelementptr is the same where indices into structures are literals and the other ones stand for those of the source.
 use Rattle.std.proofs.Common.{◌≡◌, ℕ, List, [], ◌∷◌, Option, Some, None, refl, sym, ap, ◌∙◌, subst}
 use Rattle.std.specs.Prelude.{unwrap_or}
-use Rattle.run_memory.specs.declared.pointer.Value.{Value}
-use Rattle.ir_model.specs.Layout.{field_offset, field_type, unnamed}
-use Rattle.ir_model.specs.Ty.{Ty, array, int, named, ptr, structure, token}
-use Rattle.ir_model.specs.declared.module.Module.{Module}
-use Rattle.ir_model.specs.declared.operand.Arg.{Arg}
-use Rattle.ir_model.specs.declared.operand.Operand.{Operand}
+use Rattle.pass_kept_proof.specs.run_memory.declared.pointer.Value.{Value}
+use Rattle.pass_kept_proof.specs.ir_model.Layout.{field_offset, field_type, unnamed}
+use Rattle.pass_kept_proof.specs.ir_model.Ty.{Ty, array, int, named, ptr, structure, token}
+use Rattle.pass_kept_proof.specs.ir_model.declared.module.Module.{Module}
+use Rattle.pass_kept_proof.specs.ir_model.declared.operand.Arg.{Arg}
+use Rattle.pass_kept_proof.specs.ir_model.declared.operand.Operand.{Operand}
 use Rattle.run_laws.specs.memory.Pointers.{Home, IsValue}
-use Rattle.run_step.specs.Values.{Env, arg_value, capped, distance, index_of, indices_of, inner_distance, number_at, number_of_width, operand_value, part_at, plus, times}
+use Rattle.pass_kept_proof.specs.run_step.Values.{Env, arg_value, capped, distance, index_of, indices_of, inner_distance, number_at, number_of_width, operand_value, part_at, plus, times}
 use Rattle.pass_renewed_proof.specs.SlotRules.{AreSteady, AreSteadyInside, IsNoLocal, IsSteady}
 use Rattle.run_laws.specs.embedded.Related.{IsSameDistance}
 use Rattle.run_laws.specs.changed.Changed.{Each}

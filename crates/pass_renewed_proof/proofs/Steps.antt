@@ -2,26 +2,26 @@
 -- to stand in the target: an instance of the law of two instructions of one shape.
 use Rattle.std.proofs.Common.{◌≡◌, ℕ, zero, suc, ◌≤◌, ◌⊎◌, inl, inr, ⊎_elim, if◌then◌else◌, Bool, true, false, List, [], ◌∷◌, length, Option, Some, None, refl, sym, ap, ◌∙◌, subst}
 use Rattle.std.specs.Prelude.{IsTrue, ℤ, option_map}
-use Rattle.run_memory.specs.Memory.{owner_rights}
-use Rattle.run_memory.specs.declared.pointer.Value.{Value}
-use Rattle.ir_base.specs.declared.name.Name.{Name}
-use Rattle.ir_model.specs.Names.{declaration_named, function_named}
-use Rattle.ir_model.specs.Ty.{Ty, array, int, named, ptr, structure, token}
-use Rattle.ir_model.specs.declared.instr.Case.{Case}
-use Rattle.ir_model.specs.declared.instr.Instr.{Instr}
-use Rattle.ir_model.specs.declared.operand.Allocator.{Allocator}
-use Rattle.ir_model.specs.declared.operand.Arg.{Arg}
-use Rattle.ir_model.specs.declared.operand.Callee.{Callee}
-use Rattle.ir_model.specs.declared.operand.Intrinsic.{Intrinsic}
-use Rattle.ir_model.specs.declared.operand.Operand.{Operand}
+use Rattle.pass_kept_proof.specs.run_memory.Memory.{owner_rights}
+use Rattle.pass_kept_proof.specs.run_memory.declared.pointer.Value.{Value}
+use Rattle.pass_kept_proof.specs.ir_base.declared.name.Name.{Name}
+use Rattle.pass_kept_proof.specs.ir_model.Names.{declaration_named, function_named}
+use Rattle.pass_kept_proof.specs.ir_model.Ty.{Ty, array, int, named, ptr, structure, token}
+use Rattle.pass_kept_proof.specs.ir_model.declared.instr.Case.{Case}
+use Rattle.pass_kept_proof.specs.ir_model.declared.instr.Instr.{Instr}
+use Rattle.pass_kept_proof.specs.ir_model.declared.operand.Allocator.{Allocator}
+use Rattle.pass_kept_proof.specs.ir_model.declared.operand.Arg.{Arg}
+use Rattle.pass_kept_proof.specs.ir_model.declared.operand.Callee.{Callee}
+use Rattle.pass_kept_proof.specs.ir_model.declared.operand.Intrinsic.{Intrinsic}
+use Rattle.pass_kept_proof.specs.ir_model.declared.operand.Operand.{Operand}
 use Rattle.pass_kept_proof.specs.Kept.{kept}
 use Rattle.pass_kept_proof.specs.Needed.{reads_at}
 use Rattle.run_laws.proofs.memory.Itself.{owner_rights_fit}
 use Rattle.run_laws.specs.memory.Pointers.{Home, IsValue, home_of}
 use Rattle.run_laws.specs.memory.Standing.{AreByteRights}
-use Rattle.run_step.specs.Reads as reads
-use Rattle.run_step.specs.Step.{Action, AtInstr, AtTerm, Context, Coro, Deallocate, Done, Enter, Fetched, GoTo, NewSlot, Nowhere, Return, Stuck, Work, action_of}
-use Rattle.run_step.specs.Values.{Env, literal, operand_value, value_in, value_or_poison}
+use Rattle.pass_kept_proof.specs.run_step.Reads as reads
+use Rattle.pass_kept_proof.specs.run_step.Step.{Action, AtInstr, AtTerm, Context, Coro, Deallocate, Done, Enter, Fetched, GoTo, NewSlot, Nowhere, Return, Stuck, Work, action_of}
+use Rattle.pass_kept_proof.specs.run_step.Values.{Env, literal, operand_value, value_in, value_or_poison}
 use Rattle.pass_renewed_proof.proofs.Small.{owner_embeds, same_action, small_embeds, small_rights_fit}
 use Rattle.pass_renewed_proof.specs.Small.{small_rights}
 use Rattle.pass_renewed_proof.specs.Steps.{AreOver, GoesOver, IsRead, given_at}

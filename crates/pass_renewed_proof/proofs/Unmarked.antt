@@ -3,18 +3,18 @@ use Rattle.std.proofs.Common.{◌≡◌, ℕ, zero, suc, Bool, true, false, List
 use Rattle.std.proofs.Common.{if◌then◌else◌, ◌&&◌}
 use Rattle.std.proofs.lemmas.Bool.{false≢true}
 use Rattle.std.specs.List.{list_any}
-use Rattle.ir_model.specs.Names.{is_local, same_intrinsic}
-use Rattle.ir_model.specs.declared.instr.Instr.{Instr}
-use Rattle.ir_model.specs.declared.module.Block.{Block}
-use Rattle.ir_model.specs.declared.module.Function.{Function}
-use Rattle.ir_model.specs.declared.operand.Arg.{Arg}
-use Rattle.ir_model.specs.declared.operand.Callee.{Callee}
-use Rattle.ir_model.specs.declared.operand.Intrinsic.{Intrinsic}
-use Rattle.ir_paths.specs.Windows.{operand_at, points_from, points_in}
+use Rattle.pass_kept_proof.specs.ir_model.Names.{is_local, same_intrinsic}
+use Rattle.pass_kept_proof.specs.ir_model.declared.instr.Instr.{Instr}
+use Rattle.pass_kept_proof.specs.ir_model.declared.module.Block.{Block}
+use Rattle.pass_kept_proof.specs.ir_model.declared.module.Function.{Function}
+use Rattle.pass_kept_proof.specs.ir_model.declared.operand.Arg.{Arg}
+use Rattle.pass_kept_proof.specs.ir_model.declared.operand.Callee.{Callee}
+use Rattle.pass_kept_proof.specs.ir_model.declared.operand.Intrinsic.{Intrinsic}
+use Rattle.pass_kept_proof.specs.ir_paths.Windows.{operand_at, points_from, points_in}
 use Rattle.frame_classes.specs.Alive.{markers_of}
 use Rattle.frame_slots.specs.Uses as uses
 use Rattle.pass_kept_proof.proofs.Same.{neither, or_left, or_right}
-use Rattle.run_step.specs.Step.{has_markers, is_lifetime, is_marker_of}
+use Rattle.pass_kept_proof.specs.run_step.Step.{has_markers, is_lifetime, is_marker_of}
 
 -- ---- no instruction passes a test
 

@@ -3,16 +3,16 @@ use Rattle.std.proofs.Common.{◌≡◌, ℕ, ◌+◌, ◌⊎◌, inl, inr, true
 use Rattle.std.proofs.Common.{arith}
 use Rattle.std.specs.Prelude.{IsTrue, ◌==◌}
 use Rattle.std.proofs.lemmas.Bool.{false≢true}
-use Rattle.ir_model.specs.Names.{intrinsic_number}
-use Rattle.ir_model.specs.declared.instr.Instr.{Instr}
-use Rattle.ir_model.specs.declared.instr.Terminator.{Terminator}
-use Rattle.ir_model.specs.declared.operand.Callee.{Callee}
-use Rattle.ir_model.specs.declared.module.Function.{Function}
-use Rattle.ir_model.specs.declared.operand.Intrinsic.{Intrinsic}
-use Rattle.ir_paths.specs.Paths.{IsPath, entry_point, has_point, nexts, same_point}
-use Rattle.ir_paths.specs.Slots.{end_points, is_escaped}
-use Rattle.ir_paths.specs.Windows.{destroy_label, end_block, is_call_of, resume_label}
-use Rattle.ir_paths.specs.declared.point.Point.{Point}
+use Rattle.pass_kept_proof.specs.ir_model.Names.{intrinsic_number}
+use Rattle.pass_kept_proof.specs.ir_model.declared.instr.Instr.{Instr}
+use Rattle.pass_kept_proof.specs.ir_model.declared.instr.Terminator.{Terminator}
+use Rattle.pass_kept_proof.specs.ir_model.declared.operand.Callee.{Callee}
+use Rattle.pass_kept_proof.specs.ir_model.declared.module.Function.{Function}
+use Rattle.pass_kept_proof.specs.ir_model.declared.operand.Intrinsic.{Intrinsic}
+use Rattle.pass_kept_proof.specs.ir_paths.Paths.{IsPath, entry_point, has_point, nexts, same_point}
+use Rattle.pass_kept_proof.specs.ir_paths.Slots.{end_points, is_escaped}
+use Rattle.pass_kept_proof.specs.ir_paths.Windows.{destroy_label, end_block, is_call_of, resume_label}
+use Rattle.pass_kept_proof.specs.ir_paths.declared.point.Point.{Point}
 use Rattle.frame_classes.specs.Alive.{MayBeAlive, Started, Unmarked}
 use Rattle.frame_classes.specs.Classes.{Alive, Away, MeetsLater, NeedsFrame, parting, suspends}
 use Rattle.frame_slots.proofs.Points.{where_sound}
@@ -21,8 +21,8 @@ use Rattle.frame_slots.specs.Uses.{ends_of}
 use Rattle.pass_kept_proof.proofs.Same.{either, same_point_same}
 use Rattle.pass_kept_proof.specs.Needed.{BranchesTo}
 use Rattle.pass_kept_proof.specs.SuspendRules.{IsCallAt, IsSwitched}
-use Rattle.run_step.specs.Step.{AtInstr, AtTerm, fetch}
-use Rattle.rule_windows.specs.Windows.{own_edges}
+use Rattle.pass_kept_proof.specs.run_step.Step.{AtInstr, AtTerm, fetch}
+use Rattle.pass_kept_proof.specs.rule_windows.Windows.{own_edges}
 use Rattle.pass_renewed_proof.proofs.Ahead.{branch_edge, found_append, not_found_first, leads_more, next_edge}
 use Rattle.pass_renewed_proof.proofs.Ahead.{not_in_end, not_started_behind, not_used_behind, used_on}
 use Rattle.pass_renewed_proof.proofs.History.{fetch_is, no_start}

@@ -1,16 +1,16 @@
 -- Where a slot was used, and where an activation that was resumed may come to use it, by paths.
 use Rattle.std.specs.Prelude.{◌≡◌, ◌⊎◌, ℕ, ◌+◌, IsFalse}
-use Rattle.ir_model.specs.Names.{position_of}
-use Rattle.ir_model.specs.declared.instr.Instr.{Instr}
-use Rattle.ir_model.specs.declared.module.Function.{Function}
-use Rattle.ir_model.specs.declared.operand.Intrinsic.{Intrinsic}
-use Rattle.ir_paths.specs.Paths.{has_point}
-use Rattle.ir_paths.specs.Slots.{is_escaped}
-use Rattle.ir_paths.specs.Windows.{end_block}
-use Rattle.ir_paths.specs.declared.point.Point.{Point}
+use Rattle.pass_kept_proof.specs.ir_model.Names.{position_of}
+use Rattle.pass_kept_proof.specs.ir_model.declared.instr.Instr.{Instr}
+use Rattle.pass_kept_proof.specs.ir_model.declared.module.Function.{Function}
+use Rattle.pass_kept_proof.specs.ir_model.declared.operand.Intrinsic.{Intrinsic}
+use Rattle.pass_kept_proof.specs.ir_paths.Paths.{has_point}
+use Rattle.pass_kept_proof.specs.ir_paths.Slots.{is_escaped}
+use Rattle.pass_kept_proof.specs.ir_paths.Windows.{end_block}
+use Rattle.pass_kept_proof.specs.ir_paths.declared.point.Point.{Point}
 use Rattle.pass_kept_proof.specs.Needed.{BranchesTo}
 use Rattle.pass_kept_proof.specs.SuspendRules.{IsCallAt}
-use Rattle.run_step.specs.Step.{AtInstr, fetch}
+use Rattle.pass_kept_proof.specs.run_step.Step.{AtInstr, fetch}
 use Rattle.frame_classes.specs.Classes.{parting}
 use Rattle.rule_slots.specs.Closed.{IsClosed}
 use Rattle.frame_slots.specs.Spots.{At, IsBehind, IsUse, LeadsFrom, On, Spot, point_at}

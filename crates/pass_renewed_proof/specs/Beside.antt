@@ -2,14 +2,14 @@
 use Rattle.std.specs.Prelude.{ℕ, Bool, true, false, List, [], ◌∷◌, length, slice_get, Some, None, Option, IsTrue, ◌≡◌}
 use Rattle.std.specs.Prelude.{◌≢◌, ◌⊎◌, ◌+◌, ◌<◌}
 use Rattle.std.specs.List.{Contains}
-use Rattle.ir_model.specs.Names.{function_at}
-use Rattle.ir_model.specs.Ty.{Ty}
-use Rattle.ir_model.specs.declared.instr.Instr.{Instr}
-use Rattle.ir_model.specs.declared.module.Function.{Function}
-use Rattle.ir_model.specs.declared.module.Module.{Module}
-use Rattle.ir_model.specs.declared.operand.Intrinsic.{Intrinsic}
-use Rattle.ir_paths.specs.Slots.{is_escaped}
-use Rattle.ir_paths.specs.declared.point.Point.{Point}
+use Rattle.pass_kept_proof.specs.ir_model.Names.{function_at}
+use Rattle.pass_kept_proof.specs.ir_model.Ty.{Ty}
+use Rattle.pass_kept_proof.specs.ir_model.declared.instr.Instr.{Instr}
+use Rattle.pass_kept_proof.specs.ir_model.declared.module.Function.{Function}
+use Rattle.pass_kept_proof.specs.ir_model.declared.module.Module.{Module}
+use Rattle.pass_kept_proof.specs.ir_model.declared.operand.Intrinsic.{Intrinsic}
+use Rattle.pass_kept_proof.specs.ir_paths.Slots.{is_escaped}
+use Rattle.pass_kept_proof.specs.ir_paths.declared.point.Point.{Point}
 use Rattle.frame_classes.specs.Alive.{MayBeAlive, markers_of}
 use Rattle.pass_kept_proof.specs.SuspendRules.{IsCallAt}
 use Rattle.pass_renewed_proof.specs.Ahead.{HasAwayUse, IsUsedBefore}
@@ -21,22 +21,22 @@ use Rattle.pass_renewed_proof.specs.SlotEnvs.{AreSlotEnvs}
 use Rattle.pass_renewed_proof.specs.SlotRules.{IsMadeOnce}
 use Rattle.pass_renewed_proof.specs.Steps.{AreOver}
 use Rattle.pass_renewed_proof.specs.Way.{IsBarred, IsResumedAt, WasAlive}
-use Rattle.rule_windows.specs.Sets.{IsAfterEnd, RunsOut}
+use Rattle.pass_kept_proof.specs.rule_windows.Sets.{IsAfterEnd, RunsOut}
 use Rattle.run_laws.specs.embedded.Making.{whole_home}
 use Rattle.run_laws.specs.memory.Pointers.{home_of}
-use Rattle.run_memory.specs.declared.block.MemoryBlock.{MemoryBlock}
-use Rattle.run_memory.specs.declared.pointer.Value.{Value}
-use Rattle.run_source.specs.Source.{is_over}
-use Rattle.run_source.specs.State.{is_suspended}
-use Rattle.run_source.specs.declared.state.Activation.{Activation}
-use Rattle.run_source.specs.declared.state.Instance.{Instance}
-use Rattle.run_source.specs.declared.state.Mode.{Mode}
-use Rattle.run_source.specs.declared.state.Saved.{Saved}
-use Rattle.run_source.specs.declared.state.State.{State}
-use Rattle.run_source.specs.declared.state.Status.{Status}
-use Rattle.run_step.specs.Step.{AtInstr, block_of, fetch}
-use Rattle.run_step.specs.Values.{Env, pointer_to, value_in}
-use Rattle.run_step.specs.declared.world.Slot.{Slot}
+use Rattle.pass_kept_proof.specs.run_memory.declared.block.MemoryBlock.{MemoryBlock}
+use Rattle.pass_kept_proof.specs.run_memory.declared.pointer.Value.{Value}
+use Rattle.pass_kept_proof.specs.run_source.Source.{is_over}
+use Rattle.pass_kept_proof.specs.run_source.State.{is_suspended}
+use Rattle.pass_kept_proof.specs.run_source.declared.state.Activation.{Activation}
+use Rattle.pass_kept_proof.specs.run_source.declared.state.Instance.{Instance}
+use Rattle.pass_kept_proof.specs.run_source.declared.state.Mode.{Mode}
+use Rattle.pass_kept_proof.specs.run_source.declared.state.Saved.{Saved}
+use Rattle.pass_kept_proof.specs.run_source.declared.state.State.{State}
+use Rattle.pass_kept_proof.specs.run_source.declared.state.Status.{Status}
+use Rattle.pass_kept_proof.specs.run_step.Step.{AtInstr, block_of, fetch}
+use Rattle.pass_kept_proof.specs.run_step.Values.{Env, pointer_to, value_in}
+use Rattle.pass_kept_proof.specs.run_step.declared.world.Slot.{Slot}
 
 -- ---- where an activation is
 

@@ -3,18 +3,18 @@ use Rattle.std.specs.Prelude.{ℕ, List, [], ◌∷◌, length, Some, Option, �
 use Rattle.std.specs.List.{Contains}
 use Rattle.pass_kept_proof.specs.Kept.{Keep, continue_keeping}
 use Rattle.pass_renewed_proof.specs.Renewed.{RenewedGiven}
-use Rattle.run_agreement.specs.Machines.{IsFine}
+use Rattle.pass_kept_proof.specs.run_agreement.Machines.{IsFine}
 use Rattle.run_laws.specs.access.Accessed.{accessed}
 use Rattle.run_laws.specs.memory.Pointers.{Home, home_of}
 use Rattle.run_laws.specs.transfer.Shapes.{Pairwise}
-use Rattle.run_source.specs.Source.{context_of, step_by}
-use Rattle.run_source.specs.State.{function_of, work_of}
-use Rattle.run_source.specs.declared.state.Activation.{Activation}
-use Rattle.run_source.specs.declared.state.Instance.{Instance}
-use Rattle.run_source.specs.declared.state.State.{State}
-use Rattle.run_source.specs.declared.state.Status.{Status}
-use Rattle.run_source_tables.specs.Given.{Given}
-use Rattle.run_step.specs.Step.{fetch}
+use Rattle.pass_kept_proof.specs.run_source.Source.{context_of, step_by}
+use Rattle.pass_kept_proof.specs.run_source.State.{function_of, work_of}
+use Rattle.pass_kept_proof.specs.run_source.declared.state.Activation.{Activation}
+use Rattle.pass_kept_proof.specs.run_source.declared.state.Instance.{Instance}
+use Rattle.pass_kept_proof.specs.run_source.declared.state.State.{State}
+use Rattle.pass_kept_proof.specs.run_source.declared.state.Status.{Status}
+use Rattle.pass_kept_proof.specs.run_source_tables.Given.{Given}
+use Rattle.pass_kept_proof.specs.run_step.Step.{fetch}
 
 -- ---- instances and activations, one to one
 

@@ -2,11 +2,11 @@
 use Rattle.std.specs.Prelude.{ℕ, zero, suc, List, [], ◌∷◌, length, Some, None, Option, if◌then◌else◌, ◌==◌, ◌≡◌}
 use Rattle.std.specs.Prelude.{IsTrue}
 use Rattle.std.specs.List.{list_any}
-use Rattle.run_memory.specs.declared.pointer.Pointer.{Pointer}
-use Rattle.run_memory.specs.declared.pointer.Value.{Value}
+use Rattle.pass_kept_proof.specs.run_memory.declared.pointer.Pointer.{Pointer}
+use Rattle.pass_kept_proof.specs.run_memory.declared.pointer.Value.{Value}
 use Rattle.pass_kept_proof.specs.Needed.{reads_at}
-use Rattle.run_step.specs.Step.{Fetched}
-use Rattle.run_step.specs.Values.{Env, pointer_to, value_in}
+use Rattle.pass_kept_proof.specs.run_step.Step.{Fetched}
+use Rattle.pass_kept_proof.specs.run_step.Values.{Env, pointer_to, value_in}
 use Rattle.pass_renewed_proof.specs.Ready.{Place}
 
 -- the names below a number that an instruction reads

@@ -1,17 +1,17 @@
 -- What a resumed activation has done when it has made a slot anew.
 use Rattle.std.specs.Prelude.{ℕ, Bool, true, List, [], length, Some, None, ◌≡◌, ◌+◌, ◌∷◌, ◌==◌, if◌then◌else◌}
 use Rattle.std.specs.List.{list_any}
-use Rattle.run_memory.specs.Memory.{fresh}
-use Rattle.run_source.specs.State.{function_of}
-use Rattle.run_source.specs.declared.state.State.{State}
-use Rattle.run_source.specs.declared.state.Mode.{Mode}
+use Rattle.pass_kept_proof.specs.run_memory.Memory.{fresh}
+use Rattle.pass_kept_proof.specs.run_source.State.{function_of}
+use Rattle.pass_kept_proof.specs.run_source.declared.state.State.{State}
+use Rattle.pass_kept_proof.specs.run_source.declared.state.Mode.{Mode}
 use Rattle.run_framed.specs.Framed.{at_point, with_mode}
-use Rattle.ir_model.specs.Layout.{size_of}
-use Rattle.ir_model.specs.Ty.{Ty}
-use Rattle.ir_model.specs.declared.instr.Instr.{Instr}
-use Rattle.ir_model.specs.declared.module.Function.{Function}
-use Rattle.run_step.specs.Step.{AtInstr, alloca_kind, fetch, is_alignment}
-use Rattle.run_step.specs.Values.{pointer_to, with_value}
+use Rattle.pass_kept_proof.specs.ir_model.Layout.{size_of}
+use Rattle.pass_kept_proof.specs.ir_model.Ty.{Ty}
+use Rattle.pass_kept_proof.specs.ir_model.declared.instr.Instr.{Instr}
+use Rattle.pass_kept_proof.specs.ir_model.declared.module.Function.{Function}
+use Rattle.pass_kept_proof.specs.run_step.Step.{AtInstr, alloca_kind, fetch, is_alignment}
+use Rattle.pass_kept_proof.specs.run_step.Values.{pointer_to, with_value}
 use Rattle.pass_renewed_proof.specs.Renewed.{RenewedGiven, renewed_from}
 
 -- there is one live block more, whose address the alloca gives, and which is the activation's own

@@ -1,16 +1,16 @@
 -- No slot is made anew where an escaped one has two starts with a suspend between: both live in the frame.
 use Rattle.std.specs.Prelude.{ℕ, Bool, Option, true, false, [], pos, Some, None, codes, refl, ◌≡◌, ◌∷◌}
-use Rattle.ir_base.specs.declared.name.Name.{Name}
-use Rattle.ir_base.specs.declared.outcome.Outcome.{Outcome}
-use Rattle.ir_model.specs.Ty.{int, ptr, token}
-use Rattle.ir_model.specs.declared.instr.Instr.{Instr}
-use Rattle.ir_model.specs.declared.instr.Terminator.{Terminator}
-use Rattle.ir_model.specs.declared.module.Module.{Module}
-use Rattle.ir_model.specs.declared.operand.Allocator.{Allocator}
-use Rattle.ir_model.specs.declared.operand.Callee.{Callee}
-use Rattle.ir_model.specs.declared.operand.Intrinsic.{Intrinsic}
-use Rattle.ir_model.specs.declared.operand.Operand.{Operand}
-use Rattle.run_step.specs.Runs.{Seen}
+use Rattle.pass_kept_proof.specs.ir_base.declared.name.Name.{Name}
+use Rattle.pass_kept_proof.specs.ir_base.declared.outcome.Outcome.{Outcome}
+use Rattle.pass_kept_proof.specs.ir_model.Ty.{int, ptr, token}
+use Rattle.pass_kept_proof.specs.ir_model.declared.instr.Instr.{Instr}
+use Rattle.pass_kept_proof.specs.ir_model.declared.instr.Terminator.{Terminator}
+use Rattle.pass_kept_proof.specs.ir_model.declared.module.Module.{Module}
+use Rattle.pass_kept_proof.specs.ir_model.declared.operand.Allocator.{Allocator}
+use Rattle.pass_kept_proof.specs.ir_model.declared.operand.Callee.{Callee}
+use Rattle.pass_kept_proof.specs.ir_model.declared.operand.Intrinsic.{Intrinsic}
+use Rattle.pass_kept_proof.specs.ir_model.declared.operand.Operand.{Operand}
+use Rattle.pass_kept_proof.specs.run_step.Runs.{Seen}
 use Rattle.pass_renewed_proof.specs.Renewed.{RenewedAt}
 
 abbrev pub the_module : Module

@@ -1,10 +1,10 @@
 -- Instances that are found in both runs.
 use Rattle.std.specs.Prelude.{ℕ, List, Some, None, Option, ◌≡◌}
-use Rattle.ir_model.specs.declared.module.Module.{Module}
-use Rattle.run_memory.specs.declared.block.MemoryBlock.{MemoryBlock}
-use Rattle.run_source.specs.Source.{Sleeper}
-use Rattle.run_source.specs.declared.state.Instance.{Instance}
-use Rattle.run_source.specs.declared.state.Status.{Status}
+use Rattle.pass_kept_proof.specs.ir_model.declared.module.Module.{Module}
+use Rattle.pass_kept_proof.specs.run_memory.declared.block.MemoryBlock.{MemoryBlock}
+use Rattle.pass_kept_proof.specs.run_source.Source.{Sleeper}
+use Rattle.pass_kept_proof.specs.run_source.declared.state.Instance.{Instance}
+use Rattle.pass_kept_proof.specs.run_source.declared.state.Status.{Status}
 use Rattle.pass_renewed_proof.specs.Beside.{AreKeptBeside, IsInstanceBeside}
 use Rattle.pass_renewed_proof.specs.Ledger.{Ledger}
 use Rattle.pass_renewed_proof.specs.Renewed.{Flags, Roots}

@@ -2,26 +2,26 @@
 -- stand, which of them are slots that are made anew, and for whom blocks of the second were made.
 use Rattle.std.specs.Prelude.{ℕ, Bool, true, false, not, nat_le, if◌then◌else◌, ◌==◌, ◌++◌, ◌∷◌, [], List, length}
 use Rattle.std.specs.Prelude.{slice_get, option_map, Some, None, Option, ◌≡◌, ◌<◌, ◌^◌}
-use Rattle.run_memory.specs.Memory.{access_bytes, is_killed, is_live, same_kind}
-use Rattle.run_memory.specs.declared.block.Byte.{Byte}
-use Rattle.run_memory.specs.declared.block.Kind.{Kind}
-use Rattle.run_memory.specs.declared.block.MemoryBlock.{MemoryBlock}
-use Rattle.ir_model.specs.Layout.{size_of}
-use Rattle.ir_model.specs.Names.{function_at}
-use Rattle.ir_model.specs.Ty.{Ty}
-use Rattle.ir_model.specs.declared.instr.Instr.{Instr}
-use Rattle.ir_model.specs.declared.module.Function.{Function}
-use Rattle.ir_model.specs.declared.module.GlobalItem.{GlobalItem}
-use Rattle.ir_model.specs.declared.module.Module.{Module}
-use Rattle.ir_paths.specs.Slots.{is_escaped}
-use Rattle.ir_paths.specs.declared.point.Point.{Point}
+use Rattle.pass_kept_proof.specs.run_memory.Memory.{access_bytes, is_killed, is_live, same_kind}
+use Rattle.pass_kept_proof.specs.run_memory.declared.block.Byte.{Byte}
+use Rattle.pass_kept_proof.specs.run_memory.declared.block.Kind.{Kind}
+use Rattle.pass_kept_proof.specs.run_memory.declared.block.MemoryBlock.{MemoryBlock}
+use Rattle.pass_kept_proof.specs.ir_model.Layout.{size_of}
+use Rattle.pass_kept_proof.specs.ir_model.Names.{function_at}
+use Rattle.pass_kept_proof.specs.ir_model.Ty.{Ty}
+use Rattle.pass_kept_proof.specs.ir_model.declared.instr.Instr.{Instr}
+use Rattle.pass_kept_proof.specs.ir_model.declared.module.Function.{Function}
+use Rattle.pass_kept_proof.specs.ir_model.declared.module.GlobalItem.{GlobalItem}
+use Rattle.pass_kept_proof.specs.ir_model.declared.module.Module.{Module}
+use Rattle.pass_kept_proof.specs.ir_paths.Slots.{is_escaped}
+use Rattle.pass_kept_proof.specs.ir_paths.declared.point.Point.{Point}
 use Rattle.run_laws.specs.access.Changed.{IsFull}
 use Rattle.run_laws.specs.changed.Changed.{Each}
 use Rattle.run_laws.specs.embedded.Making.{whole_home}
 use Rattle.run_laws.specs.memory.Pointers.{Home, home_of}
 use Rattle.run_laws.specs.memory.Standing.{own_homes}
-use Rattle.run_step.specs.Step.{AtInstr, fetch, first_world}
-use Rattle.run_step.specs.Values.{access_of}
+use Rattle.pass_kept_proof.specs.run_step.Step.{AtInstr, fetch, first_world}
+use Rattle.pass_kept_proof.specs.run_step.Values.{access_of}
 use Rattle.pass_renewed_proof.specs.Muted.{muted}
 use Rattle.pass_renewed_proof.specs.Places.{IsBlank, unseen}
 use Rattle.pass_renewed_proof.specs.Ready.{Place, faded, shown_of, stood}

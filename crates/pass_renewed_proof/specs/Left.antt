@@ -1,12 +1,12 @@
 -- Where an activation may be that has left: between a save and its suspend, at the suspend and its switch, and at the
 -- end and behind it.
 use Rattle.std.specs.Prelude.{◌≡◌, ◌+◌, Some}
-use Rattle.ir_model.specs.declared.module.Function.{Function}
-use Rattle.ir_model.specs.declared.operand.Intrinsic.{Intrinsic}
-use Rattle.ir_paths.specs.Windows.{IsInWindow, end_block, suspend_of}
-use Rattle.ir_paths.specs.declared.point.Point.{Point}
+use Rattle.pass_kept_proof.specs.ir_model.declared.module.Function.{Function}
+use Rattle.pass_kept_proof.specs.ir_model.declared.operand.Intrinsic.{Intrinsic}
+use Rattle.pass_kept_proof.specs.ir_paths.Windows.{IsInWindow, end_block, suspend_of}
+use Rattle.pass_kept_proof.specs.ir_paths.declared.point.Point.{Point}
 use Rattle.pass_kept_proof.specs.SuspendRules.{IsCallAt}
-use Rattle.rule_windows.specs.Sets.{IsAfterEnd}
+use Rattle.pass_kept_proof.specs.rule_windows.Sets.{IsAfterEnd}
 
 -- the point behind another one in its block
 abbrev pub behind : Point → Point

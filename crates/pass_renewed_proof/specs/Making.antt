@@ -1,28 +1,28 @@
 -- Instructions that make or mark blocks, and those that give a value alone.
 use Rattle.std.specs.Prelude.{◌≡◌, ◌<◌, ℕ, Bool, true, false, List, [], ◌∷◌, ◌++◌, length, Option, Some, IsTrue}
 use Rattle.std.specs.Prelude.{if◌then◌else◌, slice_get}
-use Rattle.ir_model.specs.Names.{function_at}
-use Rattle.ir_model.specs.Ty.{Ty}
-use Rattle.ir_model.specs.declared.instr.Instr.{Instr}
-use Rattle.ir_model.specs.declared.module.Module.{Module}
-use Rattle.ir_model.specs.declared.operand.Allocator.{Allocator}
-use Rattle.ir_model.specs.declared.operand.Arg.{Arg}
-use Rattle.ir_model.specs.declared.operand.Callee.{Callee}
-use Rattle.ir_model.specs.declared.operand.Intrinsic.{Intrinsic}
-use Rattle.ir_model.specs.declared.operand.Operand.{Operand}
-use Rattle.ir_paths.specs.Windows.{is_call_of, operand_at, suspend_of}
-use Rattle.ir_paths.specs.declared.point.Point.{Point}
-use Rattle.ir_model.specs.Layout.{size_of}
+use Rattle.pass_kept_proof.specs.ir_model.Names.{function_at}
+use Rattle.pass_kept_proof.specs.ir_model.Ty.{Ty}
+use Rattle.pass_kept_proof.specs.ir_model.declared.instr.Instr.{Instr}
+use Rattle.pass_kept_proof.specs.ir_model.declared.module.Module.{Module}
+use Rattle.pass_kept_proof.specs.ir_model.declared.operand.Allocator.{Allocator}
+use Rattle.pass_kept_proof.specs.ir_model.declared.operand.Arg.{Arg}
+use Rattle.pass_kept_proof.specs.ir_model.declared.operand.Callee.{Callee}
+use Rattle.pass_kept_proof.specs.ir_model.declared.operand.Intrinsic.{Intrinsic}
+use Rattle.pass_kept_proof.specs.ir_model.declared.operand.Operand.{Operand}
+use Rattle.pass_kept_proof.specs.ir_paths.Windows.{is_call_of, operand_at, suspend_of}
+use Rattle.pass_kept_proof.specs.ir_paths.declared.point.Point.{Point}
+use Rattle.pass_kept_proof.specs.ir_model.Layout.{size_of}
 use Rattle.run_laws.specs.memory.Standing.{blank_block}
-use Rattle.run_memory.specs.declared.block.Life.{Life}
-use Rattle.run_memory.specs.declared.block.MemoryBlock.{MemoryBlock}
-use Rattle.run_source.specs.State.{settled}
-use Rattle.run_source.specs.declared.state.Activation.{Activation}
-use Rattle.run_source.specs.declared.state.Instance.{Instance}
-use Rattle.run_source.specs.declared.state.Mode.{Mode}
-use Rattle.run_source.specs.declared.state.State.{State}
-use Rattle.run_step.specs.Step.{AtInstr, alloca_kind, fetch}
-use Rattle.run_step.specs.Values.{pointer_to, with_value}
+use Rattle.pass_kept_proof.specs.run_memory.declared.block.Life.{Life}
+use Rattle.pass_kept_proof.specs.run_memory.declared.block.MemoryBlock.{MemoryBlock}
+use Rattle.pass_kept_proof.specs.run_source.State.{settled}
+use Rattle.pass_kept_proof.specs.run_source.declared.state.Activation.{Activation}
+use Rattle.pass_kept_proof.specs.run_source.declared.state.Instance.{Instance}
+use Rattle.pass_kept_proof.specs.run_source.declared.state.Mode.{Mode}
+use Rattle.pass_kept_proof.specs.run_source.declared.state.State.{State}
+use Rattle.pass_kept_proof.specs.run_step.Step.{AtInstr, alloca_kind, fetch}
+use Rattle.pass_kept_proof.specs.run_step.Values.{pointer_to, with_value}
 use Rattle.pass_renewed_proof.specs.Beside.{IsOther, place_in}
 use Rattle.pass_renewed_proof.specs.Ordinary.{IsCalm, IsOrdinary}
 use Rattle.pass_renewed_proof.specs.Renewed.{Flags, Roots}

@@ -1,21 +1,21 @@
 -- Ordinary instructions: at their places stands no suspend, nor its switch, nor an end; they make and mark no block,
 -- and give no address in a slot that is made anew.
 use Rattle.std.specs.Prelude.{◌≡◌, ℕ, Bool, true, List, Some}
-use Rattle.ir_model.specs.Names.{function_at, is_local}
-use Rattle.ir_model.specs.Ty.{Ty}
-use Rattle.ir_model.specs.declared.instr.Instr.{Instr}
-use Rattle.ir_model.specs.declared.module.Function.{Function}
-use Rattle.ir_model.specs.declared.module.Module.{Module}
-use Rattle.ir_model.specs.declared.operand.Arg.{Arg}
-use Rattle.ir_model.specs.declared.operand.Intrinsic.{Intrinsic}
-use Rattle.ir_model.specs.declared.operand.Operand.{Operand}
-use Rattle.ir_paths.specs.Windows.{end_block}
-use Rattle.ir_paths.specs.declared.point.Point.{Point}
+use Rattle.pass_kept_proof.specs.ir_model.Names.{function_at, is_local}
+use Rattle.pass_kept_proof.specs.ir_model.Ty.{Ty}
+use Rattle.pass_kept_proof.specs.ir_model.declared.instr.Instr.{Instr}
+use Rattle.pass_kept_proof.specs.ir_model.declared.module.Function.{Function}
+use Rattle.pass_kept_proof.specs.ir_model.declared.module.Module.{Module}
+use Rattle.pass_kept_proof.specs.ir_model.declared.operand.Arg.{Arg}
+use Rattle.pass_kept_proof.specs.ir_model.declared.operand.Intrinsic.{Intrinsic}
+use Rattle.pass_kept_proof.specs.ir_model.declared.operand.Operand.{Operand}
+use Rattle.pass_kept_proof.specs.ir_paths.Windows.{end_block}
+use Rattle.pass_kept_proof.specs.ir_paths.declared.point.Point.{Point}
 use Rattle.pass_kept_proof.specs.SuspendRules.{IsCallAt}
 use Rattle.run_laws.specs.embedded.Related.{HasBytes, HasNoSlot}
-use Rattle.run_source.specs.declared.state.Activation.{Activation}
-use Rattle.run_step.specs.Step.{AtInstr, Work, fetch, set_value}
-use Rattle.run_step.specs.Values.{distance, element, indices_of, value_in}
+use Rattle.pass_kept_proof.specs.run_source.declared.state.Activation.{Activation}
+use Rattle.pass_kept_proof.specs.run_step.Step.{AtInstr, Work, fetch, set_value}
+use Rattle.pass_kept_proof.specs.run_step.Values.{distance, element, indices_of, value_in}
 use Rattle.pass_renewed_proof.specs.Ahead.{IsBehindSuspendCall}
 use Rattle.pass_renewed_proof.specs.Beside.{place_in}
 use Rattle.pass_renewed_proof.specs.Renewed.{Roots}

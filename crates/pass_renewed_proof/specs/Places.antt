@@ -1,11 +1,11 @@
 -- Where blocks of the source that are made anew stand: a block of the target is their own, stands ready for them, or is given back.
 use Rattle.std.specs.Prelude.{ℕ, Bool, true, false, List, slice_get, replicate, Some, None, ◌≡◌, ◌≢◌, ◌≤◌, ◌<◌, ◌^◌, ◌||◌, ◌&&◌, not, ◌==◌, ◌⊎◌, length}
-use Rattle.run_memory.specs.Memory.{is_live, may_compare_at, owner_rights, same_kind}
-use Rattle.run_memory.specs.Pointers.{moved}
-use Rattle.run_memory.specs.declared.pointer.Offset.{Offset}
-use Rattle.run_memory.specs.declared.block.Byte.{Byte}
-use Rattle.run_memory.specs.declared.block.Kind.{Kind}
-use Rattle.run_memory.specs.declared.block.MemoryBlock.{MemoryBlock}
+use Rattle.pass_kept_proof.specs.run_memory.Memory.{is_live, may_compare_at, owner_rights, same_kind}
+use Rattle.pass_kept_proof.specs.run_memory.Pointers.{moved}
+use Rattle.pass_kept_proof.specs.run_memory.declared.pointer.Offset.{Offset}
+use Rattle.pass_kept_proof.specs.run_memory.declared.block.Byte.{Byte}
+use Rattle.pass_kept_proof.specs.run_memory.declared.block.Kind.{Kind}
+use Rattle.pass_kept_proof.specs.run_memory.declared.block.MemoryBlock.{MemoryBlock}
 use Rattle.pass_renewed_proof.specs.Small.{small_rights}
 use Rattle.run_laws.specs.memory.Pointers.{Home, home_of}
 use Rattle.run_laws.specs.memory.Standing.{AreBoundsKept, AreNullsKept, Embeds}

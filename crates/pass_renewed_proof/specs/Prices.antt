@@ -1,25 +1,25 @@
 -- What the steps of a source may cost where slots are made anew: so much as the framed module's take for them.
 use Rattle.std.specs.Prelude.{ℕ, suc, ◌+◌, Bool, List, [], ◌∷◌, None, Some, Option, Err, Ok, Result, slice_get, if◌then◌else◌, ℤ}
-use Rattle.run_agreement.specs.Machines.{Machine}
-use Rattle.ir_base.specs.declared.cause.Cause.{Cause}
-use Rattle.ir_base.specs.declared.outcome.Word.{Word}
-use Rattle.run_source.specs.Source.{Sleeper, context_of, first_state, sleeper_at}
-use Rattle.run_source.specs.State.{function_of, work_of}
-use Rattle.run_source.specs.declared.state.Mode.{Mode}
-use Rattle.run_source.specs.declared.state.State.{State}
+use Rattle.pass_kept_proof.specs.run_agreement.Machines.{Machine}
+use Rattle.pass_kept_proof.specs.ir_base.declared.cause.Cause.{Cause}
+use Rattle.pass_kept_proof.specs.ir_base.declared.outcome.Word.{Word}
+use Rattle.pass_kept_proof.specs.run_source.Source.{Sleeper, context_of, first_state, sleeper_at}
+use Rattle.pass_kept_proof.specs.run_source.State.{function_of, work_of}
+use Rattle.pass_kept_proof.specs.run_source.declared.state.Mode.{Mode}
+use Rattle.pass_kept_proof.specs.run_source.declared.state.State.{State}
 use Rattle.pass_kept_proof.specs.Kept.{Keep}
-use Rattle.ir_model.specs.Names.{function_at}
-use Rattle.ir_model.specs.declared.instr.Instr.{Instr}
-use Rattle.ir_model.specs.declared.module.Block.{Block}
-use Rattle.ir_model.specs.declared.module.Frame.{Frame}
-use Rattle.ir_model.specs.declared.module.Module.{Module}
-use Rattle.ir_model.specs.declared.operand.Arg.{Arg}
-use Rattle.ir_model.specs.declared.operand.Intrinsic.{Intrinsic}
-use Rattle.run_step.specs.Runs.{seen_of}
-use Rattle.run_step.specs.Step.{Action, Coro, action_of, fetch}
-use Rattle.run_step.specs.Values.{arg_values, nth}
+use Rattle.pass_kept_proof.specs.ir_model.Names.{function_at}
+use Rattle.pass_kept_proof.specs.ir_model.declared.instr.Instr.{Instr}
+use Rattle.pass_kept_proof.specs.ir_model.declared.module.Block.{Block}
+use Rattle.pass_kept_proof.specs.ir_model.declared.module.Frame.{Frame}
+use Rattle.pass_kept_proof.specs.ir_model.declared.module.Module.{Module}
+use Rattle.pass_kept_proof.specs.ir_model.declared.operand.Arg.{Arg}
+use Rattle.pass_kept_proof.specs.ir_model.declared.operand.Intrinsic.{Intrinsic}
+use Rattle.pass_kept_proof.specs.run_step.Runs.{seen_of}
+use Rattle.pass_kept_proof.specs.run_step.Step.{Action, Coro, action_of, fetch}
+use Rattle.pass_kept_proof.specs.run_step.Values.{arg_values, nth}
 use Rattle.pass_renewed_proof.specs.Renewed.{Flags, Roots, is_renewed, renewed_given, renewed_step}
-use Rattle.run_source_tables.specs.Given.{Given}
+use Rattle.pass_kept_proof.specs.run_source_tables.Given.{Given}
 
 -- what is seen of it after n steps is RenewedAt
 abbrev pub renewed_machine : Module → Keep → Flags → Roots → List Frame → ℕ → List Word → List ℤ → Machine State

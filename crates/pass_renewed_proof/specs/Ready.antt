@@ -1,18 +1,18 @@
 -- Slots that an instruction uses: their blocks in the source, and the blocks of the target that are theirs alone.
 use Rattle.std.specs.Prelude.{ℕ, Bool, true, false, List, [], ◌∷◌, length, slice_get, Some, None, ◌≡◌, ◌≢◌, ◌≤◌, ◌<◌, ◌^◌, ◌⊎◌, set, IsTrue, if◌then◌else◌}
-use Rattle.run_memory.specs.Memory.{is_live, same_kind}
-use Rattle.run_memory.specs.Pointers.{moved}
-use Rattle.run_memory.specs.declared.block.Kind.{Kind}
-use Rattle.run_memory.specs.declared.block.MemoryBlock.{MemoryBlock}
-use Rattle.run_memory.specs.declared.pointer.Offset.{Offset}
-use Rattle.run_memory.specs.declared.pointer.Pointer.{Pointer}
-use Rattle.run_memory.specs.declared.pointer.Value.{Value}
-use Rattle.ir_base.specs.declared.name.Name.{Name}
-use Rattle.flow_solver.specs.Paths.{IsListed}
+use Rattle.pass_kept_proof.specs.run_memory.Memory.{is_live, same_kind}
+use Rattle.pass_kept_proof.specs.run_memory.Pointers.{moved}
+use Rattle.pass_kept_proof.specs.run_memory.declared.block.Kind.{Kind}
+use Rattle.pass_kept_proof.specs.run_memory.declared.block.MemoryBlock.{MemoryBlock}
+use Rattle.pass_kept_proof.specs.run_memory.declared.pointer.Offset.{Offset}
+use Rattle.pass_kept_proof.specs.run_memory.declared.pointer.Pointer.{Pointer}
+use Rattle.pass_kept_proof.specs.run_memory.declared.pointer.Value.{Value}
+use Rattle.pass_kept_proof.specs.ir_base.declared.name.Name.{Name}
+use Rattle.pass_kept_proof.specs.flow_solver.Paths.{IsListed}
 use Rattle.pass_kept_proof.specs.Needed.{reads_at}
 use Rattle.run_laws.specs.memory.Pointers.{Home, IsValue, home_of}
-use Rattle.run_step.specs.Step.{Context, Fetched, Work}
-use Rattle.run_step.specs.Values.{address_of, value_in}
+use Rattle.pass_kept_proof.specs.run_step.Step.{Context, Fetched, Work}
+use Rattle.pass_kept_proof.specs.run_step.Values.{address_of, value_in}
 use Rattle.pass_renewed_proof.specs.Muted.{muted}
 use Rattle.pass_renewed_proof.specs.Places.{IsBlank, showing, unseen}
 use Rattle.pass_renewed_proof.specs.Shown.{AreShownBlocks}

@@ -7,36 +7,36 @@
 -- is left in the end, so a flagged slot lives from its alloca on and its markers do nothing: a slot that is started before a suspend and used
 -- behind it alone is made anew in between.
 use Rattle.std.specs.Prelude.{ℕ, suc, Bool, false, List, [], ℤ, drop, slice_get, Some, None, Ok, Option, Result, filter, option_map, ◌+◌, ◌&&◌, ◌∷◌, ◌++◌, if◌then◌else◌}
-use Rattle.run_memory.specs.Memory.{start}
-use Rattle.run_memory.specs.declared.pointer.Pointer.{Pointer}
-use Rattle.run_memory.specs.declared.pointer.Value.{Value}
-use Rattle.ir_base.specs.declared.cause.Cause.{Cause}
-use Rattle.ir_base.specs.declared.outcome.Outcome.{Outcome}
-use Rattle.ir_base.specs.declared.outcome.Word.{Word}
-use Rattle.run_source.specs.Source.{Continues, act, context_of, first_state, new_slot, push, resumed}
-use Rattle.run_source.specs.State.{function_of, next, or_undefined, settled, with_memory, with_slots, with_status, work_of}
-use Rattle.run_source.specs.declared.state.Mode.{Mode}
-use Rattle.run_source.specs.declared.state.State.{State}
-use Rattle.run_source.specs.declared.state.Status.{Status}
+use Rattle.pass_kept_proof.specs.run_memory.Memory.{start}
+use Rattle.pass_kept_proof.specs.run_memory.declared.pointer.Pointer.{Pointer}
+use Rattle.pass_kept_proof.specs.run_memory.declared.pointer.Value.{Value}
+use Rattle.pass_kept_proof.specs.ir_base.declared.cause.Cause.{Cause}
+use Rattle.pass_kept_proof.specs.ir_base.declared.outcome.Outcome.{Outcome}
+use Rattle.pass_kept_proof.specs.ir_base.declared.outcome.Word.{Word}
+use Rattle.pass_kept_proof.specs.run_source.Source.{Continues, act, context_of, first_state, new_slot, push, resumed}
+use Rattle.pass_kept_proof.specs.run_source.State.{function_of, next, or_undefined, settled, with_memory, with_slots, with_status, work_of}
+use Rattle.pass_kept_proof.specs.run_source.declared.state.Mode.{Mode}
+use Rattle.pass_kept_proof.specs.run_source.declared.state.State.{State}
+use Rattle.pass_kept_proof.specs.run_source.declared.state.Status.{Status}
 use Rattle.run_framed.specs.Framed.{FramedGiven, enter_after}
-use Rattle.ir_model.specs.Names.{first_where, function_at}
-use Rattle.ir_model.specs.declared.instr.Instr.{Instr}
-use Rattle.ir_model.specs.declared.module.Block.{Block}
-use Rattle.ir_model.specs.declared.module.Frame.{Frame}
-use Rattle.ir_model.specs.declared.module.Function.{Function}
-use Rattle.ir_model.specs.declared.module.Module.{Module}
-use Rattle.ir_model.specs.declared.operand.Operand.{Operand}
-use Rattle.ir_paths.specs.Facts.{facts_of}
-use Rattle.ir_paths.specs.Slots.{allocas_of}
-use Rattle.ir_paths.specs.Windows.{operand_at}
-use Rattle.ir_paths.specs.declared.point.Facts.{Facts}
-use Rattle.ir_paths.specs.declared.point.Point.{Point}
+use Rattle.pass_kept_proof.specs.ir_model.Names.{first_where, function_at}
+use Rattle.pass_kept_proof.specs.ir_model.declared.instr.Instr.{Instr}
+use Rattle.pass_kept_proof.specs.ir_model.declared.module.Block.{Block}
+use Rattle.pass_kept_proof.specs.ir_model.declared.module.Frame.{Frame}
+use Rattle.pass_kept_proof.specs.ir_model.declared.module.Function.{Function}
+use Rattle.pass_kept_proof.specs.ir_model.declared.module.Module.{Module}
+use Rattle.pass_kept_proof.specs.ir_model.declared.operand.Operand.{Operand}
+use Rattle.pass_kept_proof.specs.ir_paths.Facts.{facts_of}
+use Rattle.pass_kept_proof.specs.ir_paths.Slots.{allocas_of}
+use Rattle.pass_kept_proof.specs.ir_paths.Windows.{operand_at}
+use Rattle.pass_kept_proof.specs.ir_paths.declared.point.Facts.{Facts}
+use Rattle.pass_kept_proof.specs.ir_paths.declared.point.Point.{Point}
 use Rattle.pass_kept_proof.specs.Kept.{Keep, kept}
-use Rattle.run_step.specs.Runs.{Seen, iterate, seen_of}
-use Rattle.run_step.specs.Step.{Action, AtInstr, Fetched, NewSlot, action_of, fetch, is_lifetime}
-use Rattle.run_step.specs.Values.{Env, value_in}
-use Rattle.run_step.specs.declared.world.Slot.{Slot}
-use Rattle.run_source_tables.specs.Given.{Given}
+use Rattle.pass_kept_proof.specs.run_step.Runs.{Seen, iterate, seen_of}
+use Rattle.pass_kept_proof.specs.run_step.Step.{Action, AtInstr, Fetched, NewSlot, action_of, fetch, is_lifetime}
+use Rattle.pass_kept_proof.specs.run_step.Values.{Env, value_in}
+use Rattle.pass_kept_proof.specs.run_step.declared.world.Slot.{Slot}
+use Rattle.pass_kept_proof.specs.run_source_tables.Given.{Given}
 
 -- which allocas of the function at a position are made anew, by the names that they give
 abbrev pub Flags : Type 0

@@ -1,14 +1,14 @@
 -- Memories and values in which no pointer leads into some blocks, and what an instruction may spread of its operands.
 use Rattle.std.specs.Prelude.{ℕ, Bool, List, [], ◌∷◌, Some, None, ◌≡◌, ◌⊎◌}
-use Rattle.run_memory.specs.declared.block.Byte.{Byte}
-use Rattle.run_memory.specs.declared.block.MemoryBlock.{MemoryBlock}
-use Rattle.run_memory.specs.declared.pointer.Value.{Value}
-use Rattle.ir_model.specs.declared.instr.Instr.{Instr}
-use Rattle.ir_model.specs.declared.operand.Callee.{Callee}
-use Rattle.ir_model.specs.declared.operand.Intrinsic.{Intrinsic}
-use Rattle.ir_model.specs.declared.operand.Operand.{Operand}
-use Rattle.run_step.specs.Step.{Action, AtInstr, AtTerm, Done, Enter, Fetched, NewSlot, Nowhere, Return}
-use Rattle.run_step.specs.Values.{Env, value_in}
+use Rattle.pass_kept_proof.specs.run_memory.declared.block.Byte.{Byte}
+use Rattle.pass_kept_proof.specs.run_memory.declared.block.MemoryBlock.{MemoryBlock}
+use Rattle.pass_kept_proof.specs.run_memory.declared.pointer.Value.{Value}
+use Rattle.pass_kept_proof.specs.ir_model.declared.instr.Instr.{Instr}
+use Rattle.pass_kept_proof.specs.ir_model.declared.operand.Callee.{Callee}
+use Rattle.pass_kept_proof.specs.ir_model.declared.operand.Intrinsic.{Intrinsic}
+use Rattle.pass_kept_proof.specs.ir_model.declared.operand.Operand.{Operand}
+use Rattle.pass_kept_proof.specs.run_step.Step.{Action, AtInstr, AtTerm, Done, Enter, Fetched, NewSlot, Nowhere, Return}
+use Rattle.pass_kept_proof.specs.run_step.Values.{Env, value_in}
 use Rattle.pass_renewed_proof.specs.Muted.{IsShown}
 use Rattle.run_laws.specs.changed.Changed.{Each, operands_of, operands_of_term}
 

@@ -1,11 +1,11 @@
 -- Values of an activation and of the one that stands for it, of which some are addresses in slots.
 use Rattle.std.specs.Prelude.{ℕ, List, length, Some, None, Option, ◌≡◌, ◌≤◌, ◌⊎◌}
-use Rattle.run_memory.specs.Pointers.{moved}
-use Rattle.run_memory.specs.declared.pointer.Offset.{Offset}
-use Rattle.run_memory.specs.declared.pointer.Pointer.{Pointer}
-use Rattle.run_memory.specs.declared.pointer.Value.{Value}
+use Rattle.pass_kept_proof.specs.run_memory.Pointers.{moved}
+use Rattle.pass_kept_proof.specs.run_memory.declared.pointer.Offset.{Offset}
+use Rattle.pass_kept_proof.specs.run_memory.declared.pointer.Pointer.{Pointer}
+use Rattle.pass_kept_proof.specs.run_memory.declared.pointer.Value.{Value}
 use Rattle.run_laws.specs.memory.Pointers.{Home, IsValue}
-use Rattle.run_step.specs.Values.{Env, pointer_to, value_in}
+use Rattle.pass_kept_proof.specs.run_step.Values.{Env, pointer_to, value_in}
 
 -- an address in the block of a root, and the same address in the block of the root that stands for it
 pub record IsAddress (root other v w : Value) : Type 0 where

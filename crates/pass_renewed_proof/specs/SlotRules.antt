@@ -1,34 +1,34 @@
 -- What is asked of slots that resumed activations make anew; each part is a consequence of rules by which modules are refused, or of the classes of slots.
 use Rattle.std.specs.Prelude.{◌≡◌, ◌⊎◌, ℕ, ◌+◌, Bool, true, List, [], ◌∷◌, Some, Option, IsTrue, IsFalse, slice_get}
-use Rattle.ir_model.specs.Names.{function_at, position_of}
-use Rattle.ir_model.specs.Ty.{Ty, structure}
-use Rattle.ir_model.specs.Layout.{unnamed}
-use Rattle.ir_model.specs.declared.instr.Case.{Case}
-use Rattle.ir_model.specs.declared.instr.Instr.{Instr}
-use Rattle.ir_model.specs.declared.instr.Terminator.{Terminator}
-use Rattle.ir_model.specs.declared.module.Function.{Function}
-use Rattle.ir_model.specs.declared.module.Module.{Module}
-use Rattle.ir_model.specs.declared.operand.Arg.{Arg}
-use Rattle.ir_model.specs.declared.operand.Intrinsic.{Intrinsic}
-use Rattle.ir_model.specs.declared.operand.Operand.{Operand}
-use Rattle.ir_paths.specs.Paths.{has_point}
-use Rattle.ir_paths.specs.Slots.{addresses_of, has_name, local_of}
-use Rattle.ir_paths.specs.Windows.{call_operand, end_block, is_call_of}
-use Rattle.ir_paths.specs.declared.point.Point.{Point}
+use Rattle.pass_kept_proof.specs.ir_model.Names.{function_at, position_of}
+use Rattle.pass_kept_proof.specs.ir_model.Ty.{Ty, structure}
+use Rattle.pass_kept_proof.specs.ir_model.Layout.{unnamed}
+use Rattle.pass_kept_proof.specs.ir_model.declared.instr.Case.{Case}
+use Rattle.pass_kept_proof.specs.ir_model.declared.instr.Instr.{Instr}
+use Rattle.pass_kept_proof.specs.ir_model.declared.instr.Terminator.{Terminator}
+use Rattle.pass_kept_proof.specs.ir_model.declared.module.Function.{Function}
+use Rattle.pass_kept_proof.specs.ir_model.declared.module.Module.{Module}
+use Rattle.pass_kept_proof.specs.ir_model.declared.operand.Arg.{Arg}
+use Rattle.pass_kept_proof.specs.ir_model.declared.operand.Intrinsic.{Intrinsic}
+use Rattle.pass_kept_proof.specs.ir_model.declared.operand.Operand.{Operand}
+use Rattle.pass_kept_proof.specs.ir_paths.Paths.{has_point}
+use Rattle.pass_kept_proof.specs.ir_paths.Slots.{addresses_of, has_name, local_of}
+use Rattle.pass_kept_proof.specs.ir_paths.Windows.{call_operand, end_block, is_call_of}
+use Rattle.pass_kept_proof.specs.ir_paths.declared.point.Point.{Point}
 use Rattle.pass_kept_proof.specs.Crossing.{is_param}
 use Rattle.pass_kept_proof.specs.Handed.{HasPlainNames}
 use Rattle.pass_kept_proof.specs.Kept.{Keep}
 use Rattle.pass_kept_proof.specs.Needed.{BranchesTo, phis_give}
 use Rattle.pass_kept_proof.specs.SuspendRules.{IsCallAt, KeepsSuspendRules}
-use Rattle.run_step.specs.Step.{AtInstr, AtTerm, fetch, phis_of}
-use Rattle.run_step.specs.Values.{arg_value, index_of, number_at, part_at}
+use Rattle.pass_kept_proof.specs.run_step.Step.{AtInstr, AtTerm, fetch, phis_of}
+use Rattle.pass_kept_proof.specs.run_step.Values.{arg_value, index_of, number_at, part_at}
 use Rattle.pass_renewed_proof.specs.Entering.{AreAligned}
 use Rattle.pass_renewed_proof.specs.Renewed.{Flags, Roots}
 use Rattle.pass_renewed_proof.specs.Steps.{given_at}
 use Rattle.frame_classes.specs.Classes.{IsOf, suspends}
 use Rattle.frame_classes.specs.declared.class.SlotClass.{SlotClass}
 use Rattle.rule_slots.specs.Closed.{IsClosed}
-use Rattle.rule_windows.specs.Sets.{IsAfterEnd, RunsOut}
+use Rattle.pass_kept_proof.specs.rule_windows.Sets.{IsAfterEnd, RunsOut}
 
 -- ---- names
 

@@ -1,12 +1,12 @@
 -- Offsets of 64 bits: a run's pointers have no others.
 use Rattle.std.specs.Prelude.{nat_lt, ◌&&◌, ◌^◌, ◌<◌}
-use Rattle.ir_model.specs.declared.instr.Instr.{Instr}
-use Rattle.ir_model.specs.declared.module.Module.{Module}
-use Rattle.run_memory.specs.Memory.{Rights, owner_rights}
-use Rattle.run_memory.specs.declared.pointer.Pointer.{Pointer}
-use Rattle.run_memory.specs.declared.pointer.Value.{Value}
-use Rattle.run_step.specs.Step.{AtInstr, Fetched}
-use Rattle.run_step.specs.Values.{Env, operand_value}
+use Rattle.pass_kept_proof.specs.ir_model.declared.instr.Instr.{Instr}
+use Rattle.pass_kept_proof.specs.ir_model.declared.module.Module.{Module}
+use Rattle.pass_kept_proof.specs.run_memory.Memory.{Rights, owner_rights}
+use Rattle.pass_kept_proof.specs.run_memory.declared.pointer.Pointer.{Pointer}
+use Rattle.pass_kept_proof.specs.run_memory.declared.pointer.Value.{Value}
+use Rattle.pass_kept_proof.specs.run_step.Step.{AtInstr, Fetched}
+use Rattle.pass_kept_proof.specs.run_step.Values.{Env, operand_value}
 
 -- the rights of owners, but that pointers are compared at such offsets alone
 abbrev pub small_rights : Rights

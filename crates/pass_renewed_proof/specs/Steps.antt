@@ -1,13 +1,13 @@
 -- An ordinary step over a source memory, of which some blocks count as dead, and over a target memory in which it stands.
 use Rattle.std.specs.Prelude.{ℕ, Bool, List, Some, None, Option, length, map, ◌≡◌, ◌≤◌, IsTrue}
-use Rattle.run_memory.specs.Memory.{owner_rights}
-use Rattle.run_memory.specs.declared.pointer.Value.{Value}
-use Rattle.ir_base.specs.declared.name.Name.{Name}
+use Rattle.pass_kept_proof.specs.run_memory.Memory.{owner_rights}
+use Rattle.pass_kept_proof.specs.run_memory.declared.pointer.Value.{Value}
+use Rattle.pass_kept_proof.specs.ir_base.declared.name.Name.{Name}
 use Rattle.pass_kept_proof.specs.Needed.{given_by, reads_at}
 use Rattle.run_laws.specs.memory.Pointers.{Home, IsValue}
-use Rattle.run_step.specs.Step.{Action, AtInstr, AtTerm, Context, Coro, Deallocate, Done, Enter, Fetched, GoTo, NewSlot, Nowhere, Return, Stuck, Work}
-use Rattle.run_step.specs.Values.{Env, address_of, value_in}
-use Rattle.run_step.specs.declared.world.World.{World}
+use Rattle.pass_kept_proof.specs.run_step.Step.{Action, AtInstr, AtTerm, Context, Coro, Deallocate, Done, Enter, Fetched, GoTo, NewSlot, Nowhere, Return, Stuck, Work}
+use Rattle.pass_kept_proof.specs.run_step.Values.{Env, address_of, value_in}
+use Rattle.pass_kept_proof.specs.run_step.declared.world.World.{World}
 use Rattle.pass_renewed_proof.specs.Muted.{muted}
 use Rattle.pass_renewed_proof.specs.Small.{ComparesSmall, small_rights}
 use Rattle.run_laws.specs.embedded.Related.{AreValues, HasBytes, HasDistance, HasNoSlot, moved_event}

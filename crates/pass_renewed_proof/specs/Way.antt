@@ -1,15 +1,15 @@
 -- Where an activation of a coroutine stands by the path that it came, as far as its slots are concerned.
 use Rattle.std.specs.Prelude.{ℕ, List, [], ◌++◌, IsTrue}
-use Rattle.ir_model.specs.declared.module.Function.{Function}
-use Rattle.ir_paths.specs.Paths.{has_point}
-use Rattle.ir_paths.specs.Slots.{end_points, is_escaped}
-use Rattle.ir_paths.specs.declared.point.Point.{Point}
+use Rattle.pass_kept_proof.specs.ir_model.declared.module.Function.{Function}
+use Rattle.pass_kept_proof.specs.ir_paths.Paths.{has_point}
+use Rattle.pass_kept_proof.specs.ir_paths.Slots.{end_points, is_escaped}
+use Rattle.pass_kept_proof.specs.ir_paths.declared.point.Point.{Point}
 use Rattle.frame_classes.specs.Alive.{MayBeAlive}
 use Rattle.frame_classes.specs.Classes.{parting, suspends}
 use Rattle.frame_slots.specs.Spots.{Comes}
 use Rattle.pass_renewed_proof.specs.Ahead.{WasUsed}
 use Rattle.pass_renewed_proof.specs.Left.{IsLeftBy}
-use Rattle.rule_windows.specs.Windows.{own_edges}
+use Rattle.pass_kept_proof.specs.rule_windows.Windows.{own_edges}
 
 -- ---- resumed activations
 

@@ -1,15 +1,15 @@
 //! What asks for a frame or for its promise is followed in the parts.
 
-ghost use Rattle.ir_model.specs.declared.operand.Intrinsic.{Intrinsic};
+ghost use Rattle.pass_proofs.specs.ir_model.declared.operand.Intrinsic.{Intrinsic};
 ghost use Rattle.pass_split_proof.specs.asking.Asking.{ArePromisesInFront, IsAsking, IsFrameThere};
 ghost use Rattle.pass_split_proof.specs.simulation.Followed.{IsFollowed};
 ghost use Rattle.pass_split_proof.specs.states.Related.{AreRelated};
-ghost use Rattle.run_agreement.specs.Machines.{IsFine};
-ghost use Rattle.run_framed.specs.Framed.{FramedGiven, framed_step};
-ghost use Rattle.run_plain.specs.Plain.{PlainGiven};
-ghost use Rattle.run_plain.specs.declared.state.PlainState.{PlainState as ThePlainState};
-ghost use Rattle.run_source.specs.declared.state.State.{State as TheState};
-ghost use Rattle.run_step.specs.Values.{arg_value};
+ghost use Rattle.pass_proofs.specs.run_agreement.Machines.{IsFine};
+ghost use Rattle.pass_proofs.specs.run_framed.Framed.{FramedGiven, framed_step};
+ghost use Rattle.run_access_worked.specs.run_plain.Plain.{PlainGiven};
+ghost use Rattle.run_access_worked.specs.run_plain.declared.state.PlainState.{PlainState as ThePlainState};
+ghost use Rattle.pass_proofs.specs.run_source.declared.state.State.{State as TheState};
+ghost use Rattle.pass_proofs.specs.run_step.Values.{arg_value};
 
 /// Whether a coroutine is at its final suspend is told in two steps: its header names no function there. Without a name
 /// for the result the part takes no step.

@@ -1,16 +1,16 @@
 //! The begin and the saves of a coroutine are followed in its parts.
 
 ghost use Rattle.std.specs.Prelude.{◌≡◌};
-ghost use Rattle.ir_base.specs.declared.outcome.Outcome.{Outcome};
+ghost use Rattle.pass_proofs.specs.ir_base.declared.outcome.Outcome.{Outcome};
 ghost use Rattle.pass_split_proof.specs.begins.Beginning.{IsAtBegin};
 ghost use Rattle.pass_split_proof.specs.begins.Saving.{IsAtSave};
 ghost use Rattle.pass_split_proof.specs.simulation.Followed.{IsFollowed};
 ghost use Rattle.pass_split_proof.specs.states.Related.{AreRelated};
-ghost use Rattle.run_agreement.specs.Machines.{IsFine};
-ghost use Rattle.run_framed.specs.Framed.{FramedGiven, framed_step};
-ghost use Rattle.run_plain.specs.Plain.{PlainGiven};
-ghost use Rattle.run_plain.specs.declared.state.PlainState.{PlainState as ThePlainState};
-ghost use Rattle.run_source.specs.declared.state.State.{State as TheState};
+ghost use Rattle.pass_proofs.specs.run_agreement.Machines.{IsFine};
+ghost use Rattle.pass_proofs.specs.run_framed.Framed.{FramedGiven, framed_step};
+ghost use Rattle.run_access_worked.specs.run_plain.Plain.{PlainGiven};
+ghost use Rattle.run_access_worked.specs.run_plain.declared.state.PlainState.{PlainState as ThePlainState};
+ghost use Rattle.pass_proofs.specs.run_source.declared.state.State.{State as TheState};
 
 /// A save is followed in four steps: the index and the pointer for a resume are stored, and the part jumps to the mark
 /// behind them.

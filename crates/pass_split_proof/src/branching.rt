@@ -1,26 +1,26 @@
 //! Terminators of a framed run are followed in its parts, up to returns.
 
 ghost use Rattle.std.specs.Prelude.{◌≡◌, List, false, negsuc, true};
-ghost use Rattle.ir_base.specs.declared.outcome.Outcome.{Outcome};
-ghost use Rattle.ir_model.specs.Names.{function_at};
-ghost use Rattle.ir_model.specs.declared.instr.Case.{Case};
-ghost use Rattle.ir_model.specs.declared.instr.Terminator.{Terminator};
-ghost use Rattle.ir_model.specs.declared.module.Module.{Module};
-ghost use Rattle.ir_model.specs.declared.operand.Arg.{Arg};
+ghost use Rattle.pass_proofs.specs.ir_base.declared.outcome.Outcome.{Outcome};
+ghost use Rattle.pass_proofs.specs.ir_model.Names.{function_at};
+ghost use Rattle.pass_proofs.specs.ir_model.declared.instr.Case.{Case};
+ghost use Rattle.pass_proofs.specs.ir_model.declared.instr.Terminator.{Terminator};
+ghost use Rattle.pass_proofs.specs.ir_model.declared.module.Module.{Module};
+ghost use Rattle.pass_proofs.specs.ir_model.declared.operand.Arg.{Arg};
 ghost use Rattle.pass_split_proof.specs.branching.Terminators.{IsAtTerm, is_return};
 ghost use Rattle.pass_split_proof.specs.places.Places.{Enters};
 ghost use Rattle.pass_split_proof.specs.simulation.Followed.{IsFollowed};
 ghost use Rattle.pass_split_proof.specs.states.Activations.{is_entering};
 ghost use Rattle.pass_split_proof.specs.states.Related.{AreRelated};
-ghost use Rattle.rule_shape.specs.Switches.{are_both};
-ghost use Rattle.run_agreement.specs.Machines.{IsFine};
-ghost use Rattle.run_framed.specs.Framed.{FramedGiven, framed_step};
-ghost use Rattle.run_plain.specs.Plain.{PlainGiven};
-ghost use Rattle.run_plain.specs.declared.state.PlainState.{PlainState as ThePlainState};
-ghost use Rattle.run_source.specs.State.{function_of};
-ghost use Rattle.run_source.specs.declared.state.State.{State as TheState};
-ghost use Rattle.run_step.specs.Step.{AtTerm, fetch};
-ghost use Rattle.run_step.specs.Values.{arg_value, integer};
+ghost use Rattle.pass_proofs.specs.rule_shape.Switches.{are_both};
+ghost use Rattle.pass_proofs.specs.run_agreement.Machines.{IsFine};
+ghost use Rattle.pass_proofs.specs.run_framed.Framed.{FramedGiven, framed_step};
+ghost use Rattle.run_access_worked.specs.run_plain.Plain.{PlainGiven};
+ghost use Rattle.run_access_worked.specs.run_plain.declared.state.PlainState.{PlainState as ThePlainState};
+ghost use Rattle.pass_proofs.specs.run_source.State.{function_of};
+ghost use Rattle.pass_proofs.specs.run_source.declared.state.State.{State as TheState};
+ghost use Rattle.pass_proofs.specs.run_step.Step.{AtTerm, fetch};
+ghost use Rattle.pass_proofs.specs.run_step.Values.{arg_value, integer};
 
 /// A jump, a branch or a switch is followed in the part, whose terminator is the redirected one. The part takes one step,
 /// or two where the edge leads through the mark of the end. A run that comes to `unreachable` is undefined.

@@ -1,25 +1,25 @@
 //! How the parts of a coroutine that go on begin, and where the functions of a split module stand.
 
 ghost use Rattle.std.specs.Prelude.{◌≡◌, ℕ, List, Bool, None, Some, is_some, pos, slice_get, true, ◌+◌, ◌||◌};
-ghost use Rattle.frame_layout.specs.declared.layout.Layout.{Layout};
-ghost use Rattle.frame_layout.specs.declared.layout.Layouts.{Layouts};
-ghost use Rattle.ir_base.specs.declared.name.Name.{Name};
-ghost use Rattle.ir_laws.specs.facts.same_names.Short.{HaveShortNames};
-ghost use Rattle.rule_laws.specs.rules.plain_rules.Items.{KeepsItemRules};
-ghost use Rattle.ir_base.specs.declared.outcome.Word.{Word as TheWord};
-ghost use Rattle.rule_laws.specs.frames.replaced.Parted.{IsSmall};
-ghost use Rattle.ir_model.specs.Names.{declaration_named, function_named, global_named};
-ghost use Rattle.ir_model.specs.Ty.{int};
-ghost use Rattle.ir_model.specs.TypeView.{bits_of};
-ghost use Rattle.ir_model.specs.declared.instr.Instr.{Instr};
-ghost use Rattle.ir_model.specs.declared.module.Function.{Function};
-ghost use Rattle.ir_model.specs.declared.module.Module.{Module};
-ghost use Rattle.pass_intrinsics.specs.Cuts.{goes_on};
-ghost use Rattle.ir_paths.specs.Windows.{call_result, suspend_of};
-ghost use Rattle.ir_paths.specs.declared.point.Point.{Point as ThePoint};
-ghost use Rattle.pass_intrinsics.specs.Lowered.{number_of_save};
-ghost use Rattle.pass_intrinsics.specs.Shapes.{back_label, none_label, shape_of};
-ghost use Rattle.pass_intrinsics.specs.declared.shape.Part.{Part};
+ghost use Rattle.pass_proofs.specs.frame_layout.declared.layout.Layout.{Layout};
+ghost use Rattle.pass_proofs.specs.frame_layout.declared.layout.Layouts.{Layouts};
+ghost use Rattle.pass_proofs.specs.ir_base.declared.name.Name.{Name};
+ghost use Rattle.pass_proofs.specs.ir_laws.facts.same_names.Short.{HaveShortNames};
+ghost use Rattle.pass_proofs.specs.rule_laws.rules.plain_rules.Items.{KeepsItemRules};
+ghost use Rattle.pass_proofs.specs.ir_base.declared.outcome.Word.{Word as TheWord};
+ghost use Rattle.pass_proofs.specs.rule_laws.frames.replaced.Parted.{IsSmall};
+ghost use Rattle.pass_proofs.specs.ir_model.Names.{declaration_named, function_named, global_named};
+ghost use Rattle.pass_proofs.specs.ir_model.Ty.{int};
+ghost use Rattle.pass_proofs.specs.ir_model.TypeView.{bits_of};
+ghost use Rattle.pass_proofs.specs.ir_model.declared.instr.Instr.{Instr};
+ghost use Rattle.pass_proofs.specs.ir_model.declared.module.Function.{Function};
+ghost use Rattle.pass_proofs.specs.ir_model.declared.module.Module.{Module};
+ghost use Rattle.pass_proofs.specs.pass_intrinsics.Cuts.{goes_on};
+ghost use Rattle.pass_proofs.specs.ir_paths.Windows.{call_result, suspend_of};
+ghost use Rattle.pass_proofs.specs.ir_paths.declared.point.Point.{Point as ThePoint};
+ghost use Rattle.pass_proofs.specs.pass_intrinsics.Lowered.{number_of_save};
+ghost use Rattle.pass_proofs.specs.pass_intrinsics.Shapes.{back_label, none_label, shape_of};
+ghost use Rattle.pass_proofs.specs.pass_intrinsics.declared.shape.Part.{Part};
 ghost use Rattle.pass_proofs.specs.exits.states.Exits.{exits_split};
 ghost use Rattle.pass_split_proof.specs.code.Entry.{HasEntry};
 ghost use Rattle.pass_split_proof.specs.code.Numbers.{IsNumbered};
@@ -27,14 +27,14 @@ ghost use Rattle.pass_split_proof.specs.code.Positions.{is_given, layout_at, mov
 ghost use Rattle.pass_split_proof.specs.first_exits.Parted.{parted_function, parted_functions, parted_module};
 ghost use Rattle.pass_proofs.specs.split.rules.Parted.{IsPartOf};
 ghost use Rattle.pass_proofs.specs.split.rules.Splittable.{IsSplittable};
-ghost use Rattle.pass_intrinsics.specs.declared.shape.SuspendPoint.{SuspendPoint as Suspend};
-ghost use Rattle.pass_split.specs.Given.{has_given_call};
-ghost use Rattle.pass_split.specs.Parts.{cases_from, is_entered};
-ghost use Rattle.rule_names.specs.declared.stage.Stage.{Stage};
-ghost use Rattle.rule_shape.specs.Suspends.{is_suspend};
-ghost use Rattle.run_memory.specs.declared.pointer.Value.{Value as TheValue};
-ghost use Rattle.run_step.specs.Step.{AtInstr, fetch, target_of};
-ghost use Rattle.run_step.specs.Values.{literal};
+ghost use Rattle.pass_proofs.specs.pass_intrinsics.declared.shape.SuspendPoint.{SuspendPoint as Suspend};
+ghost use Rattle.pass_proofs.specs.pass_split.Given.{has_given_call};
+ghost use Rattle.pass_proofs.specs.pass_split.Parts.{cases_from, is_entered};
+ghost use Rattle.pass_proofs.specs.rule_names.declared.stage.Stage.{Stage};
+ghost use Rattle.pass_proofs.specs.rule_shape.Suspends.{is_suspend};
+ghost use Rattle.pass_proofs.specs.run_memory.declared.pointer.Value.{Value as TheValue};
+ghost use Rattle.pass_proofs.specs.run_step.Step.{AtInstr, fetch, target_of};
+ghost use Rattle.pass_proofs.specs.run_step.Values.{literal};
 
 /// A part that goes on makes its allocas again, loads the index, and goes on behind the suspend that it names.
 pub fn parts_that_go_on_begin_with_the_index()

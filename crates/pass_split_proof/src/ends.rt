@@ -1,17 +1,17 @@
 //! The end of a coroutine is followed in its ramp.
 
 ghost use Rattle.std.specs.Prelude.{◌≡◌, false};
-ghost use Rattle.ir_base.specs.declared.outcome.Outcome.{Outcome};
-ghost use Rattle.ir_model.specs.declared.operand.Intrinsic.{Intrinsic};
-ghost use Rattle.pass_intrinsics.specs.Cuts.{goes_on};
+ghost use Rattle.pass_proofs.specs.ir_base.declared.outcome.Outcome.{Outcome};
+ghost use Rattle.pass_proofs.specs.ir_model.declared.operand.Intrinsic.{Intrinsic};
+ghost use Rattle.pass_proofs.specs.pass_intrinsics.Cuts.{goes_on};
 ghost use Rattle.pass_split_proof.specs.ends.Ending.{HasOwnFrame};
 ghost use Rattle.pass_split_proof.specs.giving.Intrinsics.{IsAtIntrinsic};
 ghost use Rattle.pass_split_proof.specs.simulation.Followed.{IsFollowed};
 ghost use Rattle.pass_split_proof.specs.states.Related.{AreRelated};
-ghost use Rattle.run_framed.specs.Framed.{FramedGiven};
-ghost use Rattle.run_plain.specs.Plain.{PlainGiven};
-ghost use Rattle.run_plain.specs.declared.state.PlainState.{PlainState as ThePlainState};
-ghost use Rattle.run_source.specs.declared.state.State.{State as TheState};
+ghost use Rattle.pass_proofs.specs.run_framed.Framed.{FramedGiven};
+ghost use Rattle.run_access_worked.specs.run_plain.Plain.{PlainGiven};
+ghost use Rattle.run_access_worked.specs.run_plain.declared.state.PlainState.{PlainState as ThePlainState};
+ghost use Rattle.pass_proofs.specs.run_source.declared.state.State.{State as TheState};
 
 /// The end of an instance with a frame of its own is followed in a ramp. The part sets the result to false, or takes no
 /// step where it has no name. The end of a resumed activation is followed by a return

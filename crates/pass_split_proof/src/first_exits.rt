@@ -1,9 +1,9 @@
 //! Lemmas on first exits.
 
 ghost use Rattle.std.specs.Prelude.{◌≡◌};
-ghost use Rattle.pass_split.specs.Parts.{split_module};
-ghost use Rattle.frame_layout.specs.declared.layout.Layouts.{Layouts};
-ghost use Rattle.ir_model.specs.declared.module.Module.{Module};
+ghost use Rattle.pass_proofs.specs.pass_split.Parts.{split_module};
+ghost use Rattle.pass_proofs.specs.frame_layout.declared.layout.Layouts.{Layouts};
+ghost use Rattle.pass_proofs.specs.ir_model.declared.module.Module.{Module};
 ghost use Rattle.pass_proofs.specs.exits.states.Exits.{exits_split};
 ghost use Rattle.pass_split_proof.specs.first_exits.Parted.{parted_module};
 

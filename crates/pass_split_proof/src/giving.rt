@@ -1,17 +1,17 @@
 //! Coro intrinsics that only give a value are followed in the parts of a coroutine.
 
 ghost use Rattle.std.specs.Prelude.{◌≡◌, false, true};
-ghost use Rattle.ir_base.specs.declared.outcome.Outcome.{Outcome};
-ghost use Rattle.ir_model.specs.declared.operand.Intrinsic.{Intrinsic};
+ghost use Rattle.pass_proofs.specs.ir_base.declared.outcome.Outcome.{Outcome};
+ghost use Rattle.pass_proofs.specs.ir_model.declared.operand.Intrinsic.{Intrinsic};
 ghost use Rattle.pass_split_proof.specs.code.Positions.{is_given};
 ghost use Rattle.pass_split_proof.specs.ends.Ending.{HasOwnFrame};
 ghost use Rattle.pass_split_proof.specs.giving.Intrinsics.{HasOwnSize, IsAtIntrinsic, is_constant};
 ghost use Rattle.pass_split_proof.specs.simulation.Followed.{IsFollowed};
 ghost use Rattle.pass_split_proof.specs.states.Related.{AreRelated};
-ghost use Rattle.run_framed.specs.Framed.{FramedGiven};
-ghost use Rattle.run_plain.specs.Plain.{PlainGiven};
-ghost use Rattle.run_plain.specs.declared.state.PlainState.{PlainState as ThePlainState};
-ghost use Rattle.run_source.specs.declared.state.State.{State as TheState};
+ghost use Rattle.pass_proofs.specs.run_framed.Framed.{FramedGiven};
+ghost use Rattle.run_access_worked.specs.run_plain.Plain.{PlainGiven};
+ghost use Rattle.run_access_worked.specs.run_plain.declared.state.PlainState.{PlainState as ThePlainState};
+ghost use Rattle.pass_proofs.specs.run_source.declared.state.State.{State as TheState};
 
 /// The size and the alignment of a frame and `coro.alloc` are followed in one step. They are in none where the result has
 /// no name.

@@ -5,14 +5,14 @@
 //! that it lives is asked (`DoGivenFramesLive`).
 
 ghost use Rattle.std.specs.Prelude.{◌≡◌, ℕ, true, List, Some, slice_get};
-ghost use Rattle.ir_base.specs.declared.outcome.Word.{Word};
+ghost use Rattle.pass_proofs.specs.ir_base.declared.outcome.Word.{Word};
 ghost use Rattle.pass_split_proof.specs.held.Kept.{DoGivenFramesLive, IsKeptState, MarksNoHeap, MarksNoHeaps};
 ghost use Rattle.pass_split_proof.specs.states.Instances.{is_held};
-ghost use Rattle.run_framed.specs.Framed.{FramedGiven, framed_state_at, framed_step};
-ghost use Rattle.run_source.specs.State.{function_of, is_suspended};
-ghost use Rattle.run_source.specs.declared.state.Instance.{Instance};
-ghost use Rattle.run_source.specs.declared.state.State.{State as TheState};
-ghost use Rattle.run_step.specs.Step.{fetch};
+ghost use Rattle.pass_proofs.specs.run_framed.Framed.{FramedGiven, framed_state_at, framed_step};
+ghost use Rattle.pass_proofs.specs.run_source.State.{function_of, is_suspended};
+ghost use Rattle.pass_proofs.specs.run_source.declared.state.Instance.{Instance};
+ghost use Rattle.pass_proofs.specs.run_source.declared.state.State.{State as TheState};
+ghost use Rattle.pass_proofs.specs.run_step.Step.{fetch};
 
 /// Each step of a framed run keeps frames that begin blocks of allocators, where markers mark no such block. So does a
 /// run.

@@ -5,12 +5,12 @@
 //! frame, and an activation that was resumed has an instance.
 
 ghost use Rattle.std.specs.Prelude.{◌≡◌, ℕ, false, List};
-ghost use Rattle.ir_base.specs.declared.outcome.Word.{Word};
-ghost use Rattle.ir_model.specs.Names.{function_at};
+ghost use Rattle.pass_proofs.specs.ir_base.declared.outcome.Word.{Word};
+ghost use Rattle.pass_proofs.specs.ir_model.Names.{function_at};
 ghost use Rattle.pass_split_proof.specs.held.Kept.{MarksNoHeaps};
 ghost use Rattle.pass_split_proof.specs.own_blocks.Own.{HasOwnBlocks, IsOwnState};
-ghost use Rattle.run_framed.specs.Framed.{FramedGiven, framed_state_at, framed_step};
-ghost use Rattle.run_source.specs.declared.state.State.{State as TheState};
+ghost use Rattle.pass_proofs.specs.run_framed.Framed.{FramedGiven, framed_state_at, framed_step};
+ghost use Rattle.pass_proofs.specs.run_source.declared.state.State.{State as TheState};
 
 /// Each step of a framed run keeps that, and so does a run.
 pub fn frames_begin_allocated_blocks()

@@ -6,28 +6,28 @@
 //! (`suspends_take_the_stop_edge`).
 
 ghost use Rattle.std.specs.Prelude.{◌≡◌, ℕ, List, Some, slice_get, true, false, ◌+◌, ◌∷◌};
-ghost use Rattle.flow_solver.specs.Paths.{IsListed};
-ghost use Rattle.frame_layout.specs.declared.layout.Layout.{Layout};
-ghost use Rattle.ir_model.specs.Names.{position_of};
-ghost use Rattle.ir_model.specs.declared.instr.Instr.{Instr};
-ghost use Rattle.ir_model.specs.declared.instr.Terminator.{Terminator};
-ghost use Rattle.ir_model.specs.declared.module.Block.{Block};
-ghost use Rattle.ir_model.specs.declared.module.Function.{Function};
-ghost use Rattle.ir_model.specs.declared.module.Module.{Module};
-ghost use Rattle.ir_paths.specs.Paths.{targets};
-ghost use Rattle.pass_intrinsics.specs.Cuts.{cut_at, goes_on};
-ghost use Rattle.pass_intrinsics.specs.Shapes.{shape_of};
-ghost use Rattle.pass_intrinsics.specs.declared.cuts.Cut.{Cut};
-ghost use Rattle.pass_intrinsics.specs.declared.shape.Part.{Part};
-ghost use Rattle.pass_intrinsics.specs.declared.shape.Shape.{Shape};
+ghost use Rattle.pass_proofs.specs.flow_solver.Paths.{IsListed};
+ghost use Rattle.pass_proofs.specs.frame_layout.declared.layout.Layout.{Layout};
+ghost use Rattle.pass_proofs.specs.ir_model.Names.{position_of};
+ghost use Rattle.pass_proofs.specs.ir_model.declared.instr.Instr.{Instr};
+ghost use Rattle.pass_proofs.specs.ir_model.declared.instr.Terminator.{Terminator};
+ghost use Rattle.pass_proofs.specs.ir_model.declared.module.Block.{Block};
+ghost use Rattle.pass_proofs.specs.ir_model.declared.module.Function.{Function};
+ghost use Rattle.pass_proofs.specs.ir_model.declared.module.Module.{Module};
+ghost use Rattle.pass_proofs.specs.ir_paths.Paths.{targets};
+ghost use Rattle.pass_proofs.specs.pass_intrinsics.Cuts.{cut_at, goes_on};
+ghost use Rattle.pass_proofs.specs.pass_intrinsics.Shapes.{shape_of};
+ghost use Rattle.pass_proofs.specs.pass_intrinsics.declared.cuts.Cut.{Cut};
+ghost use Rattle.pass_proofs.specs.pass_intrinsics.declared.shape.Part.{Part};
+ghost use Rattle.pass_proofs.specs.pass_intrinsics.declared.shape.Shape.{Shape};
 ghost use Rattle.pass_split_proof.specs.places.Places.{Enters, HasCode, IsCodeOf, IsPlace, IsStop, IsSuspendOf, Leads, StartsWithEnd};
 ghost use Rattle.pass_proofs.specs.split.rules.Parted.{IsPartOf};
 ghost use Rattle.pass_proofs.specs.split.rules.Splittable.{IsSplittable};
-ghost use Rattle.pass_split.specs.Pieces.{redirected_term};
-ghost use Rattle.rule_shape.specs.Suspends.{is_suspend};
-ghost use Rattle.run_laws.specs.access.Lines.{StandAt};
-ghost use Rattle.run_step.specs.Step.{AtInstr, AtTerm, fetch, label_of, values_in};
-ghost use Rattle.run_step.specs.Values.{Env as TheEnv};
+ghost use Rattle.pass_proofs.specs.pass_split.Pieces.{redirected_term};
+ghost use Rattle.pass_proofs.specs.rule_shape.Suspends.{is_suspend};
+ghost use Rattle.pass_proofs.specs.run_laws.access.Lines.{StandAt};
+ghost use Rattle.pass_proofs.specs.run_step.Step.{AtInstr, AtTerm, fetch, label_of, values_in};
+ghost use Rattle.pass_proofs.specs.run_step.Values.{Env as TheEnv};
 
 /// At a place of a function its instruction has code in what splitting makes of it, and behind both is a place again.
 pub fn instructions_have_code()

@@ -4,10 +4,10 @@
 //! each. So both passes together agree within 4 (`split_runs_agree`), as the parts alone do.
 
 ghost use Rattle.std.specs.Prelude.{ℕ, ℤ, List};
-ghost use Rattle.frame_layout.specs.declared.layout.Layouts.{Layouts};
-ghost use Rattle.ir_base.specs.declared.outcome.Word.{Word};
-ghost use Rattle.ir_laws.specs.facts.sound_states.Named.{AreLocalsNamed};
-ghost use Rattle.ir_model.specs.declared.module.Module.{Module};
+ghost use Rattle.pass_proofs.specs.frame_layout.declared.layout.Layouts.{Layouts};
+ghost use Rattle.pass_proofs.specs.ir_base.declared.outcome.Word.{Word};
+ghost use Rattle.pass_proofs.specs.ir_laws.facts.sound_states.Named.{AreLocalsNamed};
+ghost use Rattle.pass_proofs.specs.ir_model.declared.module.Module.{Module};
 ghost use Rattle.pass_cleanup.specs.Cleaned.{plain_machine};
 ghost use Rattle.pass_proofs.specs.exits.states.Exits.{AreExitsKept, exits_split};
 ghost use Rattle.pass_split_proof.specs.first_exits.Parted.{parted_module};
@@ -15,11 +15,11 @@ ghost use Rattle.pass_split_proof.specs.priced.Returns.{AllJumpBehind};
 ghost use Rattle.pass_split_proof.specs.simulation.Statement.{IsEntryOfParts};
 ghost use Rattle.pass_split_proof.specs.states.Related.{part_price};
 ghost use Rattle.pass_split_proof.specs.whole.Whole.{PartsKeepCalls};
-ghost use Rattle.run_agreement.specs.Agreements.{AgreesWithin};
-ghost use Rattle.run_agreement.specs.Costs.{AgreesBy, IsNear};
-ghost use Rattle.run_agreement.specs.Machines.{at};
-ghost use Rattle.run_framed.specs.Framed.{framed_given};
-ghost use Rattle.run_states.specs.moved_states.Beside.{IsMovedIn, framed_machine};
+ghost use Rattle.pass_proofs.specs.run_agreement.Agreements.{AgreesWithin};
+ghost use Rattle.pass_proofs.specs.run_agreement.Costs.{AgreesBy, IsNear};
+ghost use Rattle.pass_proofs.specs.run_agreement.Machines.{at};
+ghost use Rattle.pass_proofs.specs.run_framed.Framed.{framed_given};
+ghost use Rattle.pass_proofs.specs.run_states.moved_states.Beside.{IsMovedIn, framed_machine};
 ghost use Rattle.run_types.specs.States.{AreArguments};
 
 /// With blocks on the edges that leave windows a step costs at most 4, where blocks behind suspends end in jumps.

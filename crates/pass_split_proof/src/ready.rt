@@ -5,13 +5,13 @@
 //! steps ask is met (`premises_are_met`), but for what comes from states alone.
 
 ghost use Rattle.std.specs.Prelude.{◌≡◌, ℕ, ℤ, List, None, Some, codes, false, slice_get, true};
-ghost use Rattle.frame_layout.specs.declared.layout.Layout.{Layout};
-ghost use Rattle.frame_layout.specs.declared.layout.Layouts.{Layouts};
-ghost use Rattle.ir_laws.specs.facts.same_names.Short.{HaveShortNames};
-ghost use Rattle.ir_model.specs.Names.{function_named};
-ghost use Rattle.ir_model.specs.declared.module.Function.{Function};
-ghost use Rattle.ir_model.specs.declared.module.Module.{Module};
-ghost use Rattle.pass_intrinsics.specs.Shapes.{part_name};
+ghost use Rattle.pass_proofs.specs.frame_layout.declared.layout.Layout.{Layout};
+ghost use Rattle.pass_proofs.specs.frame_layout.declared.layout.Layouts.{Layouts};
+ghost use Rattle.pass_proofs.specs.ir_laws.facts.same_names.Short.{HaveShortNames};
+ghost use Rattle.pass_proofs.specs.ir_model.Names.{function_named};
+ghost use Rattle.pass_proofs.specs.ir_model.declared.module.Function.{Function};
+ghost use Rattle.pass_proofs.specs.ir_model.declared.module.Module.{Module};
+ghost use Rattle.pass_proofs.specs.pass_intrinsics.Shapes.{part_name};
 ghost use Rattle.pass_proofs.specs.exits.states.Exits.{exits_split};
 ghost use Rattle.pass_split_proof.specs.code.Positions.{layout_at};
 ghost use Rattle.pass_split_proof.specs.first_exits.Parted.{parted_module};
@@ -23,13 +23,13 @@ ghost use Rattle.pass_split_proof.specs.simulation.Premises.{AreFunctionsMet, Ar
 ghost use Rattle.pass_split_proof.specs.simulation.Statement.{IsEntryOfParts, parts_given};
 ghost use Rattle.pass_split_proof.specs.states.Related.{AreRelated};
 ghost use Rattle.pass_split_proof.specs.whole.Whole.{PartsKeepCalls};
-ghost use Rattle.rule_laws.specs.rules.function_rules.Kept.{KeepsFunctionRules};
-ghost use Rattle.rule_laws.specs.rules.plain_rules.Items.{KeepsItemRules};
-ghost use Rattle.rule_names.specs.declared.stage.Stage.{Stage};
-ghost use Rattle.run_framed.specs.Framed.{framed_given, layout_of, no_layout};
-ghost use Rattle.run_plain.specs.declared.state.PlainState.{PlainState as ThePlainState};
-ghost use Rattle.run_source.specs.declared.state.State.{State as TheState};
-ghost use Rattle.run_step.specs.Step.{first_world};
+ghost use Rattle.pass_proofs.specs.rule_laws.rules.function_rules.Kept.{KeepsFunctionRules};
+ghost use Rattle.pass_proofs.specs.rule_laws.rules.plain_rules.Items.{KeepsItemRules};
+ghost use Rattle.pass_proofs.specs.rule_names.declared.stage.Stage.{Stage};
+ghost use Rattle.pass_proofs.specs.run_framed.Framed.{framed_given, layout_of, no_layout};
+ghost use Rattle.run_access_worked.specs.run_plain.declared.state.PlainState.{PlainState as ThePlainState};
+ghost use Rattle.pass_proofs.specs.run_source.declared.state.State.{State as TheState};
+ghost use Rattle.pass_proofs.specs.run_step.Step.{first_world};
 
 /// Where items break no rule of sources, each name of a function is that of its first part, and no other name is a
 /// function's of the parts. No function has the name of a coroutine's cleanup (N3).

@@ -1,12 +1,12 @@
 //! A framed run and the run of the parts of its module keep states beside each other.
 
 ghost use Rattle.std.specs.Prelude.{ℕ, ℤ, List, ◌≡◌, ◌≤◌, false, length};
-ghost use Rattle.frame_layout.specs.declared.layout.Layouts.{Layouts};
-ghost use Rattle.ir_base.specs.declared.outcome.Word.{Word};
-ghost use Rattle.ir_model.specs.Names.{function_at};
-ghost use Rattle.ir_model.specs.declared.module.Module.{Module};
+ghost use Rattle.pass_proofs.specs.frame_layout.declared.layout.Layouts.{Layouts};
+ghost use Rattle.pass_proofs.specs.ir_base.declared.outcome.Word.{Word};
+ghost use Rattle.pass_proofs.specs.ir_model.Names.{function_at};
+ghost use Rattle.pass_proofs.specs.ir_model.declared.module.Module.{Module};
 ghost use Rattle.pass_cleanup.specs.Cleaned.{plain_machine};
-ghost use Rattle.pass_intrinsics.specs.declared.shape.Part.{Part};
+ghost use Rattle.pass_proofs.specs.pass_intrinsics.declared.shape.Part.{Part};
 ghost use Rattle.pass_split_proof.specs.first_exits.Parted.{parted_module};
 ghost use Rattle.pass_split_proof.specs.places.Places.{IsCodeOf, IsPlace};
 ghost use Rattle.pass_split_proof.specs.simulation.Followed.{AreStepsFollowed};
@@ -14,14 +14,14 @@ ghost use Rattle.pass_split_proof.specs.simulation.Statement.{IsEntryOfParts, Is
 ghost use Rattle.pass_split_proof.specs.states.Instances.{part_position};
 ghost use Rattle.pass_split_proof.specs.states.Memories.{AreContents};
 ghost use Rattle.pass_split_proof.specs.states.Related.{AreRelated};
-ghost use Rattle.pass_split.specs.Parts.{plain_shape};
-ghost use Rattle.run_agreement.specs.Agreements.{AgreesWithin};
-ghost use Rattle.run_agreement.specs.Machines.{at};
-ghost use Rattle.run_framed.specs.Framed.{FramedGiven, framed_given};
-ghost use Rattle.run_plain.specs.Plain.{PlainGiven, plain_first};
-ghost use Rattle.run_source.specs.Source.{first_state};
-ghost use Rattle.run_states.specs.moved_states.Beside.{framed_machine};
-ghost use Rattle.run_step.specs.Step.{first_world};
+ghost use Rattle.pass_proofs.specs.pass_split.Parts.{plain_shape};
+ghost use Rattle.pass_proofs.specs.run_agreement.Agreements.{AgreesWithin};
+ghost use Rattle.pass_proofs.specs.run_agreement.Machines.{at};
+ghost use Rattle.pass_proofs.specs.run_framed.Framed.{FramedGiven, framed_given};
+ghost use Rattle.run_access_worked.specs.run_plain.Plain.{PlainGiven, plain_first};
+ghost use Rattle.pass_proofs.specs.run_source.Source.{first_state};
+ghost use Rattle.pass_proofs.specs.run_states.moved_states.Beside.{framed_machine};
+ghost use Rattle.pass_proofs.specs.run_step.Step.{first_world};
 
 /// The states in which the runs start are related, where the entry is no coroutine and the other is what becomes of it.
 pub fn runs_start_related()

@@ -5,39 +5,39 @@
 //! (`AreBeside`). The control bytes of frames are closed to the framed run, so a step leaves them (`frames_stay`).
 
 ghost use Rattle.std.specs.Prelude.{◌∷◌, ℕ, Bool, List, Option, Some, [], true, false, length, slice_get, slice_set, ◌≡◌, ◌≤◌, ◌<◌, ◌^◌};
-ghost use Rattle.ir_model.specs.declared.module.Function.{Function};
-ghost use Rattle.ir_model.specs.Names.{function_at};
-ghost use Rattle.ir_paths.specs.declared.point.Point.{Point as ThePoint};
+ghost use Rattle.pass_proofs.specs.ir_model.declared.module.Function.{Function};
+ghost use Rattle.pass_proofs.specs.ir_model.Names.{function_at};
+ghost use Rattle.pass_proofs.specs.ir_paths.declared.point.Point.{Point as ThePoint};
 ghost use Rattle.pass_split_proof.specs.code.Numbers.{IsNumbered};
 ghost use Rattle.pass_proofs.specs.split.rules.Reached.{IsLedTo};
 ghost use Rattle.pass_split_proof.specs.states.Saved.{SavesIn};
 ghost use Rattle.pass_split_proof.specs.states.Values.{AreValuesOf};
-ghost use Rattle.pass_intrinsics.specs.declared.shape.Part.{Part};
+ghost use Rattle.pass_proofs.specs.pass_intrinsics.declared.shape.Part.{Part};
 ghost use Rattle.pass_split_proof.specs.states.Begun.{BeginsIn, IsFreshBlock, IsNewInstance};
 ghost use Rattle.pass_split_proof.specs.states.Instances.{AreFrames, AreLaidFrames, IsHeaded, IsLaidOut, StandsThere, in_state, is_destroyer, is_held, resumer_of};
 ghost use Rattle.pass_split_proof.specs.states.Memories.{AreBeside, AreContents, AreTwins, AreWorldsBeside, homes_of, plain_kind};
-ghost use Rattle.run_framed.specs.Framed.{FramedGiven, frame_rights, layout_of};
-ghost use Rattle.run_laws.specs.access.Changed.{KeepsFree};
-ghost use Rattle.run_laws.specs.embedded.Refilled.{AreRefilled};
-ghost use Rattle.run_laws.specs.embedded.Related.{AreValues};
-ghost use Rattle.run_laws.specs.memory.Pointers.{Home};
-ghost use Rattle.run_laws.specs.memory.Standing.{blank_block};
-ghost use Rattle.run_laws_worked.specs.Worked.{an_instance, frame_given, owned_block};
-ghost use Rattle.run_source_tables.specs.Given.{Given as TheGiven};
-ghost use Rattle.run_laws.specs.transfer.Transfer.{AreOver};
-ghost use Rattle.ir_model.specs.declared.module.Module.{Module};
-ghost use Rattle.run_memory.specs.Memory.{fresh, owned_to, owner_rights, with_block};
-ghost use Rattle.run_memory.specs.declared.block.Kind.{Kind};
-ghost use Rattle.run_step.specs.Step.{first_world, without_slots};
-ghost use Rattle.run_step.specs.declared.world.Slot.{Slot as TheSlot};
-ghost use Rattle.run_memory.specs.declared.block.MemoryBlock.{MemoryBlock};
-ghost use Rattle.run_source.specs.declared.state.Instance.{Instance};
-ghost use Rattle.run_source.specs.declared.state.Saved.{Saved as TheSaved};
-ghost use Rattle.run_source.specs.declared.state.Status.{Status as TheStatus};
-ghost use Rattle.run_step.specs.Step.{entry_values};
-ghost use Rattle.run_step.specs.Values.{Env};
-ghost use Rattle.run_memory.specs.declared.pointer.Value.{Value};
-ghost use Rattle.run_step.specs.declared.world.World.{World};
+ghost use Rattle.pass_proofs.specs.run_framed.Framed.{FramedGiven, frame_rights, layout_of};
+ghost use Rattle.pass_proofs.specs.run_laws.access.Changed.{KeepsFree};
+ghost use Rattle.pass_proofs.specs.run_laws.embedded.Refilled.{AreRefilled};
+ghost use Rattle.pass_proofs.specs.run_laws.embedded.Related.{AreValues};
+ghost use Rattle.pass_proofs.specs.run_laws.memory.Pointers.{Home};
+ghost use Rattle.pass_proofs.specs.run_laws.memory.Standing.{blank_block};
+ghost use Rattle.run_access_worked.specs.run_laws_worked.Worked.{an_instance, frame_given, owned_block};
+ghost use Rattle.pass_proofs.specs.run_source_tables.Given.{Given as TheGiven};
+ghost use Rattle.pass_proofs.specs.run_laws.transfer.Transfer.{AreOver};
+ghost use Rattle.pass_proofs.specs.ir_model.declared.module.Module.{Module};
+ghost use Rattle.pass_proofs.specs.run_memory.Memory.{fresh, owned_to, owner_rights, with_block};
+ghost use Rattle.pass_proofs.specs.run_memory.declared.block.Kind.{Kind};
+ghost use Rattle.pass_proofs.specs.run_step.Step.{first_world, without_slots};
+ghost use Rattle.pass_proofs.specs.run_step.declared.world.Slot.{Slot as TheSlot};
+ghost use Rattle.pass_proofs.specs.run_memory.declared.block.MemoryBlock.{MemoryBlock};
+ghost use Rattle.pass_proofs.specs.run_source.declared.state.Instance.{Instance};
+ghost use Rattle.pass_proofs.specs.run_source.declared.state.Saved.{Saved as TheSaved};
+ghost use Rattle.pass_proofs.specs.run_source.declared.state.Status.{Status as TheStatus};
+ghost use Rattle.pass_proofs.specs.run_step.Step.{entry_values};
+ghost use Rattle.pass_proofs.specs.run_step.Values.{Env};
+ghost use Rattle.pass_proofs.specs.run_memory.declared.pointer.Value.{Value};
+ghost use Rattle.pass_proofs.specs.run_step.declared.world.World.{World};
 
 /// Worlds beside each other are worlds of which the one stands in the other by the rights of frames, and twins of which
 /// the one so stands in the other are beside each other.

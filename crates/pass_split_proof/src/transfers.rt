@@ -4,18 +4,18 @@
 //! returned, the framed run is at the suspend. It comes over that and its switch to the end, while the part stays.
 
 ghost use Rattle.std.specs.Prelude.{◌≡◌};
-ghost use Rattle.ir_base.specs.declared.outcome.Outcome.{Outcome};
-ghost use Rattle.ir_model.specs.declared.operand.Intrinsic.{Intrinsic};
+ghost use Rattle.pass_proofs.specs.ir_base.declared.outcome.Outcome.{Outcome};
+ghost use Rattle.pass_proofs.specs.ir_model.declared.operand.Intrinsic.{Intrinsic};
 ghost use Rattle.pass_split_proof.specs.giving.Intrinsics.{IsAtIntrinsic};
 ghost use Rattle.pass_split_proof.specs.simulation.Followed.{IsFollowed};
 ghost use Rattle.pass_split_proof.specs.states.Related.{AreRelated};
 ghost use Rattle.pass_split_proof.specs.transfers.Passing.{IsAtEnd, IsPassing};
-ghost use Rattle.run_agreement.specs.Machines.{IsFine};
-ghost use Rattle.run_framed.specs.Framed.{FramedGiven, framed_step};
-ghost use Rattle.run_plain.specs.Plain.{PlainGiven};
-ghost use Rattle.run_plain.specs.declared.state.PlainState.{PlainState as ThePlainState};
-ghost use Rattle.run_source.specs.declared.state.Mode.{Mode};
-ghost use Rattle.run_source.specs.declared.state.State.{State as TheState};
+ghost use Rattle.pass_proofs.specs.run_agreement.Machines.{IsFine};
+ghost use Rattle.pass_proofs.specs.run_framed.Framed.{FramedGiven, framed_step};
+ghost use Rattle.run_access_worked.specs.run_plain.Plain.{PlainGiven};
+ghost use Rattle.run_access_worked.specs.run_plain.declared.state.PlainState.{PlainState as ThePlainState};
+ghost use Rattle.pass_proofs.specs.run_source.declared.state.Mode.{Mode};
+ghost use Rattle.pass_proofs.specs.run_source.declared.state.State.{State as TheState};
 
 /// The end in a resumed activation is followed where the part returns, whether the activation has left or not, and
 /// wherever its frame lies. The part returns where it is at the same place.

@@ -1,16 +1,16 @@
 //! Resumes and destroys of a framed run are followed in the parts.
 
-ghost use Rattle.ir_model.specs.declared.operand.Intrinsic.{Intrinsic};
+ghost use Rattle.pass_proofs.specs.ir_model.declared.operand.Intrinsic.{Intrinsic};
 ghost use Rattle.pass_split_proof.specs.simulation.Followed.{IsFollowed};
 ghost use Rattle.pass_split_proof.specs.states.Related.{AreRelated};
 ghost use Rattle.pass_split_proof.specs.steps.Resuming.{IsAtWaking};
 ghost use Rattle.pass_split_proof.specs.waking.Able.{CanBeDestroyed, CanBeResumed};
-ghost use Rattle.run_agreement.specs.Machines.{IsFine};
-ghost use Rattle.run_framed.specs.Framed.{FramedGiven, framed_step};
-ghost use Rattle.run_plain.specs.Plain.{PlainGiven};
-ghost use Rattle.run_plain.specs.declared.state.PlainState.{PlainState as ThePlainState};
-ghost use Rattle.run_source.specs.declared.state.State.{State as TheState};
-ghost use Rattle.run_step.specs.Values.{arg_value};
+ghost use Rattle.pass_proofs.specs.run_agreement.Machines.{IsFine};
+ghost use Rattle.pass_proofs.specs.run_framed.Framed.{FramedGiven, framed_step};
+ghost use Rattle.run_access_worked.specs.run_plain.Plain.{PlainGiven};
+ghost use Rattle.run_access_worked.specs.run_plain.declared.state.PlainState.{PlainState as ThePlainState};
+ghost use Rattle.pass_proofs.specs.run_source.declared.state.State.{State as TheState};
+ghost use Rattle.pass_proofs.specs.run_step.Values.{arg_value};
 
 /// A resume is followed in any kind of part, where the instance that it wakes can go on. One right before its suspend
 /// is a transfer: the part calls from a block of its own, and returns from there.

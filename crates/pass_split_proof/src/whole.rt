@@ -5,19 +5,19 @@
 //! and of other libraries which places are reached and that values fit their types).
 
 ghost use Rattle.std.specs.Prelude.{ℕ, ℤ, List};
-ghost use Rattle.frame_layout.specs.declared.layout.Layouts.{Layouts};
-ghost use Rattle.ir_base.specs.declared.outcome.Word.{Word};
-ghost use Rattle.ir_model.specs.declared.module.Module.{Module};
+ghost use Rattle.pass_proofs.specs.frame_layout.declared.layout.Layouts.{Layouts};
+ghost use Rattle.pass_proofs.specs.ir_base.declared.outcome.Word.{Word};
+ghost use Rattle.pass_proofs.specs.ir_model.declared.module.Module.{Module};
 ghost use Rattle.pass_cleanup.specs.Cleaned.{plain_machine};
 ghost use Rattle.pass_split_proof.specs.first_exits.Parted.{parted_module};
 ghost use Rattle.pass_split_proof.specs.simulation.Given.{GivesNoFrame};
 ghost use Rattle.pass_split_proof.specs.simulation.Premises.{ArePremisesMet};
 ghost use Rattle.pass_split_proof.specs.simulation.Statement.{IsEntryOfParts, IsPartable, parts_given};
 ghost use Rattle.pass_split_proof.specs.whole.Whole.{PartsKeepCalls};
-ghost use Rattle.run_agreement.specs.Agreements.{AgreesWithin};
-ghost use Rattle.run_agreement.specs.Machines.{at};
-ghost use Rattle.run_framed.specs.Framed.{framed_given};
-ghost use Rattle.run_states.specs.moved_states.Beside.{framed_machine};
+ghost use Rattle.pass_proofs.specs.run_agreement.Agreements.{AgreesWithin};
+ghost use Rattle.pass_proofs.specs.run_agreement.Machines.{at};
+ghost use Rattle.pass_proofs.specs.run_framed.Framed.{framed_given};
+ghost use Rattle.pass_proofs.specs.run_states.moved_states.Beside.{framed_machine};
 ghost use Rattle.run_types.specs.States.{AreArguments};
 
 /// A framed module in which no call gives a frame and its parts keep states beside each other, where what steps ask of

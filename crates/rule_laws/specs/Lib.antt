@@ -1,3 +1,52 @@
+-- What libraries below say, for those above.
+pub use Rattle.flow_blocks.specs as flow_blocks
+pub use Rattle.flow_facts.specs as flow_facts
+pub use Rattle.flow_points.specs as flow_points
+pub use Rattle.flow_reach.specs as flow_reach
+pub use Rattle.ir_laws.specs.flow_solver as flow_solver
+pub use Rattle.frame_classes.specs as frame_classes
+pub use Rattle.frame_conflicts.specs as frame_conflicts
+pub use Rattle.frame_contents.specs as frame_contents
+pub use Rattle.frame_crossing.specs as frame_crossing
+pub use Rattle.frame_layout.specs as frame_layout
+pub use Rattle.frame_placing.specs as frame_placing
+pub use Rattle.frame_slots.specs as frame_slots
+pub use Rattle.ir_laws.specs.ir_base as ir_base
+pub use Rattle.ir_laws.specs.ir_calls as ir_calls
+pub use Rattle.ir_laws.specs as ir_laws
+pub use Rattle.ir_laws.specs.ir_locals as ir_locals
+pub use Rattle.ir_parts.specs as ir_parts
+pub use Rattle.ir_laws.specs.ir_paths as ir_paths
+pub use Rattle.ir_sizes.specs as ir_sizes
+pub use Rattle.pass_cells.specs as pass_cells
+pub use Rattle.pass_distances.specs as pass_distances
+pub use Rattle.pass_fetch.specs as pass_fetch
+pub use Rattle.ir_laws.specs.pass_front as pass_front
+pub use Rattle.pass_intrinsics.specs as pass_intrinsics
+pub use Rattle.rule_all.specs as rule_all
+pub use Rattle.rule_locals.specs as rule_locals
+pub use Rattle.rule_modules.specs as rule_modules
+pub use Rattle.rule_names.specs as rule_names
+pub use Rattle.rule_phis.specs as rule_phis
+pub use Rattle.rule_shape.specs as rule_shape
+pub use Rattle.rule_slots.specs as rule_slots
+pub use Rattle.rule_types.specs as rule_types
+pub use Rattle.rule_uses.specs as rule_uses
+pub use Rattle.rule_values.specs as rule_values
+pub use Rattle.rule_window_values.specs as rule_window_values
+pub use Rattle.rule_windows.specs as rule_windows
+pub use Rattle.ir_laws.specs.run_agreement as run_agreement
+pub use Rattle.ir_laws.specs.run_ints as run_ints
+pub use Rattle.ir_laws.specs.run_laws as run_laws
+pub use Rattle.ir_laws.specs.run_memory as run_memory
+pub use Rattle.ir_laws.specs.run_source as run_source
+pub use Rattle.ir_laws.specs.run_source_tables as run_source_tables
+pub use Rattle.ir_laws.specs.run_step as run_step
+pub use Rattle.text_canonical.specs as text_canonical
+pub use Rattle.text_grammar.specs as text_grammar
+pub use Rattle.text_lexer.specs as text_lexer
+pub use Rattle.ir_laws.specs.text_names as text_names
+pub use Rattle.text_symbols.specs as text_symbols
 pub mod frames
 pub mod rules
 pub mod texts

@@ -2,22 +2,22 @@
 use Rattle.std.proofs.Common.{◌≡◌, ℕ, ℤ, Bool, true, false, List, Option, Some, None, refl, sym, ap, ◌∙◌, subst}
 use Rattle.std.proofs.lemmas.Option.{slice_get-map}
 use Rattle.std.specs.Prelude.{option_map, slice_get, unwrap_or, if◌then◌else◌}
-use Rattle.ir_base.specs.declared.outcome.Word.{Word}
-use Rattle.ir_model.specs.Names.{function_at, no_function}
-use Rattle.ir_model.specs.Ty.{Ty}
-use Rattle.ir_model.specs.declared.instr.Instr.{Instr}
-use Rattle.ir_model.specs.declared.module.Frame.{Frame}
-use Rattle.ir_model.specs.declared.module.Function.{Function}
-use Rattle.ir_model.specs.declared.module.Module.{Module}
-use Rattle.ir_model.specs.declared.operand.Arg.{Arg}
-use Rattle.ir_model.specs.declared.operand.Intrinsic.{Intrinsic}
-use Rattle.ir_model.specs.declared.operand.Operand.{Operand}
-use Rattle.ir_paths.specs.Facts.{facts_of}
-use Rattle.ir_paths.specs.declared.point.Point.{Point}
-use Rattle.pass_early.specs.Early.{early_function, early_module}
-use Rattle.pass_edges.specs.EdgeBlocks.{with_edge_blocks}
-use Rattle.pass_kept_proof.specs.Handed.{HasPlainNames}
-use Rattle.pass_kept_proof.specs.SuspendRules.{IsCallAt, KeepsSuspendRules}
+use Rattle.pass_proofs.specs.ir_base.declared.outcome.Word.{Word}
+use Rattle.pass_proofs.specs.ir_model.Names.{function_at, no_function}
+use Rattle.pass_proofs.specs.ir_model.Ty.{Ty}
+use Rattle.pass_proofs.specs.ir_model.declared.instr.Instr.{Instr}
+use Rattle.pass_proofs.specs.ir_model.declared.module.Frame.{Frame}
+use Rattle.pass_proofs.specs.ir_model.declared.module.Function.{Function}
+use Rattle.pass_proofs.specs.ir_model.declared.module.Module.{Module}
+use Rattle.pass_proofs.specs.ir_model.declared.operand.Arg.{Arg}
+use Rattle.pass_proofs.specs.ir_model.declared.operand.Intrinsic.{Intrinsic}
+use Rattle.pass_proofs.specs.ir_model.declared.operand.Operand.{Operand}
+use Rattle.pass_proofs.specs.ir_paths.Facts.{facts_of}
+use Rattle.pass_proofs.specs.ir_paths.declared.point.Point.{Point}
+use Rattle.pass_proofs.specs.pass_early.Early.{early_function, early_module}
+use Rattle.pass_proofs.specs.pass_edges.EdgeBlocks.{with_edge_blocks}
+use Rattle.pass_proofs.specs.pass_kept_proof.Handed.{HasPlainNames}
+use Rattle.pass_proofs.specs.pass_kept_proof.SuspendRules.{IsCallAt, KeepsSuspendRules}
 use Rattle.pass_proofs.proofs.early.path_rules.RenamedOperands.{map_was}
 use Rattle.pass_proofs.proofs.early.widths.Widths.{early_widths}
 use Rattle.pass_proofs.proofs.edges.rules.Kept.{suspend_blocks}
@@ -32,18 +32,18 @@ use Rattle.pass_proofs.proofs.kept.sources.Whole.{edges_kept, of_split, split_ke
 use Rattle.pass_proofs.proofs.kept.sources.Whole.{split_rules}
 use Rattle.pass_proofs.specs.edges.states.MovedState.{KeepsEdges, edge_function, edges_split}
 use Rattle.pass_renewed_meaning.specs.Rules.{KeepsStepRules}
-use Rattle.pass_renewed_proof.specs.Ledger.{AreSmallGlobals}
-use Rattle.pass_renewed_proof.specs.SlotRules.{AreSteady, KeepsSlots}
-use Rattle.rule_all.specs.Refused.{IsRefused}
-use Rattle.rule_laws.proofs.rules.path_rules.Passes.{accepted_paths, accepted_shape}
-use Rattle.rule_laws.proofs.rules.widths.Written.{text_wide}
-use Rattle.rule_laws.specs.frames.rows.Returns.{HaveOwnReturns}
-use Rattle.rule_laws.specs.rules.counted.Widths.{first_other_width}
-use Rattle.rule_laws.specs.rules.function_rules.Kept.{AllKeepFunctionRules, KeepsFunctionRules}
-use Rattle.rule_names.specs.declared.stage.Stage.{Stage}
-use Rattle.rule_shape.specs.OneOfEach.{wrong_call}
-use Rattle.rule_shape.specs.Switches.{wrong_switch}
-use Rattle.rule_windows.specs.Sets.{IsAfterEnd}
+use Rattle.pass_renewed_meaning.specs.pass_renewed_proof.Ledger.{AreSmallGlobals}
+use Rattle.pass_renewed_meaning.specs.pass_renewed_proof.SlotRules.{AreSteady, KeepsSlots}
+use Rattle.pass_proofs.specs.rule_all.Refused.{IsRefused}
+use Rattle.pass_proofs.proofs.rule_laws.rules.path_rules.Passes.{accepted_paths, accepted_shape}
+use Rattle.pass_proofs.proofs.rule_laws.rules.widths.Written.{text_wide}
+use Rattle.pass_proofs.specs.rule_laws.frames.rows.Returns.{HaveOwnReturns}
+use Rattle.pass_proofs.specs.rule_laws.rules.counted.Widths.{first_other_width}
+use Rattle.pass_proofs.specs.rule_laws.rules.function_rules.Kept.{AllKeepFunctionRules, KeepsFunctionRules}
+use Rattle.pass_proofs.specs.rule_names.declared.stage.Stage.{Stage}
+use Rattle.pass_proofs.specs.rule_shape.OneOfEach.{wrong_call}
+use Rattle.pass_proofs.specs.rule_shape.Switches.{wrong_switch}
+use Rattle.pass_proofs.specs.rule_windows.Sets.{IsAfterEnd}
 use Rattle.run_accepted.proofs.Alive.{plain_keeps}
 use Rattle.run_accepted.proofs.Edges.{after_from, edges_keep_alive, edges_keep_places}
 use Rattle.run_accepted.proofs.Modules.{all_alive, all_places, all_switches, all_types, keeps_alive, keeps_places}
@@ -53,25 +53,25 @@ use Rattle.run_accepted.proofs.Plain.{none_behind_end}
 use Rattle.run_accepted.proofs.Slots.{HasSlotTables, begin_ends, slots_kept}
 use Rattle.run_accepted.proofs.Sources.{source_rules}
 use Rattle.run_accepted.proofs.Steps.{no_phis, no_steps, small_globals, steps_kept}
-use Rattle.run_hooks.proofs.Keeping.{source_keeps}
-use Rattle.run_hooks.proofs.Steps.{same_runs, source_step}
-use Rattle.run_hooks.proofs.alive.Apart.{are_apart}
-use Rattle.run_hooks.proofs.alive.Runs.{source_alive}
-use Rattle.run_hooks.specs.Away.{KeepsAllPlaceRules, KeepsPlaceRules}
-use Rattle.run_hooks.specs.Hooks.{step_of}
-use Rattle.run_hooks.specs.Meanings.{source_hooks}
-use Rattle.run_hooks.specs.Reached.{AllHaveSwitches}
-use Rattle.run_hooks.specs.alive.Alive.{KeepsAliveRules, KeepsAllAliveRules}
-use Rattle.run_hooks.specs.alive.Apart.{LiveAreApart}
-use Rattle.run_source.specs.Source.{continue, first_state, given, state_at, step}
-use Rattle.run_source_tables.specs.Given.{Given}
-use Rattle.run_step.specs.Step.{AtInstr, fetch}
-use Rattle.run_types.proofs.Meanings.{source_keeps_fitting}
-use Rattle.run_types.proofs.Runs.{states_fit}
-use Rattle.run_types.specs.Rules.{KeepsAllTypes}
-use Rattle.run_types.specs.States.{AreArguments, IsFittingState}
-use Rattle.text_canonical.proofs.order.Shaped.{text_is_shaped}
-use Rattle.text_grammar.specs.Text.{StandsFor}
+use Rattle.pass_renewed_meaning.proofs.run_hooks.Keeping.{source_keeps}
+use Rattle.pass_renewed_meaning.proofs.run_hooks.Steps.{same_runs, source_step}
+use Rattle.pass_renewed_meaning.proofs.run_hooks.alive.Apart.{are_apart}
+use Rattle.pass_renewed_meaning.proofs.run_hooks.alive.Runs.{source_alive}
+use Rattle.pass_renewed_meaning.specs.run_hooks.Away.{KeepsAllPlaceRules, KeepsPlaceRules}
+use Rattle.pass_renewed_meaning.specs.run_hooks.Hooks.{step_of}
+use Rattle.pass_renewed_meaning.specs.run_hooks.Meanings.{source_hooks}
+use Rattle.pass_renewed_meaning.specs.run_hooks.Reached.{AllHaveSwitches}
+use Rattle.pass_renewed_meaning.specs.run_hooks.alive.Alive.{KeepsAliveRules, KeepsAllAliveRules}
+use Rattle.pass_renewed_meaning.specs.run_hooks.alive.Apart.{LiveAreApart}
+use Rattle.pass_proofs.specs.run_source.Source.{continue, first_state, given, state_at, step}
+use Rattle.pass_proofs.specs.run_source_tables.Given.{Given}
+use Rattle.pass_proofs.specs.run_step.Step.{AtInstr, fetch}
+use Rattle.pass_renewed_meaning.proofs.run_types.Meanings.{source_keeps_fitting}
+use Rattle.pass_renewed_meaning.proofs.run_types.Runs.{states_fit}
+use Rattle.pass_renewed_meaning.specs.run_types.Rules.{KeepsAllTypes}
+use Rattle.pass_renewed_meaning.specs.run_types.States.{AreArguments, IsFittingState}
+use Rattle.pass_proofs.proofs.text_canonical.order.Shaped.{text_is_shaped}
+use Rattle.pass_proofs.specs.text_grammar.Text.{StandsFor}
 
 module _ (text : List ℕ) (m : Module) (stands : StandsFor text m) (accepted : IsRefused Stage.Source m None) where
   -- ---- the source

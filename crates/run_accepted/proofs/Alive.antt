@@ -3,39 +3,39 @@ use Rattle.std.proofs.Common.{◌≡◌, inl, inr, ℕ, zero, suc, ◌+◌, Bool
 use Rattle.std.proofs.Common.{None}
 use Rattle.std.proofs.Common.{refl, sym, ap, ◌∙◌, subst, arith}
 use Rattle.std.specs.Prelude.{IsTrue, flat_map, slice_get, ◌==◌, ◌||◌}
-use Rattle.ir_laws.proofs.facts.Truth.{itself}
-use Rattle.ir_model.specs.Ty.{Ty}
-use Rattle.ir_model.specs.declared.instr.Instr.{Instr}
-use Rattle.ir_model.specs.declared.module.Block.{Block}
-use Rattle.ir_model.specs.declared.module.Function.{Function}
-use Rattle.ir_model.specs.declared.module.Module.{Module}
-use Rattle.ir_model.specs.declared.operand.Intrinsic.{Intrinsic}
-use Rattle.ir_paths.proofs.Right.{facts_of_right}
-use Rattle.ir_paths.proofs.Search.{or_left, or_right}
-use Rattle.ir_paths.specs.Facts.{facts_of}
-use Rattle.ir_paths.specs.Slots.{IsRampSlot, allocas_in, allocas_of, has_name}
-use Rattle.ir_paths.specs.Windows.{end_block, instr_in}
-use Rattle.ir_paths.specs.declared.point.Point.{Point}
-use Rattle.pass_kept_proof.specs.Handed.{HasPlainNames}
-use Rattle.pass_kept_proof.specs.SuspendRules.{IsCallAt}
+use Rattle.pass_proofs.proofs.ir_laws.facts.Truth.{itself}
+use Rattle.pass_proofs.specs.ir_model.Ty.{Ty}
+use Rattle.pass_proofs.specs.ir_model.declared.instr.Instr.{Instr}
+use Rattle.pass_proofs.specs.ir_model.declared.module.Block.{Block}
+use Rattle.pass_proofs.specs.ir_model.declared.module.Function.{Function}
+use Rattle.pass_proofs.specs.ir_model.declared.module.Module.{Module}
+use Rattle.pass_proofs.specs.ir_model.declared.operand.Intrinsic.{Intrinsic}
+use Rattle.pass_proofs.proofs.ir_paths.Right.{facts_of_right}
+use Rattle.pass_proofs.proofs.ir_paths.Search.{or_left, or_right}
+use Rattle.pass_proofs.specs.ir_paths.Facts.{facts_of}
+use Rattle.pass_proofs.specs.ir_paths.Slots.{IsRampSlot, allocas_in, allocas_of, has_name}
+use Rattle.pass_proofs.specs.ir_paths.Windows.{end_block, instr_in}
+use Rattle.pass_proofs.specs.ir_paths.declared.point.Point.{Point}
+use Rattle.pass_proofs.specs.pass_kept_proof.Handed.{HasPlainNames}
+use Rattle.pass_proofs.specs.pass_kept_proof.SuspendRules.{IsCallAt}
 use Rattle.pass_proofs.proofs.early.save_simulation.Suspending.{fetch_at}
 use Rattle.pass_proofs.proofs.kept.sources.Closed.{no_return, not_behind_end, save_ends}
 use Rattle.pass_proofs.proofs.kept.sources.Names.{plain_names}
-use Rattle.pass_renewed_proof.proofs.Ahead.{next_edge}
-use Rattle.pass_renewed_proof.proofs.Left.{after_edge, end_next}
-use Rattle.pass_renewed_proof.specs.SlotRules.{IsMadeOnce}
-use Rattle.rule_laws.proofs.rules.sources.Places.{instr_there, point}
-use Rattle.rule_laws.specs.rules.function_rules.Kept.{KeepsFunctionRules}
-use Rattle.rule_laws.specs.rules.path_rules.Paths.{KeepsPaths}
-use Rattle.rule_laws.specs.rules.path_rules.Shape.{KeepsShape}
-use Rattle.rule_shape.specs.OneOfEach.{wrong_call}
-use Rattle.rule_windows.specs.Sets.{IsAfterEnd}
+use Rattle.pass_renewed_meaning.proofs.pass_renewed_proof.Ahead.{next_edge}
+use Rattle.pass_renewed_meaning.proofs.pass_renewed_proof.Left.{after_edge, end_next}
+use Rattle.pass_renewed_meaning.specs.pass_renewed_proof.SlotRules.{IsMadeOnce}
+use Rattle.pass_proofs.proofs.rule_laws.rules.sources.Places.{instr_there, point}
+use Rattle.pass_proofs.specs.rule_laws.rules.function_rules.Kept.{KeepsFunctionRules}
+use Rattle.pass_proofs.specs.rule_laws.rules.path_rules.Paths.{KeepsPaths}
+use Rattle.pass_proofs.specs.rule_laws.rules.path_rules.Shape.{KeepsShape}
+use Rattle.pass_proofs.specs.rule_shape.OneOfEach.{wrong_call}
+use Rattle.pass_proofs.specs.rule_windows.Sets.{IsAfterEnd}
 use Rattle.run_accepted.proofs.Entries.{never_entered}
 use Rattle.run_accepted.proofs.Marks.{marks_alloca, none_closed}
 use Rattle.run_accepted.proofs.Once.{made_once}
 use Rattle.run_accepted.proofs.Plain.{never_begun, never_closed, none_behind_end}
-use Rattle.run_hooks.specs.alive.Alive.{IsEnded, KeepsAliveRules}
-use Rattle.run_step.specs.Step.{AtInstr, fetch, fetch_in, fetch_or}
+use Rattle.pass_renewed_meaning.specs.run_hooks.alive.Alive.{IsEnded, KeepsAliveRules}
+use Rattle.pass_proofs.specs.run_step.Step.{AtInstr, fetch, fetch_in, fetch_or}
 
 -- ---- an alloca is among those of its function
 

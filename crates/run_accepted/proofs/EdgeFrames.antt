@@ -2,27 +2,27 @@
 use Rattle.std.proofs.Common.{◌≡◌, ◌⊎◌, inl, inr, ⊎_elim, ℕ, suc, ◌+◌, Bool, true, false, List, [], ◌∷◌, ◌++◌, Option, Some, refl, sym, ap, ◌∙◌, subst}
 use Rattle.std.proofs.lemmas.List.Folds.{list_any-append}
 use Rattle.std.specs.Prelude.{option_to_list, slice_get, ◌||◌}
-use Rattle.flow_solver.specs.Paths.{IsListed}
-use Rattle.frame_classes.specs.Alive.{MayBeAlive}
-use Rattle.frame_classes.specs.Classes.{IsAliveAcross, IsUsedAcross, IsUsedAway, MeetsLater, NeedsFrame, parting, suspends}
-use Rattle.frame_slots.specs.Spots.{Comes, IsBehind, LeadsFrom, Spot, point_at}
-use Rattle.frame_slots.specs.Uses.{is_marker_of}
-use Rattle.ir_laws.proofs.paths.threads.Threads.{ahead_home, leads_home}
-use Rattle.ir_laws.specs.facts.branches.MovedState.{IsSwitch}
-use Rattle.ir_laws.specs.paths.threads.Moved.{GoesTo}
-use Rattle.ir_laws.specs.paths.threads.Threads.{AreAvoidedToo}
-use Rattle.ir_model.specs.Names.{position_of}
-use Rattle.ir_model.specs.declared.module.Block.{Block}
-use Rattle.ir_model.specs.declared.module.Function.{Function}
-use Rattle.ir_model.specs.declared.operand.Intrinsic.{Intrinsic}
-use Rattle.ir_paths.proofs.Search.{either, or_left, or_right, same_point-itself, same_point-same}
-use Rattle.ir_paths.specs.Paths.{Leads, entry_point, has_point, same_point}
-use Rattle.ir_paths.specs.Slots.{end_points, has_name, is_escaped}
-use Rattle.ir_paths.specs.Windows.{instr_in, is_call_of, label_at, label_of_term}
-use Rattle.ir_paths.specs.declared.point.Point.{Point}
-use Rattle.pass_edges.specs.EdgeBlocks.{with_edge_blocks}
-use Rattle.pass_edges.specs.Edges.{ends_in_suspend, phi_flags}
-use Rattle.pass_edges.specs.declared.edge.Edge.{Edge}
+use Rattle.pass_proofs.specs.flow_solver.Paths.{IsListed}
+use Rattle.pass_proofs.specs.frame_classes.Alive.{MayBeAlive}
+use Rattle.pass_proofs.specs.frame_classes.Classes.{IsAliveAcross, IsUsedAcross, IsUsedAway, MeetsLater, NeedsFrame, parting, suspends}
+use Rattle.pass_proofs.specs.frame_slots.Spots.{Comes, IsBehind, LeadsFrom, Spot, point_at}
+use Rattle.pass_proofs.specs.frame_slots.Uses.{is_marker_of}
+use Rattle.pass_proofs.proofs.ir_laws.paths.threads.Threads.{ahead_home, leads_home}
+use Rattle.pass_proofs.specs.ir_laws.facts.branches.MovedState.{IsSwitch}
+use Rattle.pass_proofs.specs.ir_laws.paths.threads.Moved.{GoesTo}
+use Rattle.pass_proofs.specs.ir_laws.paths.threads.Threads.{AreAvoidedToo}
+use Rattle.pass_proofs.specs.ir_model.Names.{position_of}
+use Rattle.pass_proofs.specs.ir_model.declared.module.Block.{Block}
+use Rattle.pass_proofs.specs.ir_model.declared.module.Function.{Function}
+use Rattle.pass_proofs.specs.ir_model.declared.operand.Intrinsic.{Intrinsic}
+use Rattle.pass_proofs.proofs.ir_paths.Search.{either, or_left, or_right, same_point-itself, same_point-same}
+use Rattle.pass_proofs.specs.ir_paths.Paths.{Leads, entry_point, has_point, same_point}
+use Rattle.pass_proofs.specs.ir_paths.Slots.{end_points, has_name, is_escaped}
+use Rattle.pass_proofs.specs.ir_paths.Windows.{instr_in, is_call_of, label_at, label_of_term}
+use Rattle.pass_proofs.specs.ir_paths.declared.point.Point.{Point}
+use Rattle.pass_proofs.specs.pass_edges.EdgeBlocks.{with_edge_blocks}
+use Rattle.pass_proofs.specs.pass_edges.Edges.{ends_in_suspend, phi_flags}
+use Rattle.pass_proofs.specs.pass_edges.declared.edge.Edge.{Edge}
 use Rattle.pass_proofs.proofs.edges.paths.Behind.{ends_avoided, number_leads}
 use Rattle.pass_proofs.proofs.edges.paths.Blocks.{entry_moved, own_number, position_edge, spot}
 use Rattle.pass_proofs.proofs.edges.paths.Edges.{edges_of_block, moved_apart}
@@ -34,10 +34,10 @@ use Rattle.pass_proofs.proofs.kept.sources.EdgeWindows.{ways}
 use Rattle.pass_proofs.specs.edges.paths.Labels.{IsSplit}
 use Rattle.pass_proofs.specs.edges.paths.Spots.{moved}
 use Rattle.pass_proofs.specs.edges.states.MovedState.{KeepsEdges}
-use Rattle.rule_laws.proofs.frames.alike_slots.Tests.{IsPassed, passed}
-use Rattle.rule_window_values.specs.Kept.{own_blocks}
-use Rattle.rule_windows.specs.Sets.{IsAfterEnd}
-use Rattle.rule_windows.specs.Windows.{own_edges}
+use Rattle.pass_proofs.proofs.rule_laws.frames.alike_slots.Tests.{IsPassed, passed}
+use Rattle.pass_proofs.specs.rule_window_values.Kept.{own_blocks}
+use Rattle.pass_proofs.specs.rule_windows.Sets.{IsAfterEnd}
+use Rattle.pass_proofs.specs.rule_windows.Windows.{own_edges}
 use Rattle.run_accepted.proofs.EdgeSpots.{EdgeAt, IsEdgeSpot, IsMovedSpot, Stood, before_is, comes_by, edge_front, end_before, end_is, escaped_same, front_apart, same_edge, spot_of, stood_after, stood_closed, stood_leads, target_of, touch_home, use_home}
 
 -- ---- points of two lists

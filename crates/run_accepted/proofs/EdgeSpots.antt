@@ -2,36 +2,36 @@
 use Rattle.std.proofs.Common.{◌≡◌, ◌⊎◌, inl, inr, ⊎_elim, ℕ, suc, ◌+◌, ◌<◌, Bool, true, false, List, [], ◌∷◌, ◌++◌, length, Option, Some, None, if◌then◌else◌, refl, sym, ap, ◌∙◌, subst, arith}
 use Rattle.std.proofs.lemmas.Option.{slice_get_past, slice_get_within}
 use Rattle.std.specs.Prelude.{map, nat_lt, slice_get, ◌||◌, ◌==◌}
-use Rattle.flow_solver.proofs.Lists.{listed_at, place_of}
-use Rattle.flow_solver.specs.Paths.{IsListed}
-use Rattle.frame_classes.specs.Classes.{Touches}
-use Rattle.frame_crossing.specs.EdgeUses.{IsUsedOn}
-use Rattle.frame_slots.specs.Spots.{IsStart, IsUse, LeadsFrom, Spot, UsesIn, point_at}
-use Rattle.frame_slots.specs.Uses.{UsesAt, is_marker_of}
-use Rattle.ir_laws.proofs.facts.Numbers.{IsTakenBy}
-use Rattle.ir_laws.proofs.paths.alike_slots.Strands.{leads_at}
-use Rattle.ir_laws.proofs.paths.expanded.Strands.{leads_on}
-use Rattle.ir_laws.proofs.paths.path_rules.SavedWindows.{neither}
-use Rattle.ir_laws.proofs.paths.threads.Edges.{only_one}
-use Rattle.ir_laws.proofs.paths.threads.Threads.{leads_home}
-use Rattle.ir_laws.specs.paths.threads.Threads.{AreAvoidedToo}
-use Rattle.ir_model.specs.Names.{position_of}
-use Rattle.ir_model.specs.declared.instr.Incoming.{Incoming}
-use Rattle.ir_model.specs.declared.instr.Instr.{Instr}
-use Rattle.ir_model.specs.declared.instr.Phi.{Phi}
-use Rattle.ir_model.specs.declared.module.Block.{Block}
-use Rattle.ir_model.specs.declared.module.Function.{Function}
-use Rattle.ir_model.specs.declared.operand.Intrinsic.{Intrinsic}
-use Rattle.ir_model.specs.declared.operand.Operand.{Operand}
-use Rattle.ir_paths.proofs.Search.{Has, eq_from}
-use Rattle.ir_paths.specs.Paths.{IsPath, Leads, entry_point, has_point, nexts, nexts_in, same_point, targets}
-use Rattle.ir_paths.specs.Slots.{addresses_of, has_name, is_escaped, occurs_in_term}
-use Rattle.ir_paths.specs.Windows.{IsInWindow, instr_at, instr_in}
-use Rattle.ir_paths.specs.declared.point.Point.{Point}
-use Rattle.pass_edges.specs.EdgeBlocks.{edge_block, split_phi, with_edge_blocks}
-use Rattle.pass_edges.specs.Edges.{edges_at, ends_in_suspend, phi_flags}
-use Rattle.pass_edges.specs.declared.edge.Edge.{Edge}
-use Rattle.pass_kept_proof.proofs.Rules.{suspend_is_suspend}
+use Rattle.pass_proofs.proofs.flow_solver.Lists.{listed_at, place_of}
+use Rattle.pass_proofs.specs.flow_solver.Paths.{IsListed}
+use Rattle.pass_proofs.specs.frame_classes.Classes.{Touches}
+use Rattle.pass_proofs.specs.frame_crossing.EdgeUses.{IsUsedOn}
+use Rattle.pass_proofs.specs.frame_slots.Spots.{IsStart, IsUse, LeadsFrom, Spot, UsesIn, point_at}
+use Rattle.pass_proofs.specs.frame_slots.Uses.{UsesAt, is_marker_of}
+use Rattle.pass_proofs.proofs.ir_laws.facts.Numbers.{IsTakenBy}
+use Rattle.pass_proofs.proofs.ir_laws.paths.alike_slots.Strands.{leads_at}
+use Rattle.pass_proofs.proofs.ir_laws.paths.expanded.Strands.{leads_on}
+use Rattle.pass_proofs.proofs.ir_laws.paths.path_rules.SavedWindows.{neither}
+use Rattle.pass_proofs.proofs.ir_laws.paths.threads.Edges.{only_one}
+use Rattle.pass_proofs.proofs.ir_laws.paths.threads.Threads.{leads_home}
+use Rattle.pass_proofs.specs.ir_laws.paths.threads.Threads.{AreAvoidedToo}
+use Rattle.pass_proofs.specs.ir_model.Names.{position_of}
+use Rattle.pass_proofs.specs.ir_model.declared.instr.Incoming.{Incoming}
+use Rattle.pass_proofs.specs.ir_model.declared.instr.Instr.{Instr}
+use Rattle.pass_proofs.specs.ir_model.declared.instr.Phi.{Phi}
+use Rattle.pass_proofs.specs.ir_model.declared.module.Block.{Block}
+use Rattle.pass_proofs.specs.ir_model.declared.module.Function.{Function}
+use Rattle.pass_proofs.specs.ir_model.declared.operand.Intrinsic.{Intrinsic}
+use Rattle.pass_proofs.specs.ir_model.declared.operand.Operand.{Operand}
+use Rattle.pass_proofs.proofs.ir_paths.Search.{Has, eq_from}
+use Rattle.pass_proofs.specs.ir_paths.Paths.{IsPath, Leads, entry_point, has_point, nexts, nexts_in, same_point, targets}
+use Rattle.pass_proofs.specs.ir_paths.Slots.{addresses_of, has_name, is_escaped, occurs_in_term}
+use Rattle.pass_proofs.specs.ir_paths.Windows.{IsInWindow, instr_at, instr_in}
+use Rattle.pass_proofs.specs.ir_paths.declared.point.Point.{Point}
+use Rattle.pass_proofs.specs.pass_edges.EdgeBlocks.{edge_block, split_phi, with_edge_blocks}
+use Rattle.pass_proofs.specs.pass_edges.Edges.{edges_at, ends_in_suspend, phi_flags}
+use Rattle.pass_proofs.specs.pass_edges.declared.edge.Edge.{Edge}
+use Rattle.pass_proofs.proofs.pass_kept_proof.Rules.{suspend_is_suspend}
 use Rattle.pass_proofs.proofs.early.path_rules.Marked.{some_window, window_some}
 use Rattle.pass_proofs.proofs.early.save_simulation.Suspending.{fetch_at}
 use Rattle.pass_proofs.proofs.edges.paths.Blocks.{entry_moved, own_number, position_edge, spot}
@@ -45,14 +45,14 @@ use Rattle.pass_proofs.proofs.kept.sources.EdgeWindows.{IsMovedFrom, instr_from,
 use Rattle.pass_proofs.specs.edges.paths.Labels.{IsSplit}
 use Rattle.pass_proofs.specs.edges.paths.Spots.{moved, table_of}
 use Rattle.pass_proofs.specs.edges.states.MovedState.{KeepsEdges}
-use Rattle.rule_laws.proofs.frames.alike_slots.Tests.{passed}
-use Rattle.rule_laws.proofs.frames.rows.EdgeUses.{taken_by, used_on}
-use Rattle.rule_laws.proofs.rules.sources.Places.{instr_there, point}
-use Rattle.rule_slots.specs.Closed.{IsClosed}
-use Rattle.rule_slots.specs.Early.{end_at, instr_count}
-use Rattle.rule_uses.specs.Uses.{local_of}
-use Rattle.rule_window_values.specs.Kept.{TakesFrom, front, phis_in}
-use Rattle.rule_windows.specs.Sets.{IsAfterEnd}
+use Rattle.pass_proofs.proofs.rule_laws.frames.alike_slots.Tests.{passed}
+use Rattle.pass_proofs.proofs.rule_laws.frames.rows.EdgeUses.{taken_by, used_on}
+use Rattle.pass_proofs.proofs.rule_laws.rules.sources.Places.{instr_there, point}
+use Rattle.pass_proofs.specs.rule_slots.Closed.{IsClosed}
+use Rattle.pass_proofs.specs.rule_slots.Early.{end_at, instr_count}
+use Rattle.pass_proofs.specs.rule_uses.Uses.{local_of}
+use Rattle.pass_proofs.specs.rule_window_values.Kept.{TakesFrom, front, phis_in}
+use Rattle.pass_proofs.specs.rule_windows.Sets.{IsAfterEnd}
 use Rattle.run_accepted.proofs.Edges.{after_home, closed_home}
 
 local_is : (x : Operand) (v : ℕ) → local_of x ≡ Some v → x ≡ Operand.Local v

@@ -1,24 +1,24 @@
 -- Where edges of a coroutine have blocks it keeps what runs ask of places and of markers, if it did.
 use Rattle.std.proofs.Common.{◌≡◌, ◌⊎◌, inl, inr, ℕ, ◌+◌, Bool, true, List, [], ◌∷◌, Option, None}
 use Rattle.std.proofs.Common.{sym, ap, ◌∙◌, subst, length, arith}
-use Rattle.flow_points.specs.Reached.{IsReached}
-use Rattle.frame_slots.proofs.Points.{where_complete}
-use Rattle.ir_laws.proofs.paths.threads.Threads.{leads_home}
-use Rattle.ir_model.specs.declared.instr.Terminator.{Terminator}
-use Rattle.ir_model.specs.declared.module.Block.{Block}
-use Rattle.ir_model.specs.declared.module.Function.{Function}
-use Rattle.ir_model.specs.declared.module.Module.{Module}
-use Rattle.ir_model.specs.declared.operand.Arg.{Arg}
-use Rattle.ir_model.specs.declared.operand.Intrinsic.{Intrinsic}
-use Rattle.ir_model.specs.declared.operand.Operand.{Operand}
-use Rattle.ir_paths.proofs.Right.{facts_of_right}
-use Rattle.ir_paths.specs.Facts.{facts_of}
-use Rattle.ir_paths.specs.Paths.{Leads}
-use Rattle.ir_paths.specs.Slots.{IsRampSlot}
-use Rattle.ir_paths.specs.Windows.{IsInWindow, is_call_of, points_where}
-use Rattle.ir_paths.specs.declared.point.Point.{Point}
-use Rattle.pass_edges.specs.EdgeBlocks.{split_term, with_edge_blocks}
-use Rattle.pass_kept_proof.specs.SuspendRules.{IsCallAt, KeepsSuspendRules}
+use Rattle.pass_proofs.specs.flow_points.Reached.{IsReached}
+use Rattle.pass_proofs.proofs.frame_slots.Points.{where_complete}
+use Rattle.pass_proofs.proofs.ir_laws.paths.threads.Threads.{leads_home}
+use Rattle.pass_proofs.specs.ir_model.declared.instr.Terminator.{Terminator}
+use Rattle.pass_proofs.specs.ir_model.declared.module.Block.{Block}
+use Rattle.pass_proofs.specs.ir_model.declared.module.Function.{Function}
+use Rattle.pass_proofs.specs.ir_model.declared.module.Module.{Module}
+use Rattle.pass_proofs.specs.ir_model.declared.operand.Arg.{Arg}
+use Rattle.pass_proofs.specs.ir_model.declared.operand.Intrinsic.{Intrinsic}
+use Rattle.pass_proofs.specs.ir_model.declared.operand.Operand.{Operand}
+use Rattle.pass_proofs.proofs.ir_paths.Right.{facts_of_right}
+use Rattle.pass_proofs.specs.ir_paths.Facts.{facts_of}
+use Rattle.pass_proofs.specs.ir_paths.Paths.{Leads}
+use Rattle.pass_proofs.specs.ir_paths.Slots.{IsRampSlot}
+use Rattle.pass_proofs.specs.ir_paths.Windows.{IsInWindow, is_call_of, points_where}
+use Rattle.pass_proofs.specs.ir_paths.declared.point.Point.{Point}
+use Rattle.pass_proofs.specs.pass_edges.EdgeBlocks.{split_term, with_edge_blocks}
+use Rattle.pass_proofs.specs.pass_kept_proof.SuspendRules.{IsCallAt, KeepsSuspendRules}
 use Rattle.pass_proofs.proofs.early.path_rules.Marked.{some_window, window_some}
 use Rattle.pass_proofs.proofs.early.save_simulation.Suspending.{fetch_at}
 use Rattle.pass_proofs.proofs.edges.paths.Slots.{same_ramp_slots}
@@ -31,22 +31,22 @@ use Rattle.pass_proofs.proofs.kept.sources.SaveTokens.{none_from_entry, one_save
 use Rattle.pass_proofs.proofs.kept.sources.Suspends.{behind_last}
 use Rattle.pass_proofs.specs.edges.paths.Spots.{moved}
 use Rattle.pass_proofs.specs.edges.states.MovedState.{KeepsEdges}
-use Rattle.pass_renewed_proof.specs.SlotRules.{IsMadeOnce, IsMarkerAt}
-use Rattle.rule_laws.proofs.frames.alike_slots.Tests.{passed}
-use Rattle.rule_laws.proofs.rules.sources.Places.{IsEnd, instr_there, point, term_there}
-use Rattle.rule_laws.specs.rules.function_rules.Kept.{KeepsFunctionRules}
-use Rattle.rule_shape.specs.OneOfEach.{wrong_call}
-use Rattle.rule_shape.specs.Switches.{wrong_switch}
-use Rattle.rule_slots.specs.Closed.{IsClosed}
+use Rattle.pass_renewed_meaning.specs.pass_renewed_proof.SlotRules.{IsMadeOnce, IsMarkerAt}
+use Rattle.pass_proofs.proofs.rule_laws.frames.alike_slots.Tests.{passed}
+use Rattle.pass_proofs.proofs.rule_laws.rules.sources.Places.{IsEnd, instr_there, point, term_there}
+use Rattle.pass_proofs.specs.rule_laws.rules.function_rules.Kept.{KeepsFunctionRules}
+use Rattle.pass_proofs.specs.rule_shape.OneOfEach.{wrong_call}
+use Rattle.pass_proofs.specs.rule_shape.Switches.{wrong_switch}
+use Rattle.pass_proofs.specs.rule_slots.Closed.{IsClosed}
 use Rattle.run_accepted.proofs.Alive.{ended, ramp_named}
 use Rattle.run_accepted.proofs.Entries.{never_entered}
 use Rattle.run_accepted.proofs.Marks.{marks_alloca}
 use Rattle.run_accepted.proofs.Once.{made_once}
 use Rattle.run_accepted.proofs.Places.{has_stop}
-use Rattle.run_hooks.specs.Away.{ComesTo, IsPair, KeepsPlaceRules}
-use Rattle.run_hooks.specs.alive.Alive.{IsMarker, KeepsAliveRules}
-use Rattle.rule_windows.specs.Sets.{IsAfterEnd, RunsOut}
-use Rattle.run_step.specs.Step.{AtTerm, fetch}
+use Rattle.pass_renewed_meaning.specs.run_hooks.Away.{ComesTo, IsPair, KeepsPlaceRules}
+use Rattle.pass_renewed_meaning.specs.run_hooks.alive.Alive.{IsMarker, KeepsAliveRules}
+use Rattle.pass_proofs.specs.rule_windows.Sets.{IsAfterEnd, RunsOut}
+use Rattle.pass_proofs.specs.run_step.Step.{AtTerm, fetch}
 
 same_return : (flags : List Bool) (resumes : Bool) (n : ℕ) (arg : Option Arg) (t : Terminator)
     → split_term flags resumes n t ≡ Terminator.Ret arg → t ≡ Terminator.Ret arg

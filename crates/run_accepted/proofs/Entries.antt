@@ -2,23 +2,23 @@
 use Rattle.std.proofs.Common.{◌≡◌, ℕ, suc, Bool, true, false, List, [], ◌∷◌, Option, Some, None, refl, sym, ap, ◌∙◌}
 use Rattle.std.proofs.Common.{subst}
 use Rattle.std.specs.Prelude.{length, not, option_map, slice_get, unwrap_or, ◌==◌, if◌then◌else◌}
-use Rattle.flow_solver.specs.Paths.{IsListed}
-use Rattle.ir_laws.proofs.facts.Truth.{equal_numbers, holds}
-use Rattle.ir_laws.proofs.paths.edges.Lists.{listed_at}
-use Rattle.ir_model.specs.Names.{first_where, position_of}
-use Rattle.ir_model.specs.declared.instr.Terminator.{Terminator}
-use Rattle.ir_model.specs.declared.module.Block.{Block}
-use Rattle.ir_model.specs.declared.module.Function.{Function}
-use Rattle.ir_model.specs.declared.module.Module.{Module}
-use Rattle.ir_paths.specs.Paths.{targets}
-use Rattle.pass_kept_proof.specs.Needed.{BranchesTo}
+use Rattle.pass_proofs.specs.flow_solver.Paths.{IsListed}
+use Rattle.pass_proofs.proofs.ir_laws.facts.Truth.{equal_numbers, holds}
+use Rattle.pass_proofs.proofs.ir_laws.paths.edges.Lists.{listed_at}
+use Rattle.pass_proofs.specs.ir_model.Names.{first_where, position_of}
+use Rattle.pass_proofs.specs.ir_model.declared.instr.Terminator.{Terminator}
+use Rattle.pass_proofs.specs.ir_model.declared.module.Block.{Block}
+use Rattle.pass_proofs.specs.ir_model.declared.module.Function.{Function}
+use Rattle.pass_proofs.specs.ir_model.declared.module.Module.{Module}
+use Rattle.pass_proofs.specs.ir_paths.Paths.{targets}
+use Rattle.pass_proofs.specs.pass_kept_proof.Needed.{BranchesTo}
 use Rattle.pass_proofs.proofs.kept.sources.Places.{branch_there}
 use Rattle.pass_proofs.proofs.split.edges.Entered.{to_predecessors}
-use Rattle.rule_laws.proofs.rules.counted.PartFacts.{block_passes}
-use Rattle.rule_laws.proofs.rules.edges.Entered.{listed_has}
-use Rattle.rule_laws.specs.rules.function_rules.Kept.{KeepsFunctionRules}
-use Rattle.rule_phis.specs.Edges.{breaks_edges, is_empty, is_entry, predecessors}
-use Rattle.run_step.specs.Step.{fetch}
+use Rattle.pass_proofs.proofs.rule_laws.rules.counted.PartFacts.{block_passes}
+use Rattle.pass_proofs.proofs.rule_laws.rules.edges.Entered.{listed_has}
+use Rattle.pass_proofs.specs.rule_laws.rules.function_rules.Kept.{KeepsFunctionRules}
+use Rattle.pass_proofs.specs.rule_phis.Edges.{breaks_edges, is_empty, is_entry, predecessors}
+use Rattle.pass_proofs.specs.run_step.Step.{fetch}
 
 none_listed : (ns : List ℕ) → is_empty ns ≡ true → (n : ℕ) → IsListed n ns → ⊥
 none_listed [] e n l = l

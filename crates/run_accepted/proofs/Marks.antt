@@ -1,39 +1,39 @@
 -- Lifetime markers take allocas, and none of a coroutine slot stands in a window or after the end (rules K13 and K8).
 use Rattle.std.proofs.Common.{◌≡◌, ℕ, Bool, true, false, List, [], ◌∷◌, Option, Some, None, refl, sym, ap, ◌∙◌, subst}
 use Rattle.std.specs.Prelude.{IsTrue, not, ◌&&◌, ◌||◌}
-use Rattle.ir_base.specs.declared.outcome.Place.{Place}
-use Rattle.ir_laws.proofs.facts.Members.{at_each}
-use Rattle.ir_laws.proofs.facts.Truth.{holds}
-use Rattle.ir_laws.proofs.paths.renamed.Uses.{stands_in}
-use Rattle.ir_model.specs.Ty.{Ty}
-use Rattle.ir_model.specs.declared.instr.Instr.{Instr}
-use Rattle.ir_model.specs.declared.module.Function.{Function}
-use Rattle.ir_model.specs.declared.module.Module.{Module}
-use Rattle.ir_model.specs.declared.operand.Arg.{Arg}
-use Rattle.ir_model.specs.declared.operand.Callee.{Callee}
-use Rattle.ir_model.specs.declared.operand.Intrinsic.{Intrinsic}
-use Rattle.ir_model.specs.declared.operand.Operand.{Operand}
-use Rattle.ir_parts.specs.Parts.{parts_of}
-use Rattle.ir_paths.specs.Slots.{IsRampSlot, allocas_of, has_name}
-use Rattle.ir_paths.specs.Windows.{call_operand, is_call_of}
-use Rattle.ir_paths.specs.declared.point.Point.{Point}
+use Rattle.pass_proofs.specs.ir_base.declared.outcome.Place.{Place}
+use Rattle.pass_proofs.proofs.ir_laws.facts.Members.{at_each}
+use Rattle.pass_proofs.proofs.ir_laws.facts.Truth.{holds}
+use Rattle.pass_proofs.proofs.ir_laws.paths.renamed.Uses.{stands_in}
+use Rattle.pass_proofs.specs.ir_model.Ty.{Ty}
+use Rattle.pass_proofs.specs.ir_model.declared.instr.Instr.{Instr}
+use Rattle.pass_proofs.specs.ir_model.declared.module.Function.{Function}
+use Rattle.pass_proofs.specs.ir_model.declared.module.Module.{Module}
+use Rattle.pass_proofs.specs.ir_model.declared.operand.Arg.{Arg}
+use Rattle.pass_proofs.specs.ir_model.declared.operand.Callee.{Callee}
+use Rattle.pass_proofs.specs.ir_model.declared.operand.Intrinsic.{Intrinsic}
+use Rattle.pass_proofs.specs.ir_model.declared.operand.Operand.{Operand}
+use Rattle.pass_proofs.specs.ir_parts.Parts.{parts_of}
+use Rattle.pass_proofs.specs.ir_paths.Slots.{IsRampSlot, allocas_of, has_name}
+use Rattle.pass_proofs.specs.ir_paths.Windows.{call_operand, is_call_of}
+use Rattle.pass_proofs.specs.ir_paths.declared.point.Point.{Point}
 use Rattle.pass_proofs.proofs.early.save_simulation.Suspending.{fetch_at}
-use Rattle.pass_renewed_proof.specs.SlotRules.{IsMadeOnce, IsMarkerAt}
-use Rattle.rule_laws.proofs.rules.counted.PartFacts.{block_passes}
-use Rattle.rule_laws.proofs.rules.path_rules.Holding.{of_parts}
-use Rattle.rule_laws.proofs.rules.path_rules.Outside.{place_point}
-use Rattle.rule_laws.proofs.rules.renamed.Outside.{none_breaks}
-use Rattle.rule_laws.proofs.rules.source_rules.Slots.{sized_alloca}
-use Rattle.rule_laws.proofs.rules.sources.Places.{instr_there}
-use Rattle.rule_laws.specs.rules.function_rules.Kept.{KeepsFunctionRules}
-use Rattle.rule_locals.specs.Instrs.{on_instr}
-use Rattle.rule_locals.specs.Markers.{is_marker as is_marker_callee, marks, marks_otherwise, marks_size, slot_size}
-use Rattle.rule_slots.specs.Closed.{IsClosed}
-use Rattle.rule_slots.specs.Marked.{BreaksMarked, IsFirstMarked, is_marker}
-use Rattle.rule_slots.specs.Slots.{NamesSlot}
+use Rattle.pass_renewed_meaning.specs.pass_renewed_proof.SlotRules.{IsMadeOnce, IsMarkerAt}
+use Rattle.pass_proofs.proofs.rule_laws.rules.counted.PartFacts.{block_passes}
+use Rattle.pass_proofs.proofs.rule_laws.rules.path_rules.Holding.{of_parts}
+use Rattle.pass_proofs.proofs.rule_laws.rules.path_rules.Outside.{place_point}
+use Rattle.pass_proofs.proofs.rule_laws.rules.renamed.Outside.{none_breaks}
+use Rattle.pass_proofs.proofs.rule_laws.rules.source_rules.Slots.{sized_alloca}
+use Rattle.pass_proofs.proofs.rule_laws.rules.sources.Places.{instr_there}
+use Rattle.pass_proofs.specs.rule_laws.rules.function_rules.Kept.{KeepsFunctionRules}
+use Rattle.pass_proofs.specs.rule_locals.Instrs.{on_instr}
+use Rattle.pass_proofs.specs.rule_locals.Markers.{is_marker as is_marker_callee, marks, marks_otherwise, marks_size, slot_size}
+use Rattle.pass_proofs.specs.rule_slots.Closed.{IsClosed}
+use Rattle.pass_proofs.specs.rule_slots.Marked.{BreaksMarked, IsFirstMarked, is_marker}
+use Rattle.pass_proofs.specs.rule_slots.Slots.{NamesSlot}
 use Rattle.run_accepted.proofs.Once.{made_once}
-use Rattle.run_hooks.specs.alive.Alive.{IsEnd, IsMarker, IsStart, MarksAlloca}
-use Rattle.run_step.specs.Step.{AtInstr, fetch}
+use Rattle.pass_renewed_meaning.specs.run_hooks.alive.Alive.{IsEnd, IsMarker, IsStart, MarksAlloca}
+use Rattle.pass_proofs.specs.run_step.Step.{AtInstr, fetch}
 
 -- ---- markers by their calls
 
@@ -107,7 +107,7 @@ module _ (sizes : ℕ → Option ℕ) (r : Option ℕ) (t : Bool) (ty : Option T
   takes_sized (a ∷ b ∷ c ∷ args) h = absurd (cc)
   takes_sized (a ∷ b ∷ []) h = on b.value refl h
     where
-      on : (o : Operand) → b.value ≡ o → Rattle.rule_locals.specs.Markers.marks_slot sizes a.value o ≡ true
+      on : (o : Operand) → b.value ≡ o → Rattle.pass_proofs.specs.rule_locals.Markers.marks_slot sizes a.value o ≡ true
           → TakesSized sizes (Instr.Call r t ty callee (a ∷ b ∷ []))
       on (Operand.Local v) e k = sized_by a b v e k
       on (Operand.Global n) e k = absurd (cc)

@@ -3,33 +3,33 @@ use Rattle.std.proofs.Common.{◌≡◌, ℕ, ℤ, Bool, true, false, List, [], 
 use Rattle.std.proofs.lemmas.List.Elements.{All-nil}
 use Rattle.std.proofs.lemmas.Option.{slice_get-map}
 use Rattle.std.specs.Prelude.{All, map, option_map, slice_get, unwrap_or}
-use Rattle.ir_model.specs.Names.{function_at, no_function}
-use Rattle.ir_model.specs.declared.module.Frame.{Frame}
-use Rattle.ir_model.specs.declared.module.Function.{Function}
-use Rattle.ir_model.specs.declared.module.Module.{Module}
-use Rattle.ir_model.specs.declared.operand.Intrinsic.{Intrinsic}
-use Rattle.ir_paths.proofs.Right.{facts_of_right}
-use Rattle.ir_paths.specs.Facts.{IsWindow, facts_of}
-use Rattle.ir_paths.specs.Windows.{saves_of}
-use Rattle.ir_paths.specs.declared.point.Facts.{Facts}
-use Rattle.ir_paths.specs.declared.point.Point.{Point}
-use Rattle.pass_kept_proof.specs.SuspendRules.{AllKeepSuspendRules, IsCallAt}
+use Rattle.pass_proofs.specs.ir_model.Names.{function_at, no_function}
+use Rattle.pass_proofs.specs.ir_model.declared.module.Frame.{Frame}
+use Rattle.pass_proofs.specs.ir_model.declared.module.Function.{Function}
+use Rattle.pass_proofs.specs.ir_model.declared.module.Module.{Module}
+use Rattle.pass_proofs.specs.ir_model.declared.operand.Intrinsic.{Intrinsic}
+use Rattle.pass_proofs.proofs.ir_paths.Right.{facts_of_right}
+use Rattle.pass_proofs.specs.ir_paths.Facts.{IsWindow, facts_of}
+use Rattle.pass_proofs.specs.ir_paths.Windows.{saves_of}
+use Rattle.pass_proofs.specs.ir_paths.declared.point.Facts.{Facts}
+use Rattle.pass_proofs.specs.ir_paths.declared.point.Point.{Point}
+use Rattle.pass_proofs.specs.pass_kept_proof.SuspendRules.{AllKeepSuspendRules, IsCallAt}
 use Rattle.pass_proofs.proofs.kept.sources.Modules.{all_keep, at_function}
 use Rattle.pass_proofs.proofs.kept.sources.Windows.{coroutine_keeps}
-use Rattle.rule_laws.specs.rules.counted.Widths.{first_other_width}
-use Rattle.rule_laws.specs.rules.function_rules.Kept.{AllKeepFunctionRules}
-use Rattle.rule_laws.specs.rules.path_rules.Paths.{KeepsPaths}
-use Rattle.rule_laws.specs.rules.path_rules.Shape.{KeepsShape}
+use Rattle.pass_proofs.specs.rule_laws.rules.counted.Widths.{first_other_width}
+use Rattle.pass_proofs.specs.rule_laws.rules.function_rules.Kept.{AllKeepFunctionRules}
+use Rattle.pass_proofs.specs.rule_laws.rules.path_rules.Paths.{KeepsPaths}
+use Rattle.pass_proofs.specs.rule_laws.rules.path_rules.Shape.{KeepsShape}
 use Rattle.run_accepted.proofs.Alive as alive
 use Rattle.run_accepted.proofs.Places.{places_kept, plain_places_kept}
 use Rattle.run_accepted.proofs.Types.{types_kept}
-use Rattle.run_hooks.specs.Away.{KeepsAllPlaceRules, KeepsPlaceRules}
-use Rattle.run_hooks.specs.Reached.{AllHaveSwitches}
-use Rattle.run_hooks.specs.alive.Alive.{KeepsAliveRules, KeepsAllAliveRules}
-use Rattle.run_source.specs.Source.{given}
-use Rattle.run_source_tables.specs.Given.{facts_at}
-use Rattle.run_step.specs.Step.{AtInstr, Nowhere}
-use Rattle.run_types.specs.Rules.{KeepsAllTypes, KeepsTypes}
+use Rattle.pass_renewed_meaning.specs.run_hooks.Away.{KeepsAllPlaceRules, KeepsPlaceRules}
+use Rattle.pass_renewed_meaning.specs.run_hooks.Reached.{AllHaveSwitches}
+use Rattle.pass_renewed_meaning.specs.run_hooks.alive.Alive.{KeepsAliveRules, KeepsAllAliveRules}
+use Rattle.pass_proofs.specs.run_source.Source.{given}
+use Rattle.pass_proofs.specs.run_source_tables.Given.{facts_at}
+use Rattle.pass_proofs.specs.run_step.Step.{AtInstr, Nowhere}
+use Rattle.pass_renewed_meaning.specs.run_types.Rules.{KeepsAllTypes, KeepsTypes}
 
 -- ---- where there is no function
 

@@ -3,76 +3,76 @@ use Rattle.std.proofs.Common.{◌≡◌, inl, inr, ⊎_elim, ℕ, suc, Bool, tru
 use Rattle.std.proofs.Common.{refl, sym, ap, ◌∙◌, subst}
 use Rattle.std.specs.List.{list_all, list_any}
 use Rattle.std.specs.Prelude.{IsTrue, not, option_and_then, option_to_list, slice_get, ◌==◌, ◌&&◌, ◌||◌, if◌then◌else◌}
-use Rattle.flow_solver.specs.Paths.{IsListed}
-use Rattle.frame_crossing.specs.Values.{all_defined, blocks_defined, is_apart, is_token, is_token_result, params_defined}
-use Rattle.frame_crossing.specs.Values.{values_of}
-use Rattle.frame_slots.proofs.Points.{where_complete}
-use Rattle.ir_base.specs.declared.outcome.Place.{Place}
-use Rattle.ir_laws.proofs.facts.Lists.{by_value}
-use Rattle.ir_laws.proofs.facts.Truth.{and_first, and_second, equal_numbers, holds, itself}
-use Rattle.ir_parts.specs.Contents.{ending_operands, instr_operands, part_operands}
-use Rattle.ir_parts.specs.Parts.{OfPhi, Part, first_part, parts_of}
-use Rattle.ir_model.specs.declared.instr.Incoming.{Incoming}
-use Rattle.ir_model.specs.declared.instr.Terminator.{Terminator}
-use Rattle.ir_model.specs.declared.operand.Operand.{Operand}
-use Rattle.rule_uses.specs.Uses.{local_of, locals_in}
-use Rattle.frame_crossing.specs.EdgeUses.{IsUsedOn}
-use Rattle.frame_crossing.specs.Paths.{used_by}
-use Rattle.rule_laws.proofs.frames.rows.EdgeUses.{taken_by}
-use Rattle.rule_laws.proofs.rules.counted.PartFacts.{all_at}
-use Rattle.rule_laws.proofs.rules.local_rules.Carried.{passing}
-use Rattle.rule_laws.proofs.rules.path_rules.Holding.{HoldsOf, of_parts}
-use Rattle.rule_laws.specs.rules.unused.Unused.{AreFramesUnused, is_other, names_value}
-use Rattle.ir_laws.proofs.paths.renamed.Uses.{stands_in}
-use Rattle.ir_laws.proofs.paths.source_rules.Locals.{listed_either, listed_left, listed_right}
-use Rattle.ir_model.specs.Names.{position_of}
-use Rattle.ir_model.specs.Ty.{Ty, array, int, named, ptr, structure, token}
-use Rattle.ir_model.specs.declared.instr.Instr.{Instr}
-use Rattle.ir_model.specs.declared.instr.Phi.{Phi}
-use Rattle.ir_model.specs.declared.module.Block.{Block}
-use Rattle.ir_model.specs.declared.module.Function.{Function}
-use Rattle.ir_model.specs.declared.module.Module.{Module}
-use Rattle.ir_model.specs.declared.module.Param.{Param}
-use Rattle.ir_model.specs.declared.operand.Arg.{Arg}
-use Rattle.ir_model.specs.declared.operand.Callee.{Callee}
-use Rattle.ir_model.specs.declared.operand.Intrinsic.{Intrinsic}
-use Rattle.ir_paths.specs.Paths.{has_point}
-use Rattle.ir_paths.specs.Slots.{IsRampSlot}
-use Rattle.ir_paths.specs.Windows.{call_result, instr_at, instr_in, is_call_of, points_where}
-use Rattle.ir_paths.specs.declared.point.Point.{Point}
-use Rattle.pass_kept_proof.proofs.Crossing.{needed_crosses}
-use Rattle.pass_kept_proof.proofs.Read.{given_result, param_listed, read_here, read_on_edge}
-use Rattle.pass_kept_proof.proofs.Rules.{where_is}
-use Rattle.pass_kept_proof.specs.Crossing as Defined
-use Rattle.pass_kept_proof.specs.Crossing.{IsDefinedBefore, IsDefinite, gives_name, is_remade, remakes}
-use Rattle.pass_kept_proof.specs.Handed.{HasPlainNames}
-use Rattle.pass_kept_proof.specs.Needed
-use Rattle.pass_kept_proof.specs.Needed.{IsNeeded, IsNeededBehind, IsNeededOn, IsReached, given_by, label_of_block}
-use Rattle.pass_kept_proof.specs.Needed.{phis_give, phis_read, reads_at}
-use Rattle.pass_kept_proof.specs.SuspendRules.{IsCallAt, IsGivenBy, KeepsSuspendRules}
-use Rattle.pass_renewed_proof.specs.SlotRules.{IsMadeOnce}
+use Rattle.pass_proofs.specs.flow_solver.Paths.{IsListed}
+use Rattle.pass_proofs.specs.frame_crossing.Values.{all_defined, blocks_defined, is_apart, is_token, is_token_result, params_defined}
+use Rattle.pass_proofs.specs.frame_crossing.Values.{values_of}
+use Rattle.pass_proofs.proofs.frame_slots.Points.{where_complete}
+use Rattle.pass_proofs.specs.ir_base.declared.outcome.Place.{Place}
+use Rattle.pass_proofs.proofs.ir_laws.facts.Lists.{by_value}
+use Rattle.pass_proofs.proofs.ir_laws.facts.Truth.{and_first, and_second, equal_numbers, holds, itself}
+use Rattle.pass_proofs.specs.ir_parts.Contents.{ending_operands, instr_operands, part_operands}
+use Rattle.pass_proofs.specs.ir_parts.Parts.{OfPhi, Part, first_part, parts_of}
+use Rattle.pass_proofs.specs.ir_model.declared.instr.Incoming.{Incoming}
+use Rattle.pass_proofs.specs.ir_model.declared.instr.Terminator.{Terminator}
+use Rattle.pass_proofs.specs.ir_model.declared.operand.Operand.{Operand}
+use Rattle.pass_proofs.specs.rule_uses.Uses.{local_of, locals_in}
+use Rattle.pass_proofs.specs.frame_crossing.EdgeUses.{IsUsedOn}
+use Rattle.pass_proofs.specs.frame_crossing.Paths.{used_by}
+use Rattle.pass_proofs.proofs.rule_laws.frames.rows.EdgeUses.{taken_by}
+use Rattle.pass_proofs.proofs.rule_laws.rules.counted.PartFacts.{all_at}
+use Rattle.pass_proofs.proofs.rule_laws.rules.local_rules.Carried.{passing}
+use Rattle.pass_proofs.proofs.rule_laws.rules.path_rules.Holding.{HoldsOf, of_parts}
+use Rattle.pass_proofs.specs.rule_laws.rules.unused.Unused.{AreFramesUnused, is_other, names_value}
+use Rattle.pass_proofs.proofs.ir_laws.paths.renamed.Uses.{stands_in}
+use Rattle.pass_proofs.proofs.ir_laws.paths.source_rules.Locals.{listed_either, listed_left, listed_right}
+use Rattle.pass_proofs.specs.ir_model.Names.{position_of}
+use Rattle.pass_proofs.specs.ir_model.Ty.{Ty, array, int, named, ptr, structure, token}
+use Rattle.pass_proofs.specs.ir_model.declared.instr.Instr.{Instr}
+use Rattle.pass_proofs.specs.ir_model.declared.instr.Phi.{Phi}
+use Rattle.pass_proofs.specs.ir_model.declared.module.Block.{Block}
+use Rattle.pass_proofs.specs.ir_model.declared.module.Function.{Function}
+use Rattle.pass_proofs.specs.ir_model.declared.module.Module.{Module}
+use Rattle.pass_proofs.specs.ir_model.declared.module.Param.{Param}
+use Rattle.pass_proofs.specs.ir_model.declared.operand.Arg.{Arg}
+use Rattle.pass_proofs.specs.ir_model.declared.operand.Callee.{Callee}
+use Rattle.pass_proofs.specs.ir_model.declared.operand.Intrinsic.{Intrinsic}
+use Rattle.pass_proofs.specs.ir_paths.Paths.{has_point}
+use Rattle.pass_proofs.specs.ir_paths.Slots.{IsRampSlot}
+use Rattle.pass_proofs.specs.ir_paths.Windows.{call_result, instr_at, instr_in, is_call_of, points_where}
+use Rattle.pass_proofs.specs.ir_paths.declared.point.Point.{Point}
+use Rattle.pass_proofs.proofs.pass_kept_proof.Crossing.{needed_crosses}
+use Rattle.pass_proofs.proofs.pass_kept_proof.Read.{given_result, param_listed, read_here, read_on_edge}
+use Rattle.pass_proofs.proofs.pass_kept_proof.Rules.{where_is}
+use Rattle.pass_proofs.specs.pass_kept_proof.Crossing as Defined
+use Rattle.pass_proofs.specs.pass_kept_proof.Crossing.{IsDefinedBefore, IsDefinite, gives_name, is_remade, remakes}
+use Rattle.pass_proofs.specs.pass_kept_proof.Handed.{HasPlainNames}
+use Rattle.pass_proofs.specs.pass_kept_proof.Needed
+use Rattle.pass_proofs.specs.pass_kept_proof.Needed.{IsNeeded, IsNeededBehind, IsNeededOn, IsReached, given_by, label_of_block}
+use Rattle.pass_proofs.specs.pass_kept_proof.Needed.{phis_give, phis_read, reads_at}
+use Rattle.pass_proofs.specs.pass_kept_proof.SuspendRules.{IsCallAt, IsGivenBy, KeepsSuspendRules}
+use Rattle.pass_renewed_meaning.specs.pass_renewed_proof.SlotRules.{IsMadeOnce}
 use Rattle.pass_proofs.proofs.early.save_simulation.Suspending.{fetch_at}
 use Rattle.pass_proofs.proofs.kept.sources.Definite.{once, scalar_read, scalar_taken}
 use Rattle.pass_proofs.proofs.kept.sources.Scalars.{IsScalarValue}
 use Rattle.pass_proofs.proofs.kept.sources.Tokens.{IsNoScalar}
 use Rattle.pass_proofs.proofs.kept.sources.Windows.{phis_listed}
-use Rattle.rule_laws.proofs.frames.crossing.Values.{distinct_has}
-use Rattle.rule_laws.proofs.frames.needed.Made.{block_defined, instr_defined, param_defined, param_found, phi_defined}
-use Rattle.rule_laws.proofs.frames.needed.Made.{phi_found}
-use Rattle.rule_laws.proofs.rules.counted.DefinedKinds.{kind_of_instr, kind_of_param, kind_of_phi}
-use Rattle.rule_laws.proofs.rules.renamed.Uses.{result_spelt}
-use Rattle.rule_laws.proofs.rules.source_rules.Once.{one_begin}
-use Rattle.rule_laws.proofs.rules.sources.Places.{instr_there, point, term_there}
-use Rattle.rule_laws.specs.rules.function_rules.Kept.{KeepsFunctionRules}
-use Rattle.rule_shape.specs.OneOfEach.{wrong_call}
-use Rattle.rule_values.specs.Kinds.{call_kind, instr_kind, kind_if, kind_of, result_kind, value_kind}
-use Rattle.rule_values.specs.declared.kinds.Kind.{Kind}
-use Rattle.run_framed.specs.Framed.{begin_name}
+use Rattle.pass_proofs.proofs.rule_laws.frames.crossing.Values.{distinct_has}
+use Rattle.pass_proofs.proofs.rule_laws.frames.needed.Made.{block_defined, instr_defined, param_defined, param_found, phi_defined}
+use Rattle.pass_proofs.proofs.rule_laws.frames.needed.Made.{phi_found}
+use Rattle.pass_proofs.proofs.rule_laws.rules.counted.DefinedKinds.{kind_of_instr, kind_of_param, kind_of_phi}
+use Rattle.pass_proofs.proofs.rule_laws.rules.renamed.Uses.{result_spelt}
+use Rattle.pass_proofs.proofs.rule_laws.rules.source_rules.Once.{one_begin}
+use Rattle.pass_proofs.proofs.rule_laws.rules.sources.Places.{instr_there, point, term_there}
+use Rattle.pass_proofs.specs.rule_laws.rules.function_rules.Kept.{KeepsFunctionRules}
+use Rattle.pass_proofs.specs.rule_shape.OneOfEach.{wrong_call}
+use Rattle.pass_proofs.specs.rule_values.Kinds.{call_kind, instr_kind, kind_if, kind_of, result_kind, value_kind}
+use Rattle.pass_proofs.specs.rule_values.declared.kinds.Kind.{Kind}
+use Rattle.pass_proofs.specs.run_framed.Framed.{begin_name}
 use Rattle.run_accepted.proofs.Once.{made_once}
 use Rattle.run_accepted.proofs.RampSlots.{ramp_unneeded}
-use Rattle.run_hooks.proofs.alive.Ramps.{is_ramp_or_not}
-use Rattle.run_laws.specs.changed.Changed.{result_of}
-use Rattle.run_step.specs.Step.{AtInstr, AtTerm, Fetched, Nowhere, fetch, phis_of}
+use Rattle.pass_renewed_meaning.proofs.run_hooks.alive.Ramps.{is_ramp_or_not}
+use Rattle.pass_proofs.specs.run_laws.changed.Changed.{result_of}
+use Rattle.pass_proofs.specs.run_step.Step.{AtInstr, AtTerm, Fetched, Nowhere, fetch, phis_of}
 
 -- ---- tokens are of no scalar type
 

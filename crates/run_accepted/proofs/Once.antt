@@ -3,32 +3,32 @@ use Rattle.std.proofs.Common.{◌≡◌, inl, inr, ℕ, Bool, true, false, List,
 use Rattle.std.proofs.Common.{◌∙◌, subst}
 use Rattle.std.specs.List.{list_any}
 use Rattle.std.specs.Prelude.{map, not, slice_get, ◌==◌, ◌||◌}
-use Rattle.flow_solver.specs.Paths.{IsListed}
-use Rattle.ir_laws.proofs.facts.Members.{at_each}
-use Rattle.ir_laws.proofs.facts.Truth.{equal_numbers, holds}
-use Rattle.ir_laws.proofs.paths.renamed.Uses.{stands_in}
-use Rattle.ir_model.specs.Ty.{Ty}
-use Rattle.ir_model.specs.declared.instr.Instr.{Instr}
-use Rattle.ir_model.specs.declared.module.Block.{Block}
-use Rattle.ir_model.specs.declared.module.Function.{Function}
-use Rattle.ir_model.specs.declared.module.Module.{Module}
-use Rattle.ir_model.specs.declared.module.Param.{Param}
-use Rattle.ir_paths.specs.Windows.{instr_at}
-use Rattle.ir_paths.specs.declared.point.Point.{Point}
-use Rattle.pass_kept_proof.proofs.Read.{given_result}
-use Rattle.pass_kept_proof.specs.Crossing.{is_param}
-use Rattle.pass_kept_proof.specs.Needed.{phis_give}
+use Rattle.pass_proofs.specs.flow_solver.Paths.{IsListed}
+use Rattle.pass_proofs.proofs.ir_laws.facts.Members.{at_each}
+use Rattle.pass_proofs.proofs.ir_laws.facts.Truth.{equal_numbers, holds}
+use Rattle.pass_proofs.proofs.ir_laws.paths.renamed.Uses.{stands_in}
+use Rattle.pass_proofs.specs.ir_model.Ty.{Ty}
+use Rattle.pass_proofs.specs.ir_model.declared.instr.Instr.{Instr}
+use Rattle.pass_proofs.specs.ir_model.declared.module.Block.{Block}
+use Rattle.pass_proofs.specs.ir_model.declared.module.Function.{Function}
+use Rattle.pass_proofs.specs.ir_model.declared.module.Module.{Module}
+use Rattle.pass_proofs.specs.ir_model.declared.module.Param.{Param}
+use Rattle.pass_proofs.specs.ir_paths.Windows.{instr_at}
+use Rattle.pass_proofs.specs.ir_paths.declared.point.Point.{Point}
+use Rattle.pass_proofs.proofs.pass_kept_proof.Read.{given_result}
+use Rattle.pass_proofs.specs.pass_kept_proof.Crossing.{is_param}
+use Rattle.pass_proofs.specs.pass_kept_proof.Needed.{phis_give}
 use Rattle.pass_proofs.proofs.kept.sources.Windows.{phis_listed}
-use Rattle.pass_renewed_proof.specs.SlotRules.{IsMadeOnce}
-use Rattle.pass_renewed_proof.specs.Steps.{given_at}
-use Rattle.rule_laws.proofs.rules.counted.PartFacts.{block_passes}
-use Rattle.rule_laws.proofs.rules.source_rules.Locals.{no_param, no_phi, same_result}
-use Rattle.rule_laws.proofs.rules.sources.Places.{instr_there, point}
-use Rattle.rule_laws.specs.rules.function_rules.Kept.{KeepsFunctionRules}
-use Rattle.rule_locals.specs.Entries.{allocates_late, is_past_entry}
-use Rattle.rule_locals.specs.Instrs.{on_instr}
-use Rattle.run_laws.specs.changed.Changed.{result_of}
-use Rattle.run_step.specs.Step.{AtInstr, AtTerm, Fetched, Nowhere, fetch, phis_of}
+use Rattle.pass_renewed_meaning.specs.pass_renewed_proof.SlotRules.{IsMadeOnce}
+use Rattle.pass_renewed_meaning.specs.pass_renewed_proof.Steps.{given_at}
+use Rattle.pass_proofs.proofs.rule_laws.rules.counted.PartFacts.{block_passes}
+use Rattle.pass_proofs.proofs.rule_laws.rules.source_rules.Locals.{no_param, no_phi, same_result}
+use Rattle.pass_proofs.proofs.rule_laws.rules.sources.Places.{instr_there, point}
+use Rattle.pass_proofs.specs.rule_laws.rules.function_rules.Kept.{KeepsFunctionRules}
+use Rattle.pass_proofs.specs.rule_locals.Entries.{allocates_late, is_past_entry}
+use Rattle.pass_proofs.specs.rule_locals.Instrs.{on_instr}
+use Rattle.pass_proofs.specs.run_laws.changed.Changed.{result_of}
+use Rattle.pass_proofs.specs.run_step.Step.{AtInstr, AtTerm, Fetched, Nowhere, fetch, phis_of}
 
 param_named : (v : ℕ) (ps : List Param) → list_any (λ p. p.name == v) ps ≡ true → IsListed v (map (λ p. p.name) ps)
 param_named v [] h = absurd (cc)

@@ -1,31 +1,31 @@
 -- A coroutine that breaks none of the rules keeps what runs ask of the places of saves, suspends and the end.
 use Rattle.std.proofs.Common.{◌≡◌, ℕ, ◌+◌, true, false, List, [], None, sym, ◌∙◌, subst}
-use Rattle.ir_model.specs.declared.instr.Case.{Case}
-use Rattle.ir_model.specs.declared.instr.Terminator.{Terminator}
-use Rattle.ir_model.specs.declared.module.Function.{Function}
-use Rattle.ir_model.specs.declared.module.Module.{Module}
-use Rattle.ir_model.specs.declared.operand.Arg.{Arg}
-use Rattle.ir_model.specs.declared.operand.Intrinsic.{Intrinsic}
-use Rattle.ir_parts.specs.Locals.{locals_of}
-use Rattle.ir_paths.specs.Windows.{destroy_label, resume_label}
-use Rattle.ir_paths.specs.declared.point.Point.{Point}
-use Rattle.pass_kept_proof.specs.Needed.{BranchesTo}
-use Rattle.pass_kept_proof.specs.SuspendRules.{IsCallAt, KeepsSuspendRules}
+use Rattle.pass_proofs.specs.ir_model.declared.instr.Case.{Case}
+use Rattle.pass_proofs.specs.ir_model.declared.instr.Terminator.{Terminator}
+use Rattle.pass_proofs.specs.ir_model.declared.module.Function.{Function}
+use Rattle.pass_proofs.specs.ir_model.declared.module.Module.{Module}
+use Rattle.pass_proofs.specs.ir_model.declared.operand.Arg.{Arg}
+use Rattle.pass_proofs.specs.ir_model.declared.operand.Intrinsic.{Intrinsic}
+use Rattle.pass_proofs.specs.ir_parts.Locals.{locals_of}
+use Rattle.pass_proofs.specs.ir_paths.Windows.{destroy_label, resume_label}
+use Rattle.pass_proofs.specs.ir_paths.declared.point.Point.{Point}
+use Rattle.pass_proofs.specs.pass_kept_proof.Needed.{BranchesTo}
+use Rattle.pass_proofs.specs.pass_kept_proof.SuspendRules.{IsCallAt, KeepsSuspendRules}
 use Rattle.pass_proofs.proofs.kept.sources.Closed.{not_behind_end, not_inside, save_shuts, suspend_ends, suspend_shuts}
 use Rattle.pass_proofs.proofs.kept.sources.Names.{save_inside, suspend_inside}
 use Rattle.pass_proofs.proofs.kept.sources.SaveTokens.{none_from_entry, one_save}
 use Rattle.pass_proofs.proofs.kept.sources.Stops.{at_end, has_switch, is_end, on_result, stops}
 use Rattle.pass_proofs.proofs.kept.sources.WaysBack.{none_back}
 use Rattle.pass_proofs.proofs.kept.sources.Windows.{coroutine_keeps}
-use Rattle.rule_laws.specs.rules.function_rules.Kept.{KeepsFunctionRules}
-use Rattle.rule_laws.specs.rules.path_rules.Paths.{KeepsPaths}
-use Rattle.rule_laws.specs.rules.path_rules.Shape.{KeepsShape}
-use Rattle.rule_names.specs.Definitions.{first_twice}
-use Rattle.rule_shape.specs.OneOfEach.{wrong_call}
-use Rattle.rule_shape.specs.Switches.{wrong_switch}
+use Rattle.pass_proofs.specs.rule_laws.rules.function_rules.Kept.{KeepsFunctionRules}
+use Rattle.pass_proofs.specs.rule_laws.rules.path_rules.Paths.{KeepsPaths}
+use Rattle.pass_proofs.specs.rule_laws.rules.path_rules.Shape.{KeepsShape}
+use Rattle.pass_proofs.specs.rule_names.Definitions.{first_twice}
+use Rattle.pass_proofs.specs.rule_shape.OneOfEach.{wrong_call}
+use Rattle.pass_proofs.specs.rule_shape.Switches.{wrong_switch}
 use Rattle.run_accepted.proofs.Plain.{no_call}
-use Rattle.run_hooks.specs.Away.{HasStop, KeepsPlaceRules}
-use Rattle.run_step.specs.Step.{AtTerm, fetch}
+use Rattle.pass_renewed_meaning.specs.run_hooks.Away.{HasStop, KeepsPlaceRules}
+use Rattle.pass_proofs.specs.run_step.Step.{AtTerm, fetch}
 
 -- the switch of a suspend takes -1 to the end
 module _ (m : Module) (k : ℕ) (f : Function) (coroutine : f.coroutine ≡ true)

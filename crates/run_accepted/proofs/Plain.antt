@@ -1,20 +1,20 @@
 -- A function that is no coroutine has no begin, save, suspend or end (rule K1).
 use Rattle.std.proofs.Common.{◌≡◌, inl, inr, ℕ, true, false, List, [], ◌∷◌, refl, ap, subst}
 use Rattle.std.specs.Prelude.{filter_map, option_map}
-use Rattle.ir_model.specs.declared.module.Function.{Function}
-use Rattle.ir_model.specs.declared.module.Module.{Module}
-use Rattle.ir_model.specs.declared.operand.Intrinsic.{Intrinsic}
-use Rattle.ir_paths.proofs.Search.{or_left, same_point-itself}
-use Rattle.ir_paths.specs.Paths.{has_point, same_point}
-use Rattle.ir_paths.specs.Windows.{is_call_of, points_where, saves_of, suspend_of}
-use Rattle.ir_paths.specs.declared.point.Point.{Point}
-use Rattle.pass_kept_proof.specs.SuspendRules.{IsCallAt}
+use Rattle.pass_proofs.specs.ir_model.declared.module.Function.{Function}
+use Rattle.pass_proofs.specs.ir_model.declared.module.Module.{Module}
+use Rattle.pass_proofs.specs.ir_model.declared.operand.Intrinsic.{Intrinsic}
+use Rattle.pass_proofs.proofs.ir_paths.Search.{or_left, same_point-itself}
+use Rattle.pass_proofs.specs.ir_paths.Paths.{has_point, same_point}
+use Rattle.pass_proofs.specs.ir_paths.Windows.{is_call_of, points_where, saves_of, suspend_of}
+use Rattle.pass_proofs.specs.ir_paths.declared.point.Point.{Point}
+use Rattle.pass_proofs.specs.pass_kept_proof.SuspendRules.{IsCallAt}
 use Rattle.pass_proofs.proofs.early.save_simulation.Suspending.{fetch_at}
 use Rattle.pass_proofs.proofs.kept.sources.Names.{StaysInside, end_inside, none_outside, save_inside}
-use Rattle.rule_laws.proofs.frames.alike_slots.Tests.{passed}
-use Rattle.rule_laws.specs.rules.function_rules.Kept.{KeepsFunctionRules}
-use Rattle.rule_slots.specs.Closed.{IsClosed, IsInOneOf}
-use Rattle.rule_windows.specs.Sets.{IsAfterEnd, RunsOut}
+use Rattle.pass_proofs.proofs.rule_laws.frames.alike_slots.Tests.{passed}
+use Rattle.pass_proofs.specs.rule_laws.rules.function_rules.Kept.{KeepsFunctionRules}
+use Rattle.pass_proofs.specs.rule_slots.Closed.{IsClosed, IsInOneOf}
+use Rattle.pass_proofs.specs.rule_windows.Sets.{IsAfterEnd, RunsOut}
 
 pub begin_inside : StaysInside Intrinsic.CoroBegin
 begin_inside Intrinsic.CoroBegin e = refl

@@ -3,37 +3,37 @@ use Rattle.std.proofs.Common.{◌≡◌, ◌⊎◌, inl, inr, ℕ, zero, suc, �
 use Rattle.std.proofs.Common.{refl, sym, ap, ◌∙◌, subst}
 use Rattle.std.specs.List.{list_any}
 use Rattle.std.specs.Prelude.{IsTrue, flat_map, not, slice_get, ◌||◌, ◌==◌, if◌then◌else◌}
-use Rattle.frame_classes.proofs.Coming.{outside_end}
-use Rattle.frame_slots.proofs.Points.{where_complete}
-use Rattle.ir_laws.proofs.facts.Truth.{and_both, equal_numbers}
-use Rattle.ir_model.specs.Names.{is_local, position_of}
-use Rattle.ir_model.specs.declared.instr.Incoming.{Incoming}
-use Rattle.ir_model.specs.declared.instr.Instr.{Instr}
-use Rattle.ir_model.specs.declared.instr.Phi.{Phi}
-use Rattle.ir_model.specs.declared.instr.Terminator.{Terminator}
-use Rattle.ir_model.specs.declared.module.Block.{Block}
-use Rattle.ir_model.specs.declared.module.Function.{Function}
-use Rattle.ir_model.specs.declared.operand.Arg.{Arg}
-use Rattle.ir_model.specs.declared.operand.Callee.{Callee}
-use Rattle.ir_model.specs.declared.operand.Intrinsic.{Intrinsic}
-use Rattle.ir_paths.proofs.Search.{or_left, or_right, same_point-itself, same_point-same}
-use Rattle.ir_paths.specs.Paths.{Leads, entry_point, has_point, nexts, same_point}
-use Rattle.ir_paths.specs.Slots.{IsRampSlot, addresses_of, behind_suspends, end_points, exposed_in_block}
-use Rattle.ir_paths.specs.Slots.{exposes, has_name, is_escaped, is_in_args, occurs, occurs_in_phi, occurs_in_term, touches}
-use Rattle.ir_paths.specs.Windows.{destroy_label, end_block, is_call_of, operand_at, points_where, resume_label}
-use Rattle.ir_paths.specs.declared.point.Point.{Point}
-use Rattle.pass_kept_proof.proofs.Read.{end_reads_nothing}
-use Rattle.pass_kept_proof.specs.Handed.{HasPlainNames}
-use Rattle.pass_kept_proof.specs.Needed
-use Rattle.pass_kept_proof.specs.Needed.{BranchesTo, IsNeeded, IsNeededBehind, IsNeededOn, PassesBy, label_of_block}
-use Rattle.pass_kept_proof.specs.Needed.{phis_read, reads, reads_at, reads_intrinsic}
-use Rattle.pass_kept_proof.specs.SuspendRules.{IsCallAt}
-use Rattle.pass_renewed_proof.proofs.Ahead.{branch_edge, leads_more, next_edge}
-use Rattle.pass_renewed_proof.proofs.Ordinary.{own_address}
-use Rattle.pass_renewed_proof.proofs.Stands.{end_at_first}
-use Rattle.pass_renewed_proof.specs.Way.{IsResumedAt}
-use Rattle.rule_laws.proofs.rules.sources.Places.{instr_there, point, term_there}
-use Rattle.run_step.specs.Step.{AtInstr, AtTerm, Fetched, Nowhere, fetch, incoming_from, phis_of}
+use Rattle.pass_proofs.proofs.frame_classes.Coming.{outside_end}
+use Rattle.pass_proofs.proofs.frame_slots.Points.{where_complete}
+use Rattle.pass_proofs.proofs.ir_laws.facts.Truth.{and_both, equal_numbers}
+use Rattle.pass_proofs.specs.ir_model.Names.{is_local, position_of}
+use Rattle.pass_proofs.specs.ir_model.declared.instr.Incoming.{Incoming}
+use Rattle.pass_proofs.specs.ir_model.declared.instr.Instr.{Instr}
+use Rattle.pass_proofs.specs.ir_model.declared.instr.Phi.{Phi}
+use Rattle.pass_proofs.specs.ir_model.declared.instr.Terminator.{Terminator}
+use Rattle.pass_proofs.specs.ir_model.declared.module.Block.{Block}
+use Rattle.pass_proofs.specs.ir_model.declared.module.Function.{Function}
+use Rattle.pass_proofs.specs.ir_model.declared.operand.Arg.{Arg}
+use Rattle.pass_proofs.specs.ir_model.declared.operand.Callee.{Callee}
+use Rattle.pass_proofs.specs.ir_model.declared.operand.Intrinsic.{Intrinsic}
+use Rattle.pass_proofs.proofs.ir_paths.Search.{or_left, or_right, same_point-itself, same_point-same}
+use Rattle.pass_proofs.specs.ir_paths.Paths.{Leads, entry_point, has_point, nexts, same_point}
+use Rattle.pass_proofs.specs.ir_paths.Slots.{IsRampSlot, addresses_of, behind_suspends, end_points, exposed_in_block}
+use Rattle.pass_proofs.specs.ir_paths.Slots.{exposes, has_name, is_escaped, is_in_args, occurs, occurs_in_phi, occurs_in_term, touches}
+use Rattle.pass_proofs.specs.ir_paths.Windows.{destroy_label, end_block, is_call_of, operand_at, points_where, resume_label}
+use Rattle.pass_proofs.specs.ir_paths.declared.point.Point.{Point}
+use Rattle.pass_proofs.proofs.pass_kept_proof.Read.{end_reads_nothing}
+use Rattle.pass_proofs.specs.pass_kept_proof.Handed.{HasPlainNames}
+use Rattle.pass_proofs.specs.pass_kept_proof.Needed
+use Rattle.pass_proofs.specs.pass_kept_proof.Needed.{BranchesTo, IsNeeded, IsNeededBehind, IsNeededOn, PassesBy, label_of_block}
+use Rattle.pass_proofs.specs.pass_kept_proof.Needed.{phis_read, reads, reads_at, reads_intrinsic}
+use Rattle.pass_proofs.specs.pass_kept_proof.SuspendRules.{IsCallAt}
+use Rattle.pass_renewed_meaning.proofs.pass_renewed_proof.Ahead.{branch_edge, leads_more, next_edge}
+use Rattle.pass_renewed_meaning.proofs.pass_renewed_proof.Ordinary.{own_address}
+use Rattle.pass_renewed_meaning.proofs.pass_renewed_proof.Stands.{end_at_first}
+use Rattle.pass_renewed_meaning.specs.pass_renewed_proof.Way.{IsResumedAt}
+use Rattle.pass_proofs.proofs.rule_laws.rules.sources.Places.{instr_there, point, term_there}
+use Rattle.pass_proofs.specs.run_step.Step.{AtInstr, AtTerm, Fetched, Nowhere, fetch, incoming_from, phis_of}
 
 -- ---- paths from the edges of suspends
 

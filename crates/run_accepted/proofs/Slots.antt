@@ -3,52 +3,52 @@ use Rattle.std.proofs.Common.{◌≡◌, ◌⊎◌, ⊎_elim, inl, inr, ℕ, zer
 use Rattle.std.proofs.Common.{Option, Some, refl, sym, ap, ◌∙◌, subst, length}
 use Rattle.std.proofs.lemmas.List.Folds.{list_any-append}
 use Rattle.std.specs.Prelude.{IsTrue, flat_map, slice_get, ◌==◌, ◌||◌, if◌then◌else◌}
-use Rattle.frame_classes.specs.Classes.{IsOf}
-use Rattle.frame_classes.specs.declared.class.SlotClass.{SlotClass}
-use Rattle.ir_laws.proofs.facts.Members.{at_each}
-use Rattle.ir_laws.proofs.facts.Truth.{and_second, holds}
-use Rattle.ir_laws.proofs.paths.renamed.Uses.{stands_in}
-use Rattle.ir_model.specs.Layout.{size_of}
-use Rattle.ir_model.specs.Names.{no_function, position_of}
-use Rattle.ir_model.specs.Ty.{Ty}
-use Rattle.ir_model.specs.declared.instr.Case.{Case}
-use Rattle.ir_model.specs.declared.instr.Instr.{Instr}
-use Rattle.ir_model.specs.declared.instr.Terminator.{Terminator}
-use Rattle.ir_model.specs.declared.module.Block.{Block}
-use Rattle.ir_model.specs.declared.module.Function.{Function}
-use Rattle.ir_model.specs.declared.module.Module.{Module}
-use Rattle.ir_model.specs.declared.operand.Arg.{Arg}
-use Rattle.ir_model.specs.declared.operand.Callee.{Callee}
-use Rattle.ir_model.specs.declared.operand.Intrinsic.{Intrinsic}
-use Rattle.ir_model.specs.declared.operand.Operand.{Operand}
-use Rattle.ir_paths.proofs.Search.{either, eq_from, or_left, or_right}
-use Rattle.ir_paths.specs.Facts.{facts_of}
-use Rattle.ir_paths.specs.Slots.{addresses_of, addresses_within, allocas_of, geps_from, has_name, is_gep, local_of}
-use Rattle.ir_paths.specs.Windows.{call_result, end_block, instr_at, instr_in, is_call_of, points_where}
-use Rattle.ir_paths.specs.declared.point.Point.{Point}
-use Rattle.pass_kept_proof.proofs.Read.{listed_by_name}
-use Rattle.pass_kept_proof.specs.Crossing.{is_param}
-use Rattle.pass_kept_proof.specs.Handed.{HasPlainNames}
-use Rattle.pass_kept_proof.specs.Needed.{given_by, phis_give}
-use Rattle.pass_kept_proof.specs.SuspendRules.{IsCallAt, KeepsSuspendRules}
+use Rattle.pass_proofs.specs.frame_classes.Classes.{IsOf}
+use Rattle.pass_proofs.specs.frame_classes.declared.class.SlotClass.{SlotClass}
+use Rattle.pass_proofs.proofs.ir_laws.facts.Members.{at_each}
+use Rattle.pass_proofs.proofs.ir_laws.facts.Truth.{and_second, holds}
+use Rattle.pass_proofs.proofs.ir_laws.paths.renamed.Uses.{stands_in}
+use Rattle.pass_proofs.specs.ir_model.Layout.{size_of}
+use Rattle.pass_proofs.specs.ir_model.Names.{no_function, position_of}
+use Rattle.pass_proofs.specs.ir_model.Ty.{Ty}
+use Rattle.pass_proofs.specs.ir_model.declared.instr.Case.{Case}
+use Rattle.pass_proofs.specs.ir_model.declared.instr.Instr.{Instr}
+use Rattle.pass_proofs.specs.ir_model.declared.instr.Terminator.{Terminator}
+use Rattle.pass_proofs.specs.ir_model.declared.module.Block.{Block}
+use Rattle.pass_proofs.specs.ir_model.declared.module.Function.{Function}
+use Rattle.pass_proofs.specs.ir_model.declared.module.Module.{Module}
+use Rattle.pass_proofs.specs.ir_model.declared.operand.Arg.{Arg}
+use Rattle.pass_proofs.specs.ir_model.declared.operand.Callee.{Callee}
+use Rattle.pass_proofs.specs.ir_model.declared.operand.Intrinsic.{Intrinsic}
+use Rattle.pass_proofs.specs.ir_model.declared.operand.Operand.{Operand}
+use Rattle.pass_proofs.proofs.ir_paths.Search.{either, eq_from, or_left, or_right}
+use Rattle.pass_proofs.specs.ir_paths.Facts.{facts_of}
+use Rattle.pass_proofs.specs.ir_paths.Slots.{addresses_of, addresses_within, allocas_of, geps_from, has_name, is_gep, local_of}
+use Rattle.pass_proofs.specs.ir_paths.Windows.{call_result, end_block, instr_at, instr_in, is_call_of, points_where}
+use Rattle.pass_proofs.specs.ir_paths.declared.point.Point.{Point}
+use Rattle.pass_proofs.proofs.pass_kept_proof.Read.{listed_by_name}
+use Rattle.pass_proofs.specs.pass_kept_proof.Crossing.{is_param}
+use Rattle.pass_proofs.specs.pass_kept_proof.Handed.{HasPlainNames}
+use Rattle.pass_proofs.specs.pass_kept_proof.Needed.{given_by, phis_give}
+use Rattle.pass_proofs.specs.pass_kept_proof.SuspendRules.{IsCallAt, KeepsSuspendRules}
 use Rattle.pass_proofs.proofs.early.save_simulation.Suspending.{fetch_at}
-use Rattle.pass_renewed_proof.specs.Entering.{AreAligned}
-use Rattle.pass_renewed_proof.specs.SlotRules.{AreSteady, IsAddressOf, IsMadeOnce, IsMarkerAt, Itself, KeepsSlots, Part}
-use Rattle.pass_renewed_proof.specs.Steps.{given_at}
-use Rattle.rule_laws.proofs.rules.counted.PartFacts.{block_passes}
-use Rattle.rule_laws.proofs.rules.source_rules.Slots.{alloca_of}
-use Rattle.rule_laws.proofs.rules.sources.Places.{instr_there, point}
-use Rattle.rule_laws.specs.rules.function_rules.Kept.{KeepsFunctionRules}
-use Rattle.rule_locals.specs.Extents.{breaks_extents, is_aligned, is_sized}
-use Rattle.rule_locals.specs.Instrs.{on_instr}
-use Rattle.rule_names.specs.declared.stage.Stage.{Stage}
-use Rattle.rule_slots.specs.Closed.{IsClosed}
-use Rattle.rule_windows.specs.Outside.{ends_with_it}
-use Rattle.rule_windows.specs.Sets.{IsAfterEnd}
+use Rattle.pass_renewed_meaning.specs.pass_renewed_proof.Entering.{AreAligned}
+use Rattle.pass_renewed_meaning.specs.pass_renewed_proof.SlotRules.{AreSteady, IsAddressOf, IsMadeOnce, IsMarkerAt, Itself, KeepsSlots, Part}
+use Rattle.pass_renewed_meaning.specs.pass_renewed_proof.Steps.{given_at}
+use Rattle.pass_proofs.proofs.rule_laws.rules.counted.PartFacts.{block_passes}
+use Rattle.pass_proofs.proofs.rule_laws.rules.source_rules.Slots.{alloca_of}
+use Rattle.pass_proofs.proofs.rule_laws.rules.sources.Places.{instr_there, point}
+use Rattle.pass_proofs.specs.rule_laws.rules.function_rules.Kept.{KeepsFunctionRules}
+use Rattle.pass_proofs.specs.rule_locals.Extents.{breaks_extents, is_aligned, is_sized}
+use Rattle.pass_proofs.specs.rule_locals.Instrs.{on_instr}
+use Rattle.pass_proofs.specs.rule_names.declared.stage.Stage.{Stage}
+use Rattle.pass_proofs.specs.rule_slots.Closed.{IsClosed}
+use Rattle.pass_proofs.specs.rule_windows.Outside.{ends_with_it}
+use Rattle.pass_proofs.specs.rule_windows.Sets.{IsAfterEnd}
 use Rattle.run_accepted.proofs.Once.{gives_no_param, given_alone, made_once, no_phi_gives}
-use Rattle.run_hooks.specs.Away.{KeepsPlaceRules}
-use Rattle.run_hooks.specs.alive.Alive.{IsEnd, IsMarker, IsStart, KeepsAliveRules}
-use Rattle.run_step.specs.Step.{AtInstr, AtTerm, Nowhere, fetch, is_alignment, phis_of}
+use Rattle.pass_renewed_meaning.specs.run_hooks.Away.{KeepsPlaceRules}
+use Rattle.pass_renewed_meaning.specs.run_hooks.alive.Alive.{IsEnd, IsMarker, IsStart, KeepsAliveRules}
+use Rattle.pass_proofs.specs.run_step.Step.{AtInstr, AtTerm, Nowhere, fetch, is_alignment, phis_of}
 
 -- ---- names in lists
 

@@ -1,30 +1,30 @@
 -- The functions of a source that breaks no rule break none of the rules of functions.
 use Rattle.std.proofs.Common.{◌≡◌, ℕ, ◌+◌, Bool, true, false, List, [], Option, Some, None}
 use Rattle.std.specs.Prelude.{length, slice_get, if◌then◌else◌}
-use Rattle.ir_base.specs.declared.outcome.Place.{Place}
-use Rattle.ir_laws.proofs.facts.Members.{each_turns}
-use Rattle.ir_model.specs.declared.module.Function.{Function}
-use Rattle.ir_model.specs.declared.module.Module.{Module}
-use Rattle.ir_parts.specs.Locals.{locals_of}
-use Rattle.ir_parts.specs.Parts.{Part, first_part, function_place, parts_of, place_if}
+use Rattle.pass_proofs.specs.ir_base.declared.outcome.Place.{Place}
+use Rattle.pass_proofs.proofs.ir_laws.facts.Members.{each_turns}
+use Rattle.pass_proofs.specs.ir_model.declared.module.Function.{Function}
+use Rattle.pass_proofs.specs.ir_model.declared.module.Module.{Module}
+use Rattle.pass_proofs.specs.ir_parts.Locals.{locals_of}
+use Rattle.pass_proofs.specs.ir_parts.Parts.{Part, first_part, function_place, parts_of, place_if}
 use Rattle.pass_proofs.proofs.early.function_rules.Depths.{within_limits}
 use Rattle.pass_proofs.proofs.early.local_rules.Sources.{of_function}
-use Rattle.rule_all.specs.Refused.{IsRefused}
-use Rattle.rule_laws.proofs.rules.function_rules.Depths.{plain_part, types_fit}
-use Rattle.rule_laws.proofs.rules.function_rules.Shaped.{all_shaped}
-use Rattle.rule_laws.proofs.rules.local_rules.Accepted.{accepted_breaks_none}
-use Rattle.rule_laws.proofs.rules.local_rules.Carried.{passing}
-use Rattle.rule_laws.proofs.rules.local_rules.Rules.{second_out}
-use Rattle.rule_laws.proofs.rules.path_rules.Holding.{part_none}
-use Rattle.rule_laws.proofs.rules.path_rules.Passes.{accepted_paths, accepted_shape}
-use Rattle.rule_laws.specs.rules.function_rules.Kept.{AllKeepFunctionRules}
-use Rattle.rule_names.specs.Definitions.{first_twice, is_second_function, second_definitions}
-use Rattle.rule_names.specs.Known.{unknown_names}
-use Rattle.rule_names.specs.declared.stage.Stage.{Stage}
-use Rattle.rule_types.specs.Limits.{breaks_limits, first_past, is_past, limits, value_past}
-use Rattle.rule_types.specs.Signatures.{other_types}
-use Rattle.text_canonical.proofs.order.Shaped.{text_is_shaped}
-use Rattle.text_grammar.specs.Text.{StandsFor}
+use Rattle.pass_proofs.specs.rule_all.Refused.{IsRefused}
+use Rattle.pass_proofs.proofs.rule_laws.rules.function_rules.Depths.{plain_part, types_fit}
+use Rattle.pass_proofs.proofs.rule_laws.rules.function_rules.Shaped.{all_shaped}
+use Rattle.pass_proofs.proofs.rule_laws.rules.local_rules.Accepted.{accepted_breaks_none}
+use Rattle.pass_proofs.proofs.rule_laws.rules.local_rules.Carried.{passing}
+use Rattle.pass_proofs.proofs.rule_laws.rules.local_rules.Rules.{second_out}
+use Rattle.pass_proofs.proofs.rule_laws.rules.path_rules.Holding.{part_none}
+use Rattle.pass_proofs.proofs.rule_laws.rules.path_rules.Passes.{accepted_paths, accepted_shape}
+use Rattle.pass_proofs.specs.rule_laws.rules.function_rules.Kept.{AllKeepFunctionRules}
+use Rattle.pass_proofs.specs.rule_names.Definitions.{first_twice, is_second_function, second_definitions}
+use Rattle.pass_proofs.specs.rule_names.Known.{unknown_names}
+use Rattle.pass_proofs.specs.rule_names.declared.stage.Stage.{Stage}
+use Rattle.pass_proofs.specs.rule_types.Limits.{breaks_limits, first_past, is_past, limits, value_past}
+use Rattle.pass_proofs.specs.rule_types.Signatures.{other_types}
+use Rattle.pass_proofs.proofs.text_canonical.order.Shaped.{text_is_shaped}
+use Rattle.pass_proofs.specs.text_grammar.Text.{StandsFor}
 
 -- ---- types as deep as they may be in a source are so in a plain module (rule L1)
 

@@ -2,17 +2,17 @@
 use Rattle.std.proofs.Common.{◌≡◌, ℕ, suc, List, [], ◌∷◌, Option, None, Some, refl}
 use Rattle.std.specs.List.{AllByRecursion}
 use Rattle.std.specs.Prelude.{slice_get}
-use Rattle.ir_model.specs.declared.module.Block.{Block}
-use Rattle.ir_model.specs.declared.module.Function.{Function}
-use Rattle.ir_model.specs.declared.module.Module.{Module}
-use Rattle.ir_model.specs.declared.module.Param.{Param}
+use Rattle.pass_proofs.specs.ir_model.declared.module.Block.{Block}
+use Rattle.pass_proofs.specs.ir_model.declared.module.Function.{Function}
+use Rattle.pass_proofs.specs.ir_model.declared.module.Module.{Module}
+use Rattle.pass_proofs.specs.ir_model.declared.module.Param.{Param}
 use Rattle.pass_proofs.proofs.kept.sources.Typed.{calls_fit, ends_fit, instrs_fit, loads_fit, names_given, param_named}
 use Rattle.pass_proofs.proofs.kept.sources.Typed.{phi_fits, phi_named}
-use Rattle.rule_laws.specs.rules.counted.Widths.{first_other_width}
-use Rattle.rule_laws.specs.rules.function_rules.Kept.{KeepsFunctionRules}
-use Rattle.rule_values.specs.Kinds.{kind_of, value_kind}
-use Rattle.run_step.specs.Step.{phis_of}
-use Rattle.run_types.specs.Rules.{FitsPhi, KeepsTypes}
+use Rattle.pass_proofs.specs.rule_laws.rules.counted.Widths.{first_other_width}
+use Rattle.pass_proofs.specs.rule_laws.rules.function_rules.Kept.{KeepsFunctionRules}
+use Rattle.pass_proofs.specs.rule_values.Kinds.{kind_of, value_kind}
+use Rattle.pass_proofs.specs.run_step.Step.{phis_of}
+use Rattle.pass_renewed_meaning.specs.run_types.Rules.{FitsPhi, KeepsTypes}
 
 all_there : {A : Type 0} (P : A → Type 0) (xs : List A) → ((n : ℕ) (x : A) → slice_get xs n ≡ Some x → P x)
     → AllByRecursion P xs

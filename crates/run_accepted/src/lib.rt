@@ -8,32 +8,32 @@
 #![tactic(auto)]
 
 ghost use Rattle.std.specs.Prelude.{◌≡◌, ℕ, ℤ, List, None, false, true};
-ghost use Rattle.frame_classes.specs.Classes.{NeedsFrame};
-ghost use Rattle.ir_base.specs.declared.outcome.Word.{Word};
-ghost use Rattle.ir_model.specs.Names.{function_at};
-ghost use Rattle.ir_model.specs.declared.module.Frame.{Frame};
-ghost use Rattle.ir_model.specs.declared.module.Function.{Function};
-ghost use Rattle.ir_model.specs.declared.module.Module.{Module};
-ghost use Rattle.ir_paths.specs.Facts.{facts_of};
-ghost use Rattle.pass_early.specs.Early.{early_module};
-ghost use Rattle.pass_edges.specs.EdgeBlocks.{with_edge_blocks};
+ghost use Rattle.pass_proofs.specs.frame_classes.Classes.{NeedsFrame};
+ghost use Rattle.pass_proofs.specs.ir_base.declared.outcome.Word.{Word};
+ghost use Rattle.pass_proofs.specs.ir_model.Names.{function_at};
+ghost use Rattle.pass_proofs.specs.ir_model.declared.module.Frame.{Frame};
+ghost use Rattle.pass_proofs.specs.ir_model.declared.module.Function.{Function};
+ghost use Rattle.pass_proofs.specs.ir_model.declared.module.Module.{Module};
+ghost use Rattle.pass_proofs.specs.ir_paths.Facts.{facts_of};
+ghost use Rattle.pass_proofs.specs.pass_early.Early.{early_module};
+ghost use Rattle.pass_proofs.specs.pass_edges.EdgeBlocks.{with_edge_blocks};
 ghost use Rattle.pass_proofs.specs.edges.states.MovedState.{KeepsEdges, edges_split};
 ghost use Rattle.pass_renewed_meaning.specs.Rules.{KeepsStepRules};
-ghost use Rattle.pass_renewed_proof.specs.Ledger.{AreSmallGlobals};
-ghost use Rattle.rule_all.specs.Refused.{IsRefused};
-ghost use Rattle.rule_laws.specs.rules.counted.Widths.{first_other_width};
-ghost use Rattle.rule_laws.specs.rules.function_rules.Kept.{AllKeepFunctionRules, KeepsFunctionRules};
-ghost use Rattle.rule_laws.specs.rules.path_rules.Paths.{KeepsPaths};
-ghost use Rattle.rule_laws.specs.rules.path_rules.Shape.{KeepsShape};
-ghost use Rattle.rule_names.specs.declared.stage.Stage.{Stage};
-ghost use Rattle.run_hooks.specs.Away.{KeepsAllPlaceRules, KeepsPlaceRules};
-ghost use Rattle.run_hooks.specs.Reached.{AllHaveSwitches};
-ghost use Rattle.run_hooks.specs.alive.Alive.{KeepsAliveRules, KeepsAllAliveRules};
-ghost use Rattle.run_hooks.specs.alive.Apart.{LiveAreApart};
-ghost use Rattle.run_source.specs.Source.{given, state_at};
-ghost use Rattle.run_types.specs.Rules.{KeepsAllTypes, KeepsTypes};
-ghost use Rattle.run_types.specs.States.{AreArguments, IsFittingState};
-ghost use Rattle.text_grammar.specs.Text.{StandsFor};
+ghost use Rattle.pass_renewed_meaning.specs.pass_renewed_proof.Ledger.{AreSmallGlobals};
+ghost use Rattle.pass_proofs.specs.rule_all.Refused.{IsRefused};
+ghost use Rattle.pass_proofs.specs.rule_laws.rules.counted.Widths.{first_other_width};
+ghost use Rattle.pass_proofs.specs.rule_laws.rules.function_rules.Kept.{AllKeepFunctionRules, KeepsFunctionRules};
+ghost use Rattle.pass_proofs.specs.rule_laws.rules.path_rules.Paths.{KeepsPaths};
+ghost use Rattle.pass_proofs.specs.rule_laws.rules.path_rules.Shape.{KeepsShape};
+ghost use Rattle.pass_proofs.specs.rule_names.declared.stage.Stage.{Stage};
+ghost use Rattle.pass_renewed_meaning.specs.run_hooks.Away.{KeepsAllPlaceRules, KeepsPlaceRules};
+ghost use Rattle.pass_renewed_meaning.specs.run_hooks.Reached.{AllHaveSwitches};
+ghost use Rattle.pass_renewed_meaning.specs.run_hooks.alive.Alive.{KeepsAliveRules, KeepsAllAliveRules};
+ghost use Rattle.pass_renewed_meaning.specs.run_hooks.alive.Apart.{LiveAreApart};
+ghost use Rattle.pass_proofs.specs.run_source.Source.{given, state_at};
+ghost use Rattle.pass_renewed_meaning.specs.run_types.Rules.{KeepsAllTypes, KeepsTypes};
+ghost use Rattle.pass_renewed_meaning.specs.run_types.States.{AreArguments, IsFittingState};
+ghost use Rattle.pass_proofs.specs.text_grammar.Text.{StandsFor};
 
 /// A function that breaks none of the rules of functions keeps what is asked of types, where all integers are of the
 /// widths of the grammar.

@@ -2,18 +2,18 @@
 use Rattle.std.proofs.Common.{◌≡◌, ◌≢◌, ℕ, zero, suc, ◌+◌, ◌<◌, ◌≤◌, inl, Bool, true, false, not, List, [], ◌∷◌, ◌++◌, length, Option, Some, None, refl, sym, ap, ◌∙◌, subst, ⊎_elim, arith, if◌then◌else◌, ◌&&◌, ◌||◌, ◌==◌}
 use Rattle.std.specs.Prelude.{nat_lt, slice_get, option_and_then, option_map}
 use Rattle.std.proofs.lemmas.Bool.{and_left, and_right, cases_eq, le-ltb, ltb-false, ne_eqb}
-use Rattle.run_memory.specs.Memory.{is_below, is_live, owned_to, owner_rights, with_block}
-use Rattle.run_memory.specs.declared.block.MemoryBlock.{MemoryBlock}
-use Rattle.run_source.specs.State.{last_from, numbered, or_else}
-use Rattle.run_source.specs.declared.state.Instance.{Instance}
-use Rattle.run_framed.specs.Framed.{FramedGiven, covers, frame_rights, is_open, is_open_byte, judge_of, layout_of, meets_in}
-use Rattle.run_laws.proofs.memory.Written.{changed_elsewhere, changed_here, same_some}
-use Rattle.run_laws.specs.memory.Pointers.{Home, home_of}
-use Rattle.run_laws.specs.memory.Standing.{Embeds, HasRights}
-use Rattle.run_laws.proofs.access.Turned.{owned_reowns, rights_turn}
-use Rattle.run_laws.specs.access.Changed.{home_block}
-use Rattle.run_laws.specs.access.Rights.{MayTurn}
-use Rattle.run_laws.specs.embedded.Marks.{LivesAlone}
+use Rattle.run_laws_worked.specs.run_memory.Memory.{is_below, is_live, owned_to, owner_rights, with_block}
+use Rattle.run_laws_worked.specs.run_memory.declared.block.MemoryBlock.{MemoryBlock}
+use Rattle.run_laws_worked.specs.run_source.State.{last_from, numbered, or_else}
+use Rattle.run_laws_worked.specs.run_source.declared.state.Instance.{Instance}
+use Rattle.run_laws_worked.specs.run_framed.Framed.{FramedGiven, covers, frame_rights, is_open, is_open_byte, judge_of, layout_of, meets_in}
+use Rattle.run_laws_worked.proofs.run_laws.memory.Written.{changed_elsewhere, changed_here, same_some}
+use Rattle.run_laws_worked.specs.run_laws.memory.Pointers.{Home, home_of}
+use Rattle.run_laws_worked.specs.run_laws.memory.Standing.{Embeds, HasRights}
+use Rattle.run_laws_worked.proofs.run_laws.access.Turned.{owned_reowns, rights_turn}
+use Rattle.run_laws_worked.specs.run_laws.access.Changed.{home_block}
+use Rattle.run_laws_worked.specs.run_laws.access.Rights.{MayTurn}
+use Rattle.run_laws_worked.specs.run_laws.embedded.Marks.{LivesAlone}
 
 -- ---- one instance more, which doesn't have the byte
 

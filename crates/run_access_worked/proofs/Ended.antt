@@ -3,11 +3,11 @@ use Rattle.std.proofs.Common.{◌≡◌, ℕ, zero, suc, ◌+◌, ◌-◌, ◌%�
 use Rattle.std.specs.Prelude.{nat_lt, slice_get, slice_set, option_and_then, option_map}
 use Rattle.std.specs.List.{list_any}
 use Rattle.run_access_worked.specs.Frames.{AreSameFrames, IsSameFrame}
-use Rattle.run_memory.specs.declared.block.MemoryBlock.{MemoryBlock}
-use Rattle.run_source.specs.State.{last_from, numbered, or_else}
-use Rattle.run_source.specs.declared.state.Instance.{Instance}
-use Rattle.run_source.specs.declared.state.Status.{Status}
-use Rattle.run_framed.specs.Framed.{FramedGiven, covers, field_opens, frame_rights, is_open, is_open_byte, judge_of, layout_of, meets_in}
+use Rattle.run_laws_worked.specs.run_memory.declared.block.MemoryBlock.{MemoryBlock}
+use Rattle.run_laws_worked.specs.run_source.State.{last_from, numbered, or_else}
+use Rattle.run_laws_worked.specs.run_source.declared.state.Instance.{Instance}
+use Rattle.run_laws_worked.specs.run_source.declared.state.Status.{Status}
+use Rattle.run_laws_worked.specs.run_framed.Framed.{FramedGiven, covers, field_opens, frame_rights, is_open, is_open_byte, judge_of, layout_of, meets_in}
 
 module _ (g : FramedGiven) where
   covers_same : (b k : ℕ) (x y : Instance) → IsSameFrame x y → covers g b k y ≡ covers g b k x

@@ -3,19 +3,19 @@ use Rattle.std.proofs.Common.{◌≡◌, ◌≢◌, ℕ, zero, suc, ◌+◌, tru
 use Rattle.std.specs.Prelude.{slice_get}
 use Rattle.std.proofs.lemmas.List.{length-replicate}
 use Rattle.run_access_worked.proofs.Begun.{begun_stands}
-use Rattle.run_memory.specs.Memory.{is_live, meets, owner_rights}
-use Rattle.run_memory.specs.declared.block.Byte.{Byte}
-use Rattle.run_memory.specs.declared.block.Kind.{Kind}
-use Rattle.run_memory.specs.declared.block.MemoryBlock.{MemoryBlock}
+use Rattle.run_laws_worked.specs.run_memory.Memory.{is_live, meets, owner_rights}
+use Rattle.run_laws_worked.specs.run_memory.declared.block.Byte.{Byte}
+use Rattle.run_laws_worked.specs.run_memory.declared.block.Kind.{Kind}
+use Rattle.run_laws_worked.specs.run_memory.declared.block.MemoryBlock.{MemoryBlock}
 use Rattle.run_laws_worked.proofs.Frames.{blank_byte, from_start}
 use Rattle.run_laws_worked.specs.Worked.{an_instance, frame_given, owned_block}
-use Rattle.run_framed.specs.Framed.{FramedGiven, frame_rights, is_open}
-use Rattle.run_laws.proofs.memory.Written.{same_some}
-use Rattle.run_laws.specs.memory.Pointers.{Home, home_of}
-use Rattle.run_laws.specs.memory.Standing.{AreApart, Embeds, Stands, blank_block}
-use Rattle.run_source_tables.specs.Given.{Given}
-use Rattle.run_laws.specs.embedded.Making.{whole_home}
-use Rattle.run_laws.specs.embedded.Marks.{LivesAlone}
+use Rattle.run_laws_worked.specs.run_framed.Framed.{FramedGiven, frame_rights, is_open}
+use Rattle.run_laws_worked.proofs.run_laws.memory.Written.{same_some}
+use Rattle.run_laws_worked.specs.run_laws.memory.Pointers.{Home, home_of}
+use Rattle.run_laws_worked.specs.run_laws.memory.Standing.{AreApart, Embeds, Stands, blank_block}
+use Rattle.run_laws_worked.specs.run_source_tables.Given.{Given}
+use Rattle.run_laws_worked.specs.run_laws.embedded.Making.{whole_home}
+use Rattle.run_laws_worked.specs.run_laws.embedded.Marks.{LivesAlone}
 
 abbrev block : MemoryBlock
 block = blank_block 48 16 Kind.Allocator

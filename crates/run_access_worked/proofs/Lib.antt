@@ -1,3 +1,5 @@
+-- What libraries below prove, for those above.
+pub use Rattle.run_laws_worked.proofs as run_laws_worked
 pub mod Begun
 pub mod Example
 pub mod Machines

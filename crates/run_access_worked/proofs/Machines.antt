@@ -2,23 +2,23 @@
 use Rattle.std.proofs.Common.{◌≡◌, ℕ, ◌+◌, true, List, [], ◌∷◌, length, Option, Some, None, Result, refl, ap, ◌∙◌, arith}
 use Rattle.std.specs.Prelude.{is_none, unwrap_or}
 use Rattle.run_access_worked.specs.Machines.{ahead, gives_no_frame, plain_ahead}
-use Rattle.ir_base.specs.declared.cause.Cause.{Cause}
-use Rattle.ir_base.specs.declared.outcome.Outcome.{Outcome}
-use Rattle.run_source.specs.Source.{Continues, act, advance_by, context_of, step_by}
-use Rattle.run_source.specs.State.{function_of, or_undefined, work_of}
-use Rattle.run_source.specs.declared.state.State.{State}
-use Rattle.run_framed.specs.Framed.{FramedGiven, enter_given, framed_act, framed_advance, framed_context, framed_next, framed_step, given_call, given_ramp}
-use Rattle.ir_model.specs.declared.instr.Instr.{Instr}
-use Rattle.ir_model.specs.declared.operand.Callee.{Callee}
-use Rattle.run_step.specs.Runs.{iterate}
-use Rattle.run_step.specs.Step.{Action, AtInstr, Fetched, Work, action_of}
-use Rattle.run_step.specs.Values.{arg_values}
+use Rattle.run_laws_worked.specs.ir_base.declared.cause.Cause.{Cause}
+use Rattle.run_laws_worked.specs.ir_base.declared.outcome.Outcome.{Outcome}
+use Rattle.run_laws_worked.specs.run_source.Source.{Continues, act, advance_by, context_of, step_by}
+use Rattle.run_laws_worked.specs.run_source.State.{function_of, or_undefined, work_of}
+use Rattle.run_laws_worked.specs.run_source.declared.state.State.{State}
+use Rattle.run_laws_worked.specs.run_framed.Framed.{FramedGiven, enter_given, framed_act, framed_advance, framed_context, framed_next, framed_step, given_call, given_ramp}
+use Rattle.run_laws_worked.specs.ir_model.declared.instr.Instr.{Instr}
+use Rattle.run_laws_worked.specs.ir_model.declared.operand.Callee.{Callee}
+use Rattle.run_laws_worked.specs.run_step.Runs.{iterate}
+use Rattle.run_laws_worked.specs.run_step.Step.{Action, AtInstr, Fetched, Work, action_of}
+use Rattle.run_laws_worked.specs.run_step.Values.{arg_values}
 use Rattle.run_plain.specs.Plain.{PlainGiven, plain_act, plain_advance, plain_context, plain_function, plain_or_undefined, plain_step, plain_work}
 use Rattle.run_plain.specs.declared.state.PlainState.{PlainState}
-use Rattle.run_source_tables.specs.Given.{Given}
-use Rattle.run_laws.proofs.access.Lines.{runs_line}
-use Rattle.run_laws.specs.access.Lines.{GoesOn, Runs, StandAt}
-use Rattle.run_laws.specs.changed.Changed.{Each}
+use Rattle.run_laws_worked.specs.run_source_tables.Given.{Given}
+use Rattle.run_laws_worked.proofs.run_laws.access.Lines.{runs_line}
+use Rattle.run_laws_worked.specs.run_laws.access.Lines.{GoesOn, Runs, StandAt}
+use Rattle.run_laws_worked.specs.run_laws.changed.Changed.{Each}
 
 any_passes : (is : List Instr) → Each (λ (i : Instr). true ≡ true) is
 any_passes [] = tt

@@ -3,26 +3,26 @@ use Rattle.std.proofs.Common.{◌≡◌, ◌≢◌, ℕ, zero, suc, ◌+◌, ◌
 use Rattle.std.specs.Prelude.{ℤ, pos, slice_get}
 use Rattle.std.proofs.lemmas.List.{length-replicate}
 use Rattle.run_access_worked.specs.Worked.{cell, line, line_after, line_before, ours, owners, seven, slot, slot_homes, storing, theirs, theirs_after}
-use Rattle.run_memory.specs.Memory.{is_live, meets, owner_rights}
-use Rattle.run_memory.specs.declared.block.Byte.{Byte}
-use Rattle.run_memory.specs.declared.block.MemoryBlock.{MemoryBlock}
+use Rattle.run_laws_worked.specs.run_memory.Memory.{is_live, meets, owner_rights}
+use Rattle.run_laws_worked.specs.run_memory.declared.block.Byte.{Byte}
+use Rattle.run_laws_worked.specs.run_memory.declared.block.MemoryBlock.{MemoryBlock}
 use Rattle.run_laws_worked.proofs.Frames.{blank_byte, from_start}
-use Rattle.ir_model.specs.Ty.{Ty, array, int, named, ptr, structure, token}
-use Rattle.ir_model.specs.declared.module.Function.{Function}
-use Rattle.ir_model.specs.declared.module.Module.{Module}
-use Rattle.ir_model.specs.declared.operand.Operand.{Operand}
-use Rattle.run_laws.proofs.memory.Itself.{owner_rights_fit}
-use Rattle.run_laws.proofs.memory.Written.{same_some}
-use Rattle.run_laws.specs.memory.Pointers.{IsValue, home_of}
-use Rattle.run_laws.specs.memory.Standing.{AreApart, Embeds, IsAlignment, Stands}
-use Rattle.run_step.specs.Step.{AtInstr, Done, Work, action_of}
-use Rattle.run_step.specs.Values.{literal}
-use Rattle.run_laws.proofs.access.Done.{free_held}
-use Rattle.run_laws.proofs.access.Touched.{free_stays}
-use Rattle.run_laws.specs.access.Accessed.{accessed}
-use Rattle.run_laws.specs.access.Changed.{IsFree, LeavesFree, home_block}
-use Rattle.run_laws.specs.access.Lines.{Holds, Runs}
-use Rattle.run_laws.specs.embedded.Related.{IsOperand}
+use Rattle.run_laws_worked.specs.ir_model.Ty.{Ty, array, int, named, ptr, structure, token}
+use Rattle.run_laws_worked.specs.ir_model.declared.module.Function.{Function}
+use Rattle.run_laws_worked.specs.ir_model.declared.module.Module.{Module}
+use Rattle.run_laws_worked.specs.ir_model.declared.operand.Operand.{Operand}
+use Rattle.run_laws_worked.proofs.run_laws.memory.Itself.{owner_rights_fit}
+use Rattle.run_laws_worked.proofs.run_laws.memory.Written.{same_some}
+use Rattle.run_laws_worked.specs.run_laws.memory.Pointers.{IsValue, home_of}
+use Rattle.run_laws_worked.specs.run_laws.memory.Standing.{AreApart, Embeds, IsAlignment, Stands}
+use Rattle.run_laws_worked.specs.run_step.Step.{AtInstr, Done, Work, action_of}
+use Rattle.run_laws_worked.specs.run_step.Values.{literal}
+use Rattle.run_laws_worked.proofs.run_laws.access.Done.{free_held}
+use Rattle.run_laws_worked.proofs.run_laws.access.Touched.{free_stays}
+use Rattle.run_laws_worked.specs.run_laws.access.Accessed.{accessed}
+use Rattle.run_laws_worked.specs.run_laws.access.Changed.{IsFree, LeavesFree, home_block}
+use Rattle.run_laws_worked.specs.run_laws.access.Lines.{Holds, Runs}
+use Rattle.run_laws_worked.specs.run_laws.embedded.Related.{IsOperand}
 
 abbrev m : List MemoryBlock
 m = slot ∷ []

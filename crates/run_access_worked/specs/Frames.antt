@@ -1,7 +1,7 @@
 -- Instances whose frames are the same.
 use Rattle.std.specs.Prelude.{List, [], ◌∷◌, ◌≡◌}
-use Rattle.run_source.specs.declared.state.Instance.{Instance}
-use Rattle.run_source.specs.declared.state.Status.{Status}
+use Rattle.run_laws_worked.specs.run_source.declared.state.Instance.{Instance}
+use Rattle.run_laws_worked.specs.run_source.declared.state.Status.{Status}
 
 -- of the same coroutine, at the same place
 pub record IsSameFrame (x y : Instance) : Type 0 where

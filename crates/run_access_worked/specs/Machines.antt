@@ -1,11 +1,11 @@
 -- The states of the machines that are further on in a straight line.
 use Rattle.std.specs.Prelude.{ℕ, Bool, true, is_none, ◌+◌}
-use Rattle.run_source.specs.declared.state.State.{State}
-use Rattle.run_framed.specs.Framed.{given_ramp}
-use Rattle.ir_model.specs.declared.instr.Instr.{Instr}
-use Rattle.ir_model.specs.declared.module.Module.{Module}
-use Rattle.ir_model.specs.declared.operand.Callee.{Callee}
-use Rattle.run_step.specs.Step.{Work}
+use Rattle.run_laws_worked.specs.run_source.declared.state.State.{State}
+use Rattle.run_laws_worked.specs.run_framed.Framed.{given_ramp}
+use Rattle.run_laws_worked.specs.ir_model.declared.instr.Instr.{Instr}
+use Rattle.run_laws_worked.specs.ir_model.declared.module.Module.{Module}
+use Rattle.run_laws_worked.specs.ir_model.declared.operand.Callee.{Callee}
+use Rattle.run_laws_worked.specs.run_step.Step.{Work}
 use Rattle.run_plain.specs.declared.state.PlainState.{PlainState}
 
 -- so many instructions further on, with another work

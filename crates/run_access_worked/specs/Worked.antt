@@ -1,21 +1,21 @@
 -- A slot of the source, which stands in the target beside a cell that is the target's own.
 use Rattle.std.specs.Prelude.{ℤ, pos, List, [], ◌∷◌, Some, None}
-use Rattle.run_memory.specs.Memory.{digits, owner_rights}
-use Rattle.run_memory.specs.declared.block.Byte.{Byte}
-use Rattle.run_memory.specs.declared.block.Kind.{Kind}
-use Rattle.run_memory.specs.declared.block.MemoryBlock.{MemoryBlock}
-use Rattle.run_memory.specs.declared.pointer.Value.{Value}
-use Rattle.ir_model.specs.Ty.{int}
-use Rattle.ir_model.specs.declared.instr.Instr.{Instr}
-use Rattle.ir_model.specs.declared.module.Function.{Function}
-use Rattle.ir_model.specs.declared.module.Module.{Module}
-use Rattle.ir_model.specs.declared.operand.Operand.{Operand}
-use Rattle.run_laws.specs.memory.Pointers.{Home}
-use Rattle.run_laws.specs.memory.Standing.{blank_block}
-use Rattle.run_step.specs.Effects.{context}
-use Rattle.run_step.specs.Step.{Context, Work}
-use Rattle.run_step.specs.Values.{Env, pointer_to}
-use Rattle.run_laws.specs.embedded.Making.{whole_home}
+use Rattle.run_laws_worked.specs.run_memory.Memory.{digits, owner_rights}
+use Rattle.run_laws_worked.specs.run_memory.declared.block.Byte.{Byte}
+use Rattle.run_laws_worked.specs.run_memory.declared.block.Kind.{Kind}
+use Rattle.run_laws_worked.specs.run_memory.declared.block.MemoryBlock.{MemoryBlock}
+use Rattle.run_laws_worked.specs.run_memory.declared.pointer.Value.{Value}
+use Rattle.run_laws_worked.specs.ir_model.Ty.{int}
+use Rattle.run_laws_worked.specs.ir_model.declared.instr.Instr.{Instr}
+use Rattle.run_laws_worked.specs.ir_model.declared.module.Function.{Function}
+use Rattle.run_laws_worked.specs.ir_model.declared.module.Module.{Module}
+use Rattle.run_laws_worked.specs.ir_model.declared.operand.Operand.{Operand}
+use Rattle.run_laws_worked.specs.run_laws.memory.Pointers.{Home}
+use Rattle.run_laws_worked.specs.run_laws.memory.Standing.{blank_block}
+use Rattle.run_laws_worked.specs.run_step.Effects.{context}
+use Rattle.run_laws_worked.specs.run_step.Step.{Context, Work}
+use Rattle.run_laws_worked.specs.run_step.Values.{Env, pointer_to}
+use Rattle.run_laws_worked.specs.run_laws.embedded.Making.{whole_home}
 
 abbrev pub slot : MemoryBlock
 slot = blank_block 4 4 Kind.Slot

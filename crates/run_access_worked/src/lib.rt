@@ -2,35 +2,35 @@
 #![tactic(auto)]
 
 ghost use Rattle.std.specs.Prelude.{ℕ, ℤ, true, List, [], length, ◌∷◌, ◌++◌, Some, None, slice_get, slice_set, ◌≡◌};
-ghost use Rattle.run_memory.specs.Memory.{owned_to, owner_rights, with_block};
-ghost use Rattle.run_memory.specs.declared.block.MemoryBlock.{MemoryBlock as Block};
+ghost use Rattle.run_laws_worked.specs.run_memory.Memory.{owned_to, owner_rights, with_block};
+ghost use Rattle.run_laws_worked.specs.run_memory.declared.block.MemoryBlock.{MemoryBlock as Block};
 ghost use Rattle.run_laws_worked.specs.Worked.{an_instance, frame_given, owned_block};
-ghost use Rattle.run_memory.specs.declared.block.Kind.{Kind as TheKind};
-ghost use Rattle.run_source.specs.declared.state.Instance.{Instance as TheInstance};
+ghost use Rattle.run_laws_worked.specs.run_memory.declared.block.Kind.{Kind as TheKind};
+ghost use Rattle.run_laws_worked.specs.run_source.declared.state.Instance.{Instance as TheInstance};
 ghost use Rattle.run_access_worked.specs.Frames.{AreSameFrames, in_status};
 ghost use Rattle.run_access_worked.specs.Machines.{ahead, gives_no_frame, plain_ahead};
-ghost use Rattle.ir_base.specs.declared.outcome.Outcome.{Outcome as TheOutcome};
-ghost use Rattle.run_source.specs.Source.{Continues, context_of, step_by};
-ghost use Rattle.run_source.specs.State.{function_of, work_of};
-ghost use Rattle.run_source.specs.declared.state.Status.{Status as TheStatus};
-ghost use Rattle.run_source.specs.declared.state.State.{State as TheState};
-ghost use Rattle.run_framed.specs.Framed.{FramedGiven, frame_rights, framed_context, framed_step, layout_of};
-ghost use Rattle.ir_model.specs.declared.instr.Instr.{Instr};
-ghost use Rattle.run_step.specs.Runs.{iterate};
-ghost use Rattle.run_step.specs.Step.{AtInstr, Done, Work, action_of};
+ghost use Rattle.run_laws_worked.specs.ir_base.declared.outcome.Outcome.{Outcome as TheOutcome};
+ghost use Rattle.run_laws_worked.specs.run_source.Source.{Continues, context_of, step_by};
+ghost use Rattle.run_laws_worked.specs.run_source.State.{function_of, work_of};
+ghost use Rattle.run_laws_worked.specs.run_source.declared.state.Status.{Status as TheStatus};
+ghost use Rattle.run_laws_worked.specs.run_source.declared.state.State.{State as TheState};
+ghost use Rattle.run_laws_worked.specs.run_framed.Framed.{FramedGiven, frame_rights, framed_context, framed_step, layout_of};
+ghost use Rattle.run_laws_worked.specs.ir_model.declared.instr.Instr.{Instr};
+ghost use Rattle.run_laws_worked.specs.run_step.Runs.{iterate};
+ghost use Rattle.run_laws_worked.specs.run_step.Step.{AtInstr, Done, Work, action_of};
 ghost use Rattle.run_plain.specs.Plain.{PlainGiven, plain_context, plain_function, plain_step, plain_work};
 ghost use Rattle.run_plain.specs.declared.state.PlainState.{PlainState as ThePlainState};
-ghost use Rattle.run_laws.specs.access.Lines.{Holds, Runs, StandAt};
-ghost use Rattle.run_laws.specs.access.Accessed.{accessed};
+ghost use Rattle.run_laws_worked.specs.run_laws.access.Lines.{Holds, Runs, StandAt};
+ghost use Rattle.run_laws_worked.specs.run_laws.access.Accessed.{accessed};
 ghost use Rattle.run_access_worked.specs.Worked.{line, line_after, line_before, ours, owners, seven, storing, theirs, theirs_after};
-ghost use Rattle.ir_model.specs.declared.module.Function.{Function as TheFunction};
-ghost use Rattle.ir_model.specs.declared.module.Module.{Module as TheModule};
-ghost use Rattle.run_laws.specs.changed.Changed.{Each};
-ghost use Rattle.run_laws.specs.memory.Pointers.{Home, home_of};
-ghost use Rattle.run_laws.specs.memory.Standing.{Embeds, blank_block};
-ghost use Rattle.run_source_tables.specs.Given.{Given};
-ghost use Rattle.run_laws.specs.embedded.Making.{whole_home};
-ghost use Rattle.run_laws.specs.embedded.Marks.{LivesAlone};
+ghost use Rattle.run_laws_worked.specs.ir_model.declared.module.Function.{Function as TheFunction};
+ghost use Rattle.run_laws_worked.specs.ir_model.declared.module.Module.{Module as TheModule};
+ghost use Rattle.run_laws_worked.specs.run_laws.changed.Changed.{Each};
+ghost use Rattle.run_laws_worked.specs.run_laws.memory.Pointers.{Home, home_of};
+ghost use Rattle.run_laws_worked.specs.run_laws.memory.Standing.{Embeds, blank_block};
+ghost use Rattle.run_laws_worked.specs.run_source_tables.Given.{Given};
+ghost use Rattle.run_laws_worked.specs.run_laws.embedded.Making.{whole_home};
+ghost use Rattle.run_laws_worked.specs.run_laws.embedded.Marks.{LivesAlone};
 
 /// A coroutine begins at the start of a block that nobody owns and that alone lives in its home. The block is owned
 /// to the frame's size, there is an instance more, and the source still stands.

@@ -2,48 +2,48 @@
 use Rattle.std.proofs.Common.{◌≡◌, ◌<◌, ◌≤◌, ◌⊎◌, inl, inr, ℕ, zero, suc, ◌+◌, Bool, true, false, List, [], ◌∷◌}
 use Rattle.std.proofs.Common.{length, Option, Some, None, Result, Ok, refl, sym, ap, ◌∙◌, subst, arith}
 use Rattle.std.specs.Prelude.{drop, if◌then◌else◌, is_none, option_map, slice_get, ◌&&◌, ◌==◌}
-use Rattle.ir_base.specs.declared.cause.Cause.{Cause}
-use Rattle.ir_model.specs.Names.{first_where, function_at, position_of}
-use Rattle.ir_model.specs.declared.instr.Instr.{Instr}
-use Rattle.ir_model.specs.declared.module.Block.{Block}
-use Rattle.ir_model.specs.declared.module.Function.{Function}
-use Rattle.ir_model.specs.declared.module.Module.{Module}
-use Rattle.ir_model.specs.declared.operand.Callee.{Callee}
-use Rattle.ir_paths.specs.declared.point.Point.{Point}
-use Rattle.pass_kept_proof.specs.Kept.{Keep, kept}
-use Rattle.pass_kept_proof.specs.Needed.{IsReached, first, after}
-use Rattle.pass_kept_proof.specs.Related.{AreSoundInstances, coroutines}
-use Rattle.pass_kept_proof.specs.SuspendRules.{AllKeepSuspendRules}
+use Rattle.pass_renewed_proof.specs.ir_base.declared.cause.Cause.{Cause}
+use Rattle.pass_renewed_proof.specs.ir_model.Names.{first_where, function_at, position_of}
+use Rattle.pass_renewed_proof.specs.ir_model.declared.instr.Instr.{Instr}
+use Rattle.pass_renewed_proof.specs.ir_model.declared.module.Block.{Block}
+use Rattle.pass_renewed_proof.specs.ir_model.declared.module.Function.{Function}
+use Rattle.pass_renewed_proof.specs.ir_model.declared.module.Module.{Module}
+use Rattle.pass_renewed_proof.specs.ir_model.declared.operand.Callee.{Callee}
+use Rattle.pass_renewed_proof.specs.ir_paths.declared.point.Point.{Point}
+use Rattle.pass_renewed_proof.specs.pass_kept_proof.Kept.{Keep, kept}
+use Rattle.pass_renewed_proof.specs.pass_kept_proof.Needed.{IsReached, first, after}
+use Rattle.pass_renewed_proof.specs.pass_kept_proof.Related.{AreSoundInstances, coroutines}
+use Rattle.pass_renewed_proof.specs.pass_kept_proof.SuspendRules.{AllKeepSuspendRules}
 use Rattle.pass_renewed_proof.specs.Renewed.{RenewedGiven, framed_of, is_idle, is_renewed, renew_after, renewed_from}
 use Rattle.pass_renewed_proof.specs.Renewed.{renewed_in, renewed_slot, with_life, with_renewed}
-use Rattle.run_framed.specs.Framed.{FramedGiven, alloca_from, alloca_in, alloca_of, are_finished_at, begin_given}
-use Rattle.run_framed.specs.Framed.{begin_given_at, begin_in_block, begin_in_frame, disown_given, enter_after}
-use Rattle.run_framed.specs.Framed.{enter_given, frame_around, framed_begin, framed_slot, given_call, given_ramp}
-use Rattle.run_framed.specs.Framed.{has_room, has_size, is_stack_block, last_value}
-use Rattle.run_framed.specs.Framed.{reentry_values}
+use Rattle.pass_renewed_proof.specs.run_framed.Framed.{FramedGiven, alloca_from, alloca_in, alloca_of, are_finished_at, begin_given}
+use Rattle.pass_renewed_proof.specs.run_framed.Framed.{begin_given_at, begin_in_block, begin_in_frame, disown_given, enter_after}
+use Rattle.pass_renewed_proof.specs.run_framed.Framed.{enter_given, frame_around, framed_begin, framed_slot, given_call, given_ramp}
+use Rattle.pass_renewed_proof.specs.run_framed.Framed.{has_room, has_size, is_stack_block, last_value}
+use Rattle.pass_renewed_proof.specs.run_framed.Framed.{reentry_values}
 use Rattle.run_hooks.specs.Meanings.{framed_hooks, hooks_by, kept_hooks, renewed_hooks, source_hooks}
 use Rattle.run_hooks.specs.Reached.{AllHaveSwitches, AreReachedActivations, IsAnInstr, IsReachedState, KeepsReached}
 use Rattle.run_hooks.specs.Reached.{Stays}
 use Rattle.run_hooks.proofs.Reached.{IsBehind, begin_at_stays, begin_stays, begun_stays, change_top, continue_stays, finish_stays}
 use Rattle.run_hooks.proofs.Reached.{memory_stays, new_slot_stays, slots_stay}
-use Rattle.run_memory.specs.Memory.{disown, start}
-use Rattle.run_memory.specs.declared.block.Kind.{Kind}
-use Rattle.run_memory.specs.declared.pointer.Pointer.{Pointer}
-use Rattle.run_memory.specs.declared.pointer.Value.{Value}
-use Rattle.run_source.specs.Source.{Continues, begin_at, begun, called, continue, finish, is_live_at, push, resumed}
-use Rattle.run_source.specs.State.{frame_address_of, function_of, gives, own_frame, own_instance, with_memory}
-use Rattle.run_source.specs.State.{with_slots, with_status}
-use Rattle.run_source.specs.declared.state.Instance.{Instance}
-use Rattle.run_source.specs.declared.state.Mode.{Mode}
-use Rattle.run_source.specs.declared.state.State.{State}
-use Rattle.run_source.specs.declared.state.Status.{Status}
-use Rattle.run_source_tables.specs.Given.{Given}
-use Rattle.run_step.proofs.Tables.{first_where-within}
-use Rattle.run_step.specs.Effects.{is_alloca}
-use Rattle.run_step.specs.Results.{and_then, ok_if}
-use Rattle.run_step.specs.Step.{AtInstr, Fetched, fetch, fetch_in}
-use Rattle.run_step.specs.Values.{Env, arg_values}
-use Rattle.run_step.specs.declared.world.Slot.{Slot}
+use Rattle.pass_renewed_proof.specs.run_memory.Memory.{disown, start}
+use Rattle.pass_renewed_proof.specs.run_memory.declared.block.Kind.{Kind}
+use Rattle.pass_renewed_proof.specs.run_memory.declared.pointer.Pointer.{Pointer}
+use Rattle.pass_renewed_proof.specs.run_memory.declared.pointer.Value.{Value}
+use Rattle.pass_renewed_proof.specs.run_source.Source.{Continues, begin_at, begun, called, continue, finish, is_live_at, push, resumed}
+use Rattle.pass_renewed_proof.specs.run_source.State.{frame_address_of, function_of, gives, own_frame, own_instance, with_memory}
+use Rattle.pass_renewed_proof.specs.run_source.State.{with_slots, with_status}
+use Rattle.pass_renewed_proof.specs.run_source.declared.state.Instance.{Instance}
+use Rattle.pass_renewed_proof.specs.run_source.declared.state.Mode.{Mode}
+use Rattle.pass_renewed_proof.specs.run_source.declared.state.State.{State}
+use Rattle.pass_renewed_proof.specs.run_source.declared.state.Status.{Status}
+use Rattle.pass_renewed_proof.specs.run_source_tables.Given.{Given}
+use Rattle.pass_renewed_proof.proofs.run_step.Tables.{first_where-within}
+use Rattle.pass_renewed_proof.specs.run_step.Effects.{is_alloca}
+use Rattle.pass_renewed_proof.specs.run_step.Results.{and_then, ok_if}
+use Rattle.pass_renewed_proof.specs.run_step.Step.{AtInstr, Fetched, fetch, fetch_in}
+use Rattle.pass_renewed_proof.specs.run_step.Values.{Env, arg_values}
+use Rattle.pass_renewed_proof.specs.run_step.declared.world.Slot.{Slot}
 
 -- ---- places of the entry block
 

@@ -3,38 +3,38 @@ use Rattle.std.proofs.Common.{◌≡◌, ◌<◌, ℕ, zero, suc, Bool, true, fa
 use Rattle.std.proofs.Common.{◌++◌, length, Option, Some, None, Result, Ok, Err, refl, sym, ap, ◌∙◌, subst, arith}
 use Rattle.std.specs.Prelude.{if◌then◌else◌, not, option_and_then, option_map, slice_get, slice_set}
 use Rattle.std.specs.Prelude.{unwrap_or}
-use Rattle.ir_base.specs.declared.cause.Cause.{Cause}
-use Rattle.ir_base.specs.declared.outcome.Outcome.{Outcome}
-use Rattle.ir_base.specs.declared.outcome.Word.{Word}
-use Rattle.ir_model.specs.declared.operand.Arg.{Arg}
-use Rattle.ir_model.specs.declared.operand.Intrinsic.{Intrinsic}
-use Rattle.ir_model.specs.declared.operand.Operand.{Operand}
-use Rattle.ir_paths.specs.Windows.{operand_at, suspend_of}
-use Rattle.ir_paths.specs.declared.point.Point.{Point}
-use Rattle.ir_paths.specs.declared.point.Window.{Window}
+use Rattle.pass_renewed_proof.specs.ir_base.declared.cause.Cause.{Cause}
+use Rattle.pass_renewed_proof.specs.ir_base.declared.outcome.Outcome.{Outcome}
+use Rattle.pass_renewed_proof.specs.ir_base.declared.outcome.Word.{Word}
+use Rattle.pass_renewed_proof.specs.ir_model.declared.operand.Arg.{Arg}
+use Rattle.pass_renewed_proof.specs.ir_model.declared.operand.Intrinsic.{Intrinsic}
+use Rattle.pass_renewed_proof.specs.ir_model.declared.operand.Operand.{Operand}
+use Rattle.pass_renewed_proof.specs.ir_paths.Windows.{operand_at, suspend_of}
+use Rattle.pass_renewed_proof.specs.ir_paths.declared.point.Point.{Point}
+use Rattle.pass_renewed_proof.specs.ir_paths.declared.point.Window.{Window}
 use Rattle.run_hooks.proofs.Reached.{at_is, own_is}
 use Rattle.run_hooks.specs.Hooks.{Hooks, hooked_act, hooked_advance, hooked_context, hooked_coro, hooked_next}
 use Rattle.run_hooks.specs.Hooks.{hooked_state_at, step_of}
 use Rattle.run_hooks.specs.Left.{AreLast, HasBegun, HasCalled, HasResumed, HaveLeft, IsAlike, IsAwake, IsLastState}
 use Rattle.run_hooks.specs.Left.{IsNoMoreSuspended, KeepsLast, StaysLast, sleeps, waiting}
-use Rattle.run_memory.specs.declared.pointer.Value.{Value}
-use Rattle.run_source.specs.Source.{Sleeper, after_end, branch_leaving, change_own, end_of, enter, enter_block}
-use Rattle.run_source.specs.Source.{first_state}
-use Rattle.run_source.specs.Source.{if_let_go, left_windows, let_go, may_be_freed, pop}
-use Rattle.run_source.specs.Source.{release, return, returned, save_for, sleeper_at, sleeper_of, suspend}
-use Rattle.run_source.specs.State.{function_of, gives, instance_at, is_suspended, next, numbered, or_undefined}
-use Rattle.run_source.specs.State.{own_instance, point_of, settled, with_instance, with_left, work_of}
-use Rattle.run_source.specs.declared.state.Activation.{Activation}
-use Rattle.run_source.specs.declared.state.Instance.{Instance}
-use Rattle.run_source.specs.declared.state.Mode.{Mode}
-use Rattle.run_source.specs.declared.state.State.{State}
-use Rattle.run_source.specs.declared.state.Status.{Status}
-use Rattle.run_source_tables.specs.Given.{Given}
-use Rattle.run_step.specs.Results.{and_then, found, ok_if}
-use Rattle.run_step.specs.Runs.{iterate}
-use Rattle.run_step.specs.Step.{Action, Coro, Deallocate, Done, Enter, Fetched, GoTo, NewSlot, Return, Stuck}
-use Rattle.run_step.specs.Step.{action_of, deallocated, fetch, outcome_of}
-use Rattle.run_step.specs.Values.{arg_values, nth}
+use Rattle.pass_renewed_proof.specs.run_memory.declared.pointer.Value.{Value}
+use Rattle.pass_renewed_proof.specs.run_source.Source.{Sleeper, after_end, branch_leaving, change_own, end_of, enter, enter_block}
+use Rattle.pass_renewed_proof.specs.run_source.Source.{first_state}
+use Rattle.pass_renewed_proof.specs.run_source.Source.{if_let_go, left_windows, let_go, may_be_freed, pop}
+use Rattle.pass_renewed_proof.specs.run_source.Source.{release, return, returned, save_for, sleeper_at, sleeper_of, suspend}
+use Rattle.pass_renewed_proof.specs.run_source.State.{function_of, gives, instance_at, is_suspended, next, numbered, or_undefined}
+use Rattle.pass_renewed_proof.specs.run_source.State.{own_instance, point_of, settled, with_instance, with_left, work_of}
+use Rattle.pass_renewed_proof.specs.run_source.declared.state.Activation.{Activation}
+use Rattle.pass_renewed_proof.specs.run_source.declared.state.Instance.{Instance}
+use Rattle.pass_renewed_proof.specs.run_source.declared.state.Mode.{Mode}
+use Rattle.pass_renewed_proof.specs.run_source.declared.state.State.{State}
+use Rattle.pass_renewed_proof.specs.run_source.declared.state.Status.{Status}
+use Rattle.pass_renewed_proof.specs.run_source_tables.Given.{Given}
+use Rattle.pass_renewed_proof.specs.run_step.Results.{and_then, found, ok_if}
+use Rattle.pass_renewed_proof.specs.run_step.Runs.{iterate}
+use Rattle.pass_renewed_proof.specs.run_step.Step.{Action, Coro, Deallocate, Done, Enter, Fetched, GoTo, NewSlot, Return, Stuck}
+use Rattle.pass_renewed_proof.specs.run_step.Step.{action_of, deallocated, fetch, outcome_of}
+use Rattle.pass_renewed_proof.specs.run_step.Values.{arg_values, nth}
 
 -- ---- instances
 

@@ -2,41 +2,41 @@
 use Rattle.std.proofs.Common.{◌≡◌, ℕ, Bool, true, false, List, [], ◌∷◌, ◌++◌, length, Option, Some}
 use Rattle.std.proofs.Common.{None, Result, Ok, Err, refl, sym, ap, ◌∙◌, subst, arith}
 use Rattle.std.specs.Prelude.{if◌then◌else◌, is_none, not, slice_get, ◌&&◌, ◌==◌}
-use Rattle.ir_base.specs.declared.cause.Cause.{Cause}
-use Rattle.ir_model.specs.Names.{function_at}
-use Rattle.ir_model.specs.declared.instr.Instr.{Instr}
-use Rattle.ir_model.specs.declared.operand.Callee.{Callee}
-use Rattle.ir_paths.specs.declared.point.Point.{Point}
-use Rattle.pass_kept_proof.specs.Kept.{Keep, kept}
+use Rattle.pass_renewed_proof.specs.ir_base.declared.cause.Cause.{Cause}
+use Rattle.pass_renewed_proof.specs.ir_model.Names.{function_at}
+use Rattle.pass_renewed_proof.specs.ir_model.declared.instr.Instr.{Instr}
+use Rattle.pass_renewed_proof.specs.ir_model.declared.operand.Callee.{Callee}
+use Rattle.pass_renewed_proof.specs.ir_paths.declared.point.Point.{Point}
+use Rattle.pass_renewed_proof.specs.pass_kept_proof.Kept.{Keep, kept}
 use Rattle.pass_renewed_proof.specs.Renewed.{RenewedGiven, framed_of, renew_after, renewed_from, renewed_slot}
 use Rattle.pass_renewed_proof.specs.Renewed.{with_life}
-use Rattle.run_framed.specs.Framed.{FramedGiven, alloca_from, are_finished_at, begin_given_at, begin_in_block}
-use Rattle.run_framed.specs.Framed.{begin_in_frame, disown_given, enter_after, enter_given, frame_around}
-use Rattle.run_framed.specs.Framed.{framed_begin, framed_slot, given_call, given_ramp, has_room, has_size}
-use Rattle.run_framed.specs.Framed.{is_stack_block, last_value, reentry_values}
+use Rattle.pass_renewed_proof.specs.run_framed.Framed.{FramedGiven, alloca_from, are_finished_at, begin_given_at, begin_in_block}
+use Rattle.pass_renewed_proof.specs.run_framed.Framed.{begin_in_frame, disown_given, enter_after, enter_given, frame_around}
+use Rattle.pass_renewed_proof.specs.run_framed.Framed.{framed_begin, framed_slot, given_call, given_ramp, has_room, has_size}
+use Rattle.pass_renewed_proof.specs.run_framed.Framed.{is_stack_block, last_value, reentry_values}
 use Rattle.run_hooks.proofs.Left.{own_changed, pushed_length, pushed_more, same_more, same_state, set_awake}
 use Rattle.run_hooks.proofs.Left.{set_length, set_more, sleeps_at, then_alike, then_more}
 use Rattle.run_hooks.proofs.Reached.{late_instances, own_is}
 use Rattle.run_hooks.specs.Left.{HasBegun, HasCalled, HasResumed, IsAlike, KeepsLast}
 use Rattle.run_hooks.specs.Meanings.{framed_hooks, hooks_by, kept_hooks, renewed_hooks, source_hooks}
-use Rattle.run_memory.specs.Memory.{disown, killed, own, start}
-use Rattle.run_memory.specs.declared.block.Kind.{Kind}
-use Rattle.run_memory.specs.declared.block.MemoryBlock.{MemoryBlock}
-use Rattle.run_memory.specs.declared.pointer.Pointer.{Pointer}
-use Rattle.run_memory.specs.declared.pointer.Value.{Value}
-use Rattle.run_source.specs.Source.{Continues, begin, begin_at, begun, called, continue, finish, is_among, is_live_at, is_over}
-use Rattle.run_source.specs.Source.{kill_late, new_instance, new_slot, push, resumed, with_new_slots}
-use Rattle.run_source.specs.State.{frame_address_of, function_of, gives, own_facts, own_frame, own_instance}
-use Rattle.run_source.specs.State.{with_memory, with_slots, with_status}
-use Rattle.run_source.specs.declared.state.Instance.{Instance}
-use Rattle.run_source.specs.declared.state.Mode.{Mode}
-use Rattle.run_source.specs.declared.state.State.{State}
-use Rattle.run_source.specs.declared.state.Status.{Status}
-use Rattle.run_source_tables.specs.Given.{Given}
-use Rattle.run_step.specs.Results.{and_then, found, ok_if}
-use Rattle.run_step.specs.Step.{AtInstr, Fetched, block_of}
-use Rattle.run_step.specs.Values.{Env, arg_values}
-use Rattle.run_step.specs.declared.world.Slot.{Slot}
+use Rattle.pass_renewed_proof.specs.run_memory.Memory.{disown, killed, own, start}
+use Rattle.pass_renewed_proof.specs.run_memory.declared.block.Kind.{Kind}
+use Rattle.pass_renewed_proof.specs.run_memory.declared.block.MemoryBlock.{MemoryBlock}
+use Rattle.pass_renewed_proof.specs.run_memory.declared.pointer.Pointer.{Pointer}
+use Rattle.pass_renewed_proof.specs.run_memory.declared.pointer.Value.{Value}
+use Rattle.pass_renewed_proof.specs.run_source.Source.{Continues, begin, begin_at, begun, called, continue, finish, is_among, is_live_at, is_over}
+use Rattle.pass_renewed_proof.specs.run_source.Source.{kill_late, new_instance, new_slot, push, resumed, with_new_slots}
+use Rattle.pass_renewed_proof.specs.run_source.State.{frame_address_of, function_of, gives, own_facts, own_frame, own_instance}
+use Rattle.pass_renewed_proof.specs.run_source.State.{with_memory, with_slots, with_status}
+use Rattle.pass_renewed_proof.specs.run_source.declared.state.Instance.{Instance}
+use Rattle.pass_renewed_proof.specs.run_source.declared.state.Mode.{Mode}
+use Rattle.pass_renewed_proof.specs.run_source.declared.state.State.{State}
+use Rattle.pass_renewed_proof.specs.run_source.declared.state.Status.{Status}
+use Rattle.pass_renewed_proof.specs.run_source_tables.Given.{Given}
+use Rattle.pass_renewed_proof.specs.run_step.Results.{and_then, found, ok_if}
+use Rattle.pass_renewed_proof.specs.run_step.Step.{AtInstr, Fetched, block_of}
+use Rattle.pass_renewed_proof.specs.run_step.Values.{Env, arg_values}
+use Rattle.pass_renewed_proof.specs.run_step.declared.world.Slot.{Slot}
 
 -- ---- slots
 

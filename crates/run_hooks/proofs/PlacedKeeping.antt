@@ -2,25 +2,25 @@
 use Rattle.std.proofs.Common.{◌≡◌, inl, ℕ, zero, suc, ◌+◌, Bool, true, false, List, [], ◌∷◌, ◌++◌, length, Option}
 use Rattle.std.proofs.Common.{Some, None, Result, Ok, Err, refl, sym, ap, ◌∙◌, subst, arith}
 use Rattle.std.specs.Prelude.{drop, if◌then◌else◌, is_none, not, option_map, slice_get, ◌&&◌, ◌==◌}
-use Rattle.ir_base.specs.declared.cause.Cause.{Cause}
-use Rattle.ir_model.specs.Names.{first_where, function_at, position_of}
-use Rattle.ir_model.specs.declared.instr.Instr.{Instr}
-use Rattle.ir_model.specs.declared.module.Block.{Block}
-use Rattle.ir_model.specs.declared.module.Function.{Function}
-use Rattle.ir_model.specs.declared.operand.Callee.{Callee}
-use Rattle.ir_model.specs.declared.operand.Intrinsic.{Intrinsic}
-use Rattle.ir_paths.specs.Paths.{entry_point}
-use Rattle.ir_paths.specs.declared.point.Point.{Point}
-use Rattle.pass_kept_proof.specs.Kept.{Keep, kept}
+use Rattle.pass_renewed_proof.specs.ir_base.declared.cause.Cause.{Cause}
+use Rattle.pass_renewed_proof.specs.ir_model.Names.{first_where, function_at, position_of}
+use Rattle.pass_renewed_proof.specs.ir_model.declared.instr.Instr.{Instr}
+use Rattle.pass_renewed_proof.specs.ir_model.declared.module.Block.{Block}
+use Rattle.pass_renewed_proof.specs.ir_model.declared.module.Function.{Function}
+use Rattle.pass_renewed_proof.specs.ir_model.declared.operand.Callee.{Callee}
+use Rattle.pass_renewed_proof.specs.ir_model.declared.operand.Intrinsic.{Intrinsic}
+use Rattle.pass_renewed_proof.specs.ir_paths.Paths.{entry_point}
+use Rattle.pass_renewed_proof.specs.ir_paths.declared.point.Point.{Point}
+use Rattle.pass_renewed_proof.specs.pass_kept_proof.Kept.{Keep, kept}
 use Rattle.pass_renewed_proof.specs.Renewed.{RenewedGiven, framed_of, is_idle, is_renewed, renew_after, renewed_from}
 use Rattle.pass_renewed_proof.specs.Renewed.{renewed_in}
 use Rattle.pass_renewed_proof.specs.Renewed.{renewed_slot, with_life, with_renewed}
-use Rattle.run_framed.specs.Framed.{FramedGiven, alloca_from, alloca_in, alloca_of, are_finished_at, begin_given_at}
-use Rattle.run_framed.specs.Framed.{disown_given}
-use Rattle.run_framed.specs.Framed.{enter_after, enter_given, framed_begin, framed_finish, framed_slot, given_call}
-use Rattle.run_framed.specs.Framed.{given_ramp}
-use Rattle.run_framed.specs.Framed.{begin_in_block, begin_in_frame, frame_around, has_room}
-use Rattle.run_framed.specs.Framed.{has_size, is_stack_block, last_value, reentry_values}
+use Rattle.pass_renewed_proof.specs.run_framed.Framed.{FramedGiven, alloca_from, alloca_in, alloca_of, are_finished_at, begin_given_at}
+use Rattle.pass_renewed_proof.specs.run_framed.Framed.{disown_given}
+use Rattle.pass_renewed_proof.specs.run_framed.Framed.{enter_after, enter_given, framed_begin, framed_finish, framed_slot, given_call}
+use Rattle.pass_renewed_proof.specs.run_framed.Framed.{given_ramp}
+use Rattle.pass_renewed_proof.specs.run_framed.Framed.{begin_in_block, begin_in_frame, frame_around, has_room}
+use Rattle.pass_renewed_proof.specs.run_framed.Framed.{has_size, is_stack_block, last_value, reentry_values}
 use Rattle.run_hooks.proofs.Placing.{change_placed, called_placed, gives_placed, placed_get, placed_push, placed_set}
 use Rattle.run_hooks.proofs.Reached.{get_last, own_is}
 use Rattle.run_hooks.specs.Away.{ArePlaced, ArePlacedInstances, IsAllocaAt, IsBehindAlloca, IsClear, IsNextPlaced}
@@ -29,29 +29,29 @@ use Rattle.run_hooks.specs.Away.{IsPlaced, IsPlacedState, IsPlacedTop, KeepsAllP
 use Rattle.run_hooks.specs.Away.{behind_instr, point_in, spot_by}
 use Rattle.run_hooks.specs.Hooks.{Hooks}
 use Rattle.run_hooks.specs.Meanings.{framed_hooks, hooks_by, kept_hooks, renewed_hooks, source_hooks}
-use Rattle.run_memory.specs.Memory.{disown, killed, own, start}
-use Rattle.run_memory.specs.declared.block.Kind.{Kind}
-use Rattle.run_memory.specs.declared.block.MemoryBlock.{MemoryBlock}
-use Rattle.run_memory.specs.declared.pointer.Pointer.{Pointer}
-use Rattle.run_memory.specs.declared.pointer.Value.{Value}
-use Rattle.run_source.specs.Source.{is_live_at}
-use Rattle.run_source.specs.Source.{Continues, begin, begin_at, begun, called, change_own, continue, finish, is_among}
-use Rattle.run_source.specs.Source.{is_over, kill_late, new_instance, new_slot, push, resumed, with_new_slots}
-use Rattle.run_source.specs.State.{frame_address_of, function_of, gives, own_facts, own_frame, own_instance}
-use Rattle.run_source.specs.State.{with_memory, with_slots}
-use Rattle.run_source.specs.State.{with_status}
-use Rattle.run_source.specs.declared.state.Activation.{Activation}
-use Rattle.run_source.specs.declared.state.Instance.{Instance}
-use Rattle.run_source.specs.declared.state.Mode.{Mode}
-use Rattle.run_source.specs.declared.state.State.{State}
-use Rattle.run_source.specs.declared.state.Status.{Status}
-use Rattle.run_source_tables.specs.Given.{Given}
-use Rattle.run_step.specs.Effects.{is_alloca}
-use Rattle.run_step.specs.Results.{and_then, found, ok_if}
-use Rattle.run_step.specs.Step.{AtInstr, AtTerm, Fetched, block_of, fetch, fetch_in, fetch_or, is_lifetime}
-use Rattle.ir_model.specs.declared.instr.Terminator.{Terminator}
-use Rattle.run_step.specs.Values.{Env, arg_values}
-use Rattle.run_step.specs.declared.world.Slot.{Slot}
+use Rattle.pass_renewed_proof.specs.run_memory.Memory.{disown, killed, own, start}
+use Rattle.pass_renewed_proof.specs.run_memory.declared.block.Kind.{Kind}
+use Rattle.pass_renewed_proof.specs.run_memory.declared.block.MemoryBlock.{MemoryBlock}
+use Rattle.pass_renewed_proof.specs.run_memory.declared.pointer.Pointer.{Pointer}
+use Rattle.pass_renewed_proof.specs.run_memory.declared.pointer.Value.{Value}
+use Rattle.pass_renewed_proof.specs.run_source.Source.{is_live_at}
+use Rattle.pass_renewed_proof.specs.run_source.Source.{Continues, begin, begin_at, begun, called, change_own, continue, finish, is_among}
+use Rattle.pass_renewed_proof.specs.run_source.Source.{is_over, kill_late, new_instance, new_slot, push, resumed, with_new_slots}
+use Rattle.pass_renewed_proof.specs.run_source.State.{frame_address_of, function_of, gives, own_facts, own_frame, own_instance}
+use Rattle.pass_renewed_proof.specs.run_source.State.{with_memory, with_slots}
+use Rattle.pass_renewed_proof.specs.run_source.State.{with_status}
+use Rattle.pass_renewed_proof.specs.run_source.declared.state.Activation.{Activation}
+use Rattle.pass_renewed_proof.specs.run_source.declared.state.Instance.{Instance}
+use Rattle.pass_renewed_proof.specs.run_source.declared.state.Mode.{Mode}
+use Rattle.pass_renewed_proof.specs.run_source.declared.state.State.{State}
+use Rattle.pass_renewed_proof.specs.run_source.declared.state.Status.{Status}
+use Rattle.pass_renewed_proof.specs.run_source_tables.Given.{Given}
+use Rattle.pass_renewed_proof.specs.run_step.Effects.{is_alloca}
+use Rattle.pass_renewed_proof.specs.run_step.Results.{and_then, found, ok_if}
+use Rattle.pass_renewed_proof.specs.run_step.Step.{AtInstr, AtTerm, Fetched, block_of, fetch, fetch_in, fetch_or, is_lifetime}
+use Rattle.pass_renewed_proof.specs.ir_model.declared.instr.Terminator.{Terminator}
+use Rattle.pass_renewed_proof.specs.run_step.Values.{Env, arg_values}
+use Rattle.pass_renewed_proof.specs.run_step.declared.world.Slot.{Slot}
 
 -- ---- slots
 

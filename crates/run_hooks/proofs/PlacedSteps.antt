@@ -3,28 +3,28 @@ use Rattle.std.proofs.Common.{◌≡◌, ◌⊎◌, inl, inr, ℕ, zero, suc, �
 use Rattle.std.proofs.Common.{Option, Some, None, Result, Ok, Err, refl, sym, ap, ◌∙◌, subst, arith}
 use Rattle.std.specs.Prelude.{if◌then◌else◌, length, negsuc, not, slice_get}
 use Rattle.std.specs.Prelude.{unwrap_or}
-use Rattle.ir_base.specs.declared.cause.Cause.{Cause}
-use Rattle.ir_base.specs.declared.outcome.Outcome.{Outcome}
-use Rattle.ir_base.specs.declared.outcome.Word.{Word}
-use Rattle.ir_model.specs.Names.{function_at, position_of, same_intrinsic}
-use Rattle.ir_model.specs.Ty.{Ty}
-use Rattle.ir_model.specs.declared.instr.Case.{Case}
-use Rattle.ir_model.specs.declared.instr.Instr.{Instr}
-use Rattle.ir_model.specs.declared.instr.Terminator.{Terminator}
-use Rattle.ir_model.specs.declared.module.Function.{Function}
-use Rattle.ir_model.specs.declared.operand.Arg.{Arg}
-use Rattle.ir_model.specs.declared.operand.Callee.{Callee}
-use Rattle.ir_model.specs.declared.operand.Intrinsic.{Intrinsic}
-use Rattle.ir_model.specs.declared.operand.Operand.{Operand}
-use Rattle.ir_paths.specs.Facts.{IsWindow}
-use Rattle.ir_paths.specs.Paths.{entry_point, has_point, nexts}
-use Rattle.ir_paths.specs.Windows.{IsInWindow, call_result, end_block, is_call_of, leaves, operand_at, suspend_of}
-use Rattle.ir_paths.specs.declared.point.Point.{Point}
-use Rattle.ir_paths.specs.declared.point.Window.{Window}
-use Rattle.pass_kept_proof.proofs.Actions.{SameAction, action_same}
-use Rattle.pass_kept_proof.proofs.Same.{same_all}
-use Rattle.pass_kept_proof.specs.Needed.{BranchesTo}
-use Rattle.pass_kept_proof.specs.SuspendRules.{IsCallAt}
+use Rattle.pass_renewed_proof.specs.ir_base.declared.cause.Cause.{Cause}
+use Rattle.pass_renewed_proof.specs.ir_base.declared.outcome.Outcome.{Outcome}
+use Rattle.pass_renewed_proof.specs.ir_base.declared.outcome.Word.{Word}
+use Rattle.pass_renewed_proof.specs.ir_model.Names.{function_at, position_of, same_intrinsic}
+use Rattle.pass_renewed_proof.specs.ir_model.Ty.{Ty}
+use Rattle.pass_renewed_proof.specs.ir_model.declared.instr.Case.{Case}
+use Rattle.pass_renewed_proof.specs.ir_model.declared.instr.Instr.{Instr}
+use Rattle.pass_renewed_proof.specs.ir_model.declared.instr.Terminator.{Terminator}
+use Rattle.pass_renewed_proof.specs.ir_model.declared.module.Function.{Function}
+use Rattle.pass_renewed_proof.specs.ir_model.declared.operand.Arg.{Arg}
+use Rattle.pass_renewed_proof.specs.ir_model.declared.operand.Callee.{Callee}
+use Rattle.pass_renewed_proof.specs.ir_model.declared.operand.Intrinsic.{Intrinsic}
+use Rattle.pass_renewed_proof.specs.ir_model.declared.operand.Operand.{Operand}
+use Rattle.pass_renewed_proof.specs.ir_paths.Facts.{IsWindow}
+use Rattle.pass_renewed_proof.specs.ir_paths.Paths.{entry_point, has_point, nexts}
+use Rattle.pass_renewed_proof.specs.ir_paths.Windows.{IsInWindow, call_result, end_block, is_call_of, leaves, operand_at, suspend_of}
+use Rattle.pass_renewed_proof.specs.ir_paths.declared.point.Point.{Point}
+use Rattle.pass_renewed_proof.specs.ir_paths.declared.point.Window.{Window}
+use Rattle.pass_renewed_proof.proofs.pass_kept_proof.Actions.{SameAction, action_same}
+use Rattle.pass_renewed_proof.proofs.pass_kept_proof.Same.{same_all}
+use Rattle.pass_renewed_proof.specs.pass_kept_proof.Needed.{BranchesTo}
+use Rattle.pass_renewed_proof.specs.pass_kept_proof.SuspendRules.{IsCallAt}
 use Rattle.pass_renewed_proof.specs.Left.{IsLeftAt, IsLeftBy}
 use Rattle.pass_renewed_proof.specs.Left as left
 use Rattle.run_hooks.proofs.Points.{away_at_save, away_at_suspend, away_next, behind, behind_suspend}
@@ -41,26 +41,26 @@ use Rattle.run_hooks.specs.Away.{KeepsPlaced, StaysPlaced, StopsAlone, behind_in
 use Rattle.run_hooks.specs.Hooks.{Hooks, hooked_act, hooked_advance, hooked_context, hooked_coro, hooked_next}
 use Rattle.run_hooks.specs.Hooks.{hooked_state_at, step_of}
 use Rattle.run_hooks.specs.Reached.{AllHaveSwitches, IsReachedState, KeepsReached}
-use Rattle.run_step.specs.Runs.{iterate}
-use Rattle.run_memory.specs.declared.pointer.Value.{Value}
-use Rattle.run_source.specs.Source.{after_end, first_state, branch_leaving, called, go_to, if_let_go}
-use Rattle.run_source.specs.Source.{left_windows, mode_of, release}
-use Rattle.run_source.specs.Source.{save_for, suspend}
-use Rattle.run_source.specs.State.{function_of, gives, instance_at, next, or_undefined, own_facts, own_instance}
-use Rattle.run_source.specs.State.{point_of}
-use Rattle.run_source.specs.State.{settled, with_instance, with_left, work_of}
-use Rattle.run_source.specs.declared.state.Activation.{Activation}
-use Rattle.run_source.specs.declared.state.Instance.{Instance}
-use Rattle.run_source.specs.declared.state.Mode.{Mode}
-use Rattle.run_source.specs.declared.state.State.{State}
-use Rattle.run_source.specs.declared.state.Status.{Status}
-use Rattle.run_step.specs.Effects.{is_alloca}
-use Rattle.run_step.specs.Results.{and_then, found, ok_if}
-use Rattle.run_step.specs.Step.{Action, AtInstr, AtTerm, Context, Coro, Deallocate, Done, Enter, Fetched, GoTo}
-use Rattle.run_step.specs.Step.{NewSlot, Nowhere}
-use Rattle.run_step.specs.Step.{Return, Stuck, Work, action_of, deallocated, fetch, switch, target_of}
-use Rattle.run_ints.specs.Numbers.{word_of}
-use Rattle.run_step.specs.Values.{Env, arg_value, integer, nth, with_result}
+use Rattle.pass_renewed_proof.specs.run_step.Runs.{iterate}
+use Rattle.pass_renewed_proof.specs.run_memory.declared.pointer.Value.{Value}
+use Rattle.pass_renewed_proof.specs.run_source.Source.{after_end, first_state, branch_leaving, called, go_to, if_let_go}
+use Rattle.pass_renewed_proof.specs.run_source.Source.{left_windows, mode_of, release}
+use Rattle.pass_renewed_proof.specs.run_source.Source.{save_for, suspend}
+use Rattle.pass_renewed_proof.specs.run_source.State.{function_of, gives, instance_at, next, or_undefined, own_facts, own_instance}
+use Rattle.pass_renewed_proof.specs.run_source.State.{point_of}
+use Rattle.pass_renewed_proof.specs.run_source.State.{settled, with_instance, with_left, work_of}
+use Rattle.pass_renewed_proof.specs.run_source.declared.state.Activation.{Activation}
+use Rattle.pass_renewed_proof.specs.run_source.declared.state.Instance.{Instance}
+use Rattle.pass_renewed_proof.specs.run_source.declared.state.Mode.{Mode}
+use Rattle.pass_renewed_proof.specs.run_source.declared.state.State.{State}
+use Rattle.pass_renewed_proof.specs.run_source.declared.state.Status.{Status}
+use Rattle.pass_renewed_proof.specs.run_step.Effects.{is_alloca}
+use Rattle.pass_renewed_proof.specs.run_step.Results.{and_then, found, ok_if}
+use Rattle.pass_renewed_proof.specs.run_step.Step.{Action, AtInstr, AtTerm, Context, Coro, Deallocate, Done, Enter, Fetched, GoTo}
+use Rattle.pass_renewed_proof.specs.run_step.Step.{NewSlot, Nowhere}
+use Rattle.pass_renewed_proof.specs.run_step.Step.{Return, Stuck, Work, action_of, deallocated, fetch, switch, target_of}
+use Rattle.pass_renewed_proof.specs.run_ints.Numbers.{word_of}
+use Rattle.pass_renewed_proof.specs.run_step.Values.{Env, arg_value, integer, nth, with_result}
 use Rattle.run_hooks.proofs.Placing.{IsCoro, IsSlot, IsStuck, NotEntering, Slots, alloca_acts, alloca_no_call, at_stop}
 use Rattle.run_hooks.proofs.Placing.{away_here, behind_any, called_placed, change_placed, clear_at, clear_here}
 use Rattle.run_hooks.proofs.Placing.{each_is, end_acts, end_next, end_placed, first_kept, gives_placed, let_go_next}

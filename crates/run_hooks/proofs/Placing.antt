@@ -5,63 +5,63 @@ use Rattle.std.proofs.lemmas.List.Elements.{recursion_from_All}
 use Rattle.std.specs.List.{AllByRecursion, cons_option}
 use Rattle.std.specs.Prelude.{All, filter, filter_map, if◌then◌else◌, length, negsuc, ◌==◌, option_map, slice_get}
 use Rattle.std.specs.Prelude.{slice_set}
-use Rattle.frame_slots.proofs.Points.{PassesAt, where_sound}
-use Rattle.ir_base.specs.declared.cause.Cause.{Cause}
-use Rattle.ir_base.specs.declared.outcome.Outcome.{Outcome}
-use Rattle.ir_model.specs.Names.{function_at, position_of}
-use Rattle.ir_model.specs.declared.module.Module.{Module}
-use Rattle.ir_model.specs.Layout.{size_of}
-use Rattle.ir_model.specs.declared.instr.Case.{Case}
-use Rattle.ir_model.specs.declared.instr.Instr.{Instr}
-use Rattle.ir_model.specs.declared.instr.Terminator.{Terminator}
-use Rattle.ir_model.specs.declared.module.Block.{Block}
-use Rattle.ir_model.specs.declared.module.Function.{Function}
-use Rattle.ir_model.specs.declared.operand.Arg.{Arg}
-use Rattle.ir_model.specs.declared.operand.Callee.{Callee}
-use Rattle.ir_model.specs.declared.operand.Intrinsic.{Intrinsic}
-use Rattle.ir_model.specs.declared.operand.Operand.{Operand}
-use Rattle.ir_paths.proofs.Search.{same_point-itself}
-use Rattle.ir_paths.specs.Paths.{has_point, same_point}
-use Rattle.ir_paths.specs.Windows.{destroy_label, end_block, instr_at, instr_in, is_call_of, points_where}
-use Rattle.ir_paths.specs.Windows.{resume_label, saves_of, suspend_of}
-use Rattle.ir_paths.specs.declared.point.Point.{Point}
-use Rattle.ir_paths.specs.declared.point.Window.{Window}
-use Rattle.pass_kept_proof.proofs.Same.{either, or_left, or_right, same_point_same}
-use Rattle.pass_kept_proof.specs.Needed.{BranchesTo}
-use Rattle.pass_kept_proof.specs.SuspendRules.{IsCallAt}
+use Rattle.pass_renewed_proof.proofs.frame_slots.Points.{PassesAt, where_sound}
+use Rattle.pass_renewed_proof.specs.ir_base.declared.cause.Cause.{Cause}
+use Rattle.pass_renewed_proof.specs.ir_base.declared.outcome.Outcome.{Outcome}
+use Rattle.pass_renewed_proof.specs.ir_model.Names.{function_at, position_of}
+use Rattle.pass_renewed_proof.specs.ir_model.declared.module.Module.{Module}
+use Rattle.pass_renewed_proof.specs.ir_model.Layout.{size_of}
+use Rattle.pass_renewed_proof.specs.ir_model.declared.instr.Case.{Case}
+use Rattle.pass_renewed_proof.specs.ir_model.declared.instr.Instr.{Instr}
+use Rattle.pass_renewed_proof.specs.ir_model.declared.instr.Terminator.{Terminator}
+use Rattle.pass_renewed_proof.specs.ir_model.declared.module.Block.{Block}
+use Rattle.pass_renewed_proof.specs.ir_model.declared.module.Function.{Function}
+use Rattle.pass_renewed_proof.specs.ir_model.declared.operand.Arg.{Arg}
+use Rattle.pass_renewed_proof.specs.ir_model.declared.operand.Callee.{Callee}
+use Rattle.pass_renewed_proof.specs.ir_model.declared.operand.Intrinsic.{Intrinsic}
+use Rattle.pass_renewed_proof.specs.ir_model.declared.operand.Operand.{Operand}
+use Rattle.pass_renewed_proof.proofs.ir_paths.Search.{same_point-itself}
+use Rattle.pass_renewed_proof.specs.ir_paths.Paths.{has_point, same_point}
+use Rattle.pass_renewed_proof.specs.ir_paths.Windows.{destroy_label, end_block, instr_at, instr_in, is_call_of, points_where}
+use Rattle.pass_renewed_proof.specs.ir_paths.Windows.{resume_label, saves_of, suspend_of}
+use Rattle.pass_renewed_proof.specs.ir_paths.declared.point.Point.{Point}
+use Rattle.pass_renewed_proof.specs.ir_paths.declared.point.Window.{Window}
+use Rattle.pass_renewed_proof.proofs.pass_kept_proof.Same.{either, or_left, or_right, same_point_same}
+use Rattle.pass_renewed_proof.specs.pass_kept_proof.Needed.{BranchesTo}
+use Rattle.pass_renewed_proof.specs.pass_kept_proof.SuspendRules.{IsCallAt}
 use Rattle.pass_renewed_proof.proofs.Left.{call_listed}
-use Rattle.rule_windows.specs.Sets.{IsAfterEnd}
+use Rattle.pass_renewed_proof.specs.rule_windows.Sets.{IsAfterEnd}
 use Rattle.run_hooks.proofs.Points.{after_end as behind_end, after_clear, away_next, behind}
 use Rattle.run_hooks.proofs.Points.{clear_next, left_by, no_call}
 use Rattle.run_hooks.proofs.Points.{straight, suspend_no_end}
 use Rattle.run_hooks.proofs.Reached.{IsOfInstr, at_is, of_term, sound_get}
-use Rattle.pass_kept_proof.specs.Related.{IsSoundStatus}
+use Rattle.pass_renewed_proof.specs.pass_kept_proof.Related.{IsSoundStatus}
 use Rattle.run_hooks.specs.Away.{ArePlaced, ArePlacedInstances, Behind, HasStop, IsAllocaAt, IsAway, IsBehind}
 use Rattle.run_hooks.specs.Away.{IsBehindAlloca, IsClear, IsClearBut, IsNextPlaced, IsOrdinary, IsPair}
 use Rattle.run_hooks.specs.Away.{IsPlaced, IsPlacedState, IsPlacedStatus, KeepsAllPlaceRules, KeepsPlaceRules}
 use Rattle.run_hooks.specs.Away.{StaysPlaced, behind_instr, point_in, spot_by}
 use Rattle.run_hooks.specs.Hooks.{Hooks}
 use Rattle.run_hooks.specs.Reached.{IsReachedState}
-use Rattle.run_memory.specs.declared.pointer.Value.{Value}
-use Rattle.run_source.specs.Source.{Sleeper, after_end, change_own, if_let_go}
-use Rattle.run_source.specs.Source.{let_go, may_be_freed, pop, push, return, returned}
-use Rattle.run_source.specs.Source.{sleeper_at, sleeper_of}
-use Rattle.run_source.specs.State.{function_of, gives, instance_at}
-use Rattle.run_source.specs.State.{settled, work_of}
-use Rattle.run_source.specs.declared.state.Activation.{Activation}
-use Rattle.run_source.specs.declared.state.Instance.{Instance}
-use Rattle.run_source.specs.declared.state.Mode.{Mode}
-use Rattle.run_source.specs.declared.state.State.{State}
-use Rattle.run_source.specs.declared.state.Status.{Status}
-use Rattle.run_source_tables.specs.Given.{Given, facts_at}
-use Rattle.run_step.specs.Effects.{is_alloca}
-use Rattle.run_step.specs.Results.{and_then, found, ok_if}
-use Rattle.run_step.specs.Step.{Action, AtInstr, AtTerm, Context, Coro, Fetched, GoTo, NewSlot}
-use Rattle.run_step.specs.Step.{Stuck, Work, action_of, alloca, fetch, fetch_in, fetch_or, is_alignment, outcome_of}
-use Rattle.run_step.specs.Step.{switch, target_of}
-use Rattle.run_ints.specs.Numbers.{word_of}
-use Rattle.run_step.specs.Values.{Env, arg_value, integer, operand_value, value_in, with_result, with_value}
-use Rattle.run_step.specs.declared.world.Slot.{Slot}
+use Rattle.pass_renewed_proof.specs.run_memory.declared.pointer.Value.{Value}
+use Rattle.pass_renewed_proof.specs.run_source.Source.{Sleeper, after_end, change_own, if_let_go}
+use Rattle.pass_renewed_proof.specs.run_source.Source.{let_go, may_be_freed, pop, push, return, returned}
+use Rattle.pass_renewed_proof.specs.run_source.Source.{sleeper_at, sleeper_of}
+use Rattle.pass_renewed_proof.specs.run_source.State.{function_of, gives, instance_at}
+use Rattle.pass_renewed_proof.specs.run_source.State.{settled, work_of}
+use Rattle.pass_renewed_proof.specs.run_source.declared.state.Activation.{Activation}
+use Rattle.pass_renewed_proof.specs.run_source.declared.state.Instance.{Instance}
+use Rattle.pass_renewed_proof.specs.run_source.declared.state.Mode.{Mode}
+use Rattle.pass_renewed_proof.specs.run_source.declared.state.State.{State}
+use Rattle.pass_renewed_proof.specs.run_source.declared.state.Status.{Status}
+use Rattle.pass_renewed_proof.specs.run_source_tables.Given.{Given, facts_at}
+use Rattle.pass_renewed_proof.specs.run_step.Effects.{is_alloca}
+use Rattle.pass_renewed_proof.specs.run_step.Results.{and_then, found, ok_if}
+use Rattle.pass_renewed_proof.specs.run_step.Step.{Action, AtInstr, AtTerm, Context, Coro, Fetched, GoTo, NewSlot}
+use Rattle.pass_renewed_proof.specs.run_step.Step.{Stuck, Work, action_of, alloca, fetch, fetch_in, fetch_or, is_alignment, outcome_of}
+use Rattle.pass_renewed_proof.specs.run_step.Step.{switch, target_of}
+use Rattle.pass_renewed_proof.specs.run_ints.Numbers.{word_of}
+use Rattle.pass_renewed_proof.specs.run_step.Values.{Env, arg_value, integer, operand_value, value_in, with_result, with_value}
+use Rattle.pass_renewed_proof.specs.run_step.declared.world.Slot.{Slot}
 
 -- ---- where an activation stands
 

@@ -2,29 +2,29 @@
 use Rattle.std.proofs.Common.{◌≡◌, ◌⊎◌, inl, inr, ℕ, ◌+◌, Bool, true, false, List, [], ◌∷◌, Some, refl}
 use Rattle.std.proofs.Common.{sym, ap, ◌∙◌, subst, ◌&&◌, not}
 use Rattle.std.specs.Prelude.{◌||◌}
-use Rattle.ir_model.specs.Names.{intrinsic_number}
-use Rattle.ir_model.specs.declared.instr.Instr.{Instr}
-use Rattle.ir_model.specs.declared.instr.Terminator.{Terminator}
-use Rattle.ir_model.specs.declared.module.Function.{Function}
-use Rattle.ir_model.specs.declared.module.Module.{Module}
-use Rattle.ir_model.specs.declared.operand.Callee.{Callee}
-use Rattle.ir_model.specs.declared.operand.Intrinsic.{Intrinsic}
-use Rattle.ir_paths.specs.Facts.{IsWindow}
-use Rattle.ir_paths.specs.Paths.{IsPath, Leads, entry_point, has_point, nexts, same_point}
-use Rattle.ir_paths.specs.Windows.{IsInWindow, is_call_of, leaves, suspend_of}
-use Rattle.ir_paths.specs.declared.point.Point.{Point}
-use Rattle.ir_paths.specs.declared.point.Window.{Window}
-use Rattle.ir_paths.proofs.Search.{eq_from, same_point-itself}
-use Rattle.pass_kept_proof.proofs.Rules.{leads_between, suspend_is_suspend}
-use Rattle.pass_kept_proof.proofs.Same.{either, neither, same_point_same}
-use Rattle.pass_kept_proof.specs.Needed.{BranchesTo}
-use Rattle.pass_kept_proof.specs.SuspendRules.{IsCallAt}
+use Rattle.pass_renewed_proof.specs.ir_model.Names.{intrinsic_number}
+use Rattle.pass_renewed_proof.specs.ir_model.declared.instr.Instr.{Instr}
+use Rattle.pass_renewed_proof.specs.ir_model.declared.instr.Terminator.{Terminator}
+use Rattle.pass_renewed_proof.specs.ir_model.declared.module.Function.{Function}
+use Rattle.pass_renewed_proof.specs.ir_model.declared.module.Module.{Module}
+use Rattle.pass_renewed_proof.specs.ir_model.declared.operand.Callee.{Callee}
+use Rattle.pass_renewed_proof.specs.ir_model.declared.operand.Intrinsic.{Intrinsic}
+use Rattle.pass_renewed_proof.specs.ir_paths.Facts.{IsWindow}
+use Rattle.pass_renewed_proof.specs.ir_paths.Paths.{IsPath, Leads, entry_point, has_point, nexts, same_point}
+use Rattle.pass_renewed_proof.specs.ir_paths.Windows.{IsInWindow, is_call_of, leaves, suspend_of}
+use Rattle.pass_renewed_proof.specs.ir_paths.declared.point.Point.{Point}
+use Rattle.pass_renewed_proof.specs.ir_paths.declared.point.Window.{Window}
+use Rattle.pass_renewed_proof.proofs.ir_paths.Search.{eq_from, same_point-itself}
+use Rattle.pass_renewed_proof.proofs.pass_kept_proof.Rules.{leads_between, suspend_is_suspend}
+use Rattle.pass_renewed_proof.proofs.pass_kept_proof.Same.{either, neither, same_point_same}
+use Rattle.pass_renewed_proof.specs.pass_kept_proof.Needed.{BranchesTo}
+use Rattle.pass_renewed_proof.specs.pass_kept_proof.SuspendRules.{IsCallAt}
 use Rattle.pass_renewed_proof.proofs.Ahead.{branch_edge, leads_more, next_edge, not_in_either}
 use Rattle.pass_renewed_proof.proofs.Left.{after_edge, call_listed, nexts_instr}
-use Rattle.rule_windows.specs.Sets.{IsAfterEnd}
+use Rattle.pass_renewed_proof.specs.rule_windows.Sets.{IsAfterEnd}
 use Rattle.run_hooks.specs.Away.{AtEnd, Behind, ComesTo, IsAway, IsClear, IsClearBut, IsPair}
 use Rattle.run_hooks.specs.Away.{KeepsPlaceRules, Waits}
-use Rattle.run_step.specs.Step.{AtInstr, AtTerm, fetch}
+use Rattle.pass_renewed_proof.specs.run_step.Step.{AtInstr, AtTerm, fetch}
 
 -- ---- points
 

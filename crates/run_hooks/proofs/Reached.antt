@@ -1,46 +1,46 @@
 -- Steps by hooks come from reached states to reached states.
-use Rattle.run_memory.specs.declared.pointer.Pointer.{Pointer}
+use Rattle.pass_renewed_proof.specs.run_memory.declared.pointer.Pointer.{Pointer}
 use Rattle.std.proofs.Common.{◌≡◌, ℕ, zero, suc, ◌+◌, Bool, true, false, List, [], ◌∷◌, ◌++◌, length, Option, Some}
 use Rattle.std.proofs.Common.{None, Result, Ok, Err, refl, sym, ap, ◌∙◌, subst}
 use Rattle.std.specs.Prelude.{if◌then◌else◌, is_none, not, option_and_then, option_map, slice_get, slice_set, ◌&&◌}
-use Rattle.pass_kept_proof.specs.SuspendRules.{IsCallAt}
-use Rattle.pass_kept_proof.specs.Related.{AreSoundInstances, IsSoundStatus, IsSuspendedAt, coroutines}
-use Rattle.pass_kept_proof.specs.Needed.{BranchesTo, IsReached, first, after, along}
+use Rattle.pass_renewed_proof.specs.pass_kept_proof.SuspendRules.{IsCallAt}
+use Rattle.pass_renewed_proof.specs.pass_kept_proof.Related.{AreSoundInstances, IsSoundStatus, IsSuspendedAt, coroutines}
+use Rattle.pass_renewed_proof.specs.pass_kept_proof.Needed.{BranchesTo, IsReached, first, after, along}
 use Rattle.run_hooks.specs.Reached.{AreReachedActivations, IsReachedActivation, IsReachedState, Stays}
-use Rattle.run_source.specs.declared.state.Mode.{Mode}
-use Rattle.run_memory.specs.Memory.{killed, own}
-use Rattle.run_memory.specs.declared.block.Kind.{Kind}
-use Rattle.run_memory.specs.declared.block.MemoryBlock.{MemoryBlock}
-use Rattle.run_memory.specs.declared.pointer.Value.{Value}
-use Rattle.ir_base.specs.declared.cause.Cause.{Cause}
-use Rattle.run_source.specs.Indexes.{last_from}
-use Rattle.run_source.specs.Source.{Sleeper, after_end, begin, begin_at, begun, branch_leaving, change_own, continue}
-use Rattle.run_source.specs.Source.{end_of, enter, enter_block, finish, go_to, if_let_go, is_among, is_over}
-use Rattle.run_source.specs.Source.{kill_late, left_windows, let_go, may_be_freed, new_instance, new_slot, pop}
-use Rattle.run_source.specs.Source.{release, return, returned, save_for, sleeper_at, sleeper_of, suspend}
-use Rattle.run_source.specs.Source.{with_new_slots}
-use Rattle.run_source.specs.State.{began_at, function_of, gives, instance_at, numbered, own_facts, own_frame}
-use Rattle.run_source.specs.State.{own_instance, point_of, with_instance, with_left, with_memory, with_slots}
-use Rattle.run_source.specs.State.{with_status, work_of}
-use Rattle.run_source.specs.declared.state.Activation.{Activation}
-use Rattle.run_source.specs.declared.state.Instance.{Instance}
-use Rattle.run_source.specs.declared.state.State.{State}
-use Rattle.run_source.specs.declared.state.Status.{Status}
-use Rattle.ir_model.specs.Names.{function_at, position_of}
-use Rattle.ir_model.specs.declared.module.Module.{Module}
-use Rattle.ir_model.specs.declared.instr.Case.{Case}
-use Rattle.ir_model.specs.declared.instr.Instr.{Instr}
-use Rattle.ir_model.specs.declared.instr.Terminator.{Terminator}
-use Rattle.ir_model.specs.declared.operand.Intrinsic.{Intrinsic}
-use Rattle.ir_model.specs.declared.operand.Operand.{Operand}
-use Rattle.ir_paths.specs.declared.point.Point.{Point}
-use Rattle.ir_paths.specs.declared.point.Window.{Window}
-use Rattle.run_step.specs.Results.{and_then, found, ok_if}
-use Rattle.run_step.specs.Step.{Action, Context, AtInstr, Fetched, GoTo, Return, Stuck, Work, block_of, branch}
-use Rattle.run_step.specs.Step.{fetch, outcome_of, switch, term_action, without_slots}
-use Rattle.run_step.specs.Values.{Env}
-use Rattle.run_step.specs.declared.world.Slot.{Slot}
-use Rattle.run_source_tables.specs.Given.{Given}
+use Rattle.pass_renewed_proof.specs.run_source.declared.state.Mode.{Mode}
+use Rattle.pass_renewed_proof.specs.run_memory.Memory.{killed, own}
+use Rattle.pass_renewed_proof.specs.run_memory.declared.block.Kind.{Kind}
+use Rattle.pass_renewed_proof.specs.run_memory.declared.block.MemoryBlock.{MemoryBlock}
+use Rattle.pass_renewed_proof.specs.run_memory.declared.pointer.Value.{Value}
+use Rattle.pass_renewed_proof.specs.ir_base.declared.cause.Cause.{Cause}
+use Rattle.pass_renewed_proof.specs.run_source.Indexes.{last_from}
+use Rattle.pass_renewed_proof.specs.run_source.Source.{Sleeper, after_end, begin, begin_at, begun, branch_leaving, change_own, continue}
+use Rattle.pass_renewed_proof.specs.run_source.Source.{end_of, enter, enter_block, finish, go_to, if_let_go, is_among, is_over}
+use Rattle.pass_renewed_proof.specs.run_source.Source.{kill_late, left_windows, let_go, may_be_freed, new_instance, new_slot, pop}
+use Rattle.pass_renewed_proof.specs.run_source.Source.{release, return, returned, save_for, sleeper_at, sleeper_of, suspend}
+use Rattle.pass_renewed_proof.specs.run_source.Source.{with_new_slots}
+use Rattle.pass_renewed_proof.specs.run_source.State.{began_at, function_of, gives, instance_at, numbered, own_facts, own_frame}
+use Rattle.pass_renewed_proof.specs.run_source.State.{own_instance, point_of, with_instance, with_left, with_memory, with_slots}
+use Rattle.pass_renewed_proof.specs.run_source.State.{with_status, work_of}
+use Rattle.pass_renewed_proof.specs.run_source.declared.state.Activation.{Activation}
+use Rattle.pass_renewed_proof.specs.run_source.declared.state.Instance.{Instance}
+use Rattle.pass_renewed_proof.specs.run_source.declared.state.State.{State}
+use Rattle.pass_renewed_proof.specs.run_source.declared.state.Status.{Status}
+use Rattle.pass_renewed_proof.specs.ir_model.Names.{function_at, position_of}
+use Rattle.pass_renewed_proof.specs.ir_model.declared.module.Module.{Module}
+use Rattle.pass_renewed_proof.specs.ir_model.declared.instr.Case.{Case}
+use Rattle.pass_renewed_proof.specs.ir_model.declared.instr.Instr.{Instr}
+use Rattle.pass_renewed_proof.specs.ir_model.declared.instr.Terminator.{Terminator}
+use Rattle.pass_renewed_proof.specs.ir_model.declared.operand.Intrinsic.{Intrinsic}
+use Rattle.pass_renewed_proof.specs.ir_model.declared.operand.Operand.{Operand}
+use Rattle.pass_renewed_proof.specs.ir_paths.declared.point.Point.{Point}
+use Rattle.pass_renewed_proof.specs.ir_paths.declared.point.Window.{Window}
+use Rattle.pass_renewed_proof.specs.run_step.Results.{and_then, found, ok_if}
+use Rattle.pass_renewed_proof.specs.run_step.Step.{Action, Context, AtInstr, Fetched, GoTo, Return, Stuck, Work, block_of, branch}
+use Rattle.pass_renewed_proof.specs.run_step.Step.{fetch, outcome_of, switch, term_action, without_slots}
+use Rattle.pass_renewed_proof.specs.run_step.Values.{Env}
+use Rattle.pass_renewed_proof.specs.run_step.declared.world.Slot.{Slot}
+use Rattle.pass_renewed_proof.specs.run_source_tables.Given.{Given}
 
 -- ---- lists
 

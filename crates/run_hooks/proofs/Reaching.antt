@@ -2,36 +2,36 @@
 use Rattle.std.proofs.Common.{◌≡◌, ℕ, zero, suc, ◌+◌, Bool, true, false, List, [], Option, Some, None, Result, Ok}
 use Rattle.std.proofs.Common.{Err, refl, sym, subst}
 use Rattle.std.specs.Prelude.{if◌then◌else◌, unwrap_or}
-use Rattle.pass_kept_proof.specs.SuspendRules.{IsCallAt}
-use Rattle.pass_kept_proof.specs.Needed.{IsReached, first, after}
+use Rattle.pass_renewed_proof.specs.pass_kept_proof.SuspendRules.{IsCallAt}
+use Rattle.pass_renewed_proof.specs.pass_kept_proof.Needed.{IsReached, first, after}
 use Rattle.run_hooks.specs.Hooks.{Hooks, hooked_act, hooked_advance, hooked_context, hooked_coro, hooked_next}
 use Rattle.run_hooks.specs.Hooks.{hooked_state_at, step_of}
 use Rattle.run_hooks.specs.Reached.{AllHaveSwitches, IsAnInstr, IsReachedState, KeepsReached, Stays}
-use Rattle.run_step.specs.Runs.{iterate}
-use Rattle.pass_kept_proof.proofs.Actions.{SameAction, action_same}
-use Rattle.pass_kept_proof.proofs.Same.{same_all}
-use Rattle.pass_kept_proof.proofs.Rules.{suspend_is_suspend}
-use Rattle.pass_kept_proof.proofs.Walks.{destroy_reached, path_reached, resume_reached}
-use Rattle.run_memory.specs.declared.pointer.Value.{Value}
-use Rattle.ir_base.specs.declared.cause.Cause.{Cause}
-use Rattle.ir_base.specs.declared.outcome.Outcome.{Outcome}
-use Rattle.ir_base.specs.declared.outcome.Word.{Word}
-use Rattle.run_source.specs.Source.{first_state, if_let_go}
-use Rattle.run_source.specs.State.{next, or_undefined, function_of, instance_at, point_of, settled, work_of}
-use Rattle.run_source.specs.declared.state.Activation.{Activation}
-use Rattle.run_source.specs.declared.state.State.{State}
-use Rattle.ir_model.specs.Names.{function_at}
-use Rattle.ir_model.specs.Ty.{Ty}
-use Rattle.ir_model.specs.declared.instr.Instr.{Instr}
-use Rattle.ir_model.specs.declared.operand.Arg.{Arg}
-use Rattle.ir_model.specs.declared.operand.Callee.{Callee}
-use Rattle.ir_model.specs.declared.operand.Intrinsic.{Intrinsic}
-use Rattle.ir_paths.specs.Windows.{operand_at, suspend_of}
-use Rattle.run_step.specs.Results.{found}
-use Rattle.run_step.specs.Step.{Action, AtInstr, AtTerm, Coro, Deallocate, Done, Enter, Fetched, GoTo, NewSlot}
-use Rattle.run_step.specs.Step.{Nowhere, Return, Stuck, action_of, deallocated, term_action}
-use Rattle.run_step.specs.Values.{nth}
-use Rattle.run_source_tables.specs.Given.{Given}
+use Rattle.pass_renewed_proof.specs.run_step.Runs.{iterate}
+use Rattle.pass_renewed_proof.proofs.pass_kept_proof.Actions.{SameAction, action_same}
+use Rattle.pass_renewed_proof.proofs.pass_kept_proof.Same.{same_all}
+use Rattle.pass_renewed_proof.proofs.pass_kept_proof.Rules.{suspend_is_suspend}
+use Rattle.pass_renewed_proof.proofs.pass_kept_proof.Walks.{destroy_reached, path_reached, resume_reached}
+use Rattle.pass_renewed_proof.specs.run_memory.declared.pointer.Value.{Value}
+use Rattle.pass_renewed_proof.specs.ir_base.declared.cause.Cause.{Cause}
+use Rattle.pass_renewed_proof.specs.ir_base.declared.outcome.Outcome.{Outcome}
+use Rattle.pass_renewed_proof.specs.ir_base.declared.outcome.Word.{Word}
+use Rattle.pass_renewed_proof.specs.run_source.Source.{first_state, if_let_go}
+use Rattle.pass_renewed_proof.specs.run_source.State.{next, or_undefined, function_of, instance_at, point_of, settled, work_of}
+use Rattle.pass_renewed_proof.specs.run_source.declared.state.Activation.{Activation}
+use Rattle.pass_renewed_proof.specs.run_source.declared.state.State.{State}
+use Rattle.pass_renewed_proof.specs.ir_model.Names.{function_at}
+use Rattle.pass_renewed_proof.specs.ir_model.Ty.{Ty}
+use Rattle.pass_renewed_proof.specs.ir_model.declared.instr.Instr.{Instr}
+use Rattle.pass_renewed_proof.specs.ir_model.declared.operand.Arg.{Arg}
+use Rattle.pass_renewed_proof.specs.ir_model.declared.operand.Callee.{Callee}
+use Rattle.pass_renewed_proof.specs.ir_model.declared.operand.Intrinsic.{Intrinsic}
+use Rattle.pass_renewed_proof.specs.ir_paths.Windows.{operand_at, suspend_of}
+use Rattle.pass_renewed_proof.specs.run_step.Results.{found}
+use Rattle.pass_renewed_proof.specs.run_step.Step.{Action, AtInstr, AtTerm, Coro, Deallocate, Done, Enter, Fetched, GoTo, NewSlot}
+use Rattle.pass_renewed_proof.specs.run_step.Step.{Nowhere, Return, Stuck, action_of, deallocated, term_action}
+use Rattle.pass_renewed_proof.specs.run_step.Values.{nth}
+use Rattle.pass_renewed_proof.specs.run_source_tables.Given.{Given}
 use Rattle.run_hooks.proofs.Reached.{IsBehind, IsOfInstr, at_is, behind, end_stays, enter_stays, found_is}
 use Rattle.run_hooks.proofs.Reached.{free_stays, gives_stay, go_to_stays, here, let_go_stays, moved, of_term}
 use Rattle.run_hooks.proofs.Reached.{ok_stays, return_stays, save_stays, suspend_stays, suspended_stays, then_stays}

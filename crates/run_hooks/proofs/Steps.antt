@@ -2,25 +2,25 @@
 use Rattle.std.proofs.Common.{◌≡◌, ℕ, zero, suc, List, Option, Result, Ok, refl}
 use Rattle.std.proofs.Common.{ap, ◌∙◌}
 use Rattle.std.specs.Prelude.{if◌then◌else◌, unwrap_or}
-use Rattle.ir_base.specs.declared.cause.Cause.{Cause}
-use Rattle.ir_base.specs.declared.outcome.Outcome.{Outcome}
-use Rattle.ir_model.specs.declared.operand.Arg.{Arg}
-use Rattle.ir_model.specs.declared.operand.Intrinsic.{Intrinsic}
+use Rattle.pass_renewed_proof.specs.ir_base.declared.cause.Cause.{Cause}
+use Rattle.pass_renewed_proof.specs.ir_base.declared.outcome.Outcome.{Outcome}
+use Rattle.pass_renewed_proof.specs.ir_model.declared.operand.Arg.{Arg}
+use Rattle.pass_renewed_proof.specs.ir_model.declared.operand.Intrinsic.{Intrinsic}
 use Rattle.pass_renewed_proof.specs.Renewed.{RenewedGiven, continue_renewed, is_idle, renewed_act, renewed_advance}
 use Rattle.pass_renewed_proof.specs.Renewed.{renewed_next, renewed_step}
-use Rattle.run_framed.specs.Framed.{FramedGiven, framed_act, framed_advance, framed_context, framed_coro}
-use Rattle.run_framed.specs.Framed.{framed_next, framed_step, given_call}
+use Rattle.pass_renewed_proof.specs.run_framed.Framed.{FramedGiven, framed_act, framed_advance, framed_context, framed_coro}
+use Rattle.pass_renewed_proof.specs.run_framed.Framed.{framed_next, framed_step, given_call}
 use Rattle.run_hooks.specs.Hooks.{hooked_act, hooked_advance, hooked_coro, hooked_next, step_of}
 use Rattle.run_hooks.specs.Meanings.{framed_hooks, hooks_by, renewed_hooks}
-use Rattle.run_memory.specs.declared.pointer.Value.{Value}
-use Rattle.run_source.specs.Source.{Continues, act, advance_by, context_of, coro, step_by}
-use Rattle.run_source.specs.State.{function_of, next, or_undefined, work_of}
-use Rattle.run_source.specs.declared.state.State.{State}
-use Rattle.run_source_tables.specs.Given.{Given}
-use Rattle.run_step.specs.Runs.{iterate}
-use Rattle.run_step.specs.Step.{Action, Coro, Deallocate, Done, Enter, Fetched, GoTo, NewSlot, Return, Stuck}
-use Rattle.run_step.specs.Step.{action_of, fetch}
-use Rattle.run_step.specs.Values.{arg_values}
+use Rattle.pass_renewed_proof.specs.run_memory.declared.pointer.Value.{Value}
+use Rattle.pass_renewed_proof.specs.run_source.Source.{Continues, act, advance_by, context_of, coro, step_by}
+use Rattle.pass_renewed_proof.specs.run_source.State.{function_of, next, or_undefined, work_of}
+use Rattle.pass_renewed_proof.specs.run_source.declared.state.State.{State}
+use Rattle.pass_renewed_proof.specs.run_source_tables.Given.{Given}
+use Rattle.pass_renewed_proof.specs.run_step.Runs.{iterate}
+use Rattle.pass_renewed_proof.specs.run_step.Step.{Action, Coro, Deallocate, Done, Enter, Fetched, GoTo, NewSlot, Return, Stuck}
+use Rattle.pass_renewed_proof.specs.run_step.Step.{action_of, fetch}
+use Rattle.pass_renewed_proof.specs.run_step.Values.{arg_values}
 
 -- ---- runs
 

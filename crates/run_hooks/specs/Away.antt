@@ -1,38 +1,38 @@
 -- Where activations stand that have left, and those that haven't, in each state of a run by hooks.
 use Rattle.std.specs.Prelude.{◌≡◌, ◌⊎◌, ℕ, ◌+◌, negsuc, true, false, List, [], ◌∷◌, Option, Some, All, map}
 use Rattle.std.specs.Prelude.{Result, Ok, Err, slice_get}
-use Rattle.ir_base.specs.declared.cause.Cause.{Cause}
-use Rattle.ir_model.specs.Names.{function_at, position_of}
-use Rattle.ir_model.specs.declared.instr.Case.{Case}
-use Rattle.ir_model.specs.declared.instr.Instr.{Instr}
-use Rattle.ir_model.specs.declared.instr.Terminator.{Terminator}
-use Rattle.ir_model.specs.declared.module.Function.{Function}
-use Rattle.ir_model.specs.declared.module.Module.{Module}
-use Rattle.ir_model.specs.declared.operand.Arg.{Arg}
-use Rattle.ir_model.specs.declared.operand.Intrinsic.{Intrinsic}
-use Rattle.ir_model.specs.declared.operand.Operand.{Operand}
-use Rattle.ir_paths.specs.Facts.{IsWindow}
-use Rattle.ir_paths.specs.Paths.{Leads, entry_point}
-use Rattle.ir_paths.specs.Windows.{IsInWindow, call_result, destroy_label, end_block, is_call_of, resume_label}
-use Rattle.ir_paths.specs.Windows.{saves_of, suspend_of}
-use Rattle.ir_paths.specs.declared.point.Point.{Point}
-use Rattle.pass_kept_proof.specs.Needed.{BranchesTo}
-use Rattle.pass_kept_proof.specs.SuspendRules.{IsCallAt}
-use Rattle.rule_windows.specs.Sets.{IsAfterEnd}
+use Rattle.pass_renewed_proof.specs.ir_base.declared.cause.Cause.{Cause}
+use Rattle.pass_renewed_proof.specs.ir_model.Names.{function_at, position_of}
+use Rattle.pass_renewed_proof.specs.ir_model.declared.instr.Case.{Case}
+use Rattle.pass_renewed_proof.specs.ir_model.declared.instr.Instr.{Instr}
+use Rattle.pass_renewed_proof.specs.ir_model.declared.instr.Terminator.{Terminator}
+use Rattle.pass_renewed_proof.specs.ir_model.declared.module.Function.{Function}
+use Rattle.pass_renewed_proof.specs.ir_model.declared.module.Module.{Module}
+use Rattle.pass_renewed_proof.specs.ir_model.declared.operand.Arg.{Arg}
+use Rattle.pass_renewed_proof.specs.ir_model.declared.operand.Intrinsic.{Intrinsic}
+use Rattle.pass_renewed_proof.specs.ir_model.declared.operand.Operand.{Operand}
+use Rattle.pass_renewed_proof.specs.ir_paths.Facts.{IsWindow}
+use Rattle.pass_renewed_proof.specs.ir_paths.Paths.{Leads, entry_point}
+use Rattle.pass_renewed_proof.specs.ir_paths.Windows.{IsInWindow, call_result, destroy_label, end_block, is_call_of, resume_label}
+use Rattle.pass_renewed_proof.specs.ir_paths.Windows.{saves_of, suspend_of}
+use Rattle.pass_renewed_proof.specs.ir_paths.declared.point.Point.{Point}
+use Rattle.pass_renewed_proof.specs.pass_kept_proof.Needed.{BranchesTo}
+use Rattle.pass_renewed_proof.specs.pass_kept_proof.SuspendRules.{IsCallAt}
+use Rattle.pass_renewed_proof.specs.rule_windows.Sets.{IsAfterEnd}
 use Rattle.run_hooks.specs.Hooks.{Hooks}
-use Rattle.run_memory.specs.declared.pointer.Value.{Value}
-use Rattle.run_source.specs.State.{function_of}
-use Rattle.run_source.specs.declared.state.Activation.{Activation}
-use Rattle.run_source.specs.declared.state.Instance.{Instance}
-use Rattle.run_source.specs.declared.state.Mode.{Mode}
-use Rattle.run_source.specs.declared.state.State.{State}
-use Rattle.run_source.specs.declared.state.Status.{Status}
-use Rattle.run_source_tables.specs.Given.{Given, facts_at}
-use Rattle.run_step.specs.Effects.{is_alloca}
-use Rattle.run_step.specs.Step.{AtInstr, AtTerm, Fetched, GoTo, fetch, switch, target_of}
-use Rattle.run_ints.specs.Numbers.{word_of}
-use Rattle.run_step.specs.Values.{Env, arg_value}
-use Rattle.run_step.specs.declared.world.Slot.{Slot}
+use Rattle.pass_renewed_proof.specs.run_memory.declared.pointer.Value.{Value}
+use Rattle.pass_renewed_proof.specs.run_source.State.{function_of}
+use Rattle.pass_renewed_proof.specs.run_source.declared.state.Activation.{Activation}
+use Rattle.pass_renewed_proof.specs.run_source.declared.state.Instance.{Instance}
+use Rattle.pass_renewed_proof.specs.run_source.declared.state.Mode.{Mode}
+use Rattle.pass_renewed_proof.specs.run_source.declared.state.State.{State}
+use Rattle.pass_renewed_proof.specs.run_source.declared.state.Status.{Status}
+use Rattle.pass_renewed_proof.specs.run_source_tables.Given.{Given, facts_at}
+use Rattle.pass_renewed_proof.specs.run_step.Effects.{is_alloca}
+use Rattle.pass_renewed_proof.specs.run_step.Step.{AtInstr, AtTerm, Fetched, GoTo, fetch, switch, target_of}
+use Rattle.pass_renewed_proof.specs.run_ints.Numbers.{word_of}
+use Rattle.pass_renewed_proof.specs.run_step.Values.{Env, arg_value}
+use Rattle.pass_renewed_proof.specs.run_step.declared.world.Slot.{Slot}
 
 -- ---- points
 

@@ -1,24 +1,24 @@
 -- One step for all meanings that keep instances. What a meaning does in its own way is a record of hooks.
 use Rattle.std.specs.Prelude.{ℕ, Bool, List, Ok, Option, Result, unwrap_or, if◌then◌else◌}
-use Rattle.ir_base.specs.declared.cause.Cause.{Cause}
-use Rattle.ir_base.specs.declared.outcome.Outcome.{Outcome}
-use Rattle.ir_base.specs.declared.outcome.Word.{Word}
-use Rattle.ir_model.specs.declared.operand.Arg.{Arg}
-use Rattle.ir_model.specs.declared.operand.Intrinsic.{Intrinsic}
-use Rattle.ir_model.specs.declared.operand.Operand.{Operand}
-use Rattle.ir_paths.specs.Windows.{operand_at}
-use Rattle.run_memory.specs.Memory.{Rights}
-use Rattle.run_memory.specs.declared.pointer.Value.{Value}
-use Rattle.run_source.specs.Source.{Continues, act, coro, end_of, first_state, release}
-use Rattle.run_source.specs.State.{function_of, gives, next, or_undefined, settled, work_of}
-use Rattle.run_source.specs.declared.state.Instance.{Instance}
-use Rattle.run_source.specs.declared.state.State.{State}
-use Rattle.run_source_tables.specs.Given.{Given}
-use Rattle.run_step.specs.Results.{and_then}
-use Rattle.run_step.specs.Runs.{Seen, iterate, seen_of}
-use Rattle.run_step.specs.Step.{Action, Context, Coro, Fetched, NewSlot, action_of, fetch}
-use Rattle.run_step.specs.Values.{arg_values, nth, truth_value}
-use Rattle.run_step.specs.declared.world.Slot.{Slot}
+use Rattle.pass_renewed_proof.specs.ir_base.declared.cause.Cause.{Cause}
+use Rattle.pass_renewed_proof.specs.ir_base.declared.outcome.Outcome.{Outcome}
+use Rattle.pass_renewed_proof.specs.ir_base.declared.outcome.Word.{Word}
+use Rattle.pass_renewed_proof.specs.ir_model.declared.operand.Arg.{Arg}
+use Rattle.pass_renewed_proof.specs.ir_model.declared.operand.Intrinsic.{Intrinsic}
+use Rattle.pass_renewed_proof.specs.ir_model.declared.operand.Operand.{Operand}
+use Rattle.pass_renewed_proof.specs.ir_paths.Windows.{operand_at}
+use Rattle.pass_renewed_proof.specs.run_memory.Memory.{Rights}
+use Rattle.pass_renewed_proof.specs.run_memory.declared.pointer.Value.{Value}
+use Rattle.pass_renewed_proof.specs.run_source.Source.{Continues, act, coro, end_of, first_state, release}
+use Rattle.pass_renewed_proof.specs.run_source.State.{function_of, gives, next, or_undefined, settled, work_of}
+use Rattle.pass_renewed_proof.specs.run_source.declared.state.Instance.{Instance}
+use Rattle.pass_renewed_proof.specs.run_source.declared.state.State.{State}
+use Rattle.pass_renewed_proof.specs.run_source_tables.Given.{Given}
+use Rattle.pass_renewed_proof.specs.run_step.Results.{and_then}
+use Rattle.pass_renewed_proof.specs.run_step.Runs.{Seen, iterate, seen_of}
+use Rattle.pass_renewed_proof.specs.run_step.Step.{Action, Context, Coro, Fetched, NewSlot, action_of, fetch}
+use Rattle.pass_renewed_proof.specs.run_step.Values.{arg_values, nth, truth_value}
+use Rattle.pass_renewed_proof.specs.run_step.declared.world.Slot.{Slot}
 
 -- what a run is given, and what its meaning does in its own way
 pub record Hooks : Type 0 where

@@ -1,13 +1,13 @@
 -- The hooks of the four meanings that keep instances.
 use Rattle.std.specs.Prelude.{true, false, None}
-use Rattle.run_framed.specs.Framed.{FramedGiven, allocates, continue_framed, frame_rights, framed_begin}
-use Rattle.run_framed.specs.Framed.{framed_finish, framed_promise, framed_slot, freed_address, given_call}
-use Rattle.pass_kept_proof.specs.Kept.{Keep, continue_keeping}
+use Rattle.pass_renewed_proof.specs.run_framed.Framed.{FramedGiven, allocates, continue_framed, frame_rights, framed_begin}
+use Rattle.pass_renewed_proof.specs.run_framed.Framed.{framed_finish, framed_promise, framed_slot, freed_address, given_call}
+use Rattle.pass_renewed_proof.specs.pass_kept_proof.Kept.{Keep, continue_keeping}
 use Rattle.pass_renewed_proof.specs.Renewed.{RenewedGiven, continue_renewed, is_idle, renewed_slot, with_life}
-use Rattle.run_memory.specs.Memory.{owner_rights}
-use Rattle.run_source.specs.Source.{Continues, begin, continue, finish, frame_address, new_slot, promise}
-use Rattle.run_source.specs.State.{own_instance}
-use Rattle.run_source_tables.specs.Given.{Given}
+use Rattle.pass_renewed_proof.specs.run_memory.Memory.{owner_rights}
+use Rattle.pass_renewed_proof.specs.run_source.Source.{Continues, begin, continue, finish, frame_address, new_slot, promise}
+use Rattle.pass_renewed_proof.specs.run_source.State.{own_instance}
+use Rattle.pass_renewed_proof.specs.run_source_tables.Given.{Given}
 use Rattle.run_hooks.specs.Hooks.{Hooks}
 
 -- the source's, but for a way to go on behind a suspend

@@ -1,28 +1,28 @@
 -- What is reached in each state of a run by hooks.
 use Rattle.std.specs.Prelude.{◌≡◌, ℕ, ◌+◌, true, List, [], ◌∷◌, slice_get, Option, Some, Result, Ok, Err}
-use Rattle.ir_base.specs.declared.cause.Cause.{Cause}
-use Rattle.ir_model.specs.Names.{function_at, position_of}
-use Rattle.ir_model.specs.declared.instr.Instr.{Instr}
-use Rattle.ir_model.specs.declared.module.Function.{Function}
-use Rattle.ir_model.specs.declared.module.Module.{Module}
-use Rattle.ir_model.specs.declared.operand.Intrinsic.{Intrinsic}
-use Rattle.ir_paths.specs.Paths.{Leads}
-use Rattle.ir_paths.specs.Windows.{suspend_of}
-use Rattle.ir_paths.specs.declared.point.Point.{Point}
-use Rattle.pass_kept_proof.specs.Needed.{IsReached}
-use Rattle.pass_kept_proof.specs.Related.{AreSoundInstances, coroutines}
-use Rattle.pass_kept_proof.specs.SuspendRules.{IsCallAt, IsSwitched}
+use Rattle.pass_renewed_proof.specs.ir_base.declared.cause.Cause.{Cause}
+use Rattle.pass_renewed_proof.specs.ir_model.Names.{function_at, position_of}
+use Rattle.pass_renewed_proof.specs.ir_model.declared.instr.Instr.{Instr}
+use Rattle.pass_renewed_proof.specs.ir_model.declared.module.Function.{Function}
+use Rattle.pass_renewed_proof.specs.ir_model.declared.module.Module.{Module}
+use Rattle.pass_renewed_proof.specs.ir_model.declared.operand.Intrinsic.{Intrinsic}
+use Rattle.pass_renewed_proof.specs.ir_paths.Paths.{Leads}
+use Rattle.pass_renewed_proof.specs.ir_paths.Windows.{suspend_of}
+use Rattle.pass_renewed_proof.specs.ir_paths.declared.point.Point.{Point}
+use Rattle.pass_renewed_proof.specs.pass_kept_proof.Needed.{IsReached}
+use Rattle.pass_renewed_proof.specs.pass_kept_proof.Related.{AreSoundInstances, coroutines}
+use Rattle.pass_renewed_proof.specs.pass_kept_proof.SuspendRules.{IsCallAt, IsSwitched}
 use Rattle.run_hooks.specs.Hooks.{Hooks}
-use Rattle.run_memory.specs.declared.pointer.Value.{Value}
-use Rattle.run_source.specs.State.{function_of}
-use Rattle.run_source.specs.declared.state.Activation.{Activation}
-use Rattle.run_source.specs.declared.state.Instance.{Instance}
-use Rattle.run_source.specs.declared.state.Mode.{Mode}
-use Rattle.run_source.specs.declared.state.State.{State}
-use Rattle.run_source_tables.specs.Given.{Given}
-use Rattle.run_step.specs.Step.{AtInstr, Fetched}
-use Rattle.run_step.specs.Values.{Env}
-use Rattle.run_step.specs.declared.world.Slot.{Slot}
+use Rattle.pass_renewed_proof.specs.run_memory.declared.pointer.Value.{Value}
+use Rattle.pass_renewed_proof.specs.run_source.State.{function_of}
+use Rattle.pass_renewed_proof.specs.run_source.declared.state.Activation.{Activation}
+use Rattle.pass_renewed_proof.specs.run_source.declared.state.Instance.{Instance}
+use Rattle.pass_renewed_proof.specs.run_source.declared.state.Mode.{Mode}
+use Rattle.pass_renewed_proof.specs.run_source.declared.state.State.{State}
+use Rattle.pass_renewed_proof.specs.run_source_tables.Given.{Given}
+use Rattle.pass_renewed_proof.specs.run_step.Step.{AtInstr, Fetched}
+use Rattle.pass_renewed_proof.specs.run_step.Values.{Env}
+use Rattle.pass_renewed_proof.specs.run_step.declared.world.Slot.{Slot}
 
 -- ---- states
 

@@ -9,15 +9,15 @@
 //! that live now may be alive there (`AreMet`), wherever the activation has gone since. So any two of them conflict.
 
 ghost use Rattle.std.specs.Prelude.{◌≡◌, ℕ, Bool, true, false, List, Some, slice_get};
-ghost use Rattle.frame_classes.specs.Alive.{MayBeAlive};
+ghost use Rattle.pass_renewed_proof.specs.frame_classes.Alive.{MayBeAlive};
 ghost use Rattle.frame_conflicts.specs.Conflicts.{Conflict};
-ghost use Rattle.ir_base.specs.declared.outcome.Word.{Word};
-ghost use Rattle.ir_model.specs.Names.{function_at};
-ghost use Rattle.ir_model.specs.declared.module.Function.{Function};
-ghost use Rattle.ir_model.specs.declared.module.Module.{Module};
-ghost use Rattle.ir_model.specs.declared.operand.Intrinsic.{Intrinsic};
-ghost use Rattle.ir_paths.specs.declared.point.Point.{Point};
-ghost use Rattle.pass_kept_proof.specs.SuspendRules.{IsCallAt};
+ghost use Rattle.pass_renewed_proof.specs.ir_base.declared.outcome.Word.{Word};
+ghost use Rattle.pass_renewed_proof.specs.ir_model.Names.{function_at};
+ghost use Rattle.pass_renewed_proof.specs.ir_model.declared.module.Function.{Function};
+ghost use Rattle.pass_renewed_proof.specs.ir_model.declared.module.Module.{Module};
+ghost use Rattle.pass_renewed_proof.specs.ir_model.declared.operand.Intrinsic.{Intrinsic};
+ghost use Rattle.pass_renewed_proof.specs.ir_paths.declared.point.Point.{Point};
+ghost use Rattle.pass_renewed_proof.specs.pass_kept_proof.SuspendRules.{IsCallAt};
 ghost use Rattle.run_hooks.specs.Away.{IsPlacedState, KeepsAllPlaceRules};
 ghost use Rattle.run_hooks.specs.Hooks.{step_of};
 ghost use Rattle.run_hooks.specs.Left.{IsLastState};
@@ -33,16 +33,16 @@ ghost use Rattle.run_hooks.specs.alive.Alive.{
 ghost use Rattle.run_hooks.specs.alive.Apart.{LiveAreApart};
 ghost use Rattle.run_hooks.specs.alive.Slots.{lives};
 ghost use Rattle.run_hooks.specs.alive.Worked as worked;
-ghost use Rattle.pass_kept_proof.specs.Kept.{Keep, continue_keeping};
-ghost use Rattle.run_memory.specs.declared.block.MemoryBlock.{MemoryBlock as TheBlock};
-ghost use Rattle.run_source.specs.Source.{first_state, state_at, step_by};
-ghost use Rattle.run_source.specs.declared.state.Instance.{Instance};
-ghost use Rattle.run_source.specs.declared.state.State.{State};
-ghost use Rattle.run_source.specs.declared.state.Status.{Status};
-ghost use Rattle.run_source_tables.specs.Given.{Given};
-ghost use Rattle.run_step.specs.Runs.{iterate};
-ghost use Rattle.run_step.specs.Values.{Env};
-ghost use Rattle.run_step.specs.declared.world.Slot.{Slot};
+ghost use Rattle.pass_renewed_proof.specs.pass_kept_proof.Kept.{Keep, continue_keeping};
+ghost use Rattle.pass_renewed_proof.specs.run_memory.declared.block.MemoryBlock.{MemoryBlock as TheBlock};
+ghost use Rattle.pass_renewed_proof.specs.run_source.Source.{first_state, state_at, step_by};
+ghost use Rattle.pass_renewed_proof.specs.run_source.declared.state.Instance.{Instance};
+ghost use Rattle.pass_renewed_proof.specs.run_source.declared.state.State.{State};
+ghost use Rattle.pass_renewed_proof.specs.run_source.declared.state.Status.{Status};
+ghost use Rattle.pass_renewed_proof.specs.run_source_tables.Given.{Given};
+ghost use Rattle.pass_renewed_proof.specs.run_step.Runs.{iterate};
+ghost use Rattle.pass_renewed_proof.specs.run_step.Values.{Env};
+ghost use Rattle.pass_renewed_proof.specs.run_step.declared.world.Slot.{Slot};
 
 /// It holds at the start, and each step keeps it where a resume hands on the addresses of the slots that count. So it
 /// holds in each state of a source run, and of one in which a resume hands on these and any other values. A live slot

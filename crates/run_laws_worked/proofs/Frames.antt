@@ -3,10 +3,10 @@ use Rattle.std.proofs.Common.{◌≡◌, ◌≢◌, ℕ, zero, suc, ◌+◌, ◌
 use Rattle.std.specs.Prelude.{nat_lt, slice_get, option_and_then}
 use Rattle.std.proofs.lemmas.Bool.{and_left, and_parts, and_right, cases_eq, cases_lt, le-ltb, ltb-false, ne_eqb}
 use Rattle.std.proofs.lemmas.List.{get_or-replicate, length-replicate}
-use Rattle.run_memory.specs.Memory.{is_live, meets, owner_rights}
-use Rattle.run_memory.specs.declared.block.Byte.{Byte}
-use Rattle.run_memory.specs.declared.block.Kind.{Kind}
-use Rattle.run_memory.specs.declared.block.MemoryBlock.{MemoryBlock}
+use Rattle.run_laws.specs.run_memory.Memory.{is_live, meets, owner_rights}
+use Rattle.run_laws.specs.run_memory.declared.block.Byte.{Byte}
+use Rattle.run_laws.specs.run_memory.declared.block.Kind.{Kind}
+use Rattle.run_laws.specs.run_memory.declared.block.MemoryBlock.{MemoryBlock}
 use Rattle.run_source.specs.State.{last_from, numbered, or_else}
 use Rattle.run_source.specs.declared.state.Instance.{Instance}
 use Rattle.run_laws_worked.specs.Worked.{owned_block}

@@ -3,9 +3,9 @@ use Rattle.std.proofs.Common.{◌≡◌, ◌≢◌, ℕ, zero, suc, ◌+◌, ◌
 use Rattle.std.specs.Prelude.{nat_lt, slice_get, option_and_then}
 use Rattle.std.proofs.lemmas.Bool.{and_from, and_parts, cases_lt, eq-eqb, eqb-true, false≢true, le-leb, lt-ltb, ltb-false}
 use Rattle.std.proofs.lemmas.List.{length-replicate}
-use Rattle.run_memory.specs.Memory.{is_live, meets, owner_rights}
-use Rattle.run_memory.specs.declared.block.Byte.{Byte}
-use Rattle.run_memory.specs.declared.block.MemoryBlock.{MemoryBlock}
+use Rattle.run_laws.specs.run_memory.Memory.{is_live, meets, owner_rights}
+use Rattle.run_laws.specs.run_memory.declared.block.Byte.{Byte}
+use Rattle.run_laws.specs.run_memory.declared.block.MemoryBlock.{MemoryBlock}
 use Rattle.run_source.specs.State.{numbered, or_else}
 use Rattle.run_laws_worked.proofs.Frames.{blank_byte, owned_stands}
 use Rattle.run_laws_worked.specs.Worked.{an_instance, frame_given, owned_block, slot_home, worked_slot}

@@ -2,26 +2,26 @@
 use Rattle.std.proofs.Common.{◌≡◌, ◌≢◌, ℕ, zero, suc, inl, inr, true, false, List, [], ◌∷◌, Some, None, refl, sym, ap, ◌∙◌, subst, arith}
 use Rattle.std.proofs.lemmas.Bool.{false≢true}
 use Rattle.std.specs.Prelude.{ℤ, pos, slice_get}
-use Rattle.run_memory.specs.Memory.{Rights, is_live, may_compare_at, owner_rights}
-use Rattle.run_memory.specs.Pointers.{moved, offset_of}
-use Rattle.run_memory.specs.declared.block.Life.{Life}
-use Rattle.run_memory.specs.declared.block.MemoryBlock.{MemoryBlock}
-use Rattle.run_memory.specs.declared.pointer.Offset.{Offset}
+use Rattle.run_laws.specs.run_memory.Memory.{Rights, is_live, may_compare_at, owner_rights}
+use Rattle.run_laws.specs.run_memory.Pointers.{moved, offset_of}
+use Rattle.run_laws.specs.run_memory.declared.block.Life.{Life}
+use Rattle.run_laws.specs.run_memory.declared.block.MemoryBlock.{MemoryBlock}
+use Rattle.run_laws.specs.run_memory.declared.pointer.Offset.{Offset}
 use Rattle.run_laws_worked.proofs.Frames.{frame_rights_fit, owned_stands}
 use Rattle.run_laws_worked.proofs.Slots.{slot_stands, slot_stands_in_frame, stand_apart}
 use Rattle.run_laws_worked.specs.Stored.{field_context, field_work, hidden_homes, hidden_slot, slot_context, slot_place, slot_work, store_by, stored_source, worked_homes, worked_source, worked_target}
 use Rattle.run_laws_worked.specs.Worked.{an_instance, frame_given, owned_block, slot_home, worked_slot}
 use Rattle.run_framed.specs.Framed.{frame_rights}
-use Rattle.ir_model.specs.Ty.{Ty, array, int, named, ptr, structure, token}
-use Rattle.ir_model.specs.declared.module.Function.{Function}
-use Rattle.ir_model.specs.declared.module.Module.{Module}
-use Rattle.ir_model.specs.declared.operand.Operand.{Operand}
+use Rattle.run_laws.specs.ir_model.Ty.{Ty, array, int, named, ptr, structure, token}
+use Rattle.run_laws.specs.ir_model.declared.module.Function.{Function}
+use Rattle.run_laws.specs.ir_model.declared.module.Module.{Module}
+use Rattle.run_laws.specs.ir_model.declared.operand.Operand.{Operand}
 use Rattle.run_laws.proofs.memory.Itself.{owner_rights_fit}
 use Rattle.run_laws.proofs.memory.Written.{same_some}
 use Rattle.run_laws.specs.memory.Pointers.{Home, IsValue, home_of}
 use Rattle.run_laws.specs.memory.Standing.{AreApart, AreBoundsKept, AreNullsKept, Embeds, HasBounds, Stands}
-use Rattle.run_step.specs.Step.{Done, action_of, set_memory}
-use Rattle.run_step.specs.Values.{literal}
+use Rattle.run_laws.specs.run_step.Step.{Done, action_of, set_memory}
+use Rattle.run_laws.specs.run_step.Values.{literal}
 use Rattle.run_source_tables.specs.Given.{Given}
 use Rattle.run_laws.specs.embedded.Making.{whole_home}
 use Rattle.run_laws.proofs.transfer.Over.{step_over}

@@ -1,21 +1,21 @@
 -- A store into a slot, which the target makes in a field of the frame by another name; and one into a slot that comes
 -- to stand there.
 use Rattle.std.specs.Prelude.{ℕ, Bool, false, List, [], ◌∷◌, pos, Some, None, ◌==◌}
-use Rattle.run_memory.specs.Memory.{digits, owner_rights}
-use Rattle.run_memory.specs.Pointers.{offset_of}
-use Rattle.run_memory.specs.declared.block.MemoryBlock.{MemoryBlock}
-use Rattle.run_memory.specs.declared.pointer.Pointer.{Pointer}
-use Rattle.run_memory.specs.declared.pointer.Value.{Value}
+use Rattle.run_laws.specs.run_memory.Memory.{digits, owner_rights}
+use Rattle.run_laws.specs.run_memory.Pointers.{offset_of}
+use Rattle.run_laws.specs.run_memory.declared.block.MemoryBlock.{MemoryBlock}
+use Rattle.run_laws.specs.run_memory.declared.pointer.Pointer.{Pointer}
+use Rattle.run_laws.specs.run_memory.declared.pointer.Value.{Value}
 use Rattle.run_laws_worked.specs.Worked.{an_instance, frame_given, owned_block, slot_home, worked_slot}
 use Rattle.run_framed.specs.Framed.{frame_rights}
-use Rattle.ir_model.specs.Ty.{int}
-use Rattle.ir_model.specs.declared.instr.Instr.{Instr}
-use Rattle.ir_model.specs.declared.module.Function.{Function}
-use Rattle.ir_model.specs.declared.module.Module.{Module}
-use Rattle.ir_model.specs.declared.operand.Operand.{Operand}
+use Rattle.run_laws.specs.ir_model.Ty.{int}
+use Rattle.run_laws.specs.ir_model.declared.instr.Instr.{Instr}
+use Rattle.run_laws.specs.ir_model.declared.module.Function.{Function}
+use Rattle.run_laws.specs.ir_model.declared.module.Module.{Module}
+use Rattle.run_laws.specs.ir_model.declared.operand.Operand.{Operand}
 use Rattle.run_laws.specs.memory.Pointers.{Home}
-use Rattle.run_step.specs.Step.{AtInstr, Context, Fetched, Work}
-use Rattle.run_step.specs.declared.world.World.{World}
+use Rattle.run_laws.specs.run_step.Step.{AtInstr, Context, Fetched, Work}
+use Rattle.run_laws.specs.run_step.declared.world.World.{World}
 use Rattle.run_source_tables.specs.Given.{Given}
 use Rattle.run_laws.specs.embedded.Making.{whole_home}
 use Rattle.run_laws.specs.transfer.Ready.{Place}

@@ -1,7 +1,7 @@
 -- A frame of alignment 8 in a block of alignment 16, and a slot in a field of the frame.
 use Rattle.std.specs.Prelude.{ℕ, true, false, [], ◌∷◌, Some, None}
-use Rattle.run_memory.specs.declared.block.Kind.{Kind}
-use Rattle.run_memory.specs.declared.block.MemoryBlock.{MemoryBlock}
+use Rattle.run_laws.specs.run_memory.declared.block.Kind.{Kind}
+use Rattle.run_laws.specs.run_memory.declared.block.MemoryBlock.{MemoryBlock}
 use Rattle.run_source.specs.declared.state.Instance.{Instance}
 use Rattle.run_source.specs.declared.state.Status.{Status}
 use Rattle.frame_layout.specs.declared.layout.FieldKind.{FieldKind}

@@ -7,16 +7,16 @@
 #![tactic(auto)]
 
 ghost use Rattle.std.specs.Prelude.{ℕ, false, List, None, [], ◌∷◌, ◌≡◌, ◌≢◌, ◌≤◌, ◌<◌, ◌^◌};
-ghost use Rattle.run_memory.specs.Memory.{owner_rights};
-ghost use Rattle.run_memory.specs.declared.block.Kind.{Kind as TheKind};
+ghost use Rattle.run_laws.specs.run_memory.Memory.{owner_rights};
+ghost use Rattle.run_laws.specs.run_memory.declared.block.Kind.{Kind as TheKind};
 ghost use Rattle.run_source.specs.declared.state.Instance.{Instance as TheInstance};
 ghost use Rattle.run_laws_worked.specs.Worked.{an_instance, frame_given, owned_block, slot_home, worked_slot};
 ghost use Rattle.run_laws_worked.specs.Stored.{field_context, field_work, hidden_homes, hidden_slot, slot_context, slot_place, slot_work, store_by, stored_source, worked_homes, worked_source, worked_target};
 ghost use Rattle.run_framed.specs.Framed.{FramedGiven, frame_rights, layout_of};
-ghost use Rattle.ir_model.specs.declared.module.Function.{Function as TheFunction};
-ghost use Rattle.ir_model.specs.declared.module.Module.{Module as TheModule};
+ghost use Rattle.run_laws.specs.ir_model.declared.module.Function.{Function as TheFunction};
+ghost use Rattle.run_laws.specs.ir_model.declared.module.Module.{Module as TheModule};
 ghost use Rattle.run_laws.specs.memory.Pointers.{IsValue};
-ghost use Rattle.run_step.specs.Step.{Done, action_of, set_memory};
+ghost use Rattle.run_laws.specs.run_step.Step.{Done, action_of, set_memory};
 ghost use Rattle.run_laws.specs.memory.Standing.{AreByteRights, Embeds, HasFreshRights};
 ghost use Rattle.run_source_tables.specs.Given.{Given};
 ghost use Rattle.run_laws.specs.embedded.Making.{AreNewRights, whole_home};

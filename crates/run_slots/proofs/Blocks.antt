@@ -2,26 +2,26 @@
 use Rattle.std.proofs.Common.{◌≡◌, ◌<◌, ℕ, zero, suc, Bool, true, false, List, [], ◌∷◌, ◌++◌, length}
 use Rattle.std.proofs.Common.{Option, Some, None, refl, sym, ap, subst, arith}
 use Rattle.std.specs.Prelude.{if◌then◌else◌, replicate, slice_get, ◌||◌}
-use Rattle.ir_base.specs.declared.cause.Cause.{Cause}
-use Rattle.ir_model.specs.Layout.{size_of}
-use Rattle.ir_model.specs.declared.instr.Instr.{Instr}
-use Rattle.ir_model.specs.declared.module.Function.{Function}
-use Rattle.ir_model.specs.declared.operand.Allocator.{Allocator}
-use Rattle.ir_model.specs.declared.operand.Callee.{Callee}
-use Rattle.ir_model.specs.declared.operand.Intrinsic.{Intrinsic}
-use Rattle.run_laws.proofs.embedded.Refills.{step_only}
-use Rattle.run_laws.specs.embedded.Refilled.{AreRefilled, IsRefilled, OnlyRefills}
-use Rattle.run_memory.specs.Memory.{end, ended, is_killed, same_kind, started, with_block}
-use Rattle.run_memory.specs.declared.block.Byte.{Byte}
-use Rattle.run_memory.specs.declared.block.Kind.{Kind}
-use Rattle.run_memory.specs.declared.block.Life.{Life}
-use Rattle.run_memory.specs.declared.block.MemoryBlock.{MemoryBlock}
-use Rattle.run_memory.specs.declared.pointer.Value.{Value}
+use Rattle.run_hooks.specs.ir_base.declared.cause.Cause.{Cause}
+use Rattle.run_hooks.specs.ir_model.Layout.{size_of}
+use Rattle.run_hooks.specs.ir_model.declared.instr.Instr.{Instr}
+use Rattle.run_hooks.specs.ir_model.declared.module.Function.{Function}
+use Rattle.run_hooks.specs.ir_model.declared.operand.Allocator.{Allocator}
+use Rattle.run_hooks.specs.ir_model.declared.operand.Callee.{Callee}
+use Rattle.run_hooks.specs.ir_model.declared.operand.Intrinsic.{Intrinsic}
+use Rattle.run_hooks.proofs.run_laws.embedded.Refills.{step_only}
+use Rattle.run_hooks.specs.run_laws.embedded.Refilled.{AreRefilled, IsRefilled, OnlyRefills}
+use Rattle.run_hooks.specs.run_memory.Memory.{end, ended, is_killed, same_kind, started, with_block}
+use Rattle.run_hooks.specs.run_memory.declared.block.Byte.{Byte}
+use Rattle.run_hooks.specs.run_memory.declared.block.Kind.{Kind}
+use Rattle.run_hooks.specs.run_memory.declared.block.Life.{Life}
+use Rattle.run_hooks.specs.run_memory.declared.block.MemoryBlock.{MemoryBlock}
+use Rattle.run_hooks.specs.run_memory.declared.pointer.Value.{Value}
 use Rattle.run_slots.specs.Slots.{is_alloca_block}
-use Rattle.run_step.specs.Step.{Action, AtInstr, AtTerm, Context, Done, Fetched, Nowhere, Work, action_of, block_of}
-use Rattle.run_step.specs.Step.{NewSlot, Stuck, alloca_kind, has_markers, instr_action, is_alignment, on_block}
-use Rattle.run_step.specs.Step.{set_memory, set_value, with_length}
-use Rattle.run_step.specs.Values.{arg_values, nth, pointer_to}
+use Rattle.run_hooks.specs.run_step.Step.{Action, AtInstr, AtTerm, Context, Done, Fetched, Nowhere, Work, action_of, block_of}
+use Rattle.run_hooks.specs.run_step.Step.{NewSlot, Stuck, alloca_kind, has_markers, instr_action, is_alignment, on_block}
+use Rattle.run_hooks.specs.run_step.Step.{set_memory, set_value, with_length}
+use Rattle.run_hooks.specs.run_step.Values.{arg_values, nth, pointer_to}
 
 -- ---- one block
 

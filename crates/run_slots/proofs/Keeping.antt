@@ -3,19 +3,19 @@ use Rattle.std.proofs.Common.{◌≡◌, ◌+◌, ◌≤◌, ◌⊎◌, inl, inr
 use Rattle.std.proofs.Common.{Some, None, refl, sym, ap, ◌∙◌, subst, arith}
 use Rattle.std.specs.Prelude.{is_some, slice_get, slice_set, ◌==◌, ◌||◌}
 use Rattle.run_hooks.proofs.alive.Parts.{Here, IsSet, Other, get_set}
-use Rattle.run_memory.specs.Memory.{is_killed, killed, killed_block, same_kind, with_block}
-use Rattle.run_memory.specs.declared.block.Kind.{Kind}
-use Rattle.run_memory.specs.declared.block.MemoryBlock.{MemoryBlock}
+use Rattle.run_hooks.specs.run_memory.Memory.{is_killed, killed, killed_block, same_kind, with_block}
+use Rattle.run_hooks.specs.run_memory.declared.block.Kind.{Kind}
+use Rattle.run_hooks.specs.run_memory.declared.block.MemoryBlock.{MemoryBlock}
 use Rattle.run_slots.proofs.Blocks.{AreAlike, alloca_alike}
 use Rattle.run_slots.proofs.Times.{Dies, IsLeft, Stays, equal_is, itself, more_back, more_last, more_there, not_equal}
 use Rattle.run_slots.proofs.Times.{same_there, there_at, there_below, times_more, times_one, times_set}
 use Rattle.run_slots.proofs.Times.{with_other, with_there, without_at, without_back}
 use Rattle.run_slots.specs.Slots.{AreSlotted, IsFrameBlock, IsSlotBlock, is_alloca_block, is_killed_at, is_killed_in}
 use Rattle.run_slots.specs.Slots.{once_if, times, times_in}
-use Rattle.run_source.specs.Source.{is_over}
-use Rattle.run_source.specs.declared.state.Instance.{Instance}
-use Rattle.run_step.specs.Step.{without_slots}
-use Rattle.run_step.specs.declared.world.Slot.{Slot}
+use Rattle.run_hooks.specs.run_source.Source.{is_over}
+use Rattle.run_hooks.specs.run_source.declared.state.Instance.{Instance}
+use Rattle.run_hooks.specs.run_step.Step.{without_slots}
+use Rattle.run_hooks.specs.run_step.declared.world.Slot.{Slot}
 
 killed_is : (m : List MemoryBlock) (n : ℕ) (z : MemoryBlock) → slice_get m n ≡ Some z
     → is_killed_at m n ≡ is_killed z.life

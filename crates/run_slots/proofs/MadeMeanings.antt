@@ -2,41 +2,41 @@
 use Rattle.std.proofs.Common.{◌≡◌, ℕ, Bool, true, false, List, [], ◌∷◌, ◌++◌, length, Option, Some, None, Result}
 use Rattle.std.proofs.Common.{Ok, Err, refl, sym, ap, ◌∙◌, subst}
 use Rattle.std.specs.Prelude.{if◌then◌else◌, filter, is_none, not, slice_get, ◌&&◌, ◌==◌}
-use Rattle.ir_base.specs.declared.cause.Cause.{Cause}
-use Rattle.ir_model.specs.Names.{function_at}
-use Rattle.ir_model.specs.declared.instr.Instr.{Instr}
-use Rattle.ir_model.specs.declared.module.Module.{Module}
-use Rattle.ir_model.specs.declared.operand.Callee.{Callee}
-use Rattle.ir_paths.specs.declared.point.Point.{Point}
-use Rattle.pass_kept_proof.specs.Kept.{Keep, kept}
-use Rattle.pass_renewed_proof.specs.Renewed.{RenewedGiven, renew_after, renewed_from, renewed_slot, with_life}
-use Rattle.run_framed.specs.Framed.{FramedGiven, alloca_from, are_finished_at, begin_given_at, begin_in_block}
-use Rattle.run_framed.specs.Framed.{begin_in_frame, disown_given, enter_after, enter_given, frame_around}
-use Rattle.run_framed.specs.Framed.{framed_begin, framed_slot, given_call, given_ramp, has_room, has_size}
-use Rattle.run_framed.specs.Framed.{is_stack_block, last_value, reentry_values}
+use Rattle.run_hooks.specs.ir_base.declared.cause.Cause.{Cause}
+use Rattle.run_hooks.specs.ir_model.Names.{function_at}
+use Rattle.run_hooks.specs.ir_model.declared.instr.Instr.{Instr}
+use Rattle.run_hooks.specs.ir_model.declared.module.Module.{Module}
+use Rattle.run_hooks.specs.ir_model.declared.operand.Callee.{Callee}
+use Rattle.run_hooks.specs.ir_paths.declared.point.Point.{Point}
+use Rattle.run_hooks.specs.pass_kept_proof.Kept.{Keep, kept}
+use Rattle.run_hooks.specs.pass_renewed_proof.Renewed.{RenewedGiven, renew_after, renewed_from, renewed_slot, with_life}
+use Rattle.run_hooks.specs.run_framed.Framed.{FramedGiven, alloca_from, are_finished_at, begin_given_at, begin_in_block}
+use Rattle.run_hooks.specs.run_framed.Framed.{begin_in_frame, disown_given, enter_after, enter_given, frame_around}
+use Rattle.run_hooks.specs.run_framed.Framed.{framed_begin, framed_slot, given_call, given_ramp, has_room, has_size}
+use Rattle.run_hooks.specs.run_framed.Framed.{is_stack_block, last_value, reentry_values}
 use Rattle.run_hooks.proofs.Reached.{late_instances, own_function, own_is}
 use Rattle.run_hooks.specs.Meanings.{framed_hooks, hooks_by, kept_hooks, renewed_hooks, source_hooks}
 use Rattle.run_hooks.specs.Reached.{IsReachedState}
-use Rattle.run_memory.specs.Memory.{disown, killed, own, start}
-use Rattle.run_memory.specs.declared.block.Kind.{Kind}
-use Rattle.run_memory.specs.declared.block.MemoryBlock.{MemoryBlock}
-use Rattle.run_memory.specs.declared.pointer.Pointer.{Pointer}
-use Rattle.run_memory.specs.declared.pointer.Value.{Value}
+use Rattle.run_hooks.specs.run_memory.Memory.{disown, killed, own, start}
+use Rattle.run_hooks.specs.run_memory.declared.block.Kind.{Kind}
+use Rattle.run_hooks.specs.run_memory.declared.block.MemoryBlock.{MemoryBlock}
+use Rattle.run_hooks.specs.run_memory.declared.pointer.Pointer.{Pointer}
+use Rattle.run_hooks.specs.run_memory.declared.pointer.Value.{Value}
 use Rattle.run_slots.proofs.Made.{changed_made, made_at, made_filtered, made_joined, made_more, made_set, own_changed}
 use Rattle.run_slots.specs.Made.{AreMade, IsMadeAt, IsMadeState, KeepsMade, StaysMade}
-use Rattle.run_source.specs.Source.{Continues, begin, begin_at, begun, called, continue, finish, is_among, is_live_at}
-use Rattle.run_source.specs.Source.{is_over, kill_late, new_instance, new_slot, push, resumed, with_new_slots}
-use Rattle.run_source.specs.State.{frame_address_of, function_of, gives, own_facts, own_frame, own_instance}
-use Rattle.run_source.specs.State.{with_memory, with_slots, with_status}
-use Rattle.run_source.specs.declared.state.Instance.{Instance}
-use Rattle.run_source.specs.declared.state.Mode.{Mode}
-use Rattle.run_source.specs.declared.state.State.{State}
-use Rattle.run_source.specs.declared.state.Status.{Status}
-use Rattle.run_source_tables.specs.Given.{Given}
-use Rattle.run_step.specs.Results.{and_then, found, ok_if}
-use Rattle.run_step.specs.Step.{AtInstr, Fetched, block_of}
-use Rattle.run_step.specs.Values.{Env, arg_values}
-use Rattle.run_step.specs.declared.world.Slot.{Slot}
+use Rattle.run_hooks.specs.run_source.Source.{Continues, begin, begin_at, begun, called, continue, finish, is_among, is_live_at}
+use Rattle.run_hooks.specs.run_source.Source.{is_over, kill_late, new_instance, new_slot, push, resumed, with_new_slots}
+use Rattle.run_hooks.specs.run_source.State.{frame_address_of, function_of, gives, own_facts, own_frame, own_instance}
+use Rattle.run_hooks.specs.run_source.State.{with_memory, with_slots, with_status}
+use Rattle.run_hooks.specs.run_source.declared.state.Instance.{Instance}
+use Rattle.run_hooks.specs.run_source.declared.state.Mode.{Mode}
+use Rattle.run_hooks.specs.run_source.declared.state.State.{State}
+use Rattle.run_hooks.specs.run_source.declared.state.Status.{Status}
+use Rattle.run_hooks.specs.run_source_tables.Given.{Given}
+use Rattle.run_hooks.specs.run_step.Results.{and_then, found, ok_if}
+use Rattle.run_hooks.specs.run_step.Step.{AtInstr, Fetched, block_of}
+use Rattle.run_hooks.specs.run_step.Values.{Env, arg_values}
+use Rattle.run_hooks.specs.run_step.declared.world.Slot.{Slot}
 
 -- ---- slots
 

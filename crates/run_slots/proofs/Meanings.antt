@@ -3,26 +3,26 @@ use Rattle.std.proofs.Common.{◌≡◌, ◌+◌, ◌≤◌, ℕ, Bool, true, fa
 use Rattle.std.proofs.Common.{None, Ok, refl, ap, ◌∙◌, subst, arith}
 use Rattle.std.specs.Prelude.{if◌then◌else◌, filter, is_none, is_some, nat_le, not, slice_get, slice_set, ◌&&◌, ◌==◌}
 use Rattle.std.specs.Option.{option_map_or}
-use Rattle.ir_base.specs.declared.cause.Cause.{Cause}
-use Rattle.ir_model.specs.Names.{function_at}
-use Rattle.ir_model.specs.declared.instr.Instr.{Instr}
-use Rattle.ir_model.specs.declared.operand.Callee.{Callee}
-use Rattle.ir_paths.specs.declared.point.Point.{Point}
-use Rattle.pass_kept_proof.specs.Kept.{Keep, kept}
-use Rattle.pass_renewed_proof.specs.Renewed.{RenewedGiven, renew_after, renewed_from, renewed_slot, with_life}
-use Rattle.run_framed.specs.Framed.{FramedGiven, alloca_from, disown_given, enter_after, framed_begin, framed_slot}
-use Rattle.run_framed.specs.Framed.{enter_given, given_call, is_stack_block, reentry_values}
+use Rattle.run_hooks.specs.ir_base.declared.cause.Cause.{Cause}
+use Rattle.run_hooks.specs.ir_model.Names.{function_at}
+use Rattle.run_hooks.specs.ir_model.declared.instr.Instr.{Instr}
+use Rattle.run_hooks.specs.ir_model.declared.operand.Callee.{Callee}
+use Rattle.run_hooks.specs.ir_paths.declared.point.Point.{Point}
+use Rattle.run_hooks.specs.pass_kept_proof.Kept.{Keep, kept}
+use Rattle.run_hooks.specs.pass_renewed_proof.Renewed.{RenewedGiven, renew_after, renewed_from, renewed_slot, with_life}
+use Rattle.run_hooks.specs.run_framed.Framed.{FramedGiven, alloca_from, disown_given, enter_after, framed_begin, framed_slot}
+use Rattle.run_hooks.specs.run_framed.Framed.{enter_given, given_call, is_stack_block, reentry_values}
 use Rattle.run_hooks.proofs.Reached.{own_is}
 use Rattle.run_hooks.proofs.alive.Parts.{set_there}
 use Rattle.run_hooks.specs.Meanings.{framed_hooks, hooks_by, kept_hooks, renewed_hooks, source_hooks}
-use Rattle.run_memory.specs.Memory.{disown, is_killed, is_live, killed, killed_block, may_be_owned, own, owned_to}
-use Rattle.run_memory.specs.Memory.{check}
-use Rattle.run_memory.specs.Memory.{same_kind, start, started, with_block}
-use Rattle.run_memory.specs.declared.block.Kind.{Kind}
-use Rattle.run_memory.specs.declared.block.Life.{Life}
-use Rattle.run_memory.specs.declared.block.MemoryBlock.{MemoryBlock}
-use Rattle.run_memory.specs.declared.pointer.Pointer.{Pointer}
-use Rattle.run_memory.specs.declared.pointer.Value.{Value}
+use Rattle.run_hooks.specs.run_memory.Memory.{disown, is_killed, is_live, killed, killed_block, may_be_owned, own, owned_to}
+use Rattle.run_hooks.specs.run_memory.Memory.{check}
+use Rattle.run_hooks.specs.run_memory.Memory.{same_kind, start, started, with_block}
+use Rattle.run_hooks.specs.run_memory.declared.block.Kind.{Kind}
+use Rattle.run_hooks.specs.run_memory.declared.block.Life.{Life}
+use Rattle.run_hooks.specs.run_memory.declared.block.MemoryBlock.{MemoryBlock}
+use Rattle.run_hooks.specs.run_memory.declared.pointer.Pointer.{Pointer}
+use Rattle.run_hooks.specs.run_memory.declared.pointer.Value.{Value}
 use Rattle.run_slots.proofs.Blocks.{changed_alike, started_alike}
 use Rattle.run_slots.proofs.Keeping.{alike_slotted, begun_slotted, counted_slotted, dead_slotted, none_more}
 use Rattle.run_slots.proofs.Keeping.{set_slotted, taken_slotted, with_slot}
@@ -31,19 +31,19 @@ use Rattle.run_slots.proofs.Times.{itself, more_last, times_joined, times_split,
 use Rattle.run_slots.specs.Slots.{AreSlotted, GivesNoFrames, HasNewSlot, IsFrameBlock, IsSlotBlock, IsSlottedState, KeepsSlots}
 use Rattle.run_slots.specs.Slots.{StaysSlotted}
 use Rattle.run_slots.specs.Slots.{is_killed_in, once_if, times, times_in, times_on}
-use Rattle.run_source.specs.Source.{Continues, begin, begin_at, begun, change_own, continue, is_among, is_over, kill_late}
-use Rattle.run_source.specs.Source.{new_instance, new_slot, push, resumed, slots_of, with_new_slots}
-use Rattle.run_source.specs.State.{frame_address_of, function_of, gives, own_facts, own_frame, own_instance}
-use Rattle.run_source.specs.State.{with_instance, with_memory, with_slots, with_status}
-use Rattle.run_source.specs.declared.state.Instance.{Instance}
-use Rattle.run_source.specs.declared.state.Mode.{Mode}
-use Rattle.run_source.specs.declared.state.State.{State}
-use Rattle.run_source.specs.declared.state.Status.{Status}
-use Rattle.run_source_tables.specs.Given.{Given}
-use Rattle.run_step.specs.Results.{and_then, found, ok_if}
-use Rattle.run_step.specs.Step.{AtInstr, Fetched, block_of, fetch, without_slots}
-use Rattle.run_step.specs.Values.{Env, arg_values}
-use Rattle.run_step.specs.declared.world.Slot.{Slot}
+use Rattle.run_hooks.specs.run_source.Source.{Continues, begin, begin_at, begun, change_own, continue, is_among, is_over, kill_late}
+use Rattle.run_hooks.specs.run_source.Source.{new_instance, new_slot, push, resumed, slots_of, with_new_slots}
+use Rattle.run_hooks.specs.run_source.State.{frame_address_of, function_of, gives, own_facts, own_frame, own_instance}
+use Rattle.run_hooks.specs.run_source.State.{with_instance, with_memory, with_slots, with_status}
+use Rattle.run_hooks.specs.run_source.declared.state.Instance.{Instance}
+use Rattle.run_hooks.specs.run_source.declared.state.Mode.{Mode}
+use Rattle.run_hooks.specs.run_source.declared.state.State.{State}
+use Rattle.run_hooks.specs.run_source.declared.state.Status.{Status}
+use Rattle.run_hooks.specs.run_source_tables.Given.{Given}
+use Rattle.run_hooks.specs.run_step.Results.{and_then, found, ok_if}
+use Rattle.run_hooks.specs.run_step.Step.{AtInstr, Fetched, block_of, fetch, without_slots}
+use Rattle.run_hooks.specs.run_step.Values.{Env, arg_values}
+use Rattle.run_hooks.specs.run_step.declared.world.Slot.{Slot}
 
 -- ---- a new slot is placed
 

@@ -4,27 +4,27 @@ use Rattle.std.proofs.Common.{Option, Some, None, Result, Ok, Err, refl, sym, ap
 use Rattle.std.specs.Prelude.{if◌then◌else◌, is_some, map, not, option_and_then, option_map, slice_get, slice_set}
 use Rattle.std.specs.Prelude.{unwrap_or}
 use Rattle.std.specs.Prelude.{◌&&◌, ◌||◌, ◌==◌}
-use Rattle.ir_base.specs.declared.cause.Cause.{Cause}
-use Rattle.ir_base.specs.declared.outcome.Outcome.{Outcome}
-use Rattle.ir_base.specs.declared.outcome.Word.{Word}
-use Rattle.ir_model.specs.declared.module.GlobalItem.{GlobalItem}
-use Rattle.ir_model.specs.declared.module.Module.{Module}
-use Rattle.ir_model.specs.declared.operand.Arg.{Arg}
-use Rattle.ir_model.specs.declared.operand.Intrinsic.{Intrinsic}
-use Rattle.ir_model.specs.declared.operand.Operand.{Operand}
-use Rattle.ir_paths.specs.Windows.{operand_at, suspend_of}
-use Rattle.ir_paths.specs.declared.point.Point.{Point}
-use Rattle.ir_paths.specs.declared.point.Window.{Window}
+use Rattle.run_hooks.specs.ir_base.declared.cause.Cause.{Cause}
+use Rattle.run_hooks.specs.ir_base.declared.outcome.Outcome.{Outcome}
+use Rattle.run_hooks.specs.ir_base.declared.outcome.Word.{Word}
+use Rattle.run_hooks.specs.ir_model.declared.module.GlobalItem.{GlobalItem}
+use Rattle.run_hooks.specs.ir_model.declared.module.Module.{Module}
+use Rattle.run_hooks.specs.ir_model.declared.operand.Arg.{Arg}
+use Rattle.run_hooks.specs.ir_model.declared.operand.Intrinsic.{Intrinsic}
+use Rattle.run_hooks.specs.ir_model.declared.operand.Operand.{Operand}
+use Rattle.run_hooks.specs.ir_paths.Windows.{operand_at, suspend_of}
+use Rattle.run_hooks.specs.ir_paths.declared.point.Point.{Point}
+use Rattle.run_hooks.specs.ir_paths.declared.point.Window.{Window}
 use Rattle.run_hooks.proofs.Reached.{at_is, own_is}
 use Rattle.run_hooks.specs.Hooks.{Hooks, hooked_act, hooked_advance, hooked_context, hooked_coro, hooked_next}
 use Rattle.run_hooks.specs.Hooks.{hooked_state_at, step_of}
-use Rattle.run_memory.specs.Memory.{disown, disowned, is_killed, is_owned, is_unkilled, kill, killed, killed_block}
-use Rattle.run_memory.specs.Memory.{same_kind}
-use Rattle.run_memory.specs.declared.block.Kind.{Kind}
-use Rattle.run_memory.specs.declared.block.MemoryBlock.{MemoryBlock}
-use Rattle.run_memory.specs.declared.pointer.Offset.{Offset}
-use Rattle.run_memory.specs.declared.pointer.Pointer.{Pointer}
-use Rattle.run_memory.specs.declared.pointer.Value.{Value}
+use Rattle.run_hooks.specs.run_memory.Memory.{disown, disowned, is_killed, is_owned, is_unkilled, kill, killed, killed_block}
+use Rattle.run_hooks.specs.run_memory.Memory.{same_kind}
+use Rattle.run_hooks.specs.run_memory.declared.block.Kind.{Kind}
+use Rattle.run_hooks.specs.run_memory.declared.block.MemoryBlock.{MemoryBlock}
+use Rattle.run_hooks.specs.run_memory.declared.pointer.Offset.{Offset}
+use Rattle.run_hooks.specs.run_memory.declared.pointer.Pointer.{Pointer}
+use Rattle.run_hooks.specs.run_memory.declared.pointer.Value.{Value}
 use Rattle.run_slots.proofs.Blocks.{StaysAlike, step_alike}
 use Rattle.run_slots.proofs.Keeping.{added_slotted, alike_slotted, counted_slotted, dead_slotted, frame_apart}
 use Rattle.run_slots.proofs.Keeping.{heap_slotted, none_more}
@@ -33,26 +33,26 @@ use Rattle.run_slots.proofs.Times.{Dies, IsLeft, Stays, equal_is, with_back, wit
 use Rattle.run_slots.proofs.Times.{with_there, without_at, without_back}
 use Rattle.run_slots.specs.Slots.{AreSlotted, AreUngiven, IsFrameBlock, IsSlottedState, KeepsSlots}
 use Rattle.run_slots.specs.Slots.{StaysSlotted, is_alloca_block, once_if, times, times_on}
-use Rattle.run_source.proofs.Indexes.{last-passes}
-use Rattle.run_source.specs.Source.{Sleeper, after_end, branch_leaving, change_own, deallocate, end_of}
-use Rattle.run_source.specs.Source.{finish, if_let_go, is_over, left_windows, let_go, may_be_freed}
-use Rattle.run_source.specs.Source.{first_state, pop, release, return, returned, save_for, sleeper_at}
-use Rattle.run_source.specs.Source.{sleeper_of, slots_of, suspend}
-use Rattle.run_source.specs.State.{began_at, function_of, gives, instance_at, is_finished, last_from, last_where, next, numbered}
-use Rattle.run_source.specs.State.{or_undefined, own_instance, point_of, settled, with_instance, with_left, with_memory}
-use Rattle.run_source.specs.State.{work_of}
-use Rattle.run_source.specs.declared.state.Activation.{Activation}
-use Rattle.run_source.specs.declared.state.Instance.{Instance}
-use Rattle.run_source.specs.declared.state.Mode.{Mode}
-use Rattle.run_source.specs.declared.state.State.{State}
-use Rattle.run_source.specs.declared.state.Status.{Status}
-use Rattle.run_source_tables.specs.Given.{Given}
-use Rattle.run_step.specs.Results.{and_then, found, ok_if}
-use Rattle.run_step.specs.Runs.{iterate}
-use Rattle.run_step.specs.Step.{Action, Coro, Deallocate, Done, Enter, Fetched, GoTo, NewSlot, Return, Stuck}
-use Rattle.run_step.specs.Step.{action_of, deallocated, fetch, global_block, outcome_of, without_slots}
-use Rattle.run_step.specs.Values.{arg_values, nth}
-use Rattle.run_step.specs.declared.world.Slot.{Slot}
+use Rattle.run_hooks.proofs.run_source.Indexes.{last-passes}
+use Rattle.run_hooks.specs.run_source.Source.{Sleeper, after_end, branch_leaving, change_own, deallocate, end_of}
+use Rattle.run_hooks.specs.run_source.Source.{finish, if_let_go, is_over, left_windows, let_go, may_be_freed}
+use Rattle.run_hooks.specs.run_source.Source.{first_state, pop, release, return, returned, save_for, sleeper_at}
+use Rattle.run_hooks.specs.run_source.Source.{sleeper_of, slots_of, suspend}
+use Rattle.run_hooks.specs.run_source.State.{began_at, function_of, gives, instance_at, is_finished, last_from, last_where, next, numbered}
+use Rattle.run_hooks.specs.run_source.State.{or_undefined, own_instance, point_of, settled, with_instance, with_left, with_memory}
+use Rattle.run_hooks.specs.run_source.State.{work_of}
+use Rattle.run_hooks.specs.run_source.declared.state.Activation.{Activation}
+use Rattle.run_hooks.specs.run_source.declared.state.Instance.{Instance}
+use Rattle.run_hooks.specs.run_source.declared.state.Mode.{Mode}
+use Rattle.run_hooks.specs.run_source.declared.state.State.{State}
+use Rattle.run_hooks.specs.run_source.declared.state.Status.{Status}
+use Rattle.run_hooks.specs.run_source_tables.Given.{Given}
+use Rattle.run_hooks.specs.run_step.Results.{and_then, found, ok_if}
+use Rattle.run_hooks.specs.run_step.Runs.{iterate}
+use Rattle.run_hooks.specs.run_step.Step.{Action, Coro, Deallocate, Done, Enter, Fetched, GoTo, NewSlot, Return, Stuck}
+use Rattle.run_hooks.specs.run_step.Step.{action_of, deallocated, fetch, global_block, outcome_of, without_slots}
+use Rattle.run_hooks.specs.run_step.Values.{arg_values, nth}
+use Rattle.run_hooks.specs.run_step.declared.world.Slot.{Slot}
 
 -- ---- results
 

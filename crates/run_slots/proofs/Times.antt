@@ -2,12 +2,12 @@
 use Rattle.std.proofs.Common.{◌≡◌, ◌+◌, ◌<◌, ◌≤◌, ◌⊎◌, inl, inr, ℕ, zero, suc, Bool, true, false, List, [], ◌∷◌, ◌++◌, length}
 use Rattle.std.proofs.Common.{Option, Some, refl, sym, ap, ◌∙◌, subst, arith}
 use Rattle.std.specs.Prelude.{if◌then◌else◌, filter, not, slice_get, slice_set, ◌==◌}
-use Rattle.run_memory.specs.Memory.{killed, killed_block, with_block}
-use Rattle.run_memory.specs.declared.block.MemoryBlock.{MemoryBlock}
+use Rattle.run_hooks.specs.run_memory.Memory.{killed, killed_block, with_block}
+use Rattle.run_hooks.specs.run_memory.declared.block.MemoryBlock.{MemoryBlock}
 use Rattle.run_slots.specs.Slots.{once_if, times, times_in}
-use Rattle.run_source.specs.declared.state.Instance.{Instance}
-use Rattle.run_step.specs.Step.{without_slots}
-use Rattle.run_step.specs.declared.world.Slot.{Slot}
+use Rattle.run_hooks.specs.run_source.declared.state.Instance.{Instance}
+use Rattle.run_hooks.specs.run_step.Step.{without_slots}
+use Rattle.run_hooks.specs.run_step.declared.world.Slot.{Slot}
 
 -- ---- numbers
 

@@ -1,22 +1,22 @@
 -- Each slot is that of an alloca of its activation's or instance's function, in each state of a run by hooks.
 use Rattle.std.specs.Prelude.{◌≡◌, ℕ, List, [], ◌∷◌, slice_get, Some, Option, Result, Ok, Err}
-use Rattle.ir_base.specs.declared.cause.Cause.{Cause}
-use Rattle.ir_model.specs.Names.{function_at}
-use Rattle.ir_model.specs.Ty.{Ty}
-use Rattle.ir_model.specs.declared.instr.Instr.{Instr}
-use Rattle.ir_model.specs.declared.module.Function.{Function}
-use Rattle.ir_model.specs.declared.module.Module.{Module}
-use Rattle.ir_paths.specs.declared.point.Point.{Point}
+use Rattle.run_hooks.specs.ir_base.declared.cause.Cause.{Cause}
+use Rattle.run_hooks.specs.ir_model.Names.{function_at}
+use Rattle.run_hooks.specs.ir_model.Ty.{Ty}
+use Rattle.run_hooks.specs.ir_model.declared.instr.Instr.{Instr}
+use Rattle.run_hooks.specs.ir_model.declared.module.Function.{Function}
+use Rattle.run_hooks.specs.ir_model.declared.module.Module.{Module}
+use Rattle.run_hooks.specs.ir_paths.declared.point.Point.{Point}
 use Rattle.run_hooks.specs.Hooks.{Hooks}
 use Rattle.run_hooks.specs.Reached.{IsReachedState}
-use Rattle.run_memory.specs.declared.pointer.Value.{Value}
-use Rattle.run_source.specs.State.{function_of}
-use Rattle.run_source.specs.declared.state.Activation.{Activation}
-use Rattle.run_source.specs.declared.state.Instance.{Instance}
-use Rattle.run_source.specs.declared.state.State.{State}
-use Rattle.run_step.specs.Step.{AtInstr, Fetched, fetch}
-use Rattle.run_step.specs.Values.{Env}
-use Rattle.run_step.specs.declared.world.Slot.{Slot}
+use Rattle.run_hooks.specs.run_memory.declared.pointer.Value.{Value}
+use Rattle.run_hooks.specs.run_source.State.{function_of}
+use Rattle.run_hooks.specs.run_source.declared.state.Activation.{Activation}
+use Rattle.run_hooks.specs.run_source.declared.state.Instance.{Instance}
+use Rattle.run_hooks.specs.run_source.declared.state.State.{State}
+use Rattle.run_hooks.specs.run_step.Step.{AtInstr, Fetched, fetch}
+use Rattle.run_hooks.specs.run_step.Values.{Env}
+use Rattle.run_hooks.specs.run_step.declared.world.Slot.{Slot}
 
 -- an alloca of the function gives the name
 pub record IsMadeAt (f : Function) (v : ℕ) : Type 0 where

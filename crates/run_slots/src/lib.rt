@@ -9,19 +9,19 @@
 #![tactic(auto)]
 
 ghost use Rattle.std.specs.Prelude.{ℕ, List};
-ghost use Rattle.ir_base.specs.declared.outcome.Word.{Word};
-ghost use Rattle.pass_kept_proof.specs.Kept.{Keep, continue_keeping};
-ghost use Rattle.pass_renewed_proof.specs.Renewed.{RenewedGiven, renewed_step};
-ghost use Rattle.run_framed.specs.Framed.{FramedGiven, framed_state_at};
+ghost use Rattle.run_hooks.specs.ir_base.declared.outcome.Word.{Word};
+ghost use Rattle.run_hooks.specs.pass_kept_proof.Kept.{Keep, continue_keeping};
+ghost use Rattle.run_hooks.specs.pass_renewed_proof.Renewed.{RenewedGiven, renewed_step};
+ghost use Rattle.run_hooks.specs.run_framed.Framed.{FramedGiven, framed_state_at};
 ghost use Rattle.run_hooks.specs.Hooks.{Hooks, hooked_state_at, step_of};
 ghost use Rattle.run_hooks.specs.Meanings.{framed_hooks, kept_hooks, renewed_hooks, source_hooks};
 ghost use Rattle.run_hooks.specs.Reached.{AllHaveSwitches, IsReachedState};
 ghost use Rattle.run_slots.specs.Made.{IsMadeState, KeepsMade};
 ghost use Rattle.run_slots.specs.Slots.{GivesNoFrames, IsSlottedState, KeepsSlots};
-ghost use Rattle.run_source.specs.Source.{first_state, state_at, step_by};
-ghost use Rattle.run_source.specs.declared.state.State.{State};
-ghost use Rattle.run_source_tables.specs.Given.{Given};
-ghost use Rattle.run_step.specs.Runs.{iterate};
+ghost use Rattle.run_hooks.specs.run_source.Source.{first_state, state_at, step_by};
+ghost use Rattle.run_hooks.specs.run_source.declared.state.State.{State};
+ghost use Rattle.run_hooks.specs.run_source_tables.Given.{Given};
+ghost use Rattle.run_hooks.specs.run_step.Runs.{iterate};
 
 /// It holds at the start, and each step keeps it by hooks that place new slots, begin and end instances as the clauses of
 /// `KeepsSlots` say.

@@ -4,21 +4,21 @@
 //! agrees within 2 with the run of the module (`moves_keep_framed_meaning`).
 
 ghost use Rattle.std.specs.Prelude.{ℤ, List, ◌≡◌, ℕ};
-ghost use Rattle.run_source.specs.declared.state.State.{State};
+ghost use Rattle.ir_laws.specs.run_source.declared.state.State.{State};
 ghost use Rattle.ir_laws.specs.facts.sound_states.Named.{AreLocalsNamed};
 ghost use Rattle.frame_layout.specs.declared.layout.Layout.{Layout};
 ghost use Rattle.run_framed.specs.Framed.{framed_given, framed_step, framed_next, FramedAt};
-ghost use Rattle.ir_model.specs.declared.module.Module.{Module};
+ghost use Rattle.ir_laws.specs.ir_model.declared.module.Module.{Module};
 ghost use Rattle.run_states.specs.moved_states.Moving.{AllMove, Moving, KeepsKinds};
 ghost use Rattle.run_states.specs.moved_states.Near.{HoldsIn, IsNear};
-ghost use Rattle.ir_base.specs.declared.outcome.Outcome.{Outcome};
-ghost use Rattle.run_source.specs.State.{function_of};
-ghost use Rattle.run_step.specs.Step.{fetch};
+ghost use Rattle.ir_laws.specs.ir_base.declared.outcome.Outcome.{Outcome};
+ghost use Rattle.ir_laws.specs.run_source.State.{function_of};
+ghost use Rattle.ir_laws.specs.run_step.Step.{fetch};
 ghost use Rattle.run_states.specs.moved_states.MovedState.{moved_module, moved_state};
-ghost use Rattle.run_agreement.specs.Agreements.{AgreesWithin};
-ghost use Rattle.ir_base.specs.declared.outcome.Word.{Word};
+ghost use Rattle.ir_laws.specs.run_agreement.Agreements.{AgreesWithin};
+ghost use Rattle.ir_laws.specs.ir_base.declared.outcome.Word.{Word};
 ghost use Rattle.frame_layout.specs.declared.layout.Layouts.{Layouts};
-ghost use Rattle.run_agreement.specs.Costs.{AgreesBy, IsNear as IsWithin};
+ghost use Rattle.ir_laws.specs.run_agreement.Costs.{AgreesBy, IsNear as IsWithin};
 ghost use Rattle.run_states.specs.moved_states.Beside.{IsMovedOf, framed_machine, PaysFor};
 
 /// A framed step keeps what holds in each state.

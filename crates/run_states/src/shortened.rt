@@ -5,11 +5,11 @@
 
 ghost use Rattle.std.specs.Prelude.{◌≡◌};
 ghost use Rattle.run_states.specs.shortened.Shortened.{IsOwned, short_state};
-ghost use Rattle.run_source.specs.Source.{step};
-ghost use Rattle.run_source.specs.State.{own_instance};
-ghost use Rattle.run_source.specs.declared.state.State.{State};
+ghost use Rattle.ir_laws.specs.run_source.Source.{step};
+ghost use Rattle.ir_laws.specs.run_source.State.{own_instance};
+ghost use Rattle.ir_laws.specs.run_source.declared.state.State.{State};
 ghost use Rattle.ir_laws.specs.facts.sound_states.Named.{AreUsesNamed};
-ghost use Rattle.run_source_tables.specs.Given.{Given};
+ghost use Rattle.ir_laws.specs.run_source_tables.Given.{Given};
 
 /// Values behind those of a function's names are not seen: a step of a state whose values are cut is the step, cut.
 pub fn further_values_are_not_seen()

@@ -5,14 +5,14 @@
 //! suspend that keeps it (`steps_stay_sound`).
 
 ghost use Rattle.std.specs.Prelude.{ℕ, List, ℤ};
-ghost use Rattle.ir_base.specs.declared.outcome.Word.{Word};
-ghost use Rattle.run_source.specs.Source.{first_state, Continues, step, step_by, continue, given};
-ghost use Rattle.ir_model.specs.declared.module.Module.{Module};
+ghost use Rattle.ir_laws.specs.ir_base.declared.outcome.Word.{Word};
+ghost use Rattle.ir_laws.specs.run_source.Source.{first_state, Continues, step, step_by, continue, given};
+ghost use Rattle.ir_laws.specs.ir_model.declared.module.Module.{Module};
 ghost use Rattle.run_states.specs.sound_states.Sound.{IsSound, KeepsSound};
-ghost use Rattle.run_source.specs.declared.state.State.{State};
+ghost use Rattle.ir_laws.specs.run_source.declared.state.State.{State};
 ghost use Rattle.ir_laws.specs.facts.sound_states.Named.{AreLocalsNamed};
-ghost use Rattle.run_source_tables.specs.Given.{Given};
-ghost use Rattle.ir_model.specs.declared.module.Frame.{Frame};
+ghost use Rattle.ir_laws.specs.run_source_tables.Given.{Given};
+ghost use Rattle.ir_laws.specs.ir_model.declared.module.Frame.{Frame};
 
 /// A run starts in a sound state.
 pub fn runs_start_sound()

@@ -3,19 +3,19 @@ use Rattle.std.proofs.Common.{◌≡◌, ℕ, Bool, true, false, List, ℤ, negs
 use Rattle.std.proofs.Common.{Option, Some, None, Result, Ok, Err, refl, sym, ap, ◌∙◌, subst}
 use Rattle.std.proofs.lemmas.Bool.{eqb-true}
 use Rattle.std.specs.Prelude.{if◌then◌else◌, slice_get, unwrap_or, ◌==◌}
-use Rattle.ir_base.specs.declared.cause.Cause.{Cause}
-use Rattle.ir_base.specs.declared.outcome.Outcome.{Outcome}
-use Rattle.ir_model.specs.Names.{function_at}
-use Rattle.ir_model.specs.Ty.{Ty}
-use Rattle.ir_model.specs.declared.instr.Instr.{Instr}
-use Rattle.ir_model.specs.declared.module.Function.{Function}
-use Rattle.ir_model.specs.declared.module.Module.{Module}
-use Rattle.ir_model.specs.declared.operand.Arg.{Arg}
-use Rattle.ir_model.specs.declared.operand.Callee.{Callee}
-use Rattle.ir_model.specs.declared.operand.Intrinsic.{Intrinsic}
-use Rattle.ir_model.specs.declared.operand.Operand.{Operand}
-use Rattle.ir_paths.specs.Windows.{operand_at, suspend_of}
-use Rattle.ir_paths.specs.declared.point.Point.{Point}
+use Rattle.run_hooks.specs.ir_base.declared.cause.Cause.{Cause}
+use Rattle.run_hooks.specs.ir_base.declared.outcome.Outcome.{Outcome}
+use Rattle.run_hooks.specs.ir_model.Names.{function_at}
+use Rattle.run_hooks.specs.ir_model.Ty.{Ty}
+use Rattle.run_hooks.specs.ir_model.declared.instr.Instr.{Instr}
+use Rattle.run_hooks.specs.ir_model.declared.module.Function.{Function}
+use Rattle.run_hooks.specs.ir_model.declared.module.Module.{Module}
+use Rattle.run_hooks.specs.ir_model.declared.operand.Arg.{Arg}
+use Rattle.run_hooks.specs.ir_model.declared.operand.Callee.{Callee}
+use Rattle.run_hooks.specs.ir_model.declared.operand.Intrinsic.{Intrinsic}
+use Rattle.run_hooks.specs.ir_model.declared.operand.Operand.{Operand}
+use Rattle.run_hooks.specs.ir_paths.Windows.{operand_at, suspend_of}
+use Rattle.run_hooks.specs.ir_paths.declared.point.Point.{Point}
 use Rattle.rule_types.specs.Signatures.{are_wanted, is_result}
 use Rattle.rule_types.specs.Wants.{intrinsic_params, intrinsic_result, is_basic, is_int, is_ptr}
 use Rattle.rule_types.specs.declared.wants.Basic.{Basic}
@@ -23,21 +23,21 @@ use Rattle.rule_values.specs.Kinds.{kind_of, result_kind, value_kind}
 use Rattle.run_hooks.proofs.Reached.{at_is, get_coroutine}
 use Rattle.run_hooks.specs.Hooks.{Hooks, hooked_act, hooked_advance, hooked_context, hooked_coro, hooked_next, step_of}
 use Rattle.run_hooks.specs.Reached.{IsReachedState}
-use Rattle.run_ints.proofs.Widths.{IsWordOf-word_of}
-use Rattle.run_memory.specs.declared.pointer.Value.{Value}
-use Rattle.run_source.specs.Source.{Sleeper, after_end, change_own, end_of, frame_address, mode_of, release, save}
-use Rattle.run_source.specs.Source.{save_for, sleeper_at, sleeper_of, suspend}
-use Rattle.run_source.specs.State.{function_of, gives, instance_at, next, or_undefined, own_frame, own_instance}
-use Rattle.run_source.specs.State.{point_of, settled, with_instance, work_of}
-use Rattle.run_source.specs.declared.state.Activation.{Activation}
-use Rattle.run_source.specs.declared.state.Instance.{Instance}
-use Rattle.run_source.specs.declared.state.Mode.{Mode}
-use Rattle.run_source.specs.declared.state.State.{State}
-use Rattle.run_source.specs.declared.state.Status.{Status}
-use Rattle.run_step.specs.Results.{and_then, found, ok_if}
-use Rattle.run_step.specs.Step.{Action, AtInstr, Coro, Deallocate, Done, Enter, Fetched, GoTo, NewSlot, Return, Stuck}
-use Rattle.run_step.specs.Step.{action_of, fetch}
-use Rattle.run_step.specs.Values.{arg_values, integer, nth, truth_value}
+use Rattle.run_hooks.proofs.run_ints.Widths.{IsWordOf-word_of}
+use Rattle.run_hooks.specs.run_memory.declared.pointer.Value.{Value}
+use Rattle.run_hooks.specs.run_source.Source.{Sleeper, after_end, change_own, end_of, frame_address, mode_of, release, save}
+use Rattle.run_hooks.specs.run_source.Source.{save_for, sleeper_at, sleeper_of, suspend}
+use Rattle.run_hooks.specs.run_source.State.{function_of, gives, instance_at, next, or_undefined, own_frame, own_instance}
+use Rattle.run_hooks.specs.run_source.State.{point_of, settled, with_instance, work_of}
+use Rattle.run_hooks.specs.run_source.declared.state.Activation.{Activation}
+use Rattle.run_hooks.specs.run_source.declared.state.Instance.{Instance}
+use Rattle.run_hooks.specs.run_source.declared.state.Mode.{Mode}
+use Rattle.run_hooks.specs.run_source.declared.state.State.{State}
+use Rattle.run_hooks.specs.run_source.declared.state.Status.{Status}
+use Rattle.run_hooks.specs.run_step.Results.{and_then, found, ok_if}
+use Rattle.run_hooks.specs.run_step.Step.{Action, AtInstr, Coro, Deallocate, Done, Enter, Fetched, GoTo, NewSlot, Return, Stuck}
+use Rattle.run_hooks.specs.run_step.Step.{action_of, fetch}
+use Rattle.run_hooks.specs.run_step.Values.{arg_values, integer, nth, truth_value}
 use Rattle.run_types.proofs.Fit.{both_true, fits_as, no_integer, poison_fits, truth_fits, type_fits}
 use Rattle.run_types.proofs.Ordinary.{action_fine}
 use Rattle.run_types.proofs.Results.{Called, FitsAction, IsCoroCall}

@@ -2,31 +2,31 @@
 use Rattle.std.proofs.Common.{◌≡◌, ℕ, Bool, true, false, not, List, [], ◌∷◌, ◌++◌, length, ◌&&◌, Option, Some, None}
 use Rattle.std.proofs.Common.{Result, Ok, Err, refl}
 use Rattle.std.specs.Prelude.{filter, if◌then◌else◌, is_none, slice_get, ◌==◌}
-use Rattle.ir_base.specs.declared.cause.Cause.{Cause}
-use Rattle.ir_model.specs.Names.{function_at}
-use Rattle.ir_model.specs.declared.module.Module.{Module}
-use Rattle.ir_paths.specs.declared.point.Point.{Point}
-use Rattle.run_framed.specs.Framed.{FramedGiven, are_finished_at, at_point, begin_given, begin_given_at, begin_in_block}
-use Rattle.run_framed.specs.Framed.{begin_in_frame, disown_given, enter_after, frame_around, has_room, has_size}
-use Rattle.run_framed.specs.Framed.{is_stack_block, with_mode}
+use Rattle.run_hooks.specs.ir_base.declared.cause.Cause.{Cause}
+use Rattle.run_hooks.specs.ir_model.Names.{function_at}
+use Rattle.run_hooks.specs.ir_model.declared.module.Module.{Module}
+use Rattle.run_hooks.specs.ir_paths.declared.point.Point.{Point}
+use Rattle.run_hooks.specs.run_framed.Framed.{FramedGiven, are_finished_at, at_point, begin_given, begin_given_at, begin_in_block}
+use Rattle.run_hooks.specs.run_framed.Framed.{begin_in_frame, disown_given, enter_after, frame_around, has_room, has_size}
+use Rattle.run_hooks.specs.run_framed.Framed.{is_stack_block, with_mode}
 use Rattle.run_hooks.proofs.alive.Parts.{all_append}
-use Rattle.run_memory.specs.Memory.{disown, own, start}
-use Rattle.run_memory.specs.declared.block.Kind.{Kind as BlockKind}
-use Rattle.run_memory.specs.declared.block.MemoryBlock.{MemoryBlock}
-use Rattle.run_memory.specs.declared.pointer.Offset.{Offset}
-use Rattle.run_memory.specs.declared.pointer.Pointer.{Pointer}
-use Rattle.run_memory.specs.declared.pointer.Value.{Value}
-use Rattle.run_source.specs.Source.{begin, begin_at, begun, change_own, finish, is_among, is_live_at, new_instance}
-use Rattle.run_source.specs.Source.{push, resumed, slots_of}
-use Rattle.run_source.specs.State.{gives, own_facts, own_frame, own_instance, with_instance, with_memory, with_status}
-use Rattle.run_source.specs.declared.state.Instance.{Instance}
-use Rattle.run_source.specs.declared.state.Mode.{Mode}
-use Rattle.run_source.specs.declared.state.State.{State}
-use Rattle.run_source.specs.declared.state.Status.{Status}
-use Rattle.run_source_tables.specs.Given.{Given}
-use Rattle.run_step.specs.Results.{and_then, found, ok_if}
-use Rattle.run_step.specs.Step.{block_of, without_slots}
-use Rattle.run_step.specs.Values.{Env}
+use Rattle.run_hooks.specs.run_memory.Memory.{disown, own, start}
+use Rattle.run_hooks.specs.run_memory.declared.block.Kind.{Kind as BlockKind}
+use Rattle.run_hooks.specs.run_memory.declared.block.MemoryBlock.{MemoryBlock}
+use Rattle.run_hooks.specs.run_memory.declared.pointer.Offset.{Offset}
+use Rattle.run_hooks.specs.run_memory.declared.pointer.Pointer.{Pointer}
+use Rattle.run_hooks.specs.run_memory.declared.pointer.Value.{Value}
+use Rattle.run_hooks.specs.run_source.Source.{begin, begin_at, begun, change_own, finish, is_among, is_live_at, new_instance}
+use Rattle.run_hooks.specs.run_source.Source.{push, resumed, slots_of}
+use Rattle.run_hooks.specs.run_source.State.{gives, own_facts, own_frame, own_instance, with_instance, with_memory, with_status}
+use Rattle.run_hooks.specs.run_source.declared.state.Instance.{Instance}
+use Rattle.run_hooks.specs.run_source.declared.state.Mode.{Mode}
+use Rattle.run_hooks.specs.run_source.declared.state.State.{State}
+use Rattle.run_hooks.specs.run_source.declared.state.Status.{Status}
+use Rattle.run_hooks.specs.run_source_tables.Given.{Given}
+use Rattle.run_hooks.specs.run_step.Results.{and_then, found, ok_if}
+use Rattle.run_hooks.specs.run_step.Step.{block_of, without_slots}
+use Rattle.run_hooks.specs.run_step.Values.{Env}
 use Rattle.run_types.proofs.Bytes.{GivesBytes, disowned_has, own_has, without_has}
 use Rattle.run_hooks.proofs.alive.Places.{own_there}
 use Rattle.run_types.proofs.Parts.{all_set, entered, gives_fits, instance_set, memory_set, no_result, pushed}

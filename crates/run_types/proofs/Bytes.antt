@@ -8,25 +8,25 @@ use Rattle.std.proofs.Math.Pow.{pow_mono}
 use Rattle.std.proofs.lemmas.Bool.{eq-eqb, eqb-true, ltb-false}
 use Rattle.std.proofs.lemmas.Nat.{pow-add}
 use Rattle.std.specs.Prelude.{drop, if◌then◌else◌, nat_lt, not, slice_get, take, ◌||◌}
-use Rattle.ir_base.specs.declared.cause.Cause.{Cause}
+use Rattle.run_hooks.specs.ir_base.declared.cause.Cause.{Cause}
 use Rattle.ir_laws.specs.facts.counted.Widths.{is_width}
 use Rattle.run_hooks.proofs.alive.Parts.{all_append, all_where}
-use Rattle.run_memory.specs.Memory.{Rights, access_bytes, both, bytes_at, bytes_in, check, copied, copy, decode, digits}
-use Rattle.run_memory.specs.Memory.{disowned, encode, ended}
-use Rattle.run_memory.specs.Memory.{fresh, integer_from, is_constant, is_owned, is_killed, is_unkilled, kill, killed}
-use Rattle.run_memory.specs.Memory.{killed_block, load, may_be_owned, number_of, on_ok}
-use Rattle.run_memory.specs.Memory.{onto, overlaps, own, owned_to, parts, range, started, store, unless_constant}
-use Rattle.run_memory.specs.Memory.{width_bytes, with_block, with_bytes, write, written}
-use Rattle.run_memory.specs.declared.block.Byte.{Byte}
-use Rattle.run_memory.specs.declared.block.Kind.{Kind}
-use Rattle.run_memory.specs.declared.block.Life.{Life}
-use Rattle.run_memory.specs.declared.block.MemoryBlock.{MemoryBlock}
-use Rattle.run_memory.specs.declared.pointer.Access.{Access}
-use Rattle.run_memory.specs.declared.pointer.Pointer.{Pointer}
-use Rattle.run_memory.specs.declared.pointer.Spot.{Spot}
-use Rattle.run_memory.specs.declared.pointer.Value.{Value}
-use Rattle.run_step.specs.Step.{deallocated, without_slots}
-use Rattle.run_step.specs.declared.world.Slot.{Slot}
+use Rattle.run_hooks.specs.run_memory.Memory.{Rights, access_bytes, both, bytes_at, bytes_in, check, copied, copy, decode, digits}
+use Rattle.run_hooks.specs.run_memory.Memory.{disowned, encode, ended}
+use Rattle.run_hooks.specs.run_memory.Memory.{fresh, integer_from, is_constant, is_owned, is_killed, is_unkilled, kill, killed}
+use Rattle.run_hooks.specs.run_memory.Memory.{killed_block, load, may_be_owned, number_of, on_ok}
+use Rattle.run_hooks.specs.run_memory.Memory.{onto, overlaps, own, owned_to, parts, range, started, store, unless_constant}
+use Rattle.run_hooks.specs.run_memory.Memory.{width_bytes, with_block, with_bytes, write, written}
+use Rattle.run_hooks.specs.run_memory.declared.block.Byte.{Byte}
+use Rattle.run_hooks.specs.run_memory.declared.block.Kind.{Kind}
+use Rattle.run_hooks.specs.run_memory.declared.block.Life.{Life}
+use Rattle.run_hooks.specs.run_memory.declared.block.MemoryBlock.{MemoryBlock}
+use Rattle.run_hooks.specs.run_memory.declared.pointer.Access.{Access}
+use Rattle.run_hooks.specs.run_memory.declared.pointer.Pointer.{Pointer}
+use Rattle.run_hooks.specs.run_memory.declared.pointer.Spot.{Spot}
+use Rattle.run_hooks.specs.run_memory.declared.pointer.Value.{Value}
+use Rattle.run_hooks.specs.run_step.Step.{deallocated, without_slots}
+use Rattle.run_hooks.specs.run_step.declared.world.Slot.{Slot}
 use Rattle.run_types.specs.Fitting.{AreBytes, HaveBytes, IsByte, IsInteger}
 
 -- ---- lists of bytes

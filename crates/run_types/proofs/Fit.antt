@@ -4,29 +4,29 @@ use Rattle.std.proofs.Common.{Option, Some, None, refl, sym, ap, ◌∙◌, subs
 use Rattle.std.proofs.lemmas.Bool.{eq-eqb, eqb-true, ltb-true}
 use Rattle.std.specs.List.{AllByRecursion, list_all}
 use Rattle.std.specs.Prelude.{if◌then◌else◌, nat_lt, slice_get}
-use Rattle.ir_model.specs.Layout.{same_type}
-use Rattle.ir_model.specs.Ty.{Ty, array, int, named, ptr, structure, token}
-use Rattle.ir_model.specs.declared.instr.Incoming.{Incoming}
-use Rattle.ir_model.specs.declared.instr.Phi.{Phi}
-use Rattle.ir_model.specs.declared.module.Function.{Function}
-use Rattle.ir_model.specs.declared.module.Module.{Module}
-use Rattle.ir_model.specs.declared.module.Param.{Param}
-use Rattle.ir_model.specs.declared.operand.Arg.{Arg}
-use Rattle.ir_model.specs.declared.operand.Operand.{Operand}
-use Rattle.pass_renewed_proof.proofs.Sets.{set_elsewhere}
+use Rattle.run_hooks.specs.ir_model.Layout.{same_type}
+use Rattle.run_hooks.specs.ir_model.Ty.{Ty, array, int, named, ptr, structure, token}
+use Rattle.run_hooks.specs.ir_model.declared.instr.Incoming.{Incoming}
+use Rattle.run_hooks.specs.ir_model.declared.instr.Phi.{Phi}
+use Rattle.run_hooks.specs.ir_model.declared.module.Function.{Function}
+use Rattle.run_hooks.specs.ir_model.declared.module.Module.{Module}
+use Rattle.run_hooks.specs.ir_model.declared.module.Param.{Param}
+use Rattle.run_hooks.specs.ir_model.declared.operand.Arg.{Arg}
+use Rattle.run_hooks.specs.ir_model.declared.operand.Operand.{Operand}
+use Rattle.run_hooks.proofs.pass_renewed_proof.Sets.{set_elsewhere}
 use Rattle.rule_types.specs.Wants.{is_int, is_ptr, is_token}
 use Rattle.rule_values.specs.Fits.{fits, fits_arg, fits_kind, is_scalar}
 use Rattle.rule_values.specs.Kinds.{kind_if, kind_of, value_kind}
 use Rattle.rule_values.specs.Values.{takes}
 use Rattle.rule_values.specs.declared.kinds.Kind.{Kind}
-use Rattle.run_ints.proofs.Widths.{IsWordOf-word_of}
-use Rattle.run_ints.specs.Numbers.{truth}
-use Rattle.run_ints.specs.Words.{IsNumOf, IsWordOf}
-use Rattle.run_ints.specs.declared.num.Num.{Num}
-use Rattle.run_memory.specs.declared.pointer.Value.{Value}
-use Rattle.run_step.specs.Step.{entry_values, incoming_from, phi_values, phis_of, values_in, with_all, with_params}
-use Rattle.run_step.specs.Values.{Env, arg_value, is_word_of, literal, number_of_width, operand_value, truth_value}
-use Rattle.run_step.specs.Values.{value_in, value_of, with_result, with_value}
+use Rattle.run_hooks.proofs.run_ints.Widths.{IsWordOf-word_of}
+use Rattle.run_hooks.specs.run_ints.Numbers.{truth}
+use Rattle.run_hooks.specs.run_ints.Words.{IsNumOf, IsWordOf}
+use Rattle.run_hooks.specs.run_ints.declared.num.Num.{Num}
+use Rattle.run_hooks.specs.run_memory.declared.pointer.Value.{Value}
+use Rattle.run_hooks.specs.run_step.Step.{entry_values, incoming_from, phi_values, phis_of, values_in, with_all, with_params}
+use Rattle.run_hooks.specs.run_step.Values.{Env, arg_value, is_word_of, literal, number_of_width, operand_value, truth_value}
+use Rattle.run_hooks.specs.run_step.Values.{value_in, value_of, with_result, with_value}
 use Rattle.run_types.specs.Fitting.{AreFitting, FitParams, FitsKind, FitsType, IsInteger}
 use Rattle.run_types.specs.Rules.{FitsPhi, KeepsTypes}
 

@@ -1,14 +1,14 @@
 -- Values that are handed on at a resume fit.
 use Rattle.std.proofs.Common.{ℕ, zero, suc, Bool, true, false, [], ◌∷◌, Option, Some, None}
 use Rattle.std.specs.Prelude.{if◌then◌else◌}
-use Rattle.ir_model.specs.declared.module.Function.{Function}
-use Rattle.pass_kept_proof.specs.Kept.{kept}
-use Rattle.pass_renewed_proof.specs.Renewed.{in_new_slot, renewed_value, renewed_values}
+use Rattle.run_hooks.specs.ir_model.declared.module.Function.{Function}
+use Rattle.run_hooks.specs.pass_kept_proof.Kept.{kept}
+use Rattle.run_hooks.specs.pass_renewed_proof.Renewed.{in_new_slot, renewed_value, renewed_values}
 use Rattle.rule_values.specs.Kinds.{value_kind}
 use Rattle.rule_values.specs.declared.kinds.Kind.{Kind}
-use Rattle.run_memory.specs.declared.pointer.Pointer.{Pointer}
-use Rattle.run_memory.specs.declared.pointer.Value.{Value}
-use Rattle.run_step.specs.Values.{Env, value_in}
+use Rattle.run_hooks.specs.run_memory.declared.pointer.Pointer.{Pointer}
+use Rattle.run_hooks.specs.run_memory.declared.pointer.Value.{Value}
+use Rattle.run_hooks.specs.run_step.Values.{Env, value_in}
 use Rattle.run_types.proofs.Fit.{poison_fits}
 use Rattle.run_types.specs.Fitting.{AreFitting, FitsKind}
 

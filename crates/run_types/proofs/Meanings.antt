@@ -3,47 +3,47 @@ use Rattle.std.proofs.Common.{◌≡◌, ℕ, Bool, true, false, List, [], ◌�
 use Rattle.std.proofs.Common.{refl, sym, ap, ◌∙◌, subst, replicate}
 use Rattle.std.specs.List.{list_all}
 use Rattle.std.specs.Prelude.{if◌then◌else◌, option_and_then, slice_get}
-use Rattle.ir_base.specs.declared.cause.Cause.{Cause}
-use Rattle.ir_base.specs.declared.name.Name.{Name}
-use Rattle.ir_model.specs.Layout.{same_type}
-use Rattle.ir_model.specs.Names.{function_at}
-use Rattle.ir_model.specs.Ty.{Ty}
-use Rattle.ir_model.specs.declared.instr.Instr.{Instr}
-use Rattle.ir_model.specs.declared.module.Function.{Function}
-use Rattle.ir_model.specs.declared.module.Module.{Module}
-use Rattle.ir_model.specs.declared.module.Param.{Param}
-use Rattle.ir_model.specs.declared.operand.Arg.{Arg}
-use Rattle.ir_model.specs.declared.operand.Callee.{Callee}
-use Rattle.ir_model.specs.declared.operand.Intrinsic.{Intrinsic}
-use Rattle.ir_paths.specs.Windows.{call_result, instr_at, is_call_of, points_where}
-use Rattle.ir_paths.specs.declared.point.Point.{Point}
-use Rattle.pass_kept_proof.proofs.Rules.{where_is}
-use Rattle.pass_kept_proof.specs.Kept.{Keep, continue_keeping, kept}
-use Rattle.pass_renewed_proof.proofs.Left.{instr_there}
-use Rattle.pass_renewed_proof.specs.Renewed.{RenewedGiven, framed_of, renew_after, renewed_from, renewed_slot}
-use Rattle.pass_renewed_proof.specs.Renewed.{with_life, with_renewed}
+use Rattle.run_hooks.specs.ir_base.declared.cause.Cause.{Cause}
+use Rattle.run_hooks.specs.ir_base.declared.name.Name.{Name}
+use Rattle.run_hooks.specs.ir_model.Layout.{same_type}
+use Rattle.run_hooks.specs.ir_model.Names.{function_at}
+use Rattle.run_hooks.specs.ir_model.Ty.{Ty}
+use Rattle.run_hooks.specs.ir_model.declared.instr.Instr.{Instr}
+use Rattle.run_hooks.specs.ir_model.declared.module.Function.{Function}
+use Rattle.run_hooks.specs.ir_model.declared.module.Module.{Module}
+use Rattle.run_hooks.specs.ir_model.declared.module.Param.{Param}
+use Rattle.run_hooks.specs.ir_model.declared.operand.Arg.{Arg}
+use Rattle.run_hooks.specs.ir_model.declared.operand.Callee.{Callee}
+use Rattle.run_hooks.specs.ir_model.declared.operand.Intrinsic.{Intrinsic}
+use Rattle.run_hooks.specs.ir_paths.Windows.{call_result, instr_at, is_call_of, points_where}
+use Rattle.run_hooks.specs.ir_paths.declared.point.Point.{Point}
+use Rattle.run_hooks.proofs.pass_kept_proof.Rules.{where_is}
+use Rattle.run_hooks.specs.pass_kept_proof.Kept.{Keep, continue_keeping, kept}
+use Rattle.run_hooks.proofs.pass_renewed_proof.Left.{instr_there}
+use Rattle.run_hooks.specs.pass_renewed_proof.Renewed.{RenewedGiven, framed_of, renew_after, renewed_from, renewed_slot}
+use Rattle.run_hooks.specs.pass_renewed_proof.Renewed.{with_life, with_renewed}
 use Rattle.rule_types.specs.Signatures.{are_wanted, is_result}
 use Rattle.rule_types.specs.Wants.{intrinsic_params, is_ptr}
 use Rattle.rule_types.specs.declared.wants.Basic.{Basic}
 use Rattle.rule_values.specs.Fits.{fits_arg}
 use Rattle.rule_values.specs.Instrs.{is_passed, passes}
 use Rattle.rule_values.specs.Kinds.{kind_of, result_kind, value_kind}
-use Rattle.run_framed.specs.Framed.{FramedGiven, alloca_from, begin_name, continue_framed, enter_given, framed_begin}
-use Rattle.run_framed.specs.Framed.{framed_slot, given_call, given_ramp, last_value, reentry_values}
+use Rattle.run_hooks.specs.run_framed.Framed.{FramedGiven, alloca_from, begin_name, continue_framed, enter_given, framed_begin}
+use Rattle.run_hooks.specs.run_framed.Framed.{framed_slot, given_call, given_ramp, last_value, reentry_values}
 use Rattle.run_hooks.specs.Meanings.{framed_hooks, hooks_by, kept_hooks, renewed_hooks, source_hooks}
-use Rattle.run_memory.specs.Memory.{own, start}
-use Rattle.run_memory.specs.declared.pointer.Value.{Value}
-use Rattle.run_source.specs.Source.{Continues, called, continue, finish, push, resumed}
-use Rattle.run_source.specs.State.{frame_address_of, function_of, gives, own_instance, with_memory, with_slots}
-use Rattle.run_source.specs.State.{with_status}
-use Rattle.run_source.specs.declared.state.Instance.{Instance}
-use Rattle.run_source.specs.declared.state.Mode.{Mode}
-use Rattle.run_source.specs.declared.state.State.{State}
-use Rattle.run_source.specs.declared.state.Status.{Status}
-use Rattle.run_source_tables.specs.Given.{Given}
-use Rattle.run_step.specs.Step.{AtInstr, Fetched, fetch}
-use Rattle.run_step.specs.Values.{Env, arg_value, arg_values}
-use Rattle.run_step.specs.declared.world.Slot.{Slot}
+use Rattle.run_hooks.specs.run_memory.Memory.{own, start}
+use Rattle.run_hooks.specs.run_memory.declared.pointer.Value.{Value}
+use Rattle.run_hooks.specs.run_source.Source.{Continues, called, continue, finish, push, resumed}
+use Rattle.run_hooks.specs.run_source.State.{frame_address_of, function_of, gives, own_instance, with_memory, with_slots}
+use Rattle.run_hooks.specs.run_source.State.{with_status}
+use Rattle.run_hooks.specs.run_source.declared.state.Instance.{Instance}
+use Rattle.run_hooks.specs.run_source.declared.state.Mode.{Mode}
+use Rattle.run_hooks.specs.run_source.declared.state.State.{State}
+use Rattle.run_hooks.specs.run_source.declared.state.Status.{Status}
+use Rattle.run_hooks.specs.run_source_tables.Given.{Given}
+use Rattle.run_hooks.specs.run_step.Step.{AtInstr, Fetched, fetch}
+use Rattle.run_hooks.specs.run_step.Values.{Env, arg_value, arg_values}
+use Rattle.run_hooks.specs.run_step.declared.world.Slot.{Slot}
 use Rattle.run_types.proofs.Bytes.{started_has}
 use Rattle.run_types.proofs.Fit.{arg_fits, both_true, fits_as, no_integer, result_fits, same_fits, unset_fits}
 use Rattle.run_types.proofs.Parts.{called_fits, entered, memory_set, placed, slots_set}

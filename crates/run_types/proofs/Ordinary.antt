@@ -2,23 +2,23 @@
 use Rattle.std.proofs.Common.{◌≡◌, ℕ, Bool, true, false, List, length, map, ◌&&◌, Option, Some, None, Result, Ok, Err}
 use Rattle.std.proofs.Common.{refl, sym, ap, ◌∙◌, subst}
 use Rattle.std.specs.Prelude.{if◌then◌else◌, slice_get, unwrap_or}
-use Rattle.ir_base.specs.declared.cause.Cause.{Cause}
-use Rattle.ir_base.specs.declared.name.Name.{Name}
-use Rattle.ir_base.specs.declared.ops.Pred.{Pred}
-use Rattle.ir_base.specs.declared.outcome.Word.{Word}
+use Rattle.run_hooks.specs.ir_base.declared.cause.Cause.{Cause}
+use Rattle.run_hooks.specs.ir_base.declared.name.Name.{Name}
+use Rattle.run_hooks.specs.ir_base.declared.ops.Pred.{Pred}
+use Rattle.run_hooks.specs.ir_base.declared.outcome.Word.{Word}
 use Rattle.ir_laws.specs.facts.counted.Widths.{has_width}
-use Rattle.ir_model.specs.Layout.{same_type, size_of}
-use Rattle.ir_model.specs.Names.{declaration_named, function_at, function_named, no_function}
-use Rattle.ir_model.specs.Ty.{Ty, array, int, named, ptr, structure, token}
-use Rattle.ir_model.specs.declared.instr.Case.{Case}
-use Rattle.ir_model.specs.declared.instr.Instr.{Instr}
-use Rattle.ir_model.specs.declared.instr.Terminator.{Terminator}
-use Rattle.ir_model.specs.declared.module.Function.{Function}
-use Rattle.ir_model.specs.declared.module.Module.{Module}
-use Rattle.ir_model.specs.declared.operand.Allocator.{Allocator}
-use Rattle.ir_model.specs.declared.operand.Arg.{Arg}
-use Rattle.ir_model.specs.declared.operand.Callee.{Callee}
-use Rattle.ir_model.specs.declared.operand.Intrinsic.{Intrinsic}
+use Rattle.run_hooks.specs.ir_model.Layout.{same_type, size_of}
+use Rattle.run_hooks.specs.ir_model.Names.{declaration_named, function_at, function_named, no_function}
+use Rattle.run_hooks.specs.ir_model.Ty.{Ty, array, int, named, ptr, structure, token}
+use Rattle.run_hooks.specs.ir_model.declared.instr.Case.{Case}
+use Rattle.run_hooks.specs.ir_model.declared.instr.Instr.{Instr}
+use Rattle.run_hooks.specs.ir_model.declared.instr.Terminator.{Terminator}
+use Rattle.run_hooks.specs.ir_model.declared.module.Function.{Function}
+use Rattle.run_hooks.specs.ir_model.declared.module.Module.{Module}
+use Rattle.run_hooks.specs.ir_model.declared.operand.Allocator.{Allocator}
+use Rattle.run_hooks.specs.ir_model.declared.operand.Arg.{Arg}
+use Rattle.run_hooks.specs.ir_model.declared.operand.Callee.{Callee}
+use Rattle.run_hooks.specs.ir_model.declared.operand.Intrinsic.{Intrinsic}
 use Rattle.rule_types.specs.Signatures.{are_wanted, fits_function as fits_types, fits_position, is_result}
 use Rattle.rule_types.specs.Signatures.{same_result as same_types_of}
 use Rattle.rule_types.specs.Wants.{allocator_params, allocator_result, is_ptr}
@@ -26,21 +26,21 @@ use Rattle.rule_values.specs.Fits.{fits, fits_arg, fits_scalar, is_scalar}
 use Rattle.rule_values.specs.Kinds.{instr_kind, kind_of, result_kind, value_kind}
 use Rattle.rule_values.specs.Values.{fits_return}
 use Rattle.rule_values.specs.declared.kinds.Kind.{Kind}
-use Rattle.run_ints.proofs.Widths.{icmp-kept}
-use Rattle.run_ints.specs.Numbers.{binary, icmp}
-use Rattle.run_memory.specs.Memory.{compare, copy, end, fresh, load, start, store}
-use Rattle.run_memory.specs.declared.block.Kind.{Kind as BlockKind}
-use Rattle.run_memory.specs.declared.block.MemoryBlock.{MemoryBlock}
-use Rattle.run_memory.specs.declared.pointer.Pointer.{Pointer}
-use Rattle.run_memory.specs.declared.pointer.Value.{Value}
-use Rattle.run_step.specs.Step.{Action, AtInstr, AtTerm, Context, Done, Enter, Fetched, Nowhere, Return, Stuck, Work}
-use Rattle.run_step.specs.Step.{action_of, alloca, alloca_kind, allocated, allocator_call, answer, block_of, branch}
-use Rattle.run_step.specs.Step.{by_pred, cast_to, chosen, compared, copied_bytes, done, fetch, fits_function}
-use Rattle.run_step.specs.Step.{fits_params, has_markers, if_alignment, indirect_call, instr_action, intrinsic_call}
-use Rattle.run_step.specs.Step.{is_alignment, named_call, observed, on_block, same_result, set_memory, set_value}
-use Rattle.run_step.specs.Step.{switch, term_action, value_at, with_length, words_of}
-use Rattle.run_step.specs.Values.{access_of, address, arg_value, arg_values, element, indices_of, distance, literal}
-use Rattle.run_step.specs.Values.{nth, number_at, number_of_width, pointer_to, stored, truth_value, value_in, value_of}
+use Rattle.run_hooks.proofs.run_ints.Widths.{icmp-kept}
+use Rattle.run_hooks.specs.run_ints.Numbers.{binary, icmp}
+use Rattle.run_hooks.specs.run_memory.Memory.{compare, copy, end, fresh, load, start, store}
+use Rattle.run_hooks.specs.run_memory.declared.block.Kind.{Kind as BlockKind}
+use Rattle.run_hooks.specs.run_memory.declared.block.MemoryBlock.{MemoryBlock}
+use Rattle.run_hooks.specs.run_memory.declared.pointer.Pointer.{Pointer}
+use Rattle.run_hooks.specs.run_memory.declared.pointer.Value.{Value}
+use Rattle.run_hooks.specs.run_step.Step.{Action, AtInstr, AtTerm, Context, Done, Enter, Fetched, Nowhere, Return, Stuck, Work}
+use Rattle.run_hooks.specs.run_step.Step.{action_of, alloca, alloca_kind, allocated, allocator_call, answer, block_of, branch}
+use Rattle.run_hooks.specs.run_step.Step.{by_pred, cast_to, chosen, compared, copied_bytes, done, fetch, fits_function}
+use Rattle.run_hooks.specs.run_step.Step.{fits_params, has_markers, if_alignment, indirect_call, instr_action, intrinsic_call}
+use Rattle.run_hooks.specs.run_step.Step.{is_alignment, named_call, observed, on_block, same_result, set_memory, set_value}
+use Rattle.run_hooks.specs.run_step.Step.{switch, term_action, value_at, with_length, words_of}
+use Rattle.run_hooks.specs.run_step.Values.{access_of, address, arg_value, arg_values, element, indices_of, distance, literal}
+use Rattle.run_hooks.specs.run_step.Values.{nth, number_at, number_of_width, pointer_to, stored, truth_value, value_in, value_of}
 use Rattle.run_types.proofs.Bytes.{GivesBytes, copy_has, ended_has, fresh_has, loaded, started_has, store_has}
 use Rattle.run_types.proofs.Fit.{arg_fits, both_true, fits_as, kind_self, literal_fits, number_fits, poison_fits}
 use Rattle.run_types.proofs.Fit.{result_fits, same_back, same_fits, set_fits, truth_word, type_fits}

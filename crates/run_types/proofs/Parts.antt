@@ -3,33 +3,33 @@ use Rattle.std.proofs.Common.{◌≡◌, ℕ, zero, suc, Bool, true, false, List
 use Rattle.std.proofs.Common.{Option, Some, None, Result, Ok, Err, refl, sym, subst, ◌&&◌}
 use Rattle.std.specs.List.{AllByRecursion, list_all}
 use Rattle.std.specs.Prelude.{filter, if◌then◌else◌, not, slice_get, slice_set, unwrap_or}
-use Rattle.ir_base.specs.declared.cause.Cause.{Cause}
-use Rattle.ir_base.specs.declared.outcome.Outcome.{Outcome}
-use Rattle.ir_model.specs.Names.{function_at, position_of}
-use Rattle.ir_model.specs.declared.module.Function.{Function}
-use Rattle.ir_model.specs.declared.module.Module.{Module}
-use Rattle.ir_paths.specs.declared.point.Point.{Point}
-use Rattle.ir_paths.specs.declared.point.Window.{Window}
+use Rattle.run_hooks.specs.ir_base.declared.cause.Cause.{Cause}
+use Rattle.run_hooks.specs.ir_base.declared.outcome.Outcome.{Outcome}
+use Rattle.run_hooks.specs.ir_model.Names.{function_at, position_of}
+use Rattle.run_hooks.specs.ir_model.declared.module.Function.{Function}
+use Rattle.run_hooks.specs.ir_model.declared.module.Module.{Module}
+use Rattle.run_hooks.specs.ir_paths.declared.point.Point.{Point}
+use Rattle.run_hooks.specs.ir_paths.declared.point.Window.{Window}
 use Rattle.rule_values.specs.Kinds.{value_kind}
 use Rattle.run_hooks.proofs.alive.Parts.{all_where}
 use Rattle.run_hooks.proofs.alive.Places.{own_there}
-use Rattle.run_memory.specs.Memory.{disown, killed}
-use Rattle.run_memory.specs.declared.block.MemoryBlock.{MemoryBlock}
-use Rattle.run_memory.specs.declared.pointer.Value.{Value}
-use Rattle.run_source.specs.Source.{branch_leaving, called, change_own, deallocate, enter_block, go_to, if_let_go}
-use Rattle.run_source.specs.Source.{is_among, is_over, kill_late, left_windows, let_go, may_be_freed, may_leave}
-use Rattle.run_source.specs.Source.{new_slot, pop, push, return, returned, save_for, with_new_slots}
-use Rattle.run_source.specs.State.{gives, instance_at, next, own_facts, own_instance, settled, with_instance, with_left}
-use Rattle.run_source.specs.State.{with_memory, with_slots, with_status}
-use Rattle.run_source.specs.declared.state.Activation.{Activation}
-use Rattle.run_source.specs.declared.state.Instance.{Instance}
-use Rattle.run_source.specs.declared.state.Mode.{Mode}
-use Rattle.run_source.specs.declared.state.State.{State}
-use Rattle.run_source.specs.declared.state.Status.{Status}
-use Rattle.run_source_tables.specs.Given.{Given}
-use Rattle.run_step.specs.Results.{and_then, found, ok_if}
-use Rattle.run_step.specs.Step.{Work, deallocated, label_of, outcome_of, values_in, without_slots}
-use Rattle.run_step.specs.declared.world.Slot.{Slot}
+use Rattle.run_hooks.specs.run_memory.Memory.{disown, killed}
+use Rattle.run_hooks.specs.run_memory.declared.block.MemoryBlock.{MemoryBlock}
+use Rattle.run_hooks.specs.run_memory.declared.pointer.Value.{Value}
+use Rattle.run_hooks.specs.run_source.Source.{branch_leaving, called, change_own, deallocate, enter_block, go_to, if_let_go}
+use Rattle.run_hooks.specs.run_source.Source.{is_among, is_over, kill_late, left_windows, let_go, may_be_freed, may_leave}
+use Rattle.run_hooks.specs.run_source.Source.{new_slot, pop, push, return, returned, save_for, with_new_slots}
+use Rattle.run_hooks.specs.run_source.State.{gives, instance_at, next, own_facts, own_instance, settled, with_instance, with_left}
+use Rattle.run_hooks.specs.run_source.State.{with_memory, with_slots, with_status}
+use Rattle.run_hooks.specs.run_source.declared.state.Activation.{Activation}
+use Rattle.run_hooks.specs.run_source.declared.state.Instance.{Instance}
+use Rattle.run_hooks.specs.run_source.declared.state.Mode.{Mode}
+use Rattle.run_hooks.specs.run_source.declared.state.State.{State}
+use Rattle.run_hooks.specs.run_source.declared.state.Status.{Status}
+use Rattle.run_hooks.specs.run_source_tables.Given.{Given}
+use Rattle.run_hooks.specs.run_step.Results.{and_then, found, ok_if}
+use Rattle.run_hooks.specs.run_step.Step.{Work, deallocated, label_of, outcome_of, values_in, without_slots}
+use Rattle.run_hooks.specs.run_step.declared.world.Slot.{Slot}
 use Rattle.run_types.proofs.Bytes.{GivesBytes, deallocated_has, disowned_has, killed_has, without_has}
 use Rattle.run_types.proofs.Fit.{block_fits, entry_fits, result_fits}
 use Rattle.run_types.specs.Fitting.{AreFitting, FitParams, FitsKind, FitsResult, HaveBytes}

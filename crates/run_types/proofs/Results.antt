@@ -3,32 +3,32 @@ use Rattle.std.proofs.Common.{◌≡◌, ℕ, Bool, true, false, List, [], ◌�
 use Rattle.std.proofs.Common.{refl, sym, ap, ◌∙◌, subst}
 use Rattle.std.specs.List.{list_all}
 use Rattle.std.specs.Prelude.{if◌then◌else◌, slice_get, unwrap_or, ◌==◌}
-use Rattle.ir_base.specs.declared.cause.Cause.{Cause}
-use Rattle.ir_base.specs.declared.ops.BinOp.{BinOp}
-use Rattle.ir_base.specs.declared.ops.CastOp.{CastOp}
-use Rattle.ir_base.specs.declared.ops.Flags.{Flags}
-use Rattle.ir_model.specs.Layout.{same_type}
-use Rattle.ir_model.specs.Names.{function_at, no_function}
-use Rattle.ir_model.specs.Ty.{Ty, array, int, named, ptr, structure, token}
-use Rattle.ir_model.specs.declared.instr.Instr.{Instr}
-use Rattle.ir_model.specs.declared.module.Function.{Function}
-use Rattle.ir_model.specs.declared.module.Module.{Module}
-use Rattle.ir_model.specs.declared.module.Param.{Param}
-use Rattle.ir_model.specs.declared.operand.Arg.{Arg}
-use Rattle.ir_model.specs.declared.operand.Callee.{Callee}
-use Rattle.ir_model.specs.declared.operand.Intrinsic.{Intrinsic}
+use Rattle.run_hooks.specs.ir_base.declared.cause.Cause.{Cause}
+use Rattle.run_hooks.specs.ir_base.declared.ops.BinOp.{BinOp}
+use Rattle.run_hooks.specs.ir_base.declared.ops.CastOp.{CastOp}
+use Rattle.run_hooks.specs.ir_base.declared.ops.Flags.{Flags}
+use Rattle.run_hooks.specs.ir_model.Layout.{same_type}
+use Rattle.run_hooks.specs.ir_model.Names.{function_at, no_function}
+use Rattle.run_hooks.specs.ir_model.Ty.{Ty, array, int, named, ptr, structure, token}
+use Rattle.run_hooks.specs.ir_model.declared.instr.Instr.{Instr}
+use Rattle.run_hooks.specs.ir_model.declared.module.Function.{Function}
+use Rattle.run_hooks.specs.ir_model.declared.module.Module.{Module}
+use Rattle.run_hooks.specs.ir_model.declared.module.Param.{Param}
+use Rattle.run_hooks.specs.ir_model.declared.operand.Arg.{Arg}
+use Rattle.run_hooks.specs.ir_model.declared.operand.Callee.{Callee}
+use Rattle.run_hooks.specs.ir_model.declared.operand.Intrinsic.{Intrinsic}
 use Rattle.rule_types.specs.Signatures.{fits_function as fits_types, same_list, same_result as same_types_of}
 use Rattle.rule_values.specs.Fits.{fits_arg}
 use Rattle.rule_values.specs.Instrs.{is_passed, passes}
 use Rattle.rule_values.specs.Kinds.{value_kind}
-use Rattle.run_ints.proofs.Widths.{binary-kept, cast-kept}
-use Rattle.run_ints.specs.Numbers.{binary, cast}
-use Rattle.run_ints.specs.Words.{IsOkNumOf}
-use Rattle.run_ints.specs.declared.num.Num.{Num}
-use Rattle.run_memory.specs.declared.pointer.Value.{Value}
-use Rattle.run_step.specs.Step.{Action, AtInstr, Coro, Done, Enter, Fetched, NewSlot, Return, cast_to, chosen}
-use Rattle.run_step.specs.Step.{fits_params}
-use Rattle.run_step.specs.Values.{Env, arg_value, arg_values, number_at, number_of_width, value_of}
+use Rattle.run_hooks.proofs.run_ints.Widths.{binary-kept, cast-kept}
+use Rattle.run_hooks.specs.run_ints.Numbers.{binary, cast}
+use Rattle.run_hooks.specs.run_ints.Words.{IsOkNumOf}
+use Rattle.run_hooks.specs.run_ints.declared.num.Num.{Num}
+use Rattle.run_hooks.specs.run_memory.declared.pointer.Value.{Value}
+use Rattle.run_hooks.specs.run_step.Step.{Action, AtInstr, Coro, Done, Enter, Fetched, NewSlot, Return, cast_to, chosen}
+use Rattle.run_hooks.specs.run_step.Step.{fits_params}
+use Rattle.run_hooks.specs.run_step.Values.{Env, arg_value, arg_values, number_at, number_of_width, value_of}
 use Rattle.run_types.proofs.Fit.{arg_fits, both_true, number_fits, number_of, same_fits, type_fits}
 use Rattle.run_types.specs.Fitting.{AreFitting, FitParams, FitsResult, FitsType, HaveBytes, IsInteger}
 use Rattle.run_types.specs.States.{GoesTo}

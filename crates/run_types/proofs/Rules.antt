@@ -1,19 +1,19 @@
 -- What the rules on types say of a call.
 use Rattle.std.proofs.Common.{◌≡◌, ℕ, Bool, true, List, Option, Some, None, sym, ap, ◌∙◌, refl, ◌&&◌}
 use Rattle.std.specs.List.{list_all}
-use Rattle.ir_model.specs.Names.{function_at}
-use Rattle.ir_model.specs.Ty.{Ty}
-use Rattle.ir_model.specs.declared.instr.Instr.{Instr}
-use Rattle.ir_model.specs.declared.module.Function.{Function}
-use Rattle.ir_model.specs.declared.module.Module.{Module}
-use Rattle.ir_model.specs.declared.operand.Arg.{Arg}
-use Rattle.ir_model.specs.declared.operand.Callee.{Callee}
+use Rattle.run_hooks.specs.ir_model.Names.{function_at}
+use Rattle.run_hooks.specs.ir_model.Ty.{Ty}
+use Rattle.run_hooks.specs.ir_model.declared.instr.Instr.{Instr}
+use Rattle.run_hooks.specs.ir_model.declared.module.Function.{Function}
+use Rattle.run_hooks.specs.ir_model.declared.module.Module.{Module}
+use Rattle.run_hooks.specs.ir_model.declared.operand.Arg.{Arg}
+use Rattle.run_hooks.specs.ir_model.declared.operand.Callee.{Callee}
 use Rattle.rule_types.specs.Signatures.{same_result as same_types_of}
 use Rattle.rule_values.specs.Instrs.{fits_called, fits_result, passes}
 use Rattle.rule_values.specs.Kinds.{call_kind, kind_of, result_kind, value_kind}
 use Rattle.rule_values.specs.declared.kinds.Kind.{Kind}
-use Rattle.run_memory.specs.declared.pointer.Value.{Value}
-use Rattle.run_step.specs.Step.{AtInstr, fetch, same_result}
+use Rattle.run_hooks.specs.run_memory.declared.pointer.Value.{Value}
+use Rattle.run_hooks.specs.run_step.Step.{AtInstr, fetch, same_result}
 use Rattle.run_types.proofs.Fit.{both_true, fits_as, kind_self, same_back}
 use Rattle.run_types.specs.Fitting.{FitsKind, FitsResult}
 use Rattle.run_types.specs.Rules.{KeepsTypes}

@@ -4,16 +4,16 @@ use Rattle.std.proofs.Common.{Option, refl, sym, ap, ◌∙◌, subst, arith}
 use Rattle.std.proofs.Math.Pow.{pow_mono}
 use Rattle.std.proofs.lemmas.Bool.{eqb-true}
 use Rattle.std.specs.List.{list_all}
-use Rattle.ir_base.specs.declared.outcome.Word.{Word}
-use Rattle.ir_model.specs.Names.{function_at}
-use Rattle.ir_model.specs.Ty.{Ty, array, int, named, ptr, structure, token}
-use Rattle.ir_model.specs.declared.instr.Instr.{Instr}
-use Rattle.ir_model.specs.declared.module.Function.{Function}
-use Rattle.ir_model.specs.declared.module.GlobalItem.{GlobalItem}
-use Rattle.ir_model.specs.declared.module.Module.{Module}
-use Rattle.ir_model.specs.declared.operand.Allocator.{Allocator}
-use Rattle.ir_model.specs.declared.operand.Arg.{Arg}
-use Rattle.ir_model.specs.declared.operand.Callee.{Callee}
+use Rattle.run_hooks.specs.ir_base.declared.outcome.Word.{Word}
+use Rattle.run_hooks.specs.ir_model.Names.{function_at}
+use Rattle.run_hooks.specs.ir_model.Ty.{Ty, array, int, named, ptr, structure, token}
+use Rattle.run_hooks.specs.ir_model.declared.instr.Instr.{Instr}
+use Rattle.run_hooks.specs.ir_model.declared.module.Function.{Function}
+use Rattle.run_hooks.specs.ir_model.declared.module.GlobalItem.{GlobalItem}
+use Rattle.run_hooks.specs.ir_model.declared.module.Module.{Module}
+use Rattle.run_hooks.specs.ir_model.declared.operand.Allocator.{Allocator}
+use Rattle.run_hooks.specs.ir_model.declared.operand.Arg.{Arg}
+use Rattle.run_hooks.specs.ir_model.declared.operand.Callee.{Callee}
 use Rattle.rule_types.specs.Signatures.{are_wanted, fits_named, is_result}
 use Rattle.rule_names.specs.Known.{allocator_name}
 use Rattle.rule_types.specs.Wants.{allocator_params, allocator_result, any, is_basic}
@@ -24,13 +24,13 @@ use Rattle.rule_values.specs.Kinds.{value_kind}
 use Rattle.run_hooks.proofs.Reaching.{first_reached, step_stays}
 use Rattle.run_hooks.specs.Hooks.{Hooks, hooked_state_at, step_of}
 use Rattle.run_hooks.specs.Reached.{AllHaveSwitches, IsReachedState, KeepsReached}
-use Rattle.run_memory.specs.Memory.{access_bytes}
-use Rattle.run_memory.specs.declared.pointer.Value.{Value}
-use Rattle.run_source.specs.Source.{first_state}
-use Rattle.run_source.specs.declared.state.State.{State}
-use Rattle.run_step.specs.Runs.{iterate}
-use Rattle.run_step.specs.Step.{AtInstr, fetch, global_block}
-use Rattle.run_step.specs.Values.{Env, access_of, arg_value, arg_values, nth, operand_value, stored}
+use Rattle.run_hooks.specs.run_memory.Memory.{access_bytes}
+use Rattle.run_hooks.specs.run_memory.declared.pointer.Value.{Value}
+use Rattle.run_hooks.specs.run_source.Source.{first_state}
+use Rattle.run_hooks.specs.run_source.declared.state.State.{State}
+use Rattle.run_hooks.specs.run_step.Runs.{iterate}
+use Rattle.run_hooks.specs.run_step.Step.{AtInstr, fetch, global_block}
+use Rattle.run_hooks.specs.run_step.Values.{Env, access_of, arg_value, arg_values, nth, operand_value, stored}
 use Rattle.run_types.proofs.Acts.{step_fits}
 use Rattle.run_types.proofs.Bytes.{encoded}
 use Rattle.run_types.proofs.Fit.{arg_fits, both_true, entry_fits}

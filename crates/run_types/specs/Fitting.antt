@@ -1,16 +1,16 @@
 -- Values that fit their types: a value of type iN is a word of N bits, or poison.
 use Rattle.std.specs.Prelude.{ℕ, ◌<◌, List, [], ◌∷◌, Option, Some, None}
 use Rattle.std.specs.List.{AllByRecursion}
-use Rattle.ir_model.specs.Ty.{Ty}
-use Rattle.ir_model.specs.declared.module.Function.{Function}
-use Rattle.ir_model.specs.declared.module.Param.{Param}
+use Rattle.run_hooks.specs.ir_model.Ty.{Ty}
+use Rattle.run_hooks.specs.ir_model.declared.module.Function.{Function}
+use Rattle.run_hooks.specs.ir_model.declared.module.Param.{Param}
 use Rattle.rule_values.specs.Kinds.{kind_of, value_kind}
 use Rattle.rule_values.specs.declared.kinds.Kind.{Kind}
-use Rattle.run_ints.specs.Words.{IsWordOf}
-use Rattle.run_memory.specs.declared.block.Byte.{Byte}
-use Rattle.run_memory.specs.declared.block.MemoryBlock.{MemoryBlock}
-use Rattle.run_memory.specs.declared.pointer.Value.{Value}
-use Rattle.run_step.specs.Values.{Env, value_in}
+use Rattle.run_hooks.specs.run_ints.Words.{IsWordOf}
+use Rattle.run_hooks.specs.run_memory.declared.block.Byte.{Byte}
+use Rattle.run_hooks.specs.run_memory.declared.block.MemoryBlock.{MemoryBlock}
+use Rattle.run_hooks.specs.run_memory.declared.pointer.Value.{Value}
+use Rattle.run_hooks.specs.run_step.Values.{Env, value_in}
 
 -- ---- values
 

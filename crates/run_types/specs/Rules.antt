@@ -2,26 +2,26 @@
 use Rattle.std.specs.Prelude.{◌≡◌, ℕ, Bool, true, List, [], ◌∷◌, Option, Some, slice_get, ◌&&◌}
 use Rattle.std.specs.List.{AllByRecursion}
 use Rattle.ir_laws.specs.facts.counted.Widths.{has_width}
-use Rattle.ir_model.specs.Layout.{same_type}
-use Rattle.ir_model.specs.Names.{function_at}
-use Rattle.ir_model.specs.Ty.{Ty}
-use Rattle.ir_model.specs.declared.instr.Instr.{Instr}
-use Rattle.ir_model.specs.declared.instr.Phi.{Phi}
-use Rattle.ir_model.specs.declared.instr.Terminator.{Terminator}
-use Rattle.ir_model.specs.declared.module.Function.{Function}
-use Rattle.ir_model.specs.declared.module.Module.{Module}
-use Rattle.ir_model.specs.declared.module.Param.{Param}
-use Rattle.ir_model.specs.declared.operand.Arg.{Arg}
-use Rattle.ir_model.specs.declared.operand.Callee.{Callee}
-use Rattle.ir_model.specs.declared.operand.Operand.{Operand}
-use Rattle.ir_base.specs.declared.name.Name.{Name}
+use Rattle.run_hooks.specs.ir_model.Layout.{same_type}
+use Rattle.run_hooks.specs.ir_model.Names.{function_at}
+use Rattle.run_hooks.specs.ir_model.Ty.{Ty}
+use Rattle.run_hooks.specs.ir_model.declared.instr.Instr.{Instr}
+use Rattle.run_hooks.specs.ir_model.declared.instr.Phi.{Phi}
+use Rattle.run_hooks.specs.ir_model.declared.instr.Terminator.{Terminator}
+use Rattle.run_hooks.specs.ir_model.declared.module.Function.{Function}
+use Rattle.run_hooks.specs.ir_model.declared.module.Module.{Module}
+use Rattle.run_hooks.specs.ir_model.declared.module.Param.{Param}
+use Rattle.run_hooks.specs.ir_model.declared.operand.Arg.{Arg}
+use Rattle.run_hooks.specs.ir_model.declared.operand.Callee.{Callee}
+use Rattle.run_hooks.specs.ir_model.declared.operand.Operand.{Operand}
+use Rattle.run_hooks.specs.ir_base.declared.name.Name.{Name}
 use Rattle.rule_types.specs.Signatures.{fits_callee, same_result}
 use Rattle.rule_values.specs.Instrs.{fits_instr}
 use Rattle.rule_values.specs.Kinds.{instr_kind, kind_of, value_kind}
 use Rattle.rule_values.specs.Values.{fits_ending, fits_phi}
 use Rattle.rule_values.specs.declared.kinds.Kind.{Kind}
-use Rattle.run_framed.specs.Framed.{given_ramp}
-use Rattle.run_step.specs.Step.{AtInstr, AtTerm, fetch, phis_of}
+use Rattle.run_hooks.specs.run_framed.Framed.{given_ramp}
+use Rattle.run_hooks.specs.run_step.Step.{AtInstr, AtTerm, fetch, phis_of}
 
 -- a phi fits its type, which is that of its name
 pub record FitsPhi (f : Function) (p : Phi) : Type 0 where

@@ -1,24 +1,24 @@
 -- A worked module that keeps the rules on types: it hands a size to an allocator.
 use Rattle.std.specs.Prelude.{Bool, List, [], ◌∷◌, ◌≡◌, codes, Some, None, false, true, flat_map, map, refl}
-use Rattle.ir_base.specs.declared.name.Name.{Name}
-use Rattle.ir_base.specs.declared.ops.CastOp.{CastOp}
-use Rattle.ir_base.specs.declared.outcome.Word.{Word}
-use Rattle.ir_model.specs.Ty.{int, ptr}
-use Rattle.ir_model.specs.declared.instr.Instr.{Instr}
-use Rattle.ir_model.specs.declared.instr.Terminator.{Terminator}
-use Rattle.ir_model.specs.declared.module.Function.{Function}
-use Rattle.ir_model.specs.declared.module.Module.{Module}
-use Rattle.ir_model.specs.declared.operand.Allocator.{Allocator}
-use Rattle.ir_model.specs.declared.operand.Arg.{Arg}
-use Rattle.ir_model.specs.declared.operand.Callee.{Callee}
-use Rattle.ir_model.specs.declared.operand.Operand.{Operand}
+use Rattle.run_hooks.specs.ir_base.declared.name.Name.{Name}
+use Rattle.run_hooks.specs.ir_base.declared.ops.CastOp.{CastOp}
+use Rattle.run_hooks.specs.ir_base.declared.outcome.Word.{Word}
+use Rattle.run_hooks.specs.ir_model.Ty.{int, ptr}
+use Rattle.run_hooks.specs.ir_model.declared.instr.Instr.{Instr}
+use Rattle.run_hooks.specs.ir_model.declared.instr.Terminator.{Terminator}
+use Rattle.run_hooks.specs.ir_model.declared.module.Function.{Function}
+use Rattle.run_hooks.specs.ir_model.declared.module.Module.{Module}
+use Rattle.run_hooks.specs.ir_model.declared.operand.Allocator.{Allocator}
+use Rattle.run_hooks.specs.ir_model.declared.operand.Arg.{Arg}
+use Rattle.run_hooks.specs.ir_model.declared.operand.Callee.{Callee}
+use Rattle.run_hooks.specs.ir_model.declared.operand.Operand.{Operand}
 use Rattle.rule_types.specs.Signatures.{fits_callee}
 use Rattle.rule_values.specs.Instrs.{fits_instr}
 use Rattle.rule_values.specs.Kinds.{value_kind}
-use Rattle.run_memory.specs.declared.pointer.Value.{Value}
-use Rattle.run_source.specs.Source.{given, state_at}
-use Rattle.run_source.specs.declared.state.State.{State}
-use Rattle.run_step.specs.Values.{value_in}
+use Rattle.run_hooks.specs.run_memory.declared.pointer.Value.{Value}
+use Rattle.run_hooks.specs.run_source.Source.{given, state_at}
+use Rattle.run_hooks.specs.run_source.declared.state.State.{State}
+use Rattle.run_hooks.specs.run_step.Values.{value_in}
 
 -- entry: %s = zext i32 %n to i64  %p = call ptr @malloc(i64 %s)  ret void
 abbrev pub the_function : Function

@@ -1,18 +1,18 @@
 -- So it is in sources that break no rule.
 use Rattle.std.proofs.Common.{◌≡◌, ℕ, Bool, List, None, Some, Ok}
 use Rattle.std.specs.Prelude.{slice_get}
-use Rattle.frame_contents.specs.Frames.{AreLayouts}
+use Rattle.pass_proofs.specs.frame_contents.Frames.{AreLayouts}
 use Rattle.frame_good.proofs.Frames.{layouts_good}
 use Rattle.frame_good.specs.Frames.{AreGood, HasFitFields}
 use Rattle.frame_layout.specs.declared.layout.Layouts.{Layouts}
-use Rattle.rule_laws.proofs.rules.local_rules.Accepted.{accepted_breaks_none}
-use Rattle.rule_laws.proofs.rules.source_rules.Order.{unbroken}
-use Rattle.rule_laws.proofs.rules.widths.Written.{text_wide}
+use Rattle.pass_proofs.proofs.rule_laws.rules.local_rules.Accepted.{accepted_breaks_none}
+use Rattle.pass_proofs.proofs.rule_laws.rules.source_rules.Order.{unbroken}
+use Rattle.pass_proofs.proofs.rule_laws.rules.widths.Written.{text_wide}
 use Rattle.ir_model.specs.declared.module.Function.{Function}
 use Rattle.ir_model.specs.declared.module.Module.{Module}
-use Rattle.rule_all.specs.Refused.{IsRefused}
-use Rattle.rule_names.specs.declared.stage.Stage.{Stage}
-use Rattle.text_grammar.specs.Text.{StandsFor}
+use Rattle.pass_proofs.specs.rule_all.Refused.{IsRefused}
+use Rattle.pass_proofs.specs.rule_names.declared.stage.Stage.{Stage}
+use Rattle.pass_proofs.specs.text_grammar.Text.{StandsFor}
 use Rattle.compiler.proofs.fit.Fields.{fields_fit}
 
 pub accepted_fit : (text : List ℕ) (m : Module) → StandsFor text m → IsRefused Stage.Source m None

@@ -3,21 +3,21 @@ use Rattle.std.proofs.Common.{◌≡◌, inl, inr, ⊎_elim, ℕ, zero, suc, ◌
 use Rattle.std.specs.List.{list_all}
 use Rattle.std.specs.Prelude.{map, min, option_to_list, slice_get, if◌then◌else◌, ◌==◌, ◌||◌, ◌&&◌}
 use Rattle.compiler.proofs.fit.Fields.{either_at, index_takes}
-use Rattle.flow_solver.specs.Paths.{IsListed}
-use Rattle.frame_contents.specs.Frames.{AreContents}
-use Rattle.frame_contents.specs.Held.{crossing_values, field_of, fields_of, frame_slots, held_blocks, held_instrs, held_of, held_params, held_phis, if_result, if_value, index_field, result_size, slot_held, value_held, value_size}
-use Rattle.frame_contents.specs.declared.contents.Contents.{Contents}
-use Rattle.frame_contents.specs.declared.held.Holding.{Holding}
-use Rattle.frame_crossing.specs.Values.{all_defined, blocks_defined, is_apart, is_token, params_defined, values_of}
+use Rattle.pass_proofs.specs.flow_solver.Paths.{IsListed}
+use Rattle.pass_proofs.specs.frame_contents.Frames.{AreContents}
+use Rattle.pass_proofs.specs.frame_contents.Held.{crossing_values, field_of, fields_of, frame_slots, held_blocks, held_instrs, held_of, held_params, held_phis, if_result, if_value, index_field, result_size, slot_held, value_held, value_size}
+use Rattle.pass_proofs.specs.frame_contents.declared.contents.Contents.{Contents}
+use Rattle.pass_proofs.specs.frame_contents.declared.held.Holding.{Holding}
+use Rattle.pass_proofs.specs.frame_crossing.Values.{all_defined, blocks_defined, is_apart, is_token, params_defined, values_of}
 use Rattle.frame_layout.specs.declared.layout.Field.{Field}
 use Rattle.ir_base.specs.declared.outcome.Place.{Place}
-use Rattle.ir_laws.proofs.facts.Lists.{FoundParam, FoundPhi}
-use Rattle.ir_laws.proofs.facts.Members.{at_each, each_behind, each_there}
-use Rattle.ir_laws.proofs.facts.Truth.{and_first, and_second, equal_numbers, holds}
-use Rattle.ir_laws.proofs.facts.names_apart.Words.{either as either_of}
-use Rattle.ir_laws.proofs.paths.counted.Keepable.{param_listed, phi_listed}
-use Rattle.ir_laws.proofs.paths.source_rules.Locals.{listed_either}
-use Rattle.ir_laws.specs.facts.counted.Widths.{has_width, is_width}
+use Rattle.pass_proofs.proofs.ir_laws.facts.Lists.{FoundParam, FoundPhi}
+use Rattle.pass_proofs.proofs.ir_laws.facts.Members.{at_each, each_behind, each_there}
+use Rattle.pass_proofs.proofs.ir_laws.facts.Truth.{and_first, and_second, equal_numbers, holds}
+use Rattle.pass_proofs.proofs.ir_laws.facts.names_apart.Words.{either as either_of}
+use Rattle.pass_proofs.proofs.ir_laws.paths.counted.Keepable.{param_listed, phi_listed}
+use Rattle.pass_proofs.proofs.ir_laws.paths.source_rules.Locals.{listed_either}
+use Rattle.pass_proofs.specs.ir_laws.facts.counted.Widths.{has_width, is_width}
 use Rattle.ir_model.specs.Layout.{bytes_of_width, size_of}
 use Rattle.ir_model.specs.Ty.{Ty, array, int, named, ptr, structure, token}
 use Rattle.ir_base.specs.declared.ops.CastOp.{CastOp}
@@ -28,30 +28,30 @@ use Rattle.ir_model.specs.declared.module.Function.{Function}
 use Rattle.ir_model.specs.declared.module.Module.{Module}
 use Rattle.ir_model.specs.declared.module.Param.{Param}
 use Rattle.ir_model.specs.declared.operand.Callee.{Callee}
-use Rattle.ir_parts.specs.Contents.{arg_types, instr_types, result_of}
-use Rattle.ir_paths.specs.Slots.{has_name, promise_of}
-use Rattle.ir_paths.specs.Windows.{instr_at, instr_in}
-use Rattle.pass_kept_proof.proofs.Read.{listed_by_name}
+use Rattle.pass_proofs.specs.ir_parts.Contents.{arg_types, instr_types, result_of}
+use Rattle.pass_proofs.specs.ir_paths.Slots.{has_name, promise_of}
+use Rattle.pass_proofs.specs.ir_paths.Windows.{instr_at, instr_in}
+use Rattle.pass_proofs.proofs.pass_kept_proof.Read.{listed_by_name}
 use Rattle.pass_proofs.proofs.kept.sources.Definite.{instr_fits}
-use Rattle.rule_laws.proofs.frames.begin_order.Sizes.{all_behind}
-use Rattle.rule_laws.proofs.frames.counted.Keepable.{FoundBlock, FoundInstr, blocks_found, distinct_listed, params_found}
-use Rattle.rule_laws.proofs.frames.crossing.Asking.{pairs_of_values}
-use Rattle.rule_laws.proofs.rules.counted.PartFacts.{block_passes, signature_passes}
-use Rattle.rule_laws.proofs.rules.renamed.Uses.{result_spelt}
-use Rattle.rule_laws.proofs.rules.source_rules.Locals.{no_param, no_phi, same_instr}
-use Rattle.rule_laws.proofs.rules.sources.Places.{point}
-use Rattle.rule_laws.specs.rules.counted.Widths.{first_other_width, is_of_other_width}
-use Rattle.rule_laws.specs.rules.function_rules.Kept.{KeepsFunctionRules}
-use Rattle.rule_locals.specs.Extents.{breaks_extents, is_aligned, is_sized}
-use Rattle.rule_locals.specs.Instrs.{on_instr}
-use Rattle.rule_names.specs.declared.stage.Stage.{Stage}
-use Rattle.rule_types.specs.Wants.{is_ptr}
-use Rattle.rule_values.specs.Fits.{fits, fits_arg, fits_scalar, is_integer, is_scalar}
-use Rattle.rule_values.specs.Instrs.{casts, fits_called, fits_instr, is_intrinsic, is_narrower, is_passed, passes}
-use Rattle.rule_values.specs.Kinds.{value_kind}
-use Rattle.rule_values.specs.Values.{breaks_values, fits_phi, has_scalar, is_scalar_or_void, takes}
-use Rattle.rule_values.specs.declared.kinds.Kind.{Kind}
-use Rattle.run_laws.specs.changed.Changed.{Each, result_of as changed_result}
+use Rattle.pass_proofs.proofs.rule_laws.frames.begin_order.Sizes.{all_behind}
+use Rattle.pass_proofs.proofs.rule_laws.frames.counted.Keepable.{FoundBlock, FoundInstr, blocks_found, distinct_listed, params_found}
+use Rattle.pass_proofs.proofs.rule_laws.frames.crossing.Asking.{pairs_of_values}
+use Rattle.pass_proofs.proofs.rule_laws.rules.counted.PartFacts.{block_passes, signature_passes}
+use Rattle.pass_proofs.proofs.rule_laws.rules.renamed.Uses.{result_spelt}
+use Rattle.pass_proofs.proofs.rule_laws.rules.source_rules.Locals.{no_param, no_phi, same_instr}
+use Rattle.pass_proofs.proofs.rule_laws.rules.sources.Places.{point}
+use Rattle.pass_proofs.specs.rule_laws.rules.counted.Widths.{first_other_width, is_of_other_width}
+use Rattle.pass_proofs.specs.rule_laws.rules.function_rules.Kept.{KeepsFunctionRules}
+use Rattle.pass_proofs.specs.rule_locals.Extents.{breaks_extents, is_aligned, is_sized}
+use Rattle.pass_proofs.specs.rule_locals.Instrs.{on_instr}
+use Rattle.pass_proofs.specs.rule_names.declared.stage.Stage.{Stage}
+use Rattle.pass_proofs.specs.rule_types.Wants.{is_ptr}
+use Rattle.pass_proofs.specs.rule_values.Fits.{fits, fits_arg, fits_scalar, is_integer, is_scalar}
+use Rattle.pass_proofs.specs.rule_values.Instrs.{casts, fits_called, fits_instr, is_intrinsic, is_narrower, is_passed, passes}
+use Rattle.pass_proofs.specs.rule_values.Kinds.{value_kind}
+use Rattle.pass_proofs.specs.rule_values.Values.{breaks_values, fits_phi, has_scalar, is_scalar_or_void, takes}
+use Rattle.pass_proofs.specs.rule_values.declared.kinds.Kind.{Kind}
+use Rattle.pass_proofs.specs.run_laws.changed.Changed.{Each, result_of as changed_result}
 
 -- ---- sizes
 

@@ -2,24 +2,24 @@
 use Rattle.std.proofs.Common.{◌≡◌, ◌⊎◌, inl, inr, ⊎_elim, ℕ, zero, suc, ◌<◌, Bool, true, false, List, [], ◌∷◌, ◌++◌, length, Option, None, Some, refl, sym, ap, ◌∙◌, subst, arith}
 use Rattle.std.specs.List.{list_all}
 use Rattle.std.specs.Prelude.{map, nat_le, option_to_list, slice_get, if◌then◌else◌, ◌==◌, ◌||◌}
-use Rattle.frame_contents.specs.Held.{crossing_values, field_of, fields_of, frame_slots, held_of, index_field, suspend_count}
-use Rattle.frame_contents.specs.declared.held.Holding.{Holding}
+use Rattle.pass_proofs.specs.frame_contents.Held.{crossing_values, field_of, fields_of, frame_slots, held_of, index_field, suspend_count}
+use Rattle.pass_proofs.specs.frame_contents.declared.held.Holding.{Holding}
 use Rattle.frame_good.specs.Frames.{HasFitFields}
 use Rattle.frame_good.specs.Good.{AreFit, is_alignment}
 use Rattle.frame_layout.specs.Layouts.{is_index, is_promise}
 use Rattle.frame_layout.specs.declared.layout.Field.{Field}
 use Rattle.ir_base.specs.declared.outcome.Place.{Place}
-use Rattle.ir_laws.proofs.facts.Members.{each_both, each_there, each_turns}
-use Rattle.ir_laws.proofs.facts.Truth.{and_first, and_second, equal_numbers, holds}
-use Rattle.ir_laws.proofs.facts.names_apart.Words.{either as either_of}
-use Rattle.rule_laws.proofs.frames.begin_order.Sizes.{all_behind}
-use Rattle.ir_laws.proofs.paths.source_rules.Locals.{Apart}
-use Rattle.rule_laws.proofs.rules.counted.PartFacts.{block_passes, signature_passes}
-use Rattle.rule_laws.proofs.rules.local_rules.Woven.{apart_names}
-use Rattle.rule_laws.proofs.rules.source_rules.Locals.{block_names, names_are}
-use Rattle.ir_laws.proofs.facts.Lists.{row_of}
-use Rattle.ir_laws.specs.facts.counted.Widths.{has_width}
-use Rattle.rule_laws.specs.rules.counted.Widths.{first_other_width, is_of_other_width}
+use Rattle.pass_proofs.proofs.ir_laws.facts.Members.{each_both, each_there, each_turns}
+use Rattle.pass_proofs.proofs.ir_laws.facts.Truth.{and_first, and_second, equal_numbers, holds}
+use Rattle.pass_proofs.proofs.ir_laws.facts.names_apart.Words.{either as either_of}
+use Rattle.pass_proofs.proofs.rule_laws.frames.begin_order.Sizes.{all_behind}
+use Rattle.pass_proofs.proofs.ir_laws.paths.source_rules.Locals.{Apart}
+use Rattle.pass_proofs.proofs.rule_laws.rules.counted.PartFacts.{block_passes, signature_passes}
+use Rattle.pass_proofs.proofs.rule_laws.rules.local_rules.Woven.{apart_names}
+use Rattle.pass_proofs.proofs.rule_laws.rules.source_rules.Locals.{block_names, names_are}
+use Rattle.pass_proofs.proofs.ir_laws.facts.Lists.{row_of}
+use Rattle.pass_proofs.specs.ir_laws.facts.counted.Widths.{has_width}
+use Rattle.pass_proofs.specs.rule_laws.rules.counted.Widths.{first_other_width, is_of_other_width}
 use Rattle.ir_model.specs.Layout.{size_of}
 use Rattle.ir_model.specs.declared.instr.Instr.{Instr}
 use Rattle.ir_model.specs.declared.instr.Phi.{Phi}
@@ -27,16 +27,16 @@ use Rattle.ir_model.specs.declared.module.Block.{Block}
 use Rattle.ir_model.specs.declared.module.Function.{Function}
 use Rattle.ir_model.specs.declared.module.Module.{Module}
 use Rattle.ir_model.specs.declared.module.Param.{Param}
-use Rattle.ir_parts.specs.Contents.{instr_types}
-use Rattle.ir_parts.specs.Locals.{locals_of}
-use Rattle.ir_parts.specs.Parts.{OfInstr, OfPhi}
-use Rattle.ir_paths.specs.Slots.{has_name, promise_of}
-use Rattle.rule_locals.specs.Extents.{breaks_extents, first_past_extent, is_aligned, is_sized, most_of_alloca}
-use Rattle.rule_locals.specs.Instrs.{on_instr}
-use Rattle.rule_names.specs.Definitions.{first_twice}
-use Rattle.rule_names.specs.declared.stage.Stage.{Stage}
-use Rattle.rule_uses.specs.Undefined.{params_of}
-use Rattle.run_laws.specs.changed.Changed.{Each}
+use Rattle.pass_proofs.specs.ir_parts.Contents.{instr_types}
+use Rattle.pass_proofs.specs.ir_parts.Locals.{locals_of}
+use Rattle.pass_proofs.specs.ir_parts.Parts.{OfInstr, OfPhi}
+use Rattle.pass_proofs.specs.ir_paths.Slots.{has_name, promise_of}
+use Rattle.pass_proofs.specs.rule_locals.Extents.{breaks_extents, first_past_extent, is_aligned, is_sized, most_of_alloca}
+use Rattle.pass_proofs.specs.rule_locals.Instrs.{on_instr}
+use Rattle.pass_proofs.specs.rule_names.Definitions.{first_twice}
+use Rattle.pass_proofs.specs.rule_names.declared.stage.Stage.{Stage}
+use Rattle.pass_proofs.specs.rule_uses.Undefined.{params_of}
+use Rattle.pass_proofs.specs.run_laws.changed.Changed.{Each}
 use Rattle.compiler.proofs.fit.Held.{AreTaken, IsFitBlock, IsFitInstr, IsSlotAligned, IsWell, held_taken, one_at, well_at}
 
 -- ---- one further element behind mapped ones

@@ -2,18 +2,18 @@
 use Rattle.std.proofs.Common.{◌≡◌, inl, inr, ⊎_elim, ℕ, zero, suc, Bool, true, false, List, [], ◌∷◌, ◌++◌, Option, None, Some, refl, sym, ap, ◌∙◌, subst}
 use Rattle.std.specs.List.{list_all}
 use Rattle.std.specs.Prelude.{map, option_to_list, slice_get, if◌then◌else◌, ◌==◌, ◌||◌}
-use Rattle.flow_solver.specs.Paths.{IsListed}
-use Rattle.frame_contents.specs.Held.{held_blocks, held_by, held_instrs, held_params, held_phis, if_result, if_value, result_size, slot_held, value_held, value_size}
-use Rattle.frame_contents.specs.declared.held.Holding.{Holding}
+use Rattle.pass_proofs.specs.flow_solver.Paths.{IsListed}
+use Rattle.pass_proofs.specs.frame_contents.Held.{held_blocks, held_by, held_instrs, held_params, held_phis, if_result, if_value, result_size, slot_held, value_held, value_size}
+use Rattle.pass_proofs.specs.frame_contents.declared.held.Holding.{Holding}
 use Rattle.frame_good.specs.Good.{is_alignment}
 use Rattle.frame_layout.specs.Layouts.{is_index, is_promise}
 use Rattle.frame_layout.specs.declared.layout.FieldKind.{FieldKind}
-use Rattle.ir_laws.proofs.facts.Lists.{phi_names, row_of}
-use Rattle.ir_laws.proofs.facts.Truth.{and_first, and_second, equal_numbers, or_last}
-use Rattle.ir_laws.proofs.facts.names_apart.Words.{either as either_of}
-use Rattle.ir_laws.proofs.paths.source_rules.Locals.{Apart}
-use Rattle.rule_laws.proofs.rules.source_rules.Locals.{block_names, made_by}
-use Rattle.ir_laws.specs.facts.counted.Widths.{has_width, is_width}
+use Rattle.pass_proofs.proofs.ir_laws.facts.Lists.{phi_names, row_of}
+use Rattle.pass_proofs.proofs.ir_laws.facts.Truth.{and_first, and_second, equal_numbers, or_last}
+use Rattle.pass_proofs.proofs.ir_laws.facts.names_apart.Words.{either as either_of}
+use Rattle.pass_proofs.proofs.ir_laws.paths.source_rules.Locals.{Apart}
+use Rattle.pass_proofs.proofs.rule_laws.rules.source_rules.Locals.{block_names, made_by}
+use Rattle.pass_proofs.specs.ir_laws.facts.counted.Widths.{has_width, is_width}
 use Rattle.ir_model.specs.Layout.{bytes_of_width}
 use Rattle.ir_model.specs.Ty.{Ty, array, int, named, ptr, structure, token}
 use Rattle.ir_model.specs.declared.instr.Instr.{Instr}
@@ -22,11 +22,11 @@ use Rattle.ir_model.specs.declared.module.Block.{Block}
 use Rattle.ir_model.specs.declared.module.Function.{Function}
 use Rattle.ir_model.specs.declared.module.Module.{Module}
 use Rattle.ir_model.specs.declared.module.Param.{Param}
-use Rattle.ir_parts.specs.Contents.{arg_types, instr_types, result_of}
-use Rattle.ir_paths.specs.Slots.{has_name, promise_of}
-use Rattle.rule_locals.specs.Extents.{is_aligned}
-use Rattle.rule_uses.specs.Undefined.{params_of}
-use Rattle.run_laws.specs.changed.Changed.{Each}
+use Rattle.pass_proofs.specs.ir_parts.Contents.{arg_types, instr_types, result_of}
+use Rattle.pass_proofs.specs.ir_paths.Slots.{has_name, promise_of}
+use Rattle.pass_proofs.specs.rule_locals.Extents.{is_aligned}
+use Rattle.pass_proofs.specs.rule_uses.Undefined.{params_of}
+use Rattle.pass_proofs.specs.run_laws.changed.Changed.{Each}
 
 -- ---- alignments
 

@@ -9,10 +9,10 @@ ghost use Rattle.pass_cleanup.specs.Cleanup.{clean_module};
 ghost use Rattle.pass_cleanup.specs.Free.{calls_id_alone};
 ghost use Rattle.pass_split.specs.Parts.{split_module};
 ghost use Rattle.frame_layout.specs.declared.layout.Layouts.{Layouts};
-ghost use Rattle.rule_all.specs.Refused.{IsRefused};
+ghost use Rattle.pass_proofs.specs.rule_all.Refused.{IsRefused};
 ghost use Rattle.ir_model.specs.declared.module.Module.{Module};
 ghost use Rattle.compiler.specs.cleanup.accepted.Ready.{IsReady};
-ghost use Rattle.rule_names.specs.declared.stage.Stage.{Stage};
+ghost use Rattle.pass_proofs.specs.rule_names.declared.stage.Stage.{Stage};
 
 /// A module that is ready is refused for nothing as a plain one, once its coroutines are split and what is left of the coro
 /// intrinsics is removed, where no function is a coroutine then and `coro.id` alone of the coro intrinsics is called.

@@ -5,7 +5,7 @@ ghost use Rattle.compiler.specs.cleanup.rules.Clean.{NamesNothingGone};
 ghost use Rattle.pass_cleanup.specs.Free.{calls_id_alone};
 ghost use Rattle.ir_model.specs.declared.module.Function.{Function};
 ghost use Rattle.ir_model.specs.declared.module.Module.{Module};
-ghost use Rattle.rule_laws.specs.rules.plain_rules.Kept.{KeepsPlainRules};
+ghost use Rattle.pass_proofs.specs.rule_laws.rules.plain_rules.Kept.{KeepsPlainRules};
 ghost use Rattle.compiler.specs.cleanup.unnamed_intrinsics.Unnamed.{NamesNoIntrinsic};
 
 /// Where of the coro intrinsics `coro.id` alone is called, no function that breaks no rule of plain modules, and names no coro

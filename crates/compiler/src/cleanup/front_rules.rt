@@ -1,7 +1,7 @@
 //! The names in a function with the allocas of its entry block in front.
 
 ghost use Rattle.std.specs.Prelude.{ℕ};
-ghost use Rattle.pass_front.specs.Front.{with_front_allocas};
+ghost use Rattle.pass_proofs.specs.pass_front.Front.{with_front_allocas};
 ghost use Rattle.ir_model.specs.declared.module.Function.{Function};
 ghost use Rattle.compiler.specs.cleanup.unnamed_intrinsics.Unnamed.{NamesNoIntrinsic};
 

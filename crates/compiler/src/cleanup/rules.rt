@@ -6,9 +6,9 @@
 ghost use Rattle.compiler.specs.cleanup.rules.Clean.{NameNothingGone};
 ghost use Rattle.pass_cleanup.specs.Cleanup.{clean_module};
 ghost use Rattle.ir_model.specs.declared.module.Module.{Module};
-ghost use Rattle.rule_laws.specs.rules.plain_rules.Kept.{AllKeepPlainRules, HasNoCoroutine};
-ghost use Rattle.rule_names.specs.declared.stage.Stage.{Stage};
-ghost use Rattle.rule_laws.specs.rules.plain_rules.Items.{KeepsItemRules};
+ghost use Rattle.pass_proofs.specs.rule_laws.rules.plain_rules.Kept.{AllKeepPlainRules, HasNoCoroutine};
+ghost use Rattle.pass_proofs.specs.rule_names.declared.stage.Stage.{Stage};
+ghost use Rattle.pass_proofs.specs.rule_laws.rules.plain_rules.Items.{KeepsItemRules};
 ghost use Rattle.std.specs.Prelude.{not, true, ◌≡◌};
 ghost use Rattle.std.specs.List.{list_all};
 ghost use Rattle.pass_cleanup.specs.Free.{calls_id_alone};

@@ -3,21 +3,21 @@
 //! That is `sources_name_no_intrinsic` and five more.
 
 ghost use Rattle.std.specs.Prelude.{◌≡◌, ℕ, None, Some, slice_get, true, false};
-ghost use Rattle.rule_all.specs.Refused.{IsRefused};
+ghost use Rattle.pass_proofs.specs.rule_all.Refused.{IsRefused};
 ghost use Rattle.ir_model.specs.declared.module.Function.{Function};
 ghost use Rattle.ir_model.specs.declared.module.Module.{Module};
 ghost use Rattle.text_canonical.specs.order.Shape.{IsShaped};
-ghost use Rattle.rule_names.specs.declared.stage.Stage.{Stage};
-ghost use Rattle.rule_laws.specs.rules.plain_rules.Items.{KeepsItemRules};
+ghost use Rattle.pass_proofs.specs.rule_names.declared.stage.Stage.{Stage};
+ghost use Rattle.pass_proofs.specs.rule_laws.rules.plain_rules.Items.{KeepsItemRules};
 ghost use Rattle.compiler.specs.cleanup.unnamed_intrinsics.Unnamed.{NamesNoIntrinsic};
-ghost use Rattle.rule_laws.specs.rules.function_rules.Kept.{KeepsFunctionRules};
-ghost use Rattle.rule_laws.specs.rules.woven_rules.Blocks.{IsWoven};
-ghost use Rattle.rule_laws.specs.rules.woven_rules.Pairs.{AreIncomingOnce};
-ghost use Rattle.rule_laws.specs.rules.woven_rules.Weaving.{Weaving};
+ghost use Rattle.pass_proofs.specs.rule_laws.rules.function_rules.Kept.{KeepsFunctionRules};
+ghost use Rattle.pass_proofs.specs.rule_laws.rules.woven_rules.Blocks.{IsWoven};
+ghost use Rattle.pass_proofs.specs.rule_laws.rules.woven_rules.Pairs.{AreIncomingOnce};
+ghost use Rattle.pass_proofs.specs.rule_laws.rules.woven_rules.Weaving.{Weaving};
 ghost use Rattle.frame_layout.specs.declared.layout.Layout.{Layout};
-ghost use Rattle.pass_intrinsics.specs.Shapes.{shape_of};
-ghost use Rattle.pass_intrinsics.specs.declared.shape.Part.{Part};
-ghost use Rattle.rule_laws.specs.frames.same_names.Parts.{HasPart, HasPartsOf};
+ghost use Rattle.pass_proofs.specs.pass_intrinsics.Shapes.{shape_of};
+ghost use Rattle.pass_proofs.specs.pass_intrinsics.declared.shape.Part.{Part};
+ghost use Rattle.pass_proofs.specs.rule_laws.frames.same_names.Parts.{HasPart, HasPartsOf};
 ghost use Rattle.pass_proofs.specs.split.rules.Parted.{IsPartOf};
 ghost use Rattle.pass_split.specs.Parts.{plain_of, plain_shape};
 

@@ -10,12 +10,12 @@
 ghost use Rattle.ir_model.specs.declared.module.Function.{Function};
 ghost use Rattle.text_canonical.specs.order.Order.{function_order, module_order};
 ghost use Rattle.text_canonical.specs.order.Shape.{IsFunction, IsShaped};
-ghost use Rattle.rule_laws.specs.texts.order_meaning.Held.{HoldsResults};
+ghost use Rattle.pass_proofs.specs.rule_laws.texts.order_meaning.Held.{HoldsResults};
 ghost use Rattle.std.specs.Prelude.{ℕ, ℤ, List};
-ghost use Rattle.run_agreement.specs.Agreements.{AgreesWithin};
+ghost use Rattle.pass_proofs.specs.run_agreement.Agreements.{AgreesWithin};
 ghost use Rattle.ir_base.specs.declared.outcome.Word.{Word};
 ghost use Rattle.ir_model.specs.declared.module.Module.{Module};
-ghost use Rattle.ir_laws.specs.facts.names_apart.Apart.{AreNamesApart};
+ghost use Rattle.pass_proofs.specs.ir_laws.facts.names_apart.Apart.{AreNamesApart};
 ghost use Rattle.run_plain.specs.Plain.{PlainAt};
 
 /// What a function sets has its place in the table of names that stand in the order of their first occurrence.

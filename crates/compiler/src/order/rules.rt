@@ -3,12 +3,12 @@
 ghost use Rattle.ir_model.specs.declared.module.Function.{Function};
 ghost use Rattle.text_canonical.specs.order.Order.{function_order, module_order};
 ghost use Rattle.text_canonical.specs.order.Shape.{IsFunction, IsShaped};
-ghost use Rattle.ir_laws.specs.facts.names_apart.Apart.{AreApart, AreNamesApart};
-ghost use Rattle.ir_laws.specs.facts.order_rules.Renumbered.{IsRenumbered};
+ghost use Rattle.pass_proofs.specs.ir_laws.facts.names_apart.Apart.{AreApart, AreNamesApart};
+ghost use Rattle.pass_proofs.specs.ir_laws.facts.order_rules.Renumbered.{IsRenumbered};
 ghost use Rattle.std.specs.Prelude.{None};
-ghost use Rattle.rule_all.specs.Refused.{IsRefused};
+ghost use Rattle.pass_proofs.specs.rule_all.Refused.{IsRefused};
 ghost use Rattle.ir_model.specs.declared.module.Module.{Module};
-ghost use Rattle.rule_names.specs.declared.stage.Stage.{Stage};
+ghost use Rattle.pass_proofs.specs.rule_names.declared.stage.Stage.{Stage};
 
 /// A function with its names in the order of their first occurrence is the function with its locals at other positions, no two at one.
 pub fn ordered_functions_are_renumbered()

@@ -3,13 +3,13 @@
 ghost use Rattle.std.specs.Prelude.{ℕ, Bool, List, None, Ok};
 ghost use Rattle.pass_cleanup.specs.Cleanable.{IsCleanable};
 ghost use Rattle.pass_split.specs.Parts.{split_module};
-ghost use Rattle.frame_contents.specs.Frames.{AreLayouts};
+ghost use Rattle.pass_proofs.specs.frame_contents.Frames.{AreLayouts};
 ghost use Rattle.pass_early.specs.Early.{early_module};
 ghost use Rattle.frame_layout.specs.declared.layout.Layouts.{Layouts};
-ghost use Rattle.rule_all.specs.Refused.{IsRefused};
-ghost use Rattle.text_grammar.specs.Text.{StandsFor};
+ghost use Rattle.pass_proofs.specs.rule_all.Refused.{IsRefused};
+ghost use Rattle.pass_proofs.specs.text_grammar.Text.{StandsFor};
 ghost use Rattle.ir_model.specs.declared.module.Module.{Module};
-ghost use Rattle.rule_names.specs.declared.stage.Stage.{Stage};
+ghost use Rattle.pass_proofs.specs.rule_names.declared.stage.Stage.{Stage};
 ghost use Rattle.pass_frames.specs.Framed.{IsFramedForm};
 
 /// So it is in what splitting gives of a source that a text stands for and that breaks no rule.

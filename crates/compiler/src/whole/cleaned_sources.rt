@@ -4,17 +4,17 @@
 //! agrees within 1 with the run of what is lowered of it (`cleaned_sources_keep_meaning`).
 
 ghost use Rattle.std.specs.Prelude.{Bool, ℕ, ℤ, List, None, Ok};
-ghost use Rattle.run_agreement.specs.Agreements.{AgreesWithin};
+ghost use Rattle.pass_proofs.specs.run_agreement.Agreements.{AgreesWithin};
 ghost use Rattle.ir_base.specs.declared.outcome.Word.{Word};
 ghost use Rattle.pass_cleanup.specs.Cleanup.{clean_module};
 ghost use Rattle.pass_split.specs.Parts.{split_module};
-ghost use Rattle.frame_contents.specs.Frames.{AreLayouts};
+ghost use Rattle.pass_proofs.specs.frame_contents.Frames.{AreLayouts};
 ghost use Rattle.pass_early.specs.Early.{early_module};
 ghost use Rattle.frame_layout.specs.declared.layout.Layouts.{Layouts};
-ghost use Rattle.rule_all.specs.Refused.{IsRefused};
-ghost use Rattle.text_grammar.specs.Text.{StandsFor};
+ghost use Rattle.pass_proofs.specs.rule_all.Refused.{IsRefused};
+ghost use Rattle.pass_proofs.specs.text_grammar.Text.{StandsFor};
 ghost use Rattle.ir_model.specs.declared.module.Module.{Module};
-ghost use Rattle.rule_names.specs.declared.stage.Stage.{Stage};
+ghost use Rattle.pass_proofs.specs.rule_names.declared.stage.Stage.{Stage};
 ghost use Rattle.run_plain.specs.Plain.{PlainAt};
 ghost use Rattle.pass_frames.specs.Framed.{IsFramedForm};
 

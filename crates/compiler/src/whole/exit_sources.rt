@@ -4,20 +4,20 @@
 //! (`accepted_exits_keep_framed_meaning`).
 
 ghost use Rattle.std.specs.Prelude.{ℕ, ℤ, Bool, List, None, Ok};
-ghost use Rattle.run_agreement.specs.Agreements.{AgreesWithin};
+ghost use Rattle.pass_proofs.specs.run_agreement.Agreements.{AgreesWithin};
 ghost use Rattle.ir_base.specs.declared.outcome.Word.{Word};
-ghost use Rattle.frame_contents.specs.Frames.{AreLayouts};
+ghost use Rattle.pass_proofs.specs.frame_contents.Frames.{AreLayouts};
 ghost use Rattle.pass_early.specs.Early.{early_module};
 ghost use Rattle.frame_layout.specs.declared.layout.Layouts.{Layouts};
-ghost use Rattle.run_framed.specs.Framed.{FramedAt};
-ghost use Rattle.rule_all.specs.Refused.{IsRefused};
-ghost use Rattle.text_grammar.specs.Text.{StandsFor};
+ghost use Rattle.pass_proofs.specs.run_framed.Framed.{FramedAt};
+ghost use Rattle.pass_proofs.specs.rule_all.Refused.{IsRefused};
+ghost use Rattle.pass_proofs.specs.text_grammar.Text.{StandsFor};
 ghost use Rattle.ir_model.specs.declared.module.Module.{Module};
-ghost use Rattle.rule_names.specs.declared.stage.Stage.{Stage};
+ghost use Rattle.pass_proofs.specs.rule_names.declared.stage.Stage.{Stage};
 ghost use Rattle.pass_frames.specs.Framed.{IsFramedForm};
 ghost use Rattle.pass_proofs.specs.exits.states.Exits.{exits_split};
-ghost use Rattle.run_agreement.specs.Costs.{AgreesBy, IsNear};
-ghost use Rattle.run_states.specs.moved_states.Beside.{IsMovedIn, framed_machine};
+ghost use Rattle.pass_proofs.specs.run_agreement.Costs.{AgreesBy, IsNear};
+ghost use Rattle.pass_proofs.specs.run_states.moved_states.Beside.{IsMovedIn, framed_machine};
 
 /// Each framed run of the framed form of a source that a text stands for and that breaks no rule agrees within 2 with the run where
 /// edges that leave windows have blocks.

@@ -4,14 +4,14 @@
 //! (`accepted_sources_are_ready`). So what is lowered of it is accepted (`lowered_sources_are_accepted`).
 
 ghost use Rattle.std.specs.Prelude.{ℕ, Bool, List, None, Ok, ◌≡◌, not, true};
-ghost use Rattle.frame_contents.specs.Frames.{AreLayouts};
+ghost use Rattle.pass_proofs.specs.frame_contents.Frames.{AreLayouts};
 ghost use Rattle.pass_early.specs.Early.{early_module};
 ghost use Rattle.frame_layout.specs.declared.layout.Layouts.{Layouts};
-ghost use Rattle.rule_all.specs.Refused.{IsRefused};
-ghost use Rattle.text_grammar.specs.Text.{StandsFor};
+ghost use Rattle.pass_proofs.specs.rule_all.Refused.{IsRefused};
+ghost use Rattle.pass_proofs.specs.text_grammar.Text.{StandsFor};
 ghost use Rattle.ir_model.specs.declared.module.Module.{Module};
 ghost use Rattle.compiler.specs.cleanup.accepted.Ready.{IsReady};
-ghost use Rattle.rule_names.specs.declared.stage.Stage.{Stage};
+ghost use Rattle.pass_proofs.specs.rule_names.declared.stage.Stage.{Stage};
 ghost use Rattle.pass_frames.specs.Framed.{IsFramedForm};
 ghost use Rattle.std.specs.List.{list_all};
 ghost use Rattle.pass_cleanup.specs.Cleanup.{clean_module};

@@ -1,25 +1,25 @@
 //! Lemmas on printed order.
 
 ghost use Rattle.std.specs.Prelude.{ℕ, ℤ, List, Bool, None, Ok};
-ghost use Rattle.run_agreement.specs.Costs.{AgreesBy};
+ghost use Rattle.pass_proofs.specs.run_agreement.Costs.{AgreesBy};
 ghost use Rattle.ir_base.specs.declared.outcome.Word.{Word};
 ghost use Rattle.pass_cleanup.specs.Cleaned.{plain_machine};
 ghost use Rattle.ir_model.specs.declared.module.Module.{Module};
-ghost use Rattle.ir_laws.specs.facts.names_apart.Apart.{AreNamesApart};
+ghost use Rattle.pass_proofs.specs.ir_laws.facts.names_apart.Apart.{AreNamesApart};
 ghost use Rattle.text_canonical.specs.order.Order.{module_order};
 ghost use Rattle.text_canonical.specs.order.Shape.{IsShaped};
 ghost use Rattle.compiler.specs.order.meaning.Beside.{IsInOrderOf};
-ghost use Rattle.run_agreement.specs.Agreements.{AgreesWithin};
+ghost use Rattle.pass_proofs.specs.run_agreement.Agreements.{AgreesWithin};
 ghost use Rattle.text_canonical.specs.canonical.Items.{module_text};
 ghost use Rattle.pass_cleanup.specs.Cleanup.{clean_module};
 ghost use Rattle.pass_split.specs.Parts.{split_module};
-ghost use Rattle.frame_contents.specs.Frames.{AreLayouts};
+ghost use Rattle.pass_proofs.specs.frame_contents.Frames.{AreLayouts};
 ghost use Rattle.pass_early.specs.Early.{early_module};
 ghost use Rattle.frame_layout.specs.declared.layout.Layouts.{Layouts};
-ghost use Rattle.rule_all.specs.Refused.{IsRefused};
-ghost use Rattle.text_grammar.specs.Text.{StandsFor};
-ghost use Rattle.rule_laws.specs.rules.names_apart.Words.{AreNamesFew};
-ghost use Rattle.rule_names.specs.declared.stage.Stage.{Stage};
+ghost use Rattle.pass_proofs.specs.rule_all.Refused.{IsRefused};
+ghost use Rattle.pass_proofs.specs.text_grammar.Text.{StandsFor};
+ghost use Rattle.pass_proofs.specs.rule_laws.rules.names_apart.Words.{AreNamesFew};
+ghost use Rattle.pass_proofs.specs.rule_names.declared.stage.Stage.{Stage};
 ghost use Rattle.run_plain.specs.Plain.{PlainAt};
 ghost use Rattle.text_canonical.specs.grammar.Bytes.{AreBytes};
 ghost use Rattle.pass_frames.specs.Framed.{IsFramedForm};

@@ -4,7 +4,7 @@ ghost use Rattle.std.specs.Prelude.{ℕ};
 ghost use Rattle.pass_early.specs.Early.{early_function};
 ghost use Rattle.ir_model.specs.declared.module.Function.{Function};
 ghost use Rattle.compiler.specs.cleanup.unnamed_intrinsics.Unnamed.{NamesNoIntrinsic};
-ghost use Rattle.pass_edges.specs.EdgeBlocks.{with_edge_blocks};
+ghost use Rattle.pass_proofs.specs.pass_edges.EdgeBlocks.{with_edge_blocks};
 
 /// Nor do they where saves are written out.
 pub fn early_functions_name_no_intrinsic()

@@ -1,22 +1,22 @@
 -- Instances and their slots in the run before, where slots are made anew behind it.
 use Rattle.std.proofs.Common.{◌≡◌, inl, inr, ℕ, zero, suc, ◌+◌, ◌<◌, Bool, true, false, List, [], ◌∷◌, length, Option, Some, None, refl, sym, ap, ◌∙◌, subst, arith}
 use Rattle.std.specs.Prelude.{slice_get}
-use Rattle.flow_solver.specs.Paths.{IsListed}
-use Rattle.ir_model.specs.declared.module.Module.{Module}
-use Rattle.ir_paths.specs.declared.point.Point.{Point}
-use Rattle.pass_frames_proof.proofs.stepping.Rest.{got, seen_known}
-use Rattle.pass_renewed_proof.specs.Beside.{AreInstancesBeside, AreKeptBeside, AreSlots, Both, First, IsInstanceBeside, IsStatusBeside, NoSlots, Second}
-use Rattle.pass_renewed_proof.specs.Ledger.{AreEntered, Ledger}
-use Rattle.pass_renewed_proof.specs.Renewed.{Flags, Roots}
-use Rattle.run_hooks.specs.alive.Slots.{life_of, lives}
-use Rattle.run_laws.specs.embedded.Making.{whole_home}
-use Rattle.run_laws.specs.memory.Pointers.{Home, home_of}
-use Rattle.run_memory.specs.Memory.{is_live}
-use Rattle.run_memory.specs.declared.block.MemoryBlock.{MemoryBlock}
-use Rattle.run_source.specs.declared.state.Instance.{Instance}
-use Rattle.run_source.specs.declared.state.Status.{Status}
-use Rattle.run_step.specs.Values.{Env}
-use Rattle.run_step.specs.declared.world.Slot.{Slot}
+use Rattle.compiler.specs.flow_solver.Paths.{IsListed}
+use Rattle.compiler.specs.ir_model.declared.module.Module.{Module}
+use Rattle.compiler.specs.ir_paths.declared.point.Point.{Point}
+use Rattle.pass_frames_meaning.proofs.pass_frames_proof.stepping.Rest.{got, seen_known}
+use Rattle.pass_frames_meaning.specs.pass_renewed_proof.Beside.{AreInstancesBeside, AreKeptBeside, AreSlots, Both, First, IsInstanceBeside, IsStatusBeside, NoSlots, Second}
+use Rattle.pass_frames_meaning.specs.pass_renewed_proof.Ledger.{AreEntered, Ledger}
+use Rattle.pass_frames_meaning.specs.pass_renewed_proof.Renewed.{Flags, Roots}
+use Rattle.pass_frames_meaning.specs.run_hooks.alive.Slots.{life_of, lives}
+use Rattle.compiler.specs.run_laws.embedded.Making.{whole_home}
+use Rattle.compiler.specs.run_laws.memory.Pointers.{Home, home_of}
+use Rattle.compiler.specs.run_memory.Memory.{is_live}
+use Rattle.compiler.specs.run_memory.declared.block.MemoryBlock.{MemoryBlock}
+use Rattle.compiler.specs.run_source.declared.state.Instance.{Instance}
+use Rattle.compiler.specs.run_source.declared.state.Status.{Status}
+use Rattle.compiler.specs.run_step.Values.{Env}
+use Rattle.compiler.specs.run_step.declared.world.Slot.{Slot}
 
 -- the slot of the first run that stands for one that isn't made anew
 pub record IsSlotBefore (l : Ledger) (flags : ℕ → Bool) (ss : List Slot) (slot : Slot) : Type 0 where

@@ -14,29 +14,29 @@ use Rattle.compiler_theorem.specs.theorem.Anew.{Anew, IsSlotOf}
 use Rattle.compiler_theorem.specs.theorem.Asked.{asking}
 use Rattle.compiler_theorem.specs.theorem.Entries.{Run}
 use Rattle.compiler_theorem.specs.theorem.Lowered.{IsLowered, Lowered, early, edged}
-use Rattle.flow_solver.specs.Paths.{IsListed}
-use Rattle.frame_classes.specs.Classes.{IsOf}
-use Rattle.frame_classes.specs.declared.class.SlotClass.{SlotClass}
-use Rattle.frame_conflicts.specs.Conflicts.{AreConflicts, Conflict, Early, Together, Unmarked}
-use Rattle.frame_contents.specs.Held.{at_fields, both_at_fields, both_with, field_of, fields_of, position_of, slot_held, slot_position}
-use Rattle.frame_contents.specs.declared.held.Holding.{Holding}
-use Rattle.frame_good.specs.Frames.{AreInConflict}
-use Rattle.frame_good.specs.Good.{IsGoodLayout}
-use Rattle.frame_layout.proofs.Grouped.{Named, pairs_at}
-use Rattle.frame_layout.specs.declared.layout.Layout.{Layout}
-use Rattle.ir_laws.proofs.paths.source_rules.Locals.{listed_left, listed_right}
-use Rattle.ir_model.specs.Layout.{size_of}
-use Rattle.ir_model.specs.Names.{function_at}
-use Rattle.ir_model.specs.Ty.{Ty}
-use Rattle.ir_model.specs.declared.instr.Instr.{Instr}
-use Rattle.ir_model.specs.declared.module.Function.{Function}
-use Rattle.ir_paths.specs.Slots.{allocas_of, promise_of}
-use Rattle.pass_frames.specs.Tables.{offset_at}
-use Rattle.pass_frames_proof.specs.Places.{Framing}
-use Rattle.pass_frames_proof.specs.Slotted.{AreRangesApart}
-use Rattle.pass_kept_proof.proofs.Read.{listed_by_name}
-use Rattle.run_framed.specs.Framed.{layout_of}
-use Rattle.run_step.specs.Step.{AtInstr, fetch}
+use Rattle.compiler.specs.flow_solver.Paths.{IsListed}
+use Rattle.compiler.specs.frame_classes.Classes.{IsOf}
+use Rattle.compiler.specs.frame_classes.declared.class.SlotClass.{SlotClass}
+use Rattle.compiler.specs.frame_conflicts.Conflicts.{AreConflicts, Conflict, Early, Together, Unmarked}
+use Rattle.compiler.specs.frame_contents.Held.{at_fields, both_at_fields, both_with, field_of, fields_of, position_of, slot_held, slot_position}
+use Rattle.compiler.specs.frame_contents.declared.held.Holding.{Holding}
+use Rattle.compiler.specs.frame_good.Frames.{AreInConflict}
+use Rattle.compiler.specs.frame_good.Good.{IsGoodLayout}
+use Rattle.compiler.proofs.frame_layout.Grouped.{Named, pairs_at}
+use Rattle.compiler.specs.frame_layout.declared.layout.Layout.{Layout}
+use Rattle.compiler.proofs.ir_laws.paths.source_rules.Locals.{listed_left, listed_right}
+use Rattle.compiler.specs.ir_model.Layout.{size_of}
+use Rattle.compiler.specs.ir_model.Names.{function_at}
+use Rattle.compiler.specs.ir_model.Ty.{Ty}
+use Rattle.compiler.specs.ir_model.declared.instr.Instr.{Instr}
+use Rattle.compiler.specs.ir_model.declared.module.Function.{Function}
+use Rattle.compiler.specs.ir_paths.Slots.{allocas_of, promise_of}
+use Rattle.compiler.specs.pass_frames.Tables.{offset_at}
+use Rattle.pass_frames_meaning.specs.pass_frames_proof.Places.{Framing}
+use Rattle.pass_frames_meaning.specs.pass_frames_proof.Slotted.{AreRangesApart}
+use Rattle.compiler.proofs.pass_kept_proof.Read.{listed_by_name}
+use Rattle.compiler.specs.run_framed.Framed.{layout_of}
+use Rattle.compiler.specs.run_step.Step.{AtInstr, fetch}
 
 -- ---- pairs
 

@@ -14,42 +14,42 @@ use Rattle.compiler_theorem.specs.theorem.Anew.{Anew}
 use Rattle.compiler_theorem.specs.theorem.Asked.{asking}
 use Rattle.compiler_theorem.specs.theorem.Entries.{Run}
 use Rattle.compiler_theorem.specs.theorem.Lowered.{IsLowered, Lowered, early, edged}
-use Rattle.frame_contents.specs.Frames.{AreContents}
-use Rattle.frame_classes.specs.Classes.{IsOf}
-use Rattle.frame_classes.specs.declared.class.SlotClass.{SlotClass}
-use Rattle.frame_contents.specs.Held.{fields_of, slot_held}
-use Rattle.frame_contents.specs.declared.held.Holding.{Holding}
-use Rattle.frame_good.proofs.Frames.{layouts_found}
-use Rattle.frame_good.specs.Frames.{AreInConflict}
-use Rattle.frame_good.specs.Good.{AreFit, IsGoodLayout}
-use Rattle.frame_layout.specs.declared.layout.Layout.{Layout}
-use Rattle.ir_laws.proofs.facts.Truth.{itself}
-use Rattle.ir_model.specs.Layout.{extent_of, extent_or, size_of}
-use Rattle.ir_model.specs.Names.{function_at}
-use Rattle.ir_model.specs.Ty.{Ty}
-use Rattle.ir_model.specs.declared.instr.Instr.{Instr}
-use Rattle.ir_model.specs.declared.module.Block.{Block}
-use Rattle.ir_model.specs.declared.module.Function.{Function}
-use Rattle.ir_model.specs.declared.module.Module.{Module}
-use Rattle.ir_paths.specs.Slots.{promise_of}
-use Rattle.ir_paths.specs.Windows.{instr_at, instr_in}
-use Rattle.ir_sizes.specs.Cut.{capped}
-use Rattle.ir_paths.specs.declared.point.Point.{Point}
-use Rattle.pass_cells.specs.Kept.{entry}
-use Rattle.pass_cells.specs.declared.plan.KeptValue.{KeptValue}
+use Rattle.compiler.specs.frame_contents.Frames.{AreContents}
+use Rattle.compiler.specs.frame_classes.Classes.{IsOf}
+use Rattle.compiler.specs.frame_classes.declared.class.SlotClass.{SlotClass}
+use Rattle.compiler.specs.frame_contents.Held.{fields_of, slot_held}
+use Rattle.compiler.specs.frame_contents.declared.held.Holding.{Holding}
+use Rattle.compiler.proofs.frame_good.Frames.{layouts_found}
+use Rattle.compiler.specs.frame_good.Frames.{AreInConflict}
+use Rattle.compiler.specs.frame_good.Good.{AreFit, IsGoodLayout}
+use Rattle.compiler.specs.frame_layout.declared.layout.Layout.{Layout}
+use Rattle.compiler.proofs.ir_laws.facts.Truth.{itself}
+use Rattle.compiler.specs.ir_model.Layout.{extent_of, extent_or, size_of}
+use Rattle.compiler.specs.ir_model.Names.{function_at}
+use Rattle.compiler.specs.ir_model.Ty.{Ty}
+use Rattle.compiler.specs.ir_model.declared.instr.Instr.{Instr}
+use Rattle.compiler.specs.ir_model.declared.module.Block.{Block}
+use Rattle.compiler.specs.ir_model.declared.module.Function.{Function}
+use Rattle.compiler.specs.ir_model.declared.module.Module.{Module}
+use Rattle.compiler.specs.ir_paths.Slots.{promise_of}
+use Rattle.compiler.specs.ir_paths.Windows.{instr_at, instr_in}
+use Rattle.compiler.specs.ir_sizes.Cut.{capped}
+use Rattle.compiler.specs.ir_paths.declared.point.Point.{Point}
+use Rattle.compiler.specs.pass_cells.Kept.{entry}
+use Rattle.compiler.specs.pass_cells.declared.plan.KeptValue.{KeptValue}
 use Rattle.pass_frames_meaning.proofs.kinds.Bases.{cell_gep}
 use Rattle.pass_frames_meaning.proofs.others.Returns.{instr_in as instr_there}
-use Rattle.pass_frames_proof.specs.Framings.{IsFraming}
-use Rattle.pass_frames_proof.specs.Places.{Framing, plan}
-use Rattle.pass_frames_proof.specs.Places.{edged as edged_function}
-use Rattle.pass_frames_proof.specs.Related.{IsKeptValue}
-use Rattle.rule_laws.specs.rules.function_rules.Kept.{KeepsFunctionRules}
-use Rattle.rule_values.specs.Kinds.{value_kind}
-use Rattle.rule_values.specs.declared.kinds.Kind.{Kind}
+use Rattle.pass_frames_meaning.specs.pass_frames_proof.Framings.{IsFraming}
+use Rattle.pass_frames_meaning.specs.pass_frames_proof.Places.{Framing, plan}
+use Rattle.pass_frames_meaning.specs.pass_frames_proof.Places.{edged as edged_function}
+use Rattle.pass_frames_meaning.specs.pass_frames_proof.Related.{IsKeptValue}
+use Rattle.compiler.specs.rule_laws.rules.function_rules.Kept.{KeepsFunctionRules}
+use Rattle.compiler.specs.rule_values.Kinds.{value_kind}
+use Rattle.compiler.specs.rule_values.declared.kinds.Kind.{Kind}
 use Rattle.run_accepted.proofs.Accepted.{edged_types}
-use Rattle.run_framed.specs.Framed.{layout_of, no_layout}
-use Rattle.run_step.specs.Step.{AtInstr, fetch, fetch_in, fetch_or}
-use Rattle.run_types.specs.Rules.{KeepsTypes}
+use Rattle.compiler.specs.run_framed.Framed.{layout_of, no_layout}
+use Rattle.compiler.specs.run_step.Step.{AtInstr, fetch, fetch_in, fetch_or}
+use Rattle.pass_frames_meaning.specs.run_types.Rules.{KeepsTypes}
 use Rattle.std.proofs.Common.{length}
 
 pub fetched : (h : Function) (p : Point) (i : Instr) → instr_at h p ≡ Some i → fetch h p.block p.at ≡ AtInstr i

@@ -15,59 +15,59 @@ use Rattle.compiler_theorem.specs.theorem.Asked.{asking}
 use Rattle.compiler_theorem.specs.theorem.Between.{setting}
 use Rattle.compiler_theorem.specs.theorem.Entries.{IsEntryCall, Run}
 use Rattle.compiler_theorem.specs.theorem.Lowered.{HasFewBytes, IsLowered, Lowered, early, edged}
-use Rattle.flow_solver.specs.Paths.{IsListed}
-use Rattle.frame_classes.specs.Alive.{MayBeAlive, Started}
-use Rattle.frame_classes.specs.Classes.{suspends}
-use Rattle.frame_classes.specs.declared.class.SlotClass.{SlotClass}
-use Rattle.frame_contents.specs.Held.{position_of, slot_held}
-use Rattle.ir_model.specs.Layout.{size_of}
-use Rattle.ir_model.specs.Names.{function_at}
-use Rattle.ir_model.specs.Ty.{Ty}
-use Rattle.ir_model.specs.declared.instr.Instr.{Instr}
-use Rattle.ir_model.specs.declared.module.Function.{Function}
-use Rattle.ir_model.specs.declared.operand.Intrinsic.{Intrinsic}
-use Rattle.ir_paths.specs.Slots.{IsRampSlot, allocas_of, has_name, promise_of}
-use Rattle.ir_paths.specs.Windows.{is_call_of, points_where}
-use Rattle.ir_paths.specs.declared.point.Point.{Point}
-use Rattle.pass_edges.specs.EdgeBlocks.{with_edge_blocks}
-use Rattle.pass_fetch.specs.Fetching.{value_bytes}
-use Rattle.pass_cells.specs.declared.plan.KeptValue.{KeptValue}
-use Rattle.pass_frames.specs.Tables.{offset_at}
+use Rattle.compiler.specs.flow_solver.Paths.{IsListed}
+use Rattle.compiler.specs.frame_classes.Alive.{MayBeAlive, Started}
+use Rattle.compiler.specs.frame_classes.Classes.{suspends}
+use Rattle.compiler.specs.frame_classes.declared.class.SlotClass.{SlotClass}
+use Rattle.compiler.specs.frame_contents.Held.{position_of, slot_held}
+use Rattle.compiler.specs.ir_model.Layout.{size_of}
+use Rattle.compiler.specs.ir_model.Names.{function_at}
+use Rattle.compiler.specs.ir_model.Ty.{Ty}
+use Rattle.compiler.specs.ir_model.declared.instr.Instr.{Instr}
+use Rattle.compiler.specs.ir_model.declared.module.Function.{Function}
+use Rattle.compiler.specs.ir_model.declared.operand.Intrinsic.{Intrinsic}
+use Rattle.compiler.specs.ir_paths.Slots.{IsRampSlot, allocas_of, has_name, promise_of}
+use Rattle.compiler.specs.ir_paths.Windows.{is_call_of, points_where}
+use Rattle.compiler.specs.ir_paths.declared.point.Point.{Point}
+use Rattle.compiler.specs.pass_edges.EdgeBlocks.{with_edge_blocks}
+use Rattle.compiler.specs.pass_fetch.Fetching.{value_bytes}
+use Rattle.compiler.specs.pass_cells.declared.plan.KeptValue.{KeptValue}
+use Rattle.compiler.specs.pass_frames.Tables.{offset_at}
 use Rattle.pass_frames_meaning.specs.Spared.{HasFieldAt}
-use Rattle.pass_frames_proof.specs.Places.{Framing}
-use Rattle.pass_frames_proof.specs.Related.{IsSuspendNumber}
-use Rattle.pass_frames_proof.specs.Slotted.{AreRangesApart}
-use Rattle.pass_kept_proof.proofs.Read.{listed_by_name}
-use Rattle.pass_proofs.proofs.early.path_rules.RenamedOperands.{map_was}
-use Rattle.pass_proofs.proofs.edges.paths.Points.{points_moved}
-use Rattle.pass_proofs.proofs.edges.rules.Alive.{alive_stays}
-use Rattle.pass_proofs.proofs.kept.sources.Whole.{edges_kept}
-use Rattle.pass_proofs.specs.edges.paths.Spots.{moved}
-use Rattle.pass_renewed_meaning.specs.Offsets.{first_at}
-use Rattle.pass_renewed_proof.specs.Beside.{IsBeside, IsInstanceBeside}
-use Rattle.pass_renewed_proof.specs.SlotRules.{IsMadeOnce, IsMarkerAt}
+use Rattle.pass_frames_meaning.specs.pass_frames_proof.Places.{Framing}
+use Rattle.pass_frames_meaning.specs.pass_frames_proof.Related.{IsSuspendNumber}
+use Rattle.pass_frames_meaning.specs.pass_frames_proof.Slotted.{AreRangesApart}
+use Rattle.compiler.proofs.pass_kept_proof.Read.{listed_by_name}
+use Rattle.compiler.proofs.pass_proofs.early.path_rules.RenamedOperands.{map_was}
+use Rattle.compiler.proofs.pass_proofs.edges.paths.Points.{points_moved}
+use Rattle.compiler.proofs.pass_proofs.edges.rules.Alive.{alive_stays}
+use Rattle.compiler.proofs.pass_proofs.kept.sources.Whole.{edges_kept}
+use Rattle.compiler.specs.pass_proofs.edges.paths.Spots.{moved}
+use Rattle.pass_frames_meaning.specs.pass_renewed_meaning.Offsets.{first_at}
+use Rattle.pass_frames_meaning.specs.pass_renewed_proof.Beside.{IsBeside, IsInstanceBeside}
+use Rattle.pass_frames_meaning.specs.pass_renewed_proof.SlotRules.{IsMadeOnce, IsMarkerAt}
 use Rattle.run_accepted.proofs.Alive.{listed}
-use Rattle.run_framed.specs.Framed.{layout_of}
-use Rattle.run_hooks.proofs.alive.Parts.{all_where}
-use Rattle.run_hooks.proofs.alive.Says.{may_be_alive}
-use Rattle.run_hooks.specs.alive.Alive.{IsAliveInstance, IsAliveState, account_of, AreAliveAt, Stays}
-use Rattle.run_memory.specs.Memory.{is_live}
-use Rattle.run_memory.specs.declared.block.MemoryBlock.{MemoryBlock}
-use Rattle.run_source.specs.declared.state.Instance.{Instance}
-use Rattle.run_source.specs.declared.state.State.{State}
-use Rattle.run_source.specs.declared.state.Status.{Status}
-use Rattle.run_step.specs.Step.{AtInstr, fetch, has_markers}
-use Rattle.run_step.specs.Values.{Env}
-use Rattle.run_step.specs.declared.world.Slot.{Slot}
-use Rattle.ir_paths.specs.Paths.{has_point, nexts}
-use Rattle.run_hooks.specs.Away.{point_in, spot_of}
-use Rattle.run_hooks.specs.alive.Slots.{IsAliveSlot, IsHeld, is_gone, lives}
-use Rattle.run_hooks.proofs.alive.Lives.{not_gone}
-use Rattle.run_hooks.proofs.alive.Marks.{held_on, spot_is}
-use Rattle.run_hooks.proofs.alive.Open.{after}
-use Rattle.run_source.specs.Source.{is_over}
-use Rattle.run_source.specs.declared.state.Activation.{Activation}
-use Rattle.run_source.specs.declared.state.Mode.{Mode}
+use Rattle.compiler.specs.run_framed.Framed.{layout_of}
+use Rattle.pass_frames_meaning.proofs.run_hooks.alive.Parts.{all_where}
+use Rattle.pass_frames_meaning.proofs.run_hooks.alive.Says.{may_be_alive}
+use Rattle.pass_frames_meaning.specs.run_hooks.alive.Alive.{IsAliveInstance, IsAliveState, account_of, AreAliveAt, Stays}
+use Rattle.compiler.specs.run_memory.Memory.{is_live}
+use Rattle.compiler.specs.run_memory.declared.block.MemoryBlock.{MemoryBlock}
+use Rattle.compiler.specs.run_source.declared.state.Instance.{Instance}
+use Rattle.compiler.specs.run_source.declared.state.State.{State}
+use Rattle.compiler.specs.run_source.declared.state.Status.{Status}
+use Rattle.compiler.specs.run_step.Step.{AtInstr, fetch, has_markers}
+use Rattle.compiler.specs.run_step.Values.{Env}
+use Rattle.compiler.specs.run_step.declared.world.Slot.{Slot}
+use Rattle.compiler.specs.ir_paths.Paths.{has_point, nexts}
+use Rattle.pass_frames_meaning.specs.run_hooks.Away.{point_in, spot_of}
+use Rattle.pass_frames_meaning.specs.run_hooks.alive.Slots.{IsAliveSlot, IsHeld, is_gone, lives}
+use Rattle.pass_frames_meaning.proofs.run_hooks.alive.Lives.{not_gone}
+use Rattle.pass_frames_meaning.proofs.run_hooks.alive.Marks.{held_on, spot_is}
+use Rattle.pass_frames_meaning.proofs.run_hooks.alive.Open.{after}
+use Rattle.compiler.specs.run_source.Source.{is_over}
+use Rattle.compiler.specs.run_source.declared.state.Activation.{Activation}
+use Rattle.compiler.specs.run_source.declared.state.Mode.{Mode}
 
 both_true : (b d : Bool) → b ≡ true → d ≡ false → (b && not d) ≡ true
 both_true b d e f = λ j. e j && not (f j)

@@ -11,29 +11,29 @@ use Rattle.compiler_theorem.specs.theorem.Anew.{Anew, IsAnewOf}
 use Rattle.compiler_theorem.specs.theorem.Between.{setting}
 use Rattle.compiler_theorem.specs.theorem.Entries.{IsEntryCall, Run}
 use Rattle.compiler_theorem.specs.theorem.Lowered.{HasFewBytes, IsLowered, Lowered, early, edged, sizes_of}
-use Rattle.frame_classes.specs.Classes.{suspends}
-use Rattle.ir_laws.proofs.facts.Truth.{and_first, and_second}
-use Rattle.ir_laws.proofs.paths.path_rules.Where.{where_has}
-use Rattle.ir_model.specs.Names.{function_at, no_function}
-use Rattle.ir_model.specs.declared.module.Function.{Function}
-use Rattle.ir_model.specs.declared.operand.Intrinsic.{Intrinsic}
-use Rattle.ir_paths.specs.Paths.{has_point}
-use Rattle.ir_paths.specs.Slots.{allocas_of, has_name}
-use Rattle.ir_paths.specs.Windows.{is_call_of}
-use Rattle.ir_paths.specs.declared.point.Point.{Point}
-use Rattle.pass_edges.specs.EdgeBlocks.{with_edge_blocks}
-use Rattle.pass_kept_proof.specs.SuspendRules.{IsCallAt}
-use Rattle.pass_proofs.proofs.kept.sources.Names.{suspend_inside}
-use Rattle.pass_proofs.specs.edges.states.MovedState.{edge_function}
-use Rattle.pass_renewed_meaning.specs.Offsets.{first_at}
-use Rattle.pass_renewed_proof.specs.SlotRules.{IsMadeOnce}
-use Rattle.rule_laws.proofs.rules.sources.Places.{instr_there}
-use Rattle.rule_laws.specs.rules.function_rules.Kept.{KeepsFunctionRules}
+use Rattle.compiler.specs.frame_classes.Classes.{suspends}
+use Rattle.compiler.proofs.ir_laws.facts.Truth.{and_first, and_second}
+use Rattle.compiler.proofs.ir_laws.paths.path_rules.Where.{where_has}
+use Rattle.compiler.specs.ir_model.Names.{function_at, no_function}
+use Rattle.compiler.specs.ir_model.declared.module.Function.{Function}
+use Rattle.compiler.specs.ir_model.declared.operand.Intrinsic.{Intrinsic}
+use Rattle.compiler.specs.ir_paths.Paths.{has_point}
+use Rattle.compiler.specs.ir_paths.Slots.{allocas_of, has_name}
+use Rattle.compiler.specs.ir_paths.Windows.{is_call_of}
+use Rattle.compiler.specs.ir_paths.declared.point.Point.{Point}
+use Rattle.compiler.specs.pass_edges.EdgeBlocks.{with_edge_blocks}
+use Rattle.compiler.specs.pass_kept_proof.SuspendRules.{IsCallAt}
+use Rattle.compiler.proofs.pass_proofs.kept.sources.Names.{suspend_inside}
+use Rattle.compiler.specs.pass_proofs.edges.states.MovedState.{edge_function}
+use Rattle.pass_frames_meaning.specs.pass_renewed_meaning.Offsets.{first_at}
+use Rattle.pass_frames_meaning.specs.pass_renewed_proof.SlotRules.{IsMadeOnce}
+use Rattle.compiler.proofs.rule_laws.rules.sources.Places.{instr_there}
+use Rattle.compiler.specs.rule_laws.rules.function_rules.Kept.{KeepsFunctionRules}
 use Rattle.run_accepted.proofs.Accepted.{edged_alive, edged_places, edged_switches}
 use Rattle.run_accepted.proofs.Plain.{no_call}
-use Rattle.run_hooks.proofs.alive.Runs.{kept_alive}
-use Rattle.run_hooks.specs.alive.Alive.{IsAliveState}
-use Rattle.run_source.specs.Source.{given}
+use Rattle.pass_frames_meaning.proofs.run_hooks.alive.Runs.{kept_alive}
+use Rattle.pass_frames_meaning.specs.run_hooks.alive.Alive.{IsAliveState}
+use Rattle.compiler.specs.run_source.Source.{given}
 
 module _ (l : Lowered) (low : IsLowered l) (few : HasFewBytes l) (a : Anew) (anew : IsAnewOf (early l) a) (r : Run)
     (entered : IsEntryCall l.source r) where

@@ -7,24 +7,24 @@ use Rattle.std.specs.Prelude.{get_or, map, slice_get}
 use Rattle.compiler_theorem.proofs.kinds.Crossed.{listed_in, pair_listed}
 use Rattle.compiler_theorem.proofs.kinds.Opened.{field_there}
 use Rattle.compiler_theorem.specs.kinds.Held.{IsHeldAsValue}
-use Rattle.frame_classes.specs.Alive.{MayBeAlive}
-use Rattle.frame_classes.specs.Classes.{IsOf, suspends}
-use Rattle.frame_classes.specs.declared.class.SlotClass.{SlotClass}
-use Rattle.frame_contents.specs.Held.{at_fields, both_at_fields, field_of, fields_of, position_of, slot_position, value_held}
-use Rattle.frame_contents.specs.declared.held.Holding.{Holding}
-use Rattle.frame_good.specs.Frames.{AreInConflict}
-use Rattle.frame_good.specs.Good.{AreApart, IsGoodLayout}
-use Rattle.frame_layout.proofs.Grouped.{AliveBack, pairs_at}
-use Rattle.frame_layout.specs.declared.layout.Layout.{Layout}
-use Rattle.ir_model.specs.declared.module.Function.{Function}
-use Rattle.ir_paths.specs.Slots.{allocas_of}
-use Rattle.ir_paths.specs.declared.point.Point.{Point}
-use Rattle.pass_cells.specs.declared.plan.KeptValue.{KeptValue}
-use Rattle.pass_fetch.specs.Fetching.{value_bytes}
-use Rattle.pass_frames.specs.Tables.{is_slot_kind, offset_at}
-use Rattle.pass_frames_proof.proofs.lines.Cells.{contained}
-use Rattle.pass_frames_proof.specs.Places.{Framing}
-use Rattle.pass_frames_proof.specs.Slotted.{AreRangesApart}
+use Rattle.compiler.specs.frame_classes.Alive.{MayBeAlive}
+use Rattle.compiler.specs.frame_classes.Classes.{IsOf, suspends}
+use Rattle.compiler.specs.frame_classes.declared.class.SlotClass.{SlotClass}
+use Rattle.compiler.specs.frame_contents.Held.{at_fields, both_at_fields, field_of, fields_of, position_of, slot_position, value_held}
+use Rattle.compiler.specs.frame_contents.declared.held.Holding.{Holding}
+use Rattle.compiler.specs.frame_good.Frames.{AreInConflict}
+use Rattle.compiler.specs.frame_good.Good.{AreApart, IsGoodLayout}
+use Rattle.compiler.proofs.frame_layout.Grouped.{AliveBack, pairs_at}
+use Rattle.compiler.specs.frame_layout.declared.layout.Layout.{Layout}
+use Rattle.compiler.specs.ir_model.declared.module.Function.{Function}
+use Rattle.compiler.specs.ir_paths.Slots.{allocas_of}
+use Rattle.compiler.specs.ir_paths.declared.point.Point.{Point}
+use Rattle.compiler.specs.pass_cells.declared.plan.KeptValue.{KeptValue}
+use Rattle.compiler.specs.pass_fetch.Fetching.{value_bytes}
+use Rattle.compiler.specs.pass_frames.Tables.{is_slot_kind, offset_at}
+use Rattle.pass_frames_meaning.proofs.pass_frames_proof.lines.Cells.{contained}
+use Rattle.pass_frames_meaning.specs.pass_frames_proof.Places.{Framing}
+use Rattle.pass_frames_meaning.specs.pass_frames_proof.Slotted.{AreRangesApart}
 
 pub position_at : (g : ℕ → Option ℕ) (vs : List ℕ) (i v : ℕ) → slice_get vs i ≡ Some v → get_or (map g vs) i None ≡ g v
 position_at g [] i v e = absurd (cc)

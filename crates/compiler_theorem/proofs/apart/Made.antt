@@ -16,46 +16,46 @@ use Rattle.compiler_theorem.specs.theorem.Asked.{asking}
 use Rattle.compiler_theorem.specs.theorem.Between.{setting}
 use Rattle.compiler_theorem.specs.theorem.Entries.{IsEntryCall, Run}
 use Rattle.compiler_theorem.specs.theorem.Lowered.{HasFewBytes, IsLowered, Lowered, early, edged, sizes_of}
-use Rattle.flow_solver.specs.Paths.{IsListed}
-use Rattle.frame_classes.specs.Alive.{markers_of}
-use Rattle.frame_classes.specs.declared.class.SlotClass.{SlotClass}
-use Rattle.frame_conflicts.specs.Conflicts.{Unmarked}
-use Rattle.frame_contents.specs.Held.{frame_slots, frame_slots_from, is_frame, position_of}
-use Rattle.frame_slots.specs.Uses.{ends_of, is_marker_of, starts_of}
-use Rattle.ir_laws.proofs.facts.Truth.{equal_numbers}
-use Rattle.ir_model.specs.Layout.{size_of}
-use Rattle.ir_model.specs.Names.{function_at}
-use Rattle.ir_model.specs.Ty.{Ty}
-use Rattle.ir_model.specs.declared.instr.Instr.{Instr}
-use Rattle.ir_model.specs.declared.module.Function.{Function}
-use Rattle.ir_model.specs.declared.operand.Intrinsic.{Intrinsic}
-use Rattle.ir_paths.specs.Slots.{allocas_of, has_name}
-use Rattle.ir_paths.specs.declared.point.Point.{Point}
-use Rattle.pass_edges.specs.EdgeBlocks.{with_edge_blocks}
-use Rattle.pass_frames.specs.Tables.{offset_at}
+use Rattle.compiler.specs.flow_solver.Paths.{IsListed}
+use Rattle.compiler.specs.frame_classes.Alive.{markers_of}
+use Rattle.compiler.specs.frame_classes.declared.class.SlotClass.{SlotClass}
+use Rattle.compiler.specs.frame_conflicts.Conflicts.{Unmarked}
+use Rattle.compiler.specs.frame_contents.Held.{frame_slots, frame_slots_from, is_frame, position_of}
+use Rattle.compiler.specs.frame_slots.Uses.{ends_of, is_marker_of, starts_of}
+use Rattle.compiler.proofs.ir_laws.facts.Truth.{equal_numbers}
+use Rattle.compiler.specs.ir_model.Layout.{size_of}
+use Rattle.compiler.specs.ir_model.Names.{function_at}
+use Rattle.compiler.specs.ir_model.Ty.{Ty}
+use Rattle.compiler.specs.ir_model.declared.instr.Instr.{Instr}
+use Rattle.compiler.specs.ir_model.declared.module.Function.{Function}
+use Rattle.compiler.specs.ir_model.declared.operand.Intrinsic.{Intrinsic}
+use Rattle.compiler.specs.ir_paths.Slots.{allocas_of, has_name}
+use Rattle.compiler.specs.ir_paths.declared.point.Point.{Point}
+use Rattle.compiler.specs.pass_edges.EdgeBlocks.{with_edge_blocks}
+use Rattle.compiler.specs.pass_frames.Tables.{offset_at}
 use Rattle.pass_frames_meaning.proofs.known.Operands.{own_there}
 use Rattle.pass_frames_meaning.specs.Sized.{IsSizedState}
-use Rattle.pass_frames_proof.proofs.lines.Cells.{contained}
-use Rattle.pass_frames_proof.specs.Places.{edged as edged_function}
-use Rattle.pass_frames_proof.specs.Slotted.{AreRangesApart}
-use Rattle.pass_kept_proof.proofs.Read.{listed_by_name}
-use Rattle.pass_proofs.proofs.edges.paths.Points.{points_moved}
-use Rattle.pass_proofs.proofs.edges.paths.Slots.{same_allocas}
-use Rattle.pass_proofs.specs.edges.paths.Spots.{moved}
-use Rattle.pass_renewed_meaning.specs.Offsets.{first_at}
-use Rattle.pass_renewed_proof.specs.Beside.{IsBeside}
-use Rattle.pass_renewed_proof.specs.SlotRules.{IsMadeOnce}
-use Rattle.pass_renewed_proof.specs.Steps.{given_at}
-use Rattle.rule_laws.proofs.rules.source_rules.Slots.{HasAlloca, alloca_of}
+use Rattle.pass_frames_meaning.proofs.pass_frames_proof.lines.Cells.{contained}
+use Rattle.pass_frames_meaning.specs.pass_frames_proof.Places.{edged as edged_function}
+use Rattle.pass_frames_meaning.specs.pass_frames_proof.Slotted.{AreRangesApart}
+use Rattle.compiler.proofs.pass_kept_proof.Read.{listed_by_name}
+use Rattle.compiler.proofs.pass_proofs.edges.paths.Points.{points_moved}
+use Rattle.compiler.proofs.pass_proofs.edges.paths.Slots.{same_allocas}
+use Rattle.compiler.specs.pass_proofs.edges.paths.Spots.{moved}
+use Rattle.pass_frames_meaning.specs.pass_renewed_meaning.Offsets.{first_at}
+use Rattle.pass_frames_meaning.specs.pass_renewed_proof.Beside.{IsBeside}
+use Rattle.pass_frames_meaning.specs.pass_renewed_proof.SlotRules.{IsMadeOnce}
+use Rattle.pass_frames_meaning.specs.pass_renewed_proof.Steps.{given_at}
+use Rattle.compiler.proofs.rule_laws.rules.source_rules.Slots.{HasAlloca, alloca_of}
 use Rattle.run_accepted.proofs.Accepted.{edged_alive}
 use Rattle.run_accepted.proofs.Alive.{listed}
-use Rattle.run_hooks.proofs.alive.Says.{none_marked}
-use Rattle.run_memory.specs.declared.block.MemoryBlock.{MemoryBlock}
-use Rattle.run_source.specs.declared.state.Instance.{Instance}
-use Rattle.run_source.specs.declared.state.State.{State}
-use Rattle.run_states.specs.sound_states.Sound.{IsInstanceOf, IsSound}
-use Rattle.run_step.specs.Step.{AtInstr, fetch, has_markers}
-use Rattle.run_step.specs.declared.world.Slot.{Slot}
+use Rattle.pass_frames_meaning.proofs.run_hooks.alive.Says.{none_marked}
+use Rattle.compiler.specs.run_memory.declared.block.MemoryBlock.{MemoryBlock}
+use Rattle.compiler.specs.run_source.declared.state.Instance.{Instance}
+use Rattle.compiler.specs.run_source.declared.state.State.{State}
+use Rattle.compiler.specs.run_states.sound_states.Sound.{IsInstanceOf, IsSound}
+use Rattle.compiler.specs.run_step.Step.{AtInstr, fetch, has_markers}
+use Rattle.compiler.specs.run_step.declared.world.Slot.{Slot}
 
 -- ---- slots of the class
 

@@ -2,35 +2,35 @@
 use Rattle.std.proofs.Common.{◌≡◌, ℕ, suc, Bool, true, false, List, Option, Some, None, Result, Ok, Err, sym, ap, ◌∙◌, subst}
 use Rattle.std.specs.Prelude.{length, not}
 use Rattle.compiler_theorem.proofs.known.Runs.{last_step}
-use Rattle.ir_base.specs.declared.cause.Cause.{Cause}
-use Rattle.ir_base.specs.declared.outcome.Outcome.{Outcome}
-use Rattle.ir_model.specs.Names.{function_at}
-use Rattle.ir_model.specs.Ty.{Ty}
-use Rattle.ir_model.specs.declared.instr.Instr.{Instr}
-use Rattle.ir_model.specs.declared.operand.Arg.{Arg}
-use Rattle.ir_model.specs.declared.operand.Callee.{Callee}
-use Rattle.ir_model.specs.declared.operand.Intrinsic.{Intrinsic}
-use Rattle.ir_paths.specs.Windows.{suspend_of}
-use Rattle.ir_paths.specs.declared.point.Point.{Point}
-use Rattle.pass_kept_proof.specs.Kept.{continue_keeping}
-use Rattle.pass_renewed_meaning.proofs.OneStep.{IsOneStep, IsStep, step_is}
-use Rattle.pass_renewed_meaning.proofs.RunStates.{of_run}
-use Rattle.pass_renewed_meaning.proofs.SaveCases.{save_case}
-use Rattle.pass_renewed_meaning.specs.Followed.{AreInStep, Ended, Goes}
-use Rattle.pass_renewed_meaning.specs.Offsets.{first_at}
-use Rattle.pass_renewed_meaning.specs.Rules.{KeepsAll, Setting}
-use Rattle.pass_renewed_meaning.specs.Runs.{first_given, first_step, second_given}
-use Rattle.pass_renewed_meaning.proofs.Here.{Here}
-use Rattle.pass_renewed_proof.specs.Beside.{IsBeside}
-use Rattle.pass_renewed_proof.specs.Renewed.{renewed_advance, renewed_next, renewed_step}
-use Rattle.run_agreement.specs.Machines.{IsFine, IsRunning}
-use Rattle.run_source.specs.Source.{act, context_of, first_state, save_for}
-use Rattle.run_source.specs.State.{next, or_undefined, own_instance, with_instance, with_left, work_of}
-use Rattle.run_source.specs.declared.state.Instance.{Instance}
-use Rattle.run_source.specs.declared.state.State.{State}
-use Rattle.run_source.specs.declared.state.Status.{Status}
-use Rattle.run_step.specs.Results.{and_then, found, ok_if}
-use Rattle.run_step.specs.Step.{AtInstr, Fetched, action_of, fetch}
+use Rattle.compiler.specs.ir_base.declared.cause.Cause.{Cause}
+use Rattle.compiler.specs.ir_base.declared.outcome.Outcome.{Outcome}
+use Rattle.compiler.specs.ir_model.Names.{function_at}
+use Rattle.compiler.specs.ir_model.Ty.{Ty}
+use Rattle.compiler.specs.ir_model.declared.instr.Instr.{Instr}
+use Rattle.compiler.specs.ir_model.declared.operand.Arg.{Arg}
+use Rattle.compiler.specs.ir_model.declared.operand.Callee.{Callee}
+use Rattle.compiler.specs.ir_model.declared.operand.Intrinsic.{Intrinsic}
+use Rattle.compiler.specs.ir_paths.Windows.{suspend_of}
+use Rattle.compiler.specs.ir_paths.declared.point.Point.{Point}
+use Rattle.compiler.specs.pass_kept_proof.Kept.{continue_keeping}
+use Rattle.pass_frames_meaning.proofs.pass_renewed_meaning.OneStep.{IsOneStep, IsStep, step_is}
+use Rattle.pass_frames_meaning.proofs.pass_renewed_meaning.RunStates.{of_run}
+use Rattle.pass_frames_meaning.proofs.pass_renewed_meaning.SaveCases.{save_case}
+use Rattle.pass_frames_meaning.specs.pass_renewed_meaning.Followed.{AreInStep, Ended, Goes}
+use Rattle.pass_frames_meaning.specs.pass_renewed_meaning.Offsets.{first_at}
+use Rattle.pass_frames_meaning.specs.pass_renewed_meaning.Rules.{KeepsAll, Setting}
+use Rattle.pass_frames_meaning.specs.pass_renewed_meaning.Runs.{first_given, first_step, second_given}
+use Rattle.pass_frames_meaning.proofs.pass_renewed_meaning.Here.{Here}
+use Rattle.pass_frames_meaning.specs.pass_renewed_proof.Beside.{IsBeside}
+use Rattle.pass_frames_meaning.specs.pass_renewed_proof.Renewed.{renewed_advance, renewed_next, renewed_step}
+use Rattle.compiler.specs.run_agreement.Machines.{IsFine, IsRunning}
+use Rattle.compiler.specs.run_source.Source.{act, context_of, first_state, save_for}
+use Rattle.compiler.specs.run_source.State.{next, or_undefined, own_instance, with_instance, with_left, work_of}
+use Rattle.compiler.specs.run_source.declared.state.Instance.{Instance}
+use Rattle.compiler.specs.run_source.declared.state.State.{State}
+use Rattle.compiler.specs.run_source.declared.state.Status.{Status}
+use Rattle.compiler.specs.run_step.Results.{and_then, found, ok_if}
+use Rattle.compiler.specs.run_step.Step.{AtInstr, Fetched, action_of, fetch}
 
 abbrev kept_by : State → Point → Point → ℕ → Instance → State
 kept_by s p u i x = with_left (with_instance s i (record x {

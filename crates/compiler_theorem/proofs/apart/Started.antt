@@ -15,63 +15,63 @@ use Rattle.compiler_theorem.specs.theorem.Between.{setting}
 use Rattle.compiler_theorem.specs.theorem.Entries.{IsEntryCall, Run}
 use Rattle.compiler_theorem.specs.theorem.Lowered.{HasFewBytes, IsLowered, Lowered, early, edged, sizes_of}
 use Rattle.compiler_theorem.specs.theorem.Started.{HasSlotsOnce}
-use Rattle.flow_solver.specs.Paths.{IsListed}
-use Rattle.frame_classes.specs.Alive.{MayBeAlive, Started}
-use Rattle.frame_conflicts.specs.Conflicts.{Conflict, Together, Unmarked}
-use Rattle.frame_slots.proofs.Points.{PassesAt, where_complete, where_sound}
-use Rattle.frame_slots.specs.Uses.{is_marker_of, starts_of}
-use Rattle.ir_laws.proofs.facts.Truth.{and_first, and_second, equal_numbers}
-use Rattle.ir_laws.specs.paths.threads.Labels.{HasNamedLabels}
-use Rattle.ir_model.specs.Names.{function_at, is_local}
-use Rattle.ir_model.specs.Ty.{Ty}
-use Rattle.ir_model.specs.declared.instr.Instr.{Instr}
-use Rattle.ir_model.specs.declared.module.Function.{Function}
-use Rattle.ir_model.specs.declared.operand.Arg.{Arg}
-use Rattle.ir_model.specs.declared.operand.Intrinsic.{Intrinsic}
-use Rattle.ir_model.specs.declared.operand.Operand.{Operand}
-use Rattle.ir_paths.specs.Paths.{has_point}
-use Rattle.ir_paths.specs.Slots.{IsRampSlot, allocas_of}
-use Rattle.ir_paths.specs.Windows.{call_operand, instr_at, is_call_of}
-use Rattle.ir_paths.specs.declared.point.Point.{Point}
-use Rattle.pass_edges.specs.EdgeBlocks.{with_edge_blocks}
-use Rattle.pass_frames.specs.Tables.{offset_at}
+use Rattle.compiler.specs.flow_solver.Paths.{IsListed}
+use Rattle.compiler.specs.frame_classes.Alive.{MayBeAlive, Started}
+use Rattle.compiler.specs.frame_conflicts.Conflicts.{Conflict, Together, Unmarked}
+use Rattle.compiler.proofs.frame_slots.Points.{PassesAt, where_complete, where_sound}
+use Rattle.compiler.specs.frame_slots.Uses.{is_marker_of, starts_of}
+use Rattle.compiler.proofs.ir_laws.facts.Truth.{and_first, and_second, equal_numbers}
+use Rattle.compiler.specs.ir_laws.paths.threads.Labels.{HasNamedLabels}
+use Rattle.compiler.specs.ir_model.Names.{function_at, is_local}
+use Rattle.compiler.specs.ir_model.Ty.{Ty}
+use Rattle.compiler.specs.ir_model.declared.instr.Instr.{Instr}
+use Rattle.compiler.specs.ir_model.declared.module.Function.{Function}
+use Rattle.compiler.specs.ir_model.declared.operand.Arg.{Arg}
+use Rattle.compiler.specs.ir_model.declared.operand.Intrinsic.{Intrinsic}
+use Rattle.compiler.specs.ir_model.declared.operand.Operand.{Operand}
+use Rattle.compiler.specs.ir_paths.Paths.{has_point}
+use Rattle.compiler.specs.ir_paths.Slots.{IsRampSlot, allocas_of}
+use Rattle.compiler.specs.ir_paths.Windows.{call_operand, instr_at, is_call_of}
+use Rattle.compiler.specs.ir_paths.declared.point.Point.{Point}
+use Rattle.compiler.specs.pass_edges.EdgeBlocks.{with_edge_blocks}
+use Rattle.compiler.specs.pass_frames.Tables.{offset_at}
 use Rattle.pass_frames_meaning.proofs.known.Operands.{own_there}
 use Rattle.pass_frames_meaning.specs.Sized.{IsSizedState}
-use Rattle.pass_frames_proof.proofs.lines.Cells.{contained}
-use Rattle.pass_frames_proof.specs.Marking.{marking}
-use Rattle.pass_frames_proof.specs.Slotted.{AreRangesApart}
-use Rattle.pass_kept_proof.proofs.Read.{listed_by_name}
-use Rattle.pass_kept_proof.specs.SuspendRules.{IsCallAt}
-use Rattle.pass_proofs.proofs.edges.rules.Alive.{alive_stays, from_where}
-use Rattle.pass_proofs.proofs.kept.sources.Modules.{early_has_paths, early_has_shape, early_rules}
-use Rattle.pass_proofs.proofs.kept.sources.Whole.{edges_kept}
-use Rattle.pass_renewed_meaning.specs.Offsets.{first_at}
-use Rattle.pass_renewed_proof.proofs.Ahead.{next_edge}
-use Rattle.pass_renewed_proof.proofs.History.{fetch_is}
-use Rattle.pass_renewed_proof.specs.SlotRules.{IsMadeOnce, IsMarkerAt}
-use Rattle.rule_laws.proofs.rules.source_rules.Slots.{alloca_of}
-use Rattle.rule_windows.specs.Sets.{IsAfterEnd}
-use Rattle.pass_renewed_proof.specs.Beside.{IsBeside, place_in}
-use Rattle.run_source.specs.declared.state.Activation.{Activation}
-use Rattle.pass_renewed_proof.proofs.Stands.{IsSpotOf, at_place}
-use Rattle.frame_slots.specs.Spots.{At}
-use Rattle.pass_renewed_meaning.proofs.Points.{ordinary}
+use Rattle.pass_frames_meaning.proofs.pass_frames_proof.lines.Cells.{contained}
+use Rattle.pass_frames_meaning.specs.pass_frames_proof.Marking.{marking}
+use Rattle.pass_frames_meaning.specs.pass_frames_proof.Slotted.{AreRangesApart}
+use Rattle.compiler.proofs.pass_kept_proof.Read.{listed_by_name}
+use Rattle.compiler.specs.pass_kept_proof.SuspendRules.{IsCallAt}
+use Rattle.compiler.proofs.pass_proofs.edges.rules.Alive.{alive_stays, from_where}
+use Rattle.compiler.proofs.pass_proofs.kept.sources.Modules.{early_has_paths, early_has_shape, early_rules}
+use Rattle.compiler.proofs.pass_proofs.kept.sources.Whole.{edges_kept}
+use Rattle.pass_frames_meaning.specs.pass_renewed_meaning.Offsets.{first_at}
+use Rattle.pass_frames_meaning.proofs.pass_renewed_proof.Ahead.{next_edge}
+use Rattle.pass_frames_meaning.proofs.pass_renewed_proof.History.{fetch_is}
+use Rattle.pass_frames_meaning.specs.pass_renewed_proof.SlotRules.{IsMadeOnce, IsMarkerAt}
+use Rattle.compiler.proofs.rule_laws.rules.source_rules.Slots.{alloca_of}
+use Rattle.compiler.specs.rule_windows.Sets.{IsAfterEnd}
+use Rattle.pass_frames_meaning.specs.pass_renewed_proof.Beside.{IsBeside, place_in}
+use Rattle.compiler.specs.run_source.declared.state.Activation.{Activation}
+use Rattle.pass_frames_meaning.proofs.pass_renewed_proof.Stands.{IsSpotOf, at_place}
+use Rattle.compiler.specs.frame_slots.Spots.{At}
+use Rattle.pass_frames_meaning.proofs.pass_renewed_meaning.Points.{ordinary}
 use Rattle.compiler_theorem.proofs.theorem.Renewing.{all_kept}
 use Rattle.run_accepted.proofs.Accepted.{edged_alive}
 use Rattle.run_accepted.proofs.Alive.{coroutine_keeps}
-use Rattle.run_hooks.proofs.alive.Marks.{both_are, instr_there, start_no_coro_end, start_no_end}
-use Rattle.run_hooks.proofs.alive.Open.{after, open_behind}
-use Rattle.run_hooks.proofs.alive.Says.{none_marked}
-use Rattle.run_hooks.specs.Away.{point_in}
-use Rattle.run_hooks.specs.alive.Alive.{IsEnded, IsStart, KeepsAliveRules}
-use Rattle.run_hooks.specs.alive.Slots.{IsOpen}
-use Rattle.run_memory.specs.Memory.{is_live}
-use Rattle.run_memory.specs.declared.block.MemoryBlock.{MemoryBlock}
-use Rattle.run_source.specs.declared.state.Instance.{Instance}
-use Rattle.run_source.specs.declared.state.State.{State}
-use Rattle.run_states.specs.sound_states.Sound.{IsInstanceOf, IsSound}
-use Rattle.run_step.specs.Step.{AtInstr, fetch, has_markers}
-use Rattle.run_step.specs.declared.world.Slot.{Slot}
+use Rattle.pass_frames_meaning.proofs.run_hooks.alive.Marks.{both_are, instr_there, start_no_coro_end, start_no_end}
+use Rattle.pass_frames_meaning.proofs.run_hooks.alive.Open.{after, open_behind}
+use Rattle.pass_frames_meaning.proofs.run_hooks.alive.Says.{none_marked}
+use Rattle.pass_frames_meaning.specs.run_hooks.Away.{point_in}
+use Rattle.pass_frames_meaning.specs.run_hooks.alive.Alive.{IsEnded, IsStart, KeepsAliveRules}
+use Rattle.pass_frames_meaning.specs.run_hooks.alive.Slots.{IsOpen}
+use Rattle.compiler.specs.run_memory.Memory.{is_live}
+use Rattle.compiler.specs.run_memory.declared.block.MemoryBlock.{MemoryBlock}
+use Rattle.compiler.specs.run_source.declared.state.Instance.{Instance}
+use Rattle.compiler.specs.run_source.declared.state.State.{State}
+use Rattle.compiler.specs.run_states.sound_states.Sound.{IsInstanceOf, IsSound}
+use Rattle.compiler.specs.run_step.Step.{AtInstr, fetch, has_markers}
+use Rattle.compiler.specs.run_step.declared.world.Slot.{Slot}
 
 local_is : (v : ℕ) (o : Operand) → is_local v o ≡ true → o ≡ Operand.Local v
 local_is v (Operand.Local n) e = ap Operand.Local (sym (equal_numbers v n e))

@@ -5,19 +5,19 @@ use Rattle.compiler_theorem.proofs.kinds.Ramps.{ramps_are}
 use Rattle.compiler_theorem.proofs.theorem.Needed.{memory}
 use Rattle.compiler_theorem.specs.theorem.Anew.{Anew, IsAnewOf, IsMemorySlot, IsSlotOf}
 use Rattle.compiler_theorem.specs.theorem.Lowered.{IsLowered, Lowered, early, edged}
-use Rattle.frame_classes.specs.declared.class.SlotClass.{SlotClass}
-use Rattle.ir_model.specs.Names.{function_at, no_function}
-use Rattle.ir_model.specs.declared.module.Function.{Function}
-use Rattle.ir_paths.proofs.Right.{facts_of_right}
-use Rattle.ir_paths.specs.Facts.{facts_of}
-use Rattle.ir_paths.specs.Slots.{IsRampSlot, allocas_of, has_name}
-use Rattle.pass_edges.specs.EdgeBlocks.{with_edge_blocks}
-use Rattle.pass_proofs.proofs.edges.paths.Slots.{same_ramp_slots}
-use Rattle.pass_proofs.proofs.kept.sources.Whole.{edges_kept}
-use Rattle.pass_proofs.specs.edges.states.MovedState.{KeepsEdges}
-use Rattle.pass_renewed_proof.specs.Renewed.{facts_from}
-use Rattle.pass_renewed_proof.specs.SlotRules.{IsMadeOnce}
-use Rattle.run_source_tables.specs.Given.{facts_at}
+use Rattle.compiler.specs.frame_classes.declared.class.SlotClass.{SlotClass}
+use Rattle.compiler.specs.ir_model.Names.{function_at, no_function}
+use Rattle.compiler.specs.ir_model.declared.module.Function.{Function}
+use Rattle.compiler.proofs.ir_paths.Right.{facts_of_right}
+use Rattle.compiler.specs.ir_paths.Facts.{facts_of}
+use Rattle.compiler.specs.ir_paths.Slots.{IsRampSlot, allocas_of, has_name}
+use Rattle.compiler.specs.pass_edges.EdgeBlocks.{with_edge_blocks}
+use Rattle.compiler.proofs.pass_proofs.edges.paths.Slots.{same_ramp_slots}
+use Rattle.compiler.proofs.pass_proofs.kept.sources.Whole.{edges_kept}
+use Rattle.compiler.specs.pass_proofs.edges.states.MovedState.{KeepsEdges}
+use Rattle.pass_frames_meaning.specs.pass_renewed_proof.Renewed.{facts_from}
+use Rattle.pass_frames_meaning.specs.pass_renewed_proof.SlotRules.{IsMadeOnce}
+use Rattle.compiler.specs.run_source_tables.Given.{facts_at}
 
 or_true : (b : Bool) → (b || true) ≡ true
 or_true true = refl

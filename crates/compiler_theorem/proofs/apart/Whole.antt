@@ -11,35 +11,35 @@ use Rattle.compiler_theorem.specs.theorem.Asked.{asking}
 use Rattle.compiler_theorem.specs.theorem.Between.{setting}
 use Rattle.compiler_theorem.specs.theorem.Entries.{IsEntryCall, Run}
 use Rattle.compiler_theorem.specs.theorem.Lowered.{HasFewBytes, IsLowered, Lowered, early, edged}
-use Rattle.flow_solver.specs.Paths.{IsListed}
-use Rattle.frame_contents.specs.Held.{field_of, value_held}
-use Rattle.frame_layout.specs.declared.layout.Layout.{Layout}
-use Rattle.ir_model.specs.Layout.{size_of}
-use Rattle.ir_model.specs.Names.{function_at}
-use Rattle.ir_model.specs.Ty.{Ty}
-use Rattle.ir_model.specs.declared.instr.Instr.{Instr}
-use Rattle.ir_model.specs.declared.module.Function.{Function}
-use Rattle.ir_model.specs.declared.module.Module.{Module}
-use Rattle.pass_cells.specs.declared.plan.KeptValue.{KeptValue}
-use Rattle.pass_fetch.specs.Fetching.{value_bytes}
-use Rattle.pass_frames.specs.Tables.{offset_at}
+use Rattle.compiler.specs.flow_solver.Paths.{IsListed}
+use Rattle.compiler.specs.frame_contents.Held.{field_of, value_held}
+use Rattle.compiler.specs.frame_layout.declared.layout.Layout.{Layout}
+use Rattle.compiler.specs.ir_model.Layout.{size_of}
+use Rattle.compiler.specs.ir_model.Names.{function_at}
+use Rattle.compiler.specs.ir_model.Ty.{Ty}
+use Rattle.compiler.specs.ir_model.declared.instr.Instr.{Instr}
+use Rattle.compiler.specs.ir_model.declared.module.Function.{Function}
+use Rattle.compiler.specs.ir_model.declared.module.Module.{Module}
+use Rattle.compiler.specs.pass_cells.declared.plan.KeptValue.{KeptValue}
+use Rattle.compiler.specs.pass_fetch.Fetching.{value_bytes}
+use Rattle.compiler.specs.pass_frames.Tables.{offset_at}
 use Rattle.pass_frames_meaning.specs.Sized.{AreSlotwise, AreSlotwiseIn, IsSizedAt, IsSizedState}
 use Rattle.pass_frames_meaning.specs.Sized.{sizes_of as sizes_in}
 use Rattle.pass_frames_meaning.specs.Spared.{AreFieldsApart, HasFieldAt}
-use Rattle.pass_frames_proof.proofs.followed.Assembly.{other_instance}
-use Rattle.pass_frames_proof.proofs.lines.Cells.{contained}
-use Rattle.pass_frames_proof.specs.Related.{AreBuiltOf}
-use Rattle.pass_frames_proof.specs.Slotted.{HasFrameThere}
-use Rattle.pass_renewed_meaning.specs.Offsets.{first_at}
-use Rattle.pass_renewed_proof.specs.Beside.{IsBeside}
-use Rattle.pass_renewed_proof.specs.SlotRules.{IsMadeOnce}
-use Rattle.run_framed.specs.Framed.{layout_of}
-use Rattle.run_memory.specs.declared.block.MemoryBlock.{MemoryBlock}
-use Rattle.run_source.specs.declared.state.Instance.{Instance}
-use Rattle.run_source.specs.declared.state.State.{State}
-use Rattle.run_step.specs.Step.{AtInstr, fetch}
-use Rattle.pass_renewed_proof.specs.Steps.{given_at}
-use Rattle.run_step.specs.declared.world.Slot.{Slot}
+use Rattle.pass_frames_meaning.proofs.pass_frames_proof.followed.Assembly.{other_instance}
+use Rattle.pass_frames_meaning.proofs.pass_frames_proof.lines.Cells.{contained}
+use Rattle.pass_frames_meaning.specs.pass_frames_proof.Related.{AreBuiltOf}
+use Rattle.pass_frames_meaning.specs.pass_frames_proof.Slotted.{HasFrameThere}
+use Rattle.pass_frames_meaning.specs.pass_renewed_meaning.Offsets.{first_at}
+use Rattle.pass_frames_meaning.specs.pass_renewed_proof.Beside.{IsBeside}
+use Rattle.pass_frames_meaning.specs.pass_renewed_proof.SlotRules.{IsMadeOnce}
+use Rattle.compiler.specs.run_framed.Framed.{layout_of}
+use Rattle.compiler.specs.run_memory.declared.block.MemoryBlock.{MemoryBlock}
+use Rattle.compiler.specs.run_source.declared.state.Instance.{Instance}
+use Rattle.compiler.specs.run_source.declared.state.State.{State}
+use Rattle.compiler.specs.run_step.Step.{AtInstr, fetch}
+use Rattle.pass_frames_meaning.specs.pass_renewed_proof.Steps.{given_at}
+use Rattle.compiler.specs.run_step.declared.world.Slot.{Slot}
 
 -- ---- of each slot
 

@@ -19,29 +19,29 @@ use Rattle.compiler_theorem.specs.theorem.Between.{renewing}
 use Rattle.compiler_theorem.specs.theorem.Built.{building}
 use Rattle.compiler_theorem.specs.theorem.Entries.{IsEntryCall, Run}
 use Rattle.compiler_theorem.specs.theorem.Lowered.{HasFewBytes, IsLowered, Lowered, early, edged}
-use Rattle.frame_crossing.specs.Crossing.{AreCrossing}
-use Rattle.ir_model.specs.Names.{function_at, no_function}
-use Rattle.ir_model.specs.declared.module.Function.{Function}
-use Rattle.ir_model.specs.declared.module.Module.{Module}
-use Rattle.ir_model.specs.declared.operand.Intrinsic.{Intrinsic}
-use Rattle.pass_edges.specs.EdgeBlocks.{with_edge_blocks}
+use Rattle.compiler.specs.frame_crossing.Crossing.{AreCrossing}
+use Rattle.compiler.specs.ir_model.Names.{function_at, no_function}
+use Rattle.compiler.specs.ir_model.declared.module.Function.{Function}
+use Rattle.compiler.specs.ir_model.declared.module.Module.{Module}
+use Rattle.compiler.specs.ir_model.declared.operand.Intrinsic.{Intrinsic}
+use Rattle.compiler.specs.pass_edges.EdgeBlocks.{with_edge_blocks}
 use Rattle.pass_frames_meaning.specs.Based.{IsBeginAhead}
 use Rattle.pass_frames_meaning.specs.Ends.{AreEdgeSlots, KeepsEdges, KeepsEnds}
 use Rattle.pass_frames_prices.proofs.bounds.Ordinary.{ordinary}
-use Rattle.pass_frames_proof.specs.Framings.{IsFraming}
-use Rattle.pass_frames_proof.specs.Places.{Framing, edged as edged_of}
-use Rattle.pass_frames_proof.specs.Related.{Building, is_coroutine}
-use Rattle.pass_frames_proof.specs.Stepping.{AreGiven}
-use Rattle.pass_kept_proof.specs.SuspendRules.{IsCallAt}
-use Rattle.pass_proofs.proofs.edges.rules.Kept.{crossing_kept}
-use Rattle.pass_proofs.proofs.edges.shape.Kept.{calls_kept, switches_kept}
-use Rattle.pass_proofs.proofs.kept.sources.Whole.{split_rules}
-use Rattle.rule_laws.specs.rules.function_rules.Kept.{KeepsFunctionRules}
-use Rattle.rule_laws.specs.rules.path_rules.Shape.{KeepsShape}
-use Rattle.rule_shape.specs.OneOfEach.{wrong_call}
-use Rattle.rule_shape.specs.Switches.{wrong_switch}
-use Rattle.run_framed.specs.Framed.{begin_name}
-use Rattle.run_step.specs.Step.{fetch}
+use Rattle.pass_frames_meaning.specs.pass_frames_proof.Framings.{IsFraming}
+use Rattle.pass_frames_meaning.specs.pass_frames_proof.Places.{Framing, edged as edged_of}
+use Rattle.pass_frames_meaning.specs.pass_frames_proof.Related.{Building, is_coroutine}
+use Rattle.pass_frames_meaning.specs.pass_frames_proof.Stepping.{AreGiven}
+use Rattle.compiler.specs.pass_kept_proof.SuspendRules.{IsCallAt}
+use Rattle.compiler.proofs.pass_proofs.edges.rules.Kept.{crossing_kept}
+use Rattle.compiler.proofs.pass_proofs.edges.shape.Kept.{calls_kept, switches_kept}
+use Rattle.compiler.proofs.pass_proofs.kept.sources.Whole.{split_rules}
+use Rattle.compiler.specs.rule_laws.rules.function_rules.Kept.{KeepsFunctionRules}
+use Rattle.compiler.specs.rule_laws.rules.path_rules.Shape.{KeepsShape}
+use Rattle.compiler.specs.rule_shape.OneOfEach.{wrong_call}
+use Rattle.compiler.specs.rule_shape.Switches.{wrong_switch}
+use Rattle.compiler.specs.run_framed.Framed.{begin_name}
+use Rattle.compiler.specs.run_step.Step.{fetch}
 
 -- a coroutine stands at its position
 stands_there : (m : Module) (func : ℕ) → (function_at m func).coroutine ≡ true

@@ -3,67 +3,67 @@ use Rattle.std.proofs.Common.{◌≡◌, ◌⊎◌, inl, inr, ⊎_elim, ℕ, zer
 use Rattle.std.specs.Prelude.{not, option_to_list, slice_get, unwrap_or}
 use Rattle.std.proofs.lemmas.Bool.{false≢true}
 use Rattle.compiler_theorem.proofs.known.Begins.{begin_named}
-use Rattle.flow_solver.specs.Paths.{IsListed}
-use Rattle.ir_laws.proofs.facts.Lists.{get_within}
-use Rattle.ir_laws.proofs.facts.Members.{each_turns}
-use Rattle.ir_laws.proofs.facts.Truth.{itself}
-use Rattle.ir_laws.proofs.paths.source_rules.Locals.{listed_either}
-use Rattle.ir_laws.specs.facts.renamed.Regular.{is_result, passes}
-use Rattle.ir_laws.specs.facts.replaced.Splittable.{asks_begin}
-use Rattle.ir_laws.specs.paths.renamed.Regular.{makes}
-use Rattle.ir_model.specs.Names.{position_of}
-use Rattle.ir_model.specs.declared.instr.Incoming.{Incoming}
-use Rattle.ir_model.specs.declared.instr.Instr.{Instr}
-use Rattle.ir_model.specs.declared.instr.Phi.{Phi}
-use Rattle.ir_model.specs.declared.instr.Terminator.{Terminator}
-use Rattle.ir_model.specs.declared.module.Block.{Block}
-use Rattle.ir_model.specs.declared.module.Function.{Function}
-use Rattle.ir_model.specs.declared.operand.Callee.{Callee}
-use Rattle.ir_model.specs.declared.operand.Intrinsic.{Intrinsic}
-use Rattle.ir_model.specs.declared.operand.Operand.{Operand}
-use Rattle.ir_parts.specs.Contents.{ending_operands, result_of as part_result}
-use Rattle.ir_paths.specs.Windows.{instr_at, instr_in, is_call_of}
-use Rattle.ir_paths.specs.declared.point.Point.{Point}
-use Rattle.pass_addresses.specs.Placing.{is_none}
-use Rattle.pass_cells.specs.Kept.{entry, joined}
-use Rattle.pass_fetch.specs.Instrs.{term_operands}
-use Rattle.pass_frames.specs.Tables.{class_flags}
-use Rattle.frame_classes.specs.declared.class.SlotClass.{SlotClass}
+use Rattle.compiler.specs.flow_solver.Paths.{IsListed}
+use Rattle.compiler.proofs.ir_laws.facts.Lists.{get_within}
+use Rattle.compiler.proofs.ir_laws.facts.Members.{each_turns}
+use Rattle.compiler.proofs.ir_laws.facts.Truth.{itself}
+use Rattle.compiler.proofs.ir_laws.paths.source_rules.Locals.{listed_either}
+use Rattle.compiler.specs.ir_laws.facts.renamed.Regular.{is_result, passes}
+use Rattle.compiler.specs.ir_laws.facts.replaced.Splittable.{asks_begin}
+use Rattle.compiler.specs.ir_laws.paths.renamed.Regular.{makes}
+use Rattle.compiler.specs.ir_model.Names.{position_of}
+use Rattle.compiler.specs.ir_model.declared.instr.Incoming.{Incoming}
+use Rattle.compiler.specs.ir_model.declared.instr.Instr.{Instr}
+use Rattle.compiler.specs.ir_model.declared.instr.Phi.{Phi}
+use Rattle.compiler.specs.ir_model.declared.instr.Terminator.{Terminator}
+use Rattle.compiler.specs.ir_model.declared.module.Block.{Block}
+use Rattle.compiler.specs.ir_model.declared.module.Function.{Function}
+use Rattle.compiler.specs.ir_model.declared.operand.Callee.{Callee}
+use Rattle.compiler.specs.ir_model.declared.operand.Intrinsic.{Intrinsic}
+use Rattle.compiler.specs.ir_model.declared.operand.Operand.{Operand}
+use Rattle.compiler.specs.ir_parts.Contents.{ending_operands, result_of as part_result}
+use Rattle.compiler.specs.ir_paths.Windows.{instr_at, instr_in, is_call_of}
+use Rattle.compiler.specs.ir_paths.declared.point.Point.{Point}
+use Rattle.compiler.specs.pass_addresses.Placing.{is_none}
+use Rattle.compiler.specs.pass_cells.Kept.{entry, joined}
+use Rattle.compiler.specs.pass_fetch.Instrs.{term_operands}
+use Rattle.compiler.specs.pass_frames.Tables.{class_flags}
+use Rattle.compiler.specs.frame_classes.declared.class.SlotClass.{SlotClass}
 use Rattle.pass_frames_meaning.proofs.begun.Begun.{first}
 use Rattle.pass_frames_meaning.proofs.led.Begins.{HasBegin, has_begin}
 use Rattle.pass_frames_meaning.proofs.others.Names.{once}
 use Rattle.pass_frames_meaning.specs.Based.{IsBeginAhead}
 use Rattle.pass_frames_meaning.specs.Ends.{EachComing, IsOutside}
 use Rattle.pass_frames_prices.proofs.bounds.Entry.{entry_unreturned}
-use Rattle.pass_frames_proof.proofs.code.Passes.{block_is}
-use Rattle.pass_frames_proof.specs.Framings.{IsFraming}
-use Rattle.pass_frames_proof.specs.Jumps.{label_at}
-use Rattle.pass_frames_proof.specs.Passes.{no_block}
-use Rattle.pass_frames_proof.specs.Places.{Framing, edged, is_return, offsets, with_copies}
-use Rattle.pass_kept_proof.proofs.Read.{made_phi}
-use Rattle.pass_kept_proof.specs.Crossing.{IsReachedWithout, after_without, along_without, first_without}
-use Rattle.pass_kept_proof.specs.Needed.{given_by, phis_give}
-use Rattle.pass_kept_proof.specs.SuspendRules.{IsCallAt}
-use Rattle.pass_proofs.proofs.frames.begin_order.Edged.{edges_behind}
-use Rattle.pass_proofs.proofs.frames.begin_order.Framed.{in_either}
-use Rattle.pass_proofs.proofs.kept.sources.Definite.{Comes, across, over_unmade, result_there}
-use Rattle.pass_proofs.specs.addresses.begin_order.Behind.{IsBehind, IsIncomingBehind}
-use Rattle.pass_proofs.specs.addresses.rules.Addresses.{lies_in_frame}
-use Rattle.pass_proofs.specs.frames.begin_order.Behind.{AreBlocksBehind}
-use Rattle.pass_proofs.specs.frames.begin_order.Fields.{IsField, values_kept}
-use Rattle.pass_proofs.specs.frames.begin_order.Frames.{slot_offsets}
-use Rattle.rule_laws.proofs.rules.begin_order.CelledBlocks.{begun_at}
-use Rattle.rule_laws.proofs.rules.renamed.Uses.{none_made, result_spelt}
-use Rattle.rule_laws.proofs.rules.shape.Stands.{StandsAt, begin_stands}
-use Rattle.rule_laws.proofs.rules.source_rules.Locals.{own_label}
-use Rattle.rule_laws.proofs.rules.sources.Places.{IsEnd, any_param, instr_there, point, term_there}
-use Rattle.ir_laws.proofs.paths.renamed.Uses.{stands_in}
-use Rattle.rule_laws.specs.rules.replaced.Splittable.{AreBegun}
-use Rattle.rule_uses.specs.Undefined.{Entry, ReachesWithout, params_of}
-use Rattle.rule_uses.specs.Uses.{block_values, phi_values, values_at, values_in}
-use Rattle.run_framed.specs.Framed.{begin_name}
-use Rattle.run_laws.specs.changed.Changed.{Each, result_of}
-use Rattle.run_step.specs.Step.{AtTerm, fetch, phis_of}
+use Rattle.pass_frames_meaning.proofs.pass_frames_proof.code.Passes.{block_is}
+use Rattle.pass_frames_meaning.specs.pass_frames_proof.Framings.{IsFraming}
+use Rattle.pass_frames_meaning.specs.pass_frames_proof.Jumps.{label_at}
+use Rattle.pass_frames_meaning.specs.pass_frames_proof.Passes.{no_block}
+use Rattle.pass_frames_meaning.specs.pass_frames_proof.Places.{Framing, edged, is_return, offsets, with_copies}
+use Rattle.compiler.proofs.pass_kept_proof.Read.{made_phi}
+use Rattle.compiler.specs.pass_kept_proof.Crossing.{IsReachedWithout, after_without, along_without, first_without}
+use Rattle.compiler.specs.pass_kept_proof.Needed.{given_by, phis_give}
+use Rattle.compiler.specs.pass_kept_proof.SuspendRules.{IsCallAt}
+use Rattle.compiler.proofs.pass_proofs.frames.begin_order.Edged.{edges_behind}
+use Rattle.compiler.proofs.pass_proofs.frames.begin_order.Framed.{in_either}
+use Rattle.compiler.proofs.pass_proofs.kept.sources.Definite.{Comes, across, over_unmade, result_there}
+use Rattle.compiler.specs.pass_proofs.addresses.begin_order.Behind.{IsBehind, IsIncomingBehind}
+use Rattle.compiler.specs.pass_proofs.addresses.rules.Addresses.{lies_in_frame}
+use Rattle.compiler.specs.pass_proofs.frames.begin_order.Behind.{AreBlocksBehind}
+use Rattle.compiler.specs.pass_proofs.frames.begin_order.Fields.{IsField, values_kept}
+use Rattle.compiler.specs.pass_proofs.frames.begin_order.Frames.{slot_offsets}
+use Rattle.compiler.proofs.rule_laws.rules.begin_order.CelledBlocks.{begun_at}
+use Rattle.compiler.proofs.rule_laws.rules.renamed.Uses.{none_made, result_spelt}
+use Rattle.compiler.proofs.rule_laws.rules.shape.Stands.{StandsAt, begin_stands}
+use Rattle.compiler.proofs.rule_laws.rules.source_rules.Locals.{own_label}
+use Rattle.compiler.proofs.rule_laws.rules.sources.Places.{IsEnd, any_param, instr_there, point, term_there}
+use Rattle.compiler.proofs.ir_laws.paths.renamed.Uses.{stands_in}
+use Rattle.compiler.specs.rule_laws.rules.replaced.Splittable.{AreBegun}
+use Rattle.compiler.specs.rule_uses.Undefined.{Entry, ReachesWithout, params_of}
+use Rattle.compiler.specs.rule_uses.Uses.{block_values, phi_values, values_at, values_in}
+use Rattle.compiler.specs.run_framed.Framed.{begin_name}
+use Rattle.compiler.specs.run_laws.changed.Changed.{Each, result_of}
+use Rattle.compiler.specs.run_step.Step.{AtTerm, fetch, phis_of}
 
 no_instr : (v : ℕ) → None ≡ Some v → ⊥
 no_instr v e = cc

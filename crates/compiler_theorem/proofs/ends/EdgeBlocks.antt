@@ -6,25 +6,25 @@ use Rattle.compiler_theorem.proofs.ends.EdgeLocals.{local_slot}
 use Rattle.compiler_theorem.proofs.ends.EdgeNames.{agains_in_order}
 use Rattle.compiler_theorem.proofs.ends.EdgeOrders.{behind_suspend}
 use Rattle.compiler_theorem.proofs.ends.EdgeRows.{in_row}
-use Rattle.flow_solver.specs.Paths.{IsListed}
-use Rattle.frame_classes.specs.declared.class.SlotClass.{SlotClass}
-use Rattle.ir_laws.specs.paths.woven_rules.Pairs.{AreDifferent}
-use Rattle.pass_copies.specs.Slots.{entry_instrs}
-use Rattle.pass_copies.specs.Uses.{used_before}
-use Rattle.pass_copies.specs.declared.slot.EarlySlot.{EarlySlot}
-use Rattle.pass_frames.specs.Tables.{class_flags, sizes_by_name}
-use Rattle.pass_frames_proof.specs.Entry.{cells_of}
-use Rattle.pass_proofs.proofs.copies.rules.Slots.{AreNumbered, numbered}
+use Rattle.compiler.specs.flow_solver.Paths.{IsListed}
+use Rattle.compiler.specs.frame_classes.declared.class.SlotClass.{SlotClass}
+use Rattle.compiler.specs.ir_laws.paths.woven_rules.Pairs.{AreDifferent}
+use Rattle.compiler.specs.pass_copies.Slots.{entry_instrs}
+use Rattle.compiler.specs.pass_copies.Uses.{used_before}
+use Rattle.compiler.specs.pass_copies.declared.slot.EarlySlot.{EarlySlot}
+use Rattle.compiler.specs.pass_frames.Tables.{class_flags, sizes_by_name}
+use Rattle.pass_frames_meaning.specs.pass_frames_proof.Entry.{cells_of}
+use Rattle.compiler.proofs.pass_proofs.copies.rules.Slots.{AreNumbered, numbered}
 use Rattle.pass_frames_meaning.proofs.placed.Placed.{held_once}
 use Rattle.pass_frames_meaning.specs.Ends.{AreEdgeSlots, IsEdgeBlock}
-use Rattle.pass_frames_proof.proofs.early.Placed.{all_early}
-use Rattle.pass_frames_proof.specs.Framings.{IsFraming}
-use Rattle.pass_frames_proof.specs.FromEdges.{IsEarlyInFrame}
-use Rattle.pass_frames_proof.specs.Passes.{block_at}
-use Rattle.pass_frames_proof.specs.Places.{Framing, before_labels, copies, edged, is_return, written}
-use Rattle.rule_laws.specs.frames.rows.Returns.{HaveOwnReturns}
-use Rattle.rule_laws.specs.rules.function_rules.Kept.{KeepsFunctionRules}
-use Rattle.run_laws.specs.changed.Changed.{Each}
+use Rattle.pass_frames_meaning.proofs.pass_frames_proof.early.Placed.{all_early}
+use Rattle.pass_frames_meaning.specs.pass_frames_proof.Framings.{IsFraming}
+use Rattle.pass_frames_meaning.specs.pass_frames_proof.FromEdges.{IsEarlyInFrame}
+use Rattle.pass_frames_meaning.specs.pass_frames_proof.Passes.{block_at}
+use Rattle.pass_frames_meaning.specs.pass_frames_proof.Places.{Framing, before_labels, copies, edged, is_return, written}
+use Rattle.compiler.specs.rule_laws.frames.rows.Returns.{HaveOwnReturns}
+use Rattle.compiler.specs.rule_laws.rules.function_rules.Kept.{KeepsFunctionRules}
+use Rattle.compiler.specs.run_laws.changed.Changed.{Each}
 
 -- cells of addresses have numbers in order
 cells_high : (n : ℕ) (zs : List EarlySlot) → AreNumbered n zs → (v : ℕ) → IsListed v (cells_of zs) → n < v

@@ -2,45 +2,45 @@
 use Rattle.std.proofs.Common.{◌≡◌, ℕ, Bool, false, List, Option, Some, None, refl, sym, ap, ◌∙◌, subst}
 use Rattle.std.proofs.lemmas.Option.{slice_get-map}
 use Rattle.std.specs.Prelude.{if◌then◌else◌, not, option_map, slice_get, unwrap_or}
-use Rattle.flow_solver.specs.Paths.{IsListed}
-use Rattle.frame_classes.specs.declared.class.SlotClass.{SlotClass}
-use Rattle.ir_laws.proofs.facts.Truth.{itself}
-use Rattle.ir_laws.proofs.paths.renamed.Uses.{stands_in}
-use Rattle.ir_model.specs.Ty.{Ty, array, int, named, ptr, structure, token}
-use Rattle.ir_model.specs.declared.instr.Instr.{Instr}
-use Rattle.ir_model.specs.declared.module.Block.{Block}
-use Rattle.ir_model.specs.declared.operand.Operand.{Operand}
-use Rattle.ir_parts.specs.Contents.{result_of}
-use Rattle.pass_addresses.specs.Placing.{is_none, slot_fetches}
-use Rattle.pass_cells.specs.Kept.{entry, value_types}
-use Rattle.pass_cells.specs.Links.{bases_of, slots_of}
-use Rattle.pass_cells.specs.Plan.{kept_value, type_at}
-use Rattle.pass_cells.specs.declared.plan.KeptValue.{KeptValue}
-use Rattle.pass_fetch.specs.Fetching.{fetch_at, fetch_of}
-use Rattle.pass_fetch.specs.declared.fetch.Fetch.{Fetch}
-use Rattle.pass_frames.specs.Framed.{begin_of}
-use Rattle.pass_frames.specs.Tables.{class_flags}
+use Rattle.compiler.specs.flow_solver.Paths.{IsListed}
+use Rattle.compiler.specs.frame_classes.declared.class.SlotClass.{SlotClass}
+use Rattle.compiler.proofs.ir_laws.facts.Truth.{itself}
+use Rattle.compiler.proofs.ir_laws.paths.renamed.Uses.{stands_in}
+use Rattle.compiler.specs.ir_model.Ty.{Ty, array, int, named, ptr, structure, token}
+use Rattle.compiler.specs.ir_model.declared.instr.Instr.{Instr}
+use Rattle.compiler.specs.ir_model.declared.module.Block.{Block}
+use Rattle.compiler.specs.ir_model.declared.operand.Operand.{Operand}
+use Rattle.compiler.specs.ir_parts.Contents.{result_of}
+use Rattle.compiler.specs.pass_addresses.Placing.{is_none, slot_fetches}
+use Rattle.compiler.specs.pass_cells.Kept.{entry, value_types}
+use Rattle.compiler.specs.pass_cells.Links.{bases_of, slots_of}
+use Rattle.compiler.specs.pass_cells.Plan.{kept_value, type_at}
+use Rattle.compiler.specs.pass_cells.declared.plan.KeptValue.{KeptValue}
+use Rattle.compiler.specs.pass_fetch.Fetching.{fetch_at, fetch_of}
+use Rattle.compiler.specs.pass_fetch.declared.fetch.Fetch.{Fetch}
+use Rattle.compiler.specs.pass_frames.Framed.{begin_of}
+use Rattle.compiler.specs.pass_frames.Tables.{class_flags}
 use Rattle.pass_frames_meaning.proofs.others.Names.{base_made, result_low, root_alloca, slot_based}
-use Rattle.pass_frames_proof.proofs.agains.Lines.{root_unfetched}
-use Rattle.pass_frames_proof.proofs.agains.Values.{kept_root}
-use Rattle.pass_frames_proof.proofs.code.Names.{Count, F, First, Kept, keeping, local}
-use Rattle.pass_frames_proof.specs.Framings.{IsFraming}
-use Rattle.pass_frames_proof.specs.FromEdges.{IsLocalSlot}
-use Rattle.pass_frames_proof.specs.Passes.{no_block}
-use Rattle.pass_frames_proof.specs.Places.{Framing, edged, offsets, plan}
-use Rattle.pass_frames_proof.specs.Related.{IsKeptValue, root_of}
-use Rattle.pass_proofs.proofs.cells.rules.Keepable.{IsKeepable, blocks_tell, once as names_once, params_tell}
-use Rattle.ir_paths.specs.Slots.{allocas_of}
-use Rattle.pass_proofs.proofs.cells.rules.Links.{slot_flagged}
-use Rattle.pass_proofs.proofs.cells.rules.Plans.{kept_of}
-use Rattle.pass_proofs.proofs.cells.rules.ValueTypes.{types_seen}
-use Rattle.pass_proofs.proofs.edges.paths.Slots.{same_allocas}
-use Rattle.pass_proofs.proofs.frames.shape.Fits.{flags_are_allocas}
-use Rattle.pass_proofs.specs.addresses.rules.Addresses.{lies_in_frame}
-use Rattle.rule_laws.proofs.rules.counted.DefinedKinds.{kind_of_instr}
-use Rattle.rule_laws.proofs.rules.counted.Slots.{alloca_sized}
-use Rattle.rule_values.specs.Kinds.{instr_kind, kind_of, value_kind}
-use Rattle.rule_values.specs.declared.kinds.Kind.{Kind}
+use Rattle.pass_frames_meaning.proofs.pass_frames_proof.agains.Lines.{root_unfetched}
+use Rattle.pass_frames_meaning.proofs.pass_frames_proof.agains.Values.{kept_root}
+use Rattle.pass_frames_meaning.proofs.pass_frames_proof.code.Names.{Count, F, First, Kept, keeping, local}
+use Rattle.pass_frames_meaning.specs.pass_frames_proof.Framings.{IsFraming}
+use Rattle.pass_frames_meaning.specs.pass_frames_proof.FromEdges.{IsLocalSlot}
+use Rattle.pass_frames_meaning.specs.pass_frames_proof.Passes.{no_block}
+use Rattle.pass_frames_meaning.specs.pass_frames_proof.Places.{Framing, edged, offsets, plan}
+use Rattle.pass_frames_meaning.specs.pass_frames_proof.Related.{IsKeptValue, root_of}
+use Rattle.compiler.proofs.pass_proofs.cells.rules.Keepable.{IsKeepable, blocks_tell, once as names_once, params_tell}
+use Rattle.compiler.specs.ir_paths.Slots.{allocas_of}
+use Rattle.compiler.proofs.pass_proofs.cells.rules.Links.{slot_flagged}
+use Rattle.compiler.proofs.pass_proofs.cells.rules.Plans.{kept_of}
+use Rattle.compiler.proofs.pass_proofs.cells.rules.ValueTypes.{types_seen}
+use Rattle.compiler.proofs.pass_proofs.edges.paths.Slots.{same_allocas}
+use Rattle.compiler.proofs.pass_proofs.frames.shape.Fits.{flags_are_allocas}
+use Rattle.compiler.specs.pass_proofs.addresses.rules.Addresses.{lies_in_frame}
+use Rattle.compiler.proofs.rule_laws.rules.counted.DefinedKinds.{kind_of_instr}
+use Rattle.compiler.proofs.rule_laws.rules.counted.Slots.{alloca_sized}
+use Rattle.compiler.specs.rule_values.Kinds.{instr_kind, kind_of, value_kind}
+use Rattle.compiler.specs.rule_values.declared.kinds.Kind.{Kind}
 
 kept_ty : (cell field : ℕ) (t : Ty) (o slot : Option ℕ) → (kept_value cell field t o slot).ty ≡ t
 kept_ty cell field t None slot = refl

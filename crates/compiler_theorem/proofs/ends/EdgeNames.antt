@@ -7,48 +7,48 @@ use Rattle.std.specs.Prelude.{codes, slice_get, take}
 use Rattle.compiler_theorem.proofs.ends.Begins.{entry_off}
 use Rattle.compiler_theorem.proofs.ends.EdgeOrders.{IsBehindSuspend}
 use Rattle.compiler_theorem.proofs.ends.EdgeRows.{IsToldRow, row_told}
-use Rattle.flow_solver.specs.Paths.{IsListed}
-use Rattle.ir_laws.proofs.facts.Truth.{equal_numbers}
-use Rattle.ir_model.specs.declared.instr.Instr.{Instr}
-use Rattle.ir_model.specs.declared.module.Block.{Block}
-use Rattle.ir_model.specs.declared.module.Function.{Function}
-use Rattle.ir_model.specs.declared.module.Module.{Module}
-use Rattle.pass_cells.specs.Cells.{fetched_function, fetches_of}
-use Rattle.pass_cells.specs.Moves.{after_again, again_one, again_values}
-use Rattle.pass_cells.specs.Written.{after_block, after_blocks, again_row, entry_front as cells_front, row_at, stored_phis}
-use Rattle.pass_cells.specs.declared.plan.KeptValue.{KeptValue}
-use Rattle.pass_cells.specs.declared.plan.Plan.{Plan}
-use Rattle.pass_copies.specs.BeginCopies.{entry_front as copies_front, puts}
-use Rattle.pass_copies.specs.declared.slot.EarlySlot.{EarlySlot}
-use Rattle.pass_fetch.specs.Blocks.{fetched_phis, next_after_phis_by, numbered_names, with_fetches}
-use Rattle.pass_fetch.specs.Instrs.{next_after_instrs}
-use Rattle.pass_fetch.specs.declared.fetch.Fetch.{Fetch}
+use Rattle.compiler.specs.flow_solver.Paths.{IsListed}
+use Rattle.compiler.proofs.ir_laws.facts.Truth.{equal_numbers}
+use Rattle.compiler.specs.ir_model.declared.instr.Instr.{Instr}
+use Rattle.compiler.specs.ir_model.declared.module.Block.{Block}
+use Rattle.compiler.specs.ir_model.declared.module.Function.{Function}
+use Rattle.compiler.specs.ir_model.declared.module.Module.{Module}
+use Rattle.compiler.specs.pass_cells.Cells.{fetched_function, fetches_of}
+use Rattle.compiler.specs.pass_cells.Moves.{after_again, again_one, again_values}
+use Rattle.compiler.specs.pass_cells.Written.{after_block, after_blocks, again_row, entry_front as cells_front, row_at, stored_phis}
+use Rattle.compiler.specs.pass_cells.declared.plan.KeptValue.{KeptValue}
+use Rattle.compiler.specs.pass_cells.declared.plan.Plan.{Plan}
+use Rattle.compiler.specs.pass_copies.BeginCopies.{entry_front as copies_front, puts}
+use Rattle.compiler.specs.pass_copies.declared.slot.EarlySlot.{EarlySlot}
+use Rattle.compiler.specs.pass_fetch.Blocks.{fetched_phis, next_after_phis_by, numbered_names, with_fetches}
+use Rattle.compiler.specs.pass_fetch.Instrs.{next_after_instrs}
+use Rattle.compiler.specs.pass_fetch.declared.fetch.Fetch.{Fetch}
 use Rattle.pass_frames_meaning.proofs.ends.Counted.{phis_fetched}
 use Rattle.pass_frames_meaning.proofs.ends.Phis.{phis_fetched_there}
 use Rattle.pass_frames_meaning.proofs.ends.Targets.{bare}
 use Rattle.pass_frames_meaning.proofs.order.Counts.{first_low, instrs_to, instrs_up, joined, up_to_second}
 use Rattle.pass_frames_meaning.proofs.order.Order.{A0, copied_names, early_below, unmarked_are}
-use Rattle.pass_frames_proof.proofs.agains.Lines.{again_code, root_unfetched}
-use Rattle.pass_frames_proof.proofs.agains.Values.{kept_root}
-use Rattle.pass_frames_proof.proofs.code.Ends.{unmarked_front}
-use Rattle.pass_frames_proof.proofs.code.Framed.{framed_is}
-use Rattle.pass_frames_proof.proofs.code.Left.{Far, far_named}
-use Rattle.pass_frames_proof.proofs.code.Passes.{block_is, fetched_there}
-use Rattle.pass_frames_proof.proofs.from_edges.Puts.{puts_are}
-use Rattle.pass_frames_proof.proofs.layers.Grown.{passed_append}
-use Rattle.pass_frames_proof.proofs.lines.Fillers.{filler_left}
-use Rattle.pass_frames_proof.proofs.stepping.Names.{slots_new}
-use Rattle.pass_frames_proof.specs.Code.{front_moves, slot_table}
-use Rattle.pass_frames_proof.specs.Framings.{IsFraming}
-use Rattle.pass_frames_proof.specs.FromEdges.{AreAgainsInOrder, IsEarlyInFrame, address_name, again_name}
-use Rattle.pass_frames_proof.specs.Layers.{grown, passed}
-use Rattle.pass_frames_proof.specs.Passes.{block_at, phi_ends}
-use Rattle.pass_frames_proof.specs.Places.{Framing, addressing_layer, copies, edged, fetched, framed, is_return, named, plan, unmarked, unmarked_layer, with_copies, written}
-use Rattle.pass_frames_proof.specs.Related.{IsKeptValue}
-use Rattle.pass_proofs.proofs.cells.rules.Counts.{written_low}
-use Rattle.pass_proofs.proofs.cells.rules.Totals.{all_rise, numbered_length}
-use Rattle.rule_laws.specs.frames.rows.Returns.{HaveOwnReturns}
-use Rattle.run_laws.specs.changed.Changed.{Each}
+use Rattle.pass_frames_meaning.proofs.pass_frames_proof.agains.Lines.{again_code, root_unfetched}
+use Rattle.pass_frames_meaning.proofs.pass_frames_proof.agains.Values.{kept_root}
+use Rattle.pass_frames_meaning.proofs.pass_frames_proof.code.Ends.{unmarked_front}
+use Rattle.pass_frames_meaning.proofs.pass_frames_proof.code.Framed.{framed_is}
+use Rattle.pass_frames_meaning.proofs.pass_frames_proof.code.Left.{Far, far_named}
+use Rattle.pass_frames_meaning.proofs.pass_frames_proof.code.Passes.{block_is, fetched_there}
+use Rattle.pass_frames_meaning.proofs.pass_frames_proof.from_edges.Puts.{puts_are}
+use Rattle.pass_frames_meaning.proofs.pass_frames_proof.layers.Grown.{passed_append}
+use Rattle.pass_frames_meaning.proofs.pass_frames_proof.lines.Fillers.{filler_left}
+use Rattle.pass_frames_meaning.proofs.pass_frames_proof.stepping.Names.{slots_new}
+use Rattle.pass_frames_meaning.specs.pass_frames_proof.Code.{front_moves, slot_table}
+use Rattle.pass_frames_meaning.specs.pass_frames_proof.Framings.{IsFraming}
+use Rattle.pass_frames_meaning.specs.pass_frames_proof.FromEdges.{AreAgainsInOrder, IsEarlyInFrame, address_name, again_name}
+use Rattle.pass_frames_meaning.specs.pass_frames_proof.Layers.{grown, passed}
+use Rattle.pass_frames_meaning.specs.pass_frames_proof.Passes.{block_at, phi_ends}
+use Rattle.pass_frames_meaning.specs.pass_frames_proof.Places.{Framing, addressing_layer, copies, edged, fetched, framed, is_return, named, plan, unmarked, unmarked_layer, with_copies, written}
+use Rattle.pass_frames_meaning.specs.pass_frames_proof.Related.{IsKeptValue}
+use Rattle.compiler.proofs.pass_proofs.cells.rules.Counts.{written_low}
+use Rattle.compiler.proofs.pass_proofs.cells.rules.Totals.{all_rise, numbered_length}
+use Rattle.compiler.specs.rule_laws.frames.rows.Returns.{HaveOwnReturns}
+use Rattle.compiler.specs.run_laws.changed.Changed.{Each}
 
 -- ---- names of the pass that writes
 

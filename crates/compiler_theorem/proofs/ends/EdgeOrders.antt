@@ -1,27 +1,27 @@
 -- A block on a resume or destroy edge is behind the suspend of a number, as the passes that fill it see.
 use Rattle.std.proofs.Common.{◌≡◌, ◌⊎◌, inl, inr, ⊎_elim, ℕ, zero, suc, ◌+◌, ◌<◌, ◌≤◌, true, false, List, [], ◌∷◌, length, Option, Some, None, refl, sym, ap, ◌∙◌, subst, arith}
 use Rattle.std.specs.Prelude.{replicate, slice_get, slice_set}
-use Rattle.flow_solver.specs.Paths.{IsListed}
-use Rattle.ir_laws.proofs.facts.Lists.{get_within, set_here, set_length, set_other}
-use Rattle.ir_laws.proofs.facts.Truth.{either}
-use Rattle.pass_cells.specs.Kept.{entry, joined}
-use Rattle.pass_cells.specs.Plan.{with_returns}
-use Rattle.pass_cells.specs.Written.{again_row, row_at}
-use Rattle.pass_copies.specs.Slots.{resumed_at}
-use Rattle.pass_copies.specs.Uses.{flag_at}
-use Rattle.pass_frames.specs.Framed.{celled}
+use Rattle.compiler.specs.flow_solver.Paths.{IsListed}
+use Rattle.compiler.proofs.ir_laws.facts.Lists.{get_within, set_here, set_length, set_other}
+use Rattle.compiler.proofs.ir_laws.facts.Truth.{either}
+use Rattle.compiler.specs.pass_cells.Kept.{entry, joined}
+use Rattle.compiler.specs.pass_cells.Plan.{with_returns}
+use Rattle.compiler.specs.pass_cells.Written.{again_row, row_at}
+use Rattle.compiler.specs.pass_copies.Slots.{resumed_at}
+use Rattle.compiler.specs.pass_copies.Uses.{flag_at}
+use Rattle.compiler.specs.pass_frames.Framed.{celled}
 use Rattle.pass_frames_prices.proofs.bounds.Ordinary.{flags_long, loaded_label, resumed_flagged, written_label}
 use Rattle.pass_frames_meaning.proofs.ends.Counted.{edged_named}
-use Rattle.pass_frames_proof.proofs.stepping.Names.{named_written}
-use Rattle.pass_frames_proof.specs.Framings.{IsFraming}
-use Rattle.pass_frames_proof.specs.Jumps.{label_at}
-use Rattle.pass_frames_proof.specs.Passes.{block_at}
-use Rattle.pass_frames_proof.specs.Places.{Framing, copies, edged, fetched, is_return, plan, written}
-use Rattle.pass_intrinsics.specs.Shapes.{suspends_of}
-use Rattle.pass_intrinsics.specs.declared.shape.SuspendPoint.{SuspendPoint}
-use Rattle.pass_proofs.proofs.copies.shape.Returned.{resumed_listed}
-use Rattle.pass_proofs.proofs.frames.begin_order.Blocks.{label_low}
-use Rattle.rule_laws.specs.frames.rows.Returns.{return_labels}
+use Rattle.pass_frames_meaning.proofs.pass_frames_proof.stepping.Names.{named_written}
+use Rattle.pass_frames_meaning.specs.pass_frames_proof.Framings.{IsFraming}
+use Rattle.pass_frames_meaning.specs.pass_frames_proof.Jumps.{label_at}
+use Rattle.pass_frames_meaning.specs.pass_frames_proof.Passes.{block_at}
+use Rattle.pass_frames_meaning.specs.pass_frames_proof.Places.{Framing, copies, edged, fetched, is_return, plan, written}
+use Rattle.compiler.specs.pass_intrinsics.Shapes.{suspends_of}
+use Rattle.compiler.specs.pass_intrinsics.declared.shape.SuspendPoint.{SuspendPoint}
+use Rattle.compiler.proofs.pass_proofs.copies.shape.Returned.{resumed_listed}
+use Rattle.compiler.proofs.pass_proofs.frames.begin_order.Blocks.{label_low}
+use Rattle.compiler.specs.rule_laws.frames.rows.Returns.{return_labels}
 
 -- a number below a bound is told of the label
 abbrev IsTold : List (Option ℕ) → ℕ → ℕ → Type 0

@@ -2,35 +2,35 @@
 use Rattle.std.proofs.Common.{◌≡◌, ◌⊎◌, inl, inr, ⊎_elim, ℕ, zero, suc, ◌+◌, Bool, true, false, List, [], ◌∷◌, ◌++◌, Option, Some, None, refl, sym, ap, ◌∙◌, subst, if◌then◌else◌, ◌==◌, arith}
 use Rattle.std.proofs.lemmas.Bool.{false≢true}
 use Rattle.std.specs.Prelude.{replicate, slice_get, slice_set, ◌||◌}
-use Rattle.flow_solver.specs.Paths.{IsListed}
-use Rattle.frame_contents.specs.Held.{crossing_values, frame_slots, held_blocks, held_instr, held_instrs, held_params, held_phis, if_result, if_value, position_from, position_of, result_size, value_held, value_size}
-use Rattle.frame_contents.specs.declared.held.Holding.{Holding}
-use Rattle.frame_crossing.specs.Crossing.{AreCrossed, CrossedBy, LeftOut, More, NoMore, Nothing, Taken, suspends_of}
-use Rattle.frame_crossing.specs.Values.{all_defined, blocks_defined, distinct, instrs_defined, is_apart, is_token, params_defined, phis_defined, result_unless, unless, values_of, with_new}
-use Rattle.ir_laws.proofs.facts.Truth.{itself}
-use Rattle.ir_laws.proofs.paths.source_rules.Locals.{listed_either, listed_left, listed_right}
-use Rattle.ir_model.specs.Ty.{Ty}
-use Rattle.ir_model.specs.declared.instr.Instr.{Instr}
-use Rattle.ir_model.specs.declared.instr.Phi.{Phi}
-use Rattle.ir_model.specs.declared.module.Block.{Block}
-use Rattle.ir_model.specs.declared.module.Function.{Function}
-use Rattle.ir_model.specs.declared.module.Module.{Module}
-use Rattle.ir_model.specs.declared.module.Param.{Param}
-use Rattle.ir_parts.specs.Contents.{result_of}
-use Rattle.ir_paths.specs.Slots.{has_name, promise_of}
-use Rattle.ir_paths.specs.declared.point.Point.{Point}
-use Rattle.pass_cells.specs.Kept.{entry, row_or, rows_from, rows_of, value_types, with_pair, with_row_of}
-use Rattle.pass_cells.specs.Links.{bases_of, slots_of}
-use Rattle.pass_cells.specs.declared.plan.KeptValue.{KeptValue}
-use Rattle.pass_frames.specs.Tables.{offset_at}
-use Rattle.pass_frames_proof.proofs.code.Names.{Count, F, First, Kept, keeping, local}
-use Rattle.pass_frames_proof.proofs.from_edges.Front.{listed_contains}
-use Rattle.pass_frames_proof.proofs.lines.Rows.{field_placed}
-use Rattle.pass_frames_proof.specs.Framings.{IsFraming}
-use Rattle.pass_frames_proof.specs.FromEdges.{IsInRow}
-use Rattle.pass_frames_proof.specs.Places.{Framing, edged, offsets, plan}
-use Rattle.pass_frames_proof.specs.Related.{IsKeptValue}
-use Rattle.pass_proofs.proofs.cells.rules.Plans.{kept_as, kept_at}
+use Rattle.compiler.specs.flow_solver.Paths.{IsListed}
+use Rattle.compiler.specs.frame_contents.Held.{crossing_values, frame_slots, held_blocks, held_instr, held_instrs, held_params, held_phis, if_result, if_value, position_from, position_of, result_size, value_held, value_size}
+use Rattle.compiler.specs.frame_contents.declared.held.Holding.{Holding}
+use Rattle.compiler.specs.frame_crossing.Crossing.{AreCrossed, CrossedBy, LeftOut, More, NoMore, Nothing, Taken, suspends_of}
+use Rattle.compiler.specs.frame_crossing.Values.{all_defined, blocks_defined, distinct, instrs_defined, is_apart, is_token, params_defined, phis_defined, result_unless, unless, values_of, with_new}
+use Rattle.compiler.proofs.ir_laws.facts.Truth.{itself}
+use Rattle.compiler.proofs.ir_laws.paths.source_rules.Locals.{listed_either, listed_left, listed_right}
+use Rattle.compiler.specs.ir_model.Ty.{Ty}
+use Rattle.compiler.specs.ir_model.declared.instr.Instr.{Instr}
+use Rattle.compiler.specs.ir_model.declared.instr.Phi.{Phi}
+use Rattle.compiler.specs.ir_model.declared.module.Block.{Block}
+use Rattle.compiler.specs.ir_model.declared.module.Function.{Function}
+use Rattle.compiler.specs.ir_model.declared.module.Module.{Module}
+use Rattle.compiler.specs.ir_model.declared.module.Param.{Param}
+use Rattle.compiler.specs.ir_parts.Contents.{result_of}
+use Rattle.compiler.specs.ir_paths.Slots.{has_name, promise_of}
+use Rattle.compiler.specs.ir_paths.declared.point.Point.{Point}
+use Rattle.compiler.specs.pass_cells.Kept.{entry, row_or, rows_from, rows_of, value_types, with_pair, with_row_of}
+use Rattle.compiler.specs.pass_cells.Links.{bases_of, slots_of}
+use Rattle.compiler.specs.pass_cells.declared.plan.KeptValue.{KeptValue}
+use Rattle.compiler.specs.pass_frames.Tables.{offset_at}
+use Rattle.pass_frames_meaning.proofs.pass_frames_proof.code.Names.{Count, F, First, Kept, keeping, local}
+use Rattle.pass_frames_meaning.proofs.pass_frames_proof.from_edges.Front.{listed_contains}
+use Rattle.pass_frames_meaning.proofs.pass_frames_proof.lines.Rows.{field_placed}
+use Rattle.pass_frames_meaning.specs.pass_frames_proof.Framings.{IsFraming}
+use Rattle.pass_frames_meaning.specs.pass_frames_proof.FromEdges.{IsInRow}
+use Rattle.pass_frames_meaning.specs.pass_frames_proof.Places.{Framing, edged, offsets, plan}
+use Rattle.pass_frames_meaning.specs.pass_frames_proof.Related.{IsKeptValue}
+use Rattle.compiler.proofs.pass_proofs.cells.rules.Plans.{kept_as, kept_at}
 
 -- ---- rows
 

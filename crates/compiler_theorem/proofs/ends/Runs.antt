@@ -14,12 +14,12 @@ use Rattle.compiler_theorem.specs.theorem.Between.{renewing}
 use Rattle.compiler_theorem.specs.theorem.Built.{building}
 use Rattle.compiler_theorem.specs.theorem.Entries.{IsEntryCall, Run}
 use Rattle.compiler_theorem.specs.theorem.Lowered.{HasFewBytes, IsLowered, Lowered, early, edged}
-use Rattle.ir_laws.specs.facts.sound_states.Named.{HasNamedLocals}
-use Rattle.ir_model.specs.Names.{function_at, no_function, position_of}
-use Rattle.ir_model.specs.declared.instr.Instr.{Instr}
-use Rattle.ir_model.specs.declared.module.Function.{Function}
-use Rattle.pass_cells.specs.Kept.{entry}
-use Rattle.ir_base.specs.declared.outcome.Outcome.{Outcome}
+use Rattle.compiler.specs.ir_laws.facts.sound_states.Named.{HasNamedLocals}
+use Rattle.compiler.specs.ir_model.Names.{function_at, no_function, position_of}
+use Rattle.compiler.specs.ir_model.declared.instr.Instr.{Instr}
+use Rattle.compiler.specs.ir_model.declared.module.Function.{Function}
+use Rattle.compiler.specs.pass_cells.Kept.{entry}
+use Rattle.compiler.specs.ir_base.declared.outcome.Outcome.{Outcome}
 use Rattle.pass_frames_meaning.proofs.ends.All.{ends_known}
 use Rattle.pass_frames_meaning.proofs.ends.BasedHooks.{states_based}
 use Rattle.pass_frames_meaning.proofs.ends.FreshHooks.{states_fresh}
@@ -32,23 +32,23 @@ use Rattle.pass_frames_meaning.specs.Ends.{AreEndsKnown, KeepsEnds, MayGoOn, May
 use Rattle.pass_frames_meaning.specs.Fresh.{AreBareBlocks, IsFreshState, LeadsToNone}
 use Rattle.pass_frames_meaning.specs.Setting.{AreOfRuns, KeepsAll, Setting}
 use Rattle.pass_frames_meaning.specs.Led.{IsBegunOnce, IsLedState}
-use Rattle.pass_frames_proof.specs.Places.{edged as edged_of, is_return, offsets}
-use Rattle.pass_frames_proof.specs.Related.{AreBuiltOf, is_coroutine}
-use Rattle.pass_frames_proof.specs.Stepping.{IsNotEntering}
-use Rattle.pass_proofs.proofs.kept.sources.Whole.{split_rules}
-use Rattle.pass_renewed_proof.specs.Renewed.{RenewedGiven, renewed_step}
-use Rattle.run_agreement.specs.Machines.{IsFine}
-use Rattle.run_framed.specs.Framed.{begin_name}
-use Rattle.run_hooks.proofs.Keeping.{renewed_keeps}
-use Rattle.run_hooks.proofs.PlacedKeeping.{renewed_keeps_placed}
-use Rattle.run_hooks.proofs.PlacedSteps.{states_placed}
-use Rattle.run_hooks.specs.Away.{IsPlacedState}
-use Rattle.run_hooks.specs.Hooks.{hooked_state_at}
-use Rattle.run_hooks.specs.Meanings.{renewed_hooks}
-use Rattle.run_source.specs.Source.{first_state}
-use Rattle.run_source.specs.declared.state.State.{State}
-use Rattle.run_step.specs.Runs.{iterate}
-use Rattle.run_step.specs.Step.{AtInstr, fetch}
+use Rattle.pass_frames_meaning.specs.pass_frames_proof.Places.{edged as edged_of, is_return, offsets}
+use Rattle.pass_frames_meaning.specs.pass_frames_proof.Related.{AreBuiltOf, is_coroutine}
+use Rattle.pass_frames_meaning.specs.pass_frames_proof.Stepping.{IsNotEntering}
+use Rattle.compiler.proofs.pass_proofs.kept.sources.Whole.{split_rules}
+use Rattle.pass_frames_meaning.specs.pass_renewed_proof.Renewed.{RenewedGiven, renewed_step}
+use Rattle.compiler.specs.run_agreement.Machines.{IsFine}
+use Rattle.compiler.specs.run_framed.Framed.{begin_name}
+use Rattle.pass_frames_meaning.proofs.run_hooks.Keeping.{renewed_keeps}
+use Rattle.pass_frames_meaning.proofs.run_hooks.PlacedKeeping.{renewed_keeps_placed}
+use Rattle.pass_frames_meaning.proofs.run_hooks.PlacedSteps.{states_placed}
+use Rattle.pass_frames_meaning.specs.run_hooks.Away.{IsPlacedState}
+use Rattle.pass_frames_meaning.specs.run_hooks.Hooks.{hooked_state_at}
+use Rattle.pass_frames_meaning.specs.run_hooks.Meanings.{renewed_hooks}
+use Rattle.compiler.specs.run_source.Source.{first_state}
+use Rattle.compiler.specs.run_source.declared.state.State.{State}
+use Rattle.compiler.specs.run_step.Runs.{iterate}
+use Rattle.compiler.specs.run_step.Step.{AtInstr, fetch}
 
 module _ (l : Lowered) (low : IsLowered l) (few : HasFewBytes l) (a : Anew) (anew : IsAnewOf (early l) a) (r : Run)
     (entered : IsEntryCall l.source r) where

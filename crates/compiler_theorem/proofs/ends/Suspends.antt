@@ -3,30 +3,30 @@ use Rattle.std.proofs.Common.{◌≡◌, ℕ, Bool, true, List, [], ◌∷◌, l
 use Rattle.std.specs.Prelude.{is_some}
 use Rattle.compiler_theorem.proofs.parts.Saved.{each_saved}
 use Rattle.compiler_theorem.proofs.parts.Tokens.{HasTokens}
-use Rattle.frame_crossing.specs.Crossing.{AreCrossing}
-use Rattle.ir_laws.proofs.paths.begin_order.Framed.{get_listed}
-use Rattle.ir_laws.proofs.facts.Members.{at_each}
-use Rattle.ir_laws.proofs.paths.renamed.Uses.{stands_in}
-use Rattle.ir_laws.proofs.paths.shape.Fetched.{ordered_value}
-use Rattle.ir_model.specs.Ty.{Ty}
-use Rattle.ir_model.specs.declared.instr.Instr.{Instr}
-use Rattle.ir_model.specs.declared.module.Function.{Function}
-use Rattle.ir_model.specs.declared.module.Module.{Module}
-use Rattle.ir_model.specs.declared.operand.Arg.{Arg}
-use Rattle.ir_model.specs.declared.operand.Callee.{Callee}
-use Rattle.ir_model.specs.declared.operand.Intrinsic.{Intrinsic}
-use Rattle.ir_model.specs.declared.operand.Operand.{Operand}
-use Rattle.ir_paths.specs.Windows.{operand_at}
+use Rattle.compiler.specs.frame_crossing.Crossing.{AreCrossing}
+use Rattle.compiler.proofs.ir_laws.paths.begin_order.Framed.{get_listed}
+use Rattle.compiler.proofs.ir_laws.facts.Members.{at_each}
+use Rattle.compiler.proofs.ir_laws.paths.renamed.Uses.{stands_in}
+use Rattle.compiler.proofs.ir_laws.paths.shape.Fetched.{ordered_value}
+use Rattle.compiler.specs.ir_model.Ty.{Ty}
+use Rattle.compiler.specs.ir_model.declared.instr.Instr.{Instr}
+use Rattle.compiler.specs.ir_model.declared.module.Function.{Function}
+use Rattle.compiler.specs.ir_model.declared.module.Module.{Module}
+use Rattle.compiler.specs.ir_model.declared.operand.Arg.{Arg}
+use Rattle.compiler.specs.ir_model.declared.operand.Callee.{Callee}
+use Rattle.compiler.specs.ir_model.declared.operand.Intrinsic.{Intrinsic}
+use Rattle.compiler.specs.ir_model.declared.operand.Operand.{Operand}
+use Rattle.compiler.specs.ir_paths.Windows.{operand_at}
 use Rattle.pass_frames_meaning.specs.Ends.{IsToldSuspend}
-use Rattle.pass_frames_proof.specs.Places.{Framing, edged}
-use Rattle.pass_intrinsics.specs.Shapes.{save_of, token_of}
-use Rattle.pass_proofs.proofs.cells.shape.Unneeded.{unplaced}
-use Rattle.rule_laws.proofs.rules.shape.Ordered.{IsSuspendValue, all_ordered, placed_calls}
-use Rattle.rule_laws.proofs.rules.sources.Places.{instr_there, point}
-use Rattle.rule_laws.specs.rules.function_rules.Kept.{KeepsFunctionRules}
-use Rattle.rule_shape.specs.OneOfEach.{wrong_call}
-use Rattle.rule_shape.specs.Switches.{wrong_switch}
-use Rattle.run_step.specs.Step.{AtInstr, fetch}
+use Rattle.pass_frames_meaning.specs.pass_frames_proof.Places.{Framing, edged}
+use Rattle.compiler.specs.pass_intrinsics.Shapes.{save_of, token_of}
+use Rattle.compiler.proofs.pass_proofs.cells.shape.Unneeded.{unplaced}
+use Rattle.compiler.proofs.rule_laws.rules.shape.Ordered.{IsSuspendValue, all_ordered, placed_calls}
+use Rattle.compiler.proofs.rule_laws.rules.sources.Places.{instr_there, point}
+use Rattle.compiler.specs.rule_laws.rules.function_rules.Kept.{KeepsFunctionRules}
+use Rattle.compiler.specs.rule_shape.OneOfEach.{wrong_call}
+use Rattle.compiler.specs.rule_shape.Switches.{wrong_switch}
+use Rattle.compiler.specs.run_step.Step.{AtInstr, fetch}
 
 -- the token of a first operand that is a local
 local_token : (o : Operand) → is_some (token_of o) ≡ true → (n : ℕ) × (o ≡ Operand.Local n)

@@ -10,39 +10,39 @@ use Rattle.compiler_theorem.specs.theorem.Anew.{Anew}
 use Rattle.compiler_theorem.specs.theorem.Asked.{asking}
 use Rattle.compiler_theorem.specs.theorem.Entries.{Run}
 use Rattle.compiler_theorem.specs.theorem.Lowered.{IsLowered, Lowered, edged, sizes_of}
-use Rattle.ir_base.specs.declared.cause.Cause.{Cause}
-use Rattle.ir_base.specs.declared.outcome.Outcome.{Outcome}
-use Rattle.ir_model.specs.Layout.{size_of}
-use Rattle.ir_model.specs.Names.{function_at}
-use Rattle.ir_model.specs.Ty.{Ty}
-use Rattle.ir_model.specs.declared.instr.Instr.{Instr}
-use Rattle.ir_model.specs.declared.module.Function.{Function}
-use Rattle.ir_model.specs.declared.module.Module.{Module}
-use Rattle.ir_model.specs.declared.operand.Arg.{Arg}
-use Rattle.ir_model.specs.declared.operand.Callee.{Callee}
-use Rattle.ir_model.specs.declared.operand.Intrinsic.{Intrinsic}
+use Rattle.compiler.specs.ir_base.declared.cause.Cause.{Cause}
+use Rattle.compiler.specs.ir_base.declared.outcome.Outcome.{Outcome}
+use Rattle.compiler.specs.ir_model.Layout.{size_of}
+use Rattle.compiler.specs.ir_model.Names.{function_at}
+use Rattle.compiler.specs.ir_model.Ty.{Ty}
+use Rattle.compiler.specs.ir_model.declared.instr.Instr.{Instr}
+use Rattle.compiler.specs.ir_model.declared.module.Function.{Function}
+use Rattle.compiler.specs.ir_model.declared.module.Module.{Module}
+use Rattle.compiler.specs.ir_model.declared.operand.Arg.{Arg}
+use Rattle.compiler.specs.ir_model.declared.operand.Callee.{Callee}
+use Rattle.compiler.specs.ir_model.declared.operand.Intrinsic.{Intrinsic}
 use Rattle.pass_frames_meaning.proofs.others.Returns.{instr_in}
 use Rattle.pass_frames_meaning.specs.Kinds.{IsOwnAlloca}
 use Rattle.pass_frames_meaning.specs.Sized.{IsSizedAt, IsSizedState}
 use Rattle.pass_frames_meaning.specs.Sized.{sizes_of as sizes_in}
-use Rattle.pass_frames_proof.proofs.lines.Cells.{contained}
-use Rattle.pass_frames_proof.proofs.stepping.Stands.{renewed_does}
-use Rattle.pass_frames_proof.specs.Related.{is_coroutine}
-use Rattle.pass_renewed_proof.specs.Beside.{IsBeside}
-use Rattle.pass_renewed_proof.specs.Renewed.{Flags, RenewedGiven, Roots, renewed_step}
-use Rattle.pass_renewed_proof.specs.Steps.{given_at}
+use Rattle.pass_frames_meaning.proofs.pass_frames_proof.lines.Cells.{contained}
+use Rattle.pass_frames_meaning.proofs.pass_frames_proof.stepping.Stands.{renewed_does}
+use Rattle.pass_frames_meaning.specs.pass_frames_proof.Related.{is_coroutine}
+use Rattle.pass_frames_meaning.specs.pass_renewed_proof.Beside.{IsBeside}
+use Rattle.pass_frames_meaning.specs.pass_renewed_proof.Renewed.{Flags, RenewedGiven, Roots, renewed_step}
+use Rattle.pass_frames_meaning.specs.pass_renewed_proof.Steps.{given_at}
 use Rattle.run_accepted.proofs.Accepted.{edged_alive}
-use Rattle.run_agreement.specs.Machines.{IsFine}
-use Rattle.run_memory.specs.declared.block.Kind.{Kind}
-use Rattle.run_memory.specs.declared.block.MemoryBlock.{MemoryBlock}
-use Rattle.run_source.specs.Source.{begin_at}
-use Rattle.run_source.specs.State.{function_of, gives, or_undefined}
-use Rattle.run_source.specs.declared.state.Mode.{Mode}
-use Rattle.run_source.specs.declared.state.State.{State}
-use Rattle.run_step.specs.Results.{and_then, ok_if}
-use Rattle.run_step.specs.Step.{AtInstr, Coro, fetch}
-use Rattle.run_step.specs.Values.{arg_values, nth}
-use Rattle.run_step.specs.declared.world.Slot.{Slot}
+use Rattle.compiler.specs.run_agreement.Machines.{IsFine}
+use Rattle.compiler.specs.run_memory.declared.block.Kind.{Kind}
+use Rattle.compiler.specs.run_memory.declared.block.MemoryBlock.{MemoryBlock}
+use Rattle.compiler.specs.run_source.Source.{begin_at}
+use Rattle.compiler.specs.run_source.State.{function_of, gives, or_undefined}
+use Rattle.compiler.specs.run_source.declared.state.Mode.{Mode}
+use Rattle.compiler.specs.run_source.declared.state.State.{State}
+use Rattle.compiler.specs.run_step.Results.{and_then, ok_if}
+use Rattle.compiler.specs.run_step.Step.{AtInstr, Coro, fetch}
+use Rattle.compiler.specs.run_step.Values.{arg_values, nth}
+use Rattle.compiler.specs.run_step.declared.world.Slot.{Slot}
 
 -- ---- begin is fine in a ramp alone
 

@@ -1,29 +1,29 @@
 -- What calls of coroutines name (K2, K10), in a coroutine with blocks on its edges.
 use Rattle.std.proofs.Common.{◌≡◌, arith, ◌⊎◌, inl, inr, ℕ, Bool, true, false, List, [], ◌∷◌, Option, Some, None, refl, sym, ap, ◌∙◌, subst}
 use Rattle.std.specs.Prelude.{option_and_then, slice_get, unwrap_or, ◌||◌}
-use Rattle.flow_solver.specs.Paths.{IsListed}
-use Rattle.ir_calls.specs.Calls.{first_call, is_null, is_value, value_of_first}
-use Rattle.ir_laws.proofs.facts.Truth.{equal_numbers}
-use Rattle.ir_laws.proofs.paths.sources.Listed.{point_listed}
-use Rattle.ir_model.specs.Names.{is_local}
-use Rattle.ir_model.specs.Ty.{Ty}
-use Rattle.ir_model.specs.declared.instr.Instr.{Instr}
-use Rattle.ir_model.specs.declared.module.Block.{Block}
-use Rattle.ir_model.specs.declared.operand.Arg.{Arg}
-use Rattle.ir_model.specs.declared.operand.Callee.{Callee}
-use Rattle.ir_model.specs.declared.operand.Intrinsic.{Intrinsic}
-use Rattle.ir_model.specs.declared.operand.Operand.{Operand}
-use Rattle.ir_paths.specs.Slots.{local_of, promise_of}
-use Rattle.ir_paths.specs.Windows.{call_operand, call_result, instr_at, instr_in, is_call_of, operand_at, points_where}
-use Rattle.ir_paths.specs.declared.point.Point.{Point}
-use Rattle.pass_frames.specs.Framed.{begin_of}
+use Rattle.compiler.specs.flow_solver.Paths.{IsListed}
+use Rattle.compiler.specs.ir_calls.Calls.{first_call, is_null, is_value, value_of_first}
+use Rattle.compiler.proofs.ir_laws.facts.Truth.{equal_numbers}
+use Rattle.compiler.proofs.ir_laws.paths.sources.Listed.{point_listed}
+use Rattle.compiler.specs.ir_model.Names.{is_local}
+use Rattle.compiler.specs.ir_model.Ty.{Ty}
+use Rattle.compiler.specs.ir_model.declared.instr.Instr.{Instr}
+use Rattle.compiler.specs.ir_model.declared.module.Block.{Block}
+use Rattle.compiler.specs.ir_model.declared.operand.Arg.{Arg}
+use Rattle.compiler.specs.ir_model.declared.operand.Callee.{Callee}
+use Rattle.compiler.specs.ir_model.declared.operand.Intrinsic.{Intrinsic}
+use Rattle.compiler.specs.ir_model.declared.operand.Operand.{Operand}
+use Rattle.compiler.specs.ir_paths.Slots.{local_of, promise_of}
+use Rattle.compiler.specs.ir_paths.Windows.{call_operand, call_result, instr_at, instr_in, is_call_of, operand_at, points_where}
+use Rattle.compiler.specs.ir_paths.declared.point.Point.{Point}
+use Rattle.compiler.specs.pass_frames.Framed.{begin_of}
 use Rattle.pass_frames_meaning.proofs.begun.Begun.{first}
-use Rattle.pass_frames_proof.specs.Framings.{IsFraming}
-use Rattle.pass_frames_proof.specs.Places.{Framing, edged}
-use Rattle.rule_laws.proofs.frames.crossing.Paths.{point_found}
-use Rattle.rule_laws.proofs.rules.shape.Stands.{StandsAt, begin_stands}
-use Rattle.rule_laws.proofs.rules.source_rules.Once.{first_call_at, one_begin, one_id, right_call}
-use Rattle.run_framed.specs.Framed.{begin_name}
+use Rattle.pass_frames_meaning.specs.pass_frames_proof.Framings.{IsFraming}
+use Rattle.pass_frames_meaning.specs.pass_frames_proof.Places.{Framing, edged}
+use Rattle.compiler.proofs.rule_laws.frames.crossing.Paths.{point_found}
+use Rattle.compiler.proofs.rule_laws.rules.shape.Stands.{StandsAt, begin_stands}
+use Rattle.compiler.proofs.rule_laws.rules.source_rules.Once.{first_call_at, one_begin, one_id, right_call}
+use Rattle.compiler.specs.run_framed.Framed.{begin_name}
 
 no_value : (q : Option ℕ) (o : Operand) → ((v : ℕ) → is_local v o ≡ false) → is_value q o ≡ true → ⊥
 no_value None o none h = absurd (cc)

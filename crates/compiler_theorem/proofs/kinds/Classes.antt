@@ -1,39 +1,39 @@
 -- A slot that is made anew lies in no frame.
-use Rattle.rule_laws.proofs.rules.named_results.Named.{locals_tabled}
+use Rattle.compiler.proofs.rule_laws.rules.named_results.Named.{locals_tabled}
 use Rattle.std.proofs.Common.{◌≡◌, ◌∷◌, [], zero, suc, ◌==◌, if◌then◌else◌, subst, ⊎_elim, ℕ, ◌+◌, ◌<◌, ◌≤◌, Bool, true, false, List, length, refl, sym, ap, ◌∙◌, arith}
 use Rattle.std.specs.Prelude.{IsTrue, ◌↔◌, find, map, None, Option, Some, replicate, slice_get, unwrap_or}
-use Rattle.frame_classes.specs.declared.class.SlotClass.{SlotClass}
-use Rattle.ir_paths.specs.Slots.{allocas_of}
-use Rattle.pass_cells.specs.Kept.{flag_or_false, is_flagged}
-use Rattle.pass_copies.specs.Uses.{flag_at}
-use Rattle.pass_frames.specs.Tables.{class_flags, is_of}
-use Rattle.pass_frames_proof.specs.Framings.{IsFraming}
-use Rattle.pass_frames_proof.specs.Places.{Framing, edged, marked, offsets, with_copies}
-use Rattle.pass_proofs.proofs.copies.begin_order.Marks.{none_flagged}
-use Rattle.pass_proofs.proofs.frames.begin_order.Framed.{alloca_pointer, frame_alone, in_either, old_slot, pointer_low, slot_alloca}
-use Rattle.pass_proofs.proofs.frames.begin_order.Tables.{IsOfClass, flagged_slot, slot_flagged}
+use Rattle.compiler.specs.frame_classes.declared.class.SlotClass.{SlotClass}
+use Rattle.compiler.specs.ir_paths.Slots.{allocas_of}
+use Rattle.compiler.specs.pass_cells.Kept.{flag_or_false, is_flagged}
+use Rattle.compiler.specs.pass_copies.Uses.{flag_at}
+use Rattle.compiler.specs.pass_frames.Tables.{class_flags, is_of}
+use Rattle.pass_frames_meaning.specs.pass_frames_proof.Framings.{IsFraming}
+use Rattle.pass_frames_meaning.specs.pass_frames_proof.Places.{Framing, edged, marked, offsets, with_copies}
+use Rattle.compiler.proofs.pass_proofs.copies.begin_order.Marks.{none_flagged}
+use Rattle.compiler.proofs.pass_proofs.frames.begin_order.Framed.{alloca_pointer, frame_alone, in_either, old_slot, pointer_low, slot_alloca}
+use Rattle.compiler.proofs.pass_proofs.frames.begin_order.Tables.{IsOfClass, flagged_slot, slot_flagged}
 use Rattle.compiler_theorem.proofs.theorem.Needed.{named_in, some_class, stands_at}
 use Rattle.compiler_theorem.proofs.theorem.shown.Contents.{class_once}
 use Rattle.compiler_theorem.specs.theorem.Anew.{IsSlotOf}
-use Rattle.flow_solver.specs.Paths.{IsListed}
-use Rattle.frame_classes.specs.Classes.{AreClasses, IsOf}
-use Rattle.frame_layout.specs.declared.layout.Layout.{Layout}
-use Rattle.ir_laws.proofs.facts.Lists.{below}
-use Rattle.ir_laws.proofs.facts.Members.{at_each}
-use Rattle.ir_laws.proofs.paths.begin_order.Framed.{get_listed}
-use Rattle.ir_laws.specs.facts.expanded.Tokens.{IsNamedResult}
-use Rattle.ir_model.specs.declared.instr.Instr.{Instr}
-use Rattle.ir_model.specs.declared.module.Block.{Block}
-use Rattle.ir_model.specs.declared.module.Function.{Function}
-use Rattle.ir_model.specs.declared.module.Module.{Module}
-use Rattle.ir_paths.specs.Windows.{instr_in}
-use Rattle.pass_kept_proof.proofs.Read.{listed_by_name}
-use Rattle.rule_laws.proofs.rules.source_rules.Slots.{HasAlloca, alloca_of}
-use Rattle.rule_laws.specs.rules.function_rules.Kept.{KeepsFunctionRules}
-use Rattle.run_framed.specs.Framed.{frame_of_layout, layout_of, no_layout}
-use Rattle.run_source_tables.specs.Given.{frame_of}
-use Rattle.pass_proofs.specs.addresses.rules.Addresses.{lies_in_frame}
-use Rattle.pass_proofs.specs.frames.begin_order.Fields.{IsField, values_kept}
+use Rattle.compiler.specs.flow_solver.Paths.{IsListed}
+use Rattle.compiler.specs.frame_classes.Classes.{AreClasses, IsOf}
+use Rattle.compiler.specs.frame_layout.declared.layout.Layout.{Layout}
+use Rattle.compiler.proofs.ir_laws.facts.Lists.{below}
+use Rattle.compiler.proofs.ir_laws.facts.Members.{at_each}
+use Rattle.compiler.proofs.ir_laws.paths.begin_order.Framed.{get_listed}
+use Rattle.compiler.specs.ir_laws.facts.expanded.Tokens.{IsNamedResult}
+use Rattle.compiler.specs.ir_model.declared.instr.Instr.{Instr}
+use Rattle.compiler.specs.ir_model.declared.module.Block.{Block}
+use Rattle.compiler.specs.ir_model.declared.module.Function.{Function}
+use Rattle.compiler.specs.ir_model.declared.module.Module.{Module}
+use Rattle.compiler.specs.ir_paths.Windows.{instr_in}
+use Rattle.compiler.proofs.pass_kept_proof.Read.{listed_by_name}
+use Rattle.compiler.proofs.rule_laws.rules.source_rules.Slots.{HasAlloca, alloca_of}
+use Rattle.compiler.specs.rule_laws.rules.function_rules.Kept.{KeepsFunctionRules}
+use Rattle.compiler.specs.run_framed.Framed.{frame_of_layout, layout_of, no_layout}
+use Rattle.compiler.specs.run_source_tables.Given.{frame_of}
+use Rattle.compiler.specs.pass_proofs.addresses.rules.Addresses.{lies_in_frame}
+use Rattle.compiler.specs.pass_proofs.frames.begin_order.Fields.{IsField, values_kept}
 
 -- ---- a local slot isn't in the frame
 

@@ -6,28 +6,28 @@ use Rattle.std.specs.List.{Contains}
 use Rattle.std.specs.Prelude.{replicate, slice_get}
 use Rattle.compiler_theorem.proofs.kinds.Opened.{field_there, opened}
 use Rattle.compiler_theorem.specs.kinds.Held.{IsHeldAsValue}
-use Rattle.flow_solver.specs.Paths.{IsListed}
-use Rattle.frame_contents.specs.Held.{at_fields, both_at_fields, field_of, fields_of, pair_with, position_of, slot_position, value_held}
-use Rattle.frame_contents.specs.declared.held.Holding.{Holding}
-use Rattle.frame_good.specs.Frames.{AreInConflict}
-use Rattle.frame_good.specs.Good.{AreApart, AreFit, IsGoodLayout}
-use Rattle.frame_layout.proofs.Grouped.{Crossing, pairs_at}
-use Rattle.frame_layout.specs.declared.layout.Layout.{Layout}
-use Rattle.ir_laws.proofs.facts.Lists.{set_at}
-use Rattle.ir_laws.proofs.paths.source_rules.Locals.{listed_either, listed_left, listed_right}
-use Rattle.ir_model.specs.declared.module.Function.{Function}
-use Rattle.pass_cells.specs.Kept.{entry, row_or, rows_from, with_pair, with_row, with_row_of}
-use Rattle.pass_cells.specs.Written.{row_at}
-use Rattle.pass_cells.specs.declared.plan.KeptValue.{KeptValue}
-use Rattle.pass_fetch.specs.Fetching.{value_bytes}
-use Rattle.pass_frames.specs.Tables.{offset_at}
+use Rattle.compiler.specs.flow_solver.Paths.{IsListed}
+use Rattle.compiler.specs.frame_contents.Held.{at_fields, both_at_fields, field_of, fields_of, pair_with, position_of, slot_position, value_held}
+use Rattle.compiler.specs.frame_contents.declared.held.Holding.{Holding}
+use Rattle.compiler.specs.frame_good.Frames.{AreInConflict}
+use Rattle.compiler.specs.frame_good.Good.{AreApart, AreFit, IsGoodLayout}
+use Rattle.compiler.proofs.frame_layout.Grouped.{Crossing, pairs_at}
+use Rattle.compiler.specs.frame_layout.declared.layout.Layout.{Layout}
+use Rattle.compiler.proofs.ir_laws.facts.Lists.{set_at}
+use Rattle.compiler.proofs.ir_laws.paths.source_rules.Locals.{listed_either, listed_left, listed_right}
+use Rattle.compiler.specs.ir_model.declared.module.Function.{Function}
+use Rattle.compiler.specs.pass_cells.Kept.{entry, row_or, rows_from, with_pair, with_row, with_row_of}
+use Rattle.compiler.specs.pass_cells.Written.{row_at}
+use Rattle.compiler.specs.pass_cells.declared.plan.KeptValue.{KeptValue}
+use Rattle.compiler.specs.pass_fetch.Fetching.{value_bytes}
+use Rattle.compiler.specs.pass_frames.Tables.{offset_at}
 use Rattle.pass_frames_meaning.specs.Kinds.{AreBehind}
-use Rattle.pass_frames_proof.proofs.code.Names.{Kept, keeping}
-use Rattle.pass_frames_proof.proofs.lines.Cells.{contained}
-use Rattle.pass_frames_proof.specs.Framings.{IsFraming}
-use Rattle.pass_frames_proof.specs.Places.{Framing, plan}
-use Rattle.pass_frames_proof.specs.Related.{IsKeptValue}
-use Rattle.pass_frames_proof.specs.Slotted.{IsSlotField}
+use Rattle.pass_frames_meaning.proofs.pass_frames_proof.code.Names.{Kept, keeping}
+use Rattle.pass_frames_meaning.proofs.pass_frames_proof.lines.Cells.{contained}
+use Rattle.pass_frames_meaning.specs.pass_frames_proof.Framings.{IsFraming}
+use Rattle.pass_frames_meaning.specs.pass_frames_proof.Places.{Framing, plan}
+use Rattle.pass_frames_meaning.specs.pass_frames_proof.Related.{IsKeptValue}
+use Rattle.pass_frames_meaning.specs.pass_frames_proof.Slotted.{IsSlotField}
 
 -- ---- rows have numbers of values that cross
 

@@ -2,31 +2,31 @@
 use Rattle.std.proofs.Common.{◌≡◌, inl, inr, ℕ, suc, ◌<◌, List, [], ◌∷◌, length, Some, refl, sym, ap, arith}
 use Rattle.std.specs.List.{Contains}
 use Rattle.std.specs.Prelude.{slice_get, unwrap_or}
-use Rattle.flow_solver.specs.Paths.{IsListed}
-use Rattle.frame_classes.specs.declared.class.SlotClass.{SlotClass}
-use Rattle.ir_laws.proofs.paths.woven_rules.Unbroken.{of_listed}
-use Rattle.ir_model.specs.Ty.{Ty}
-use Rattle.ir_model.specs.declared.instr.Instr.{Instr}
-use Rattle.ir_model.specs.declared.module.Block.{Block}
-use Rattle.ir_model.specs.declared.module.Function.{Function}
-use Rattle.ir_model.specs.declared.module.Module.{Module}
-use Rattle.ir_model.specs.declared.operand.Operand.{Operand}
-use Rattle.ir_parts.specs.Contents.{result_of}
-use Rattle.pass_copies.specs.Slots.{entry_instrs}
-use Rattle.pass_copies.specs.Uses.{used_before}
-use Rattle.pass_copies.specs.declared.slot.EarlySlot.{EarlySlot}
-use Rattle.pass_frames.specs.Tables.{class_flags, sizes_by_name}
+use Rattle.compiler.specs.flow_solver.Paths.{IsListed}
+use Rattle.compiler.specs.frame_classes.declared.class.SlotClass.{SlotClass}
+use Rattle.compiler.proofs.ir_laws.paths.woven_rules.Unbroken.{of_listed}
+use Rattle.compiler.specs.ir_model.Ty.{Ty}
+use Rattle.compiler.specs.ir_model.declared.instr.Instr.{Instr}
+use Rattle.compiler.specs.ir_model.declared.module.Block.{Block}
+use Rattle.compiler.specs.ir_model.declared.module.Function.{Function}
+use Rattle.compiler.specs.ir_model.declared.module.Module.{Module}
+use Rattle.compiler.specs.ir_model.declared.operand.Operand.{Operand}
+use Rattle.compiler.specs.ir_parts.Contents.{result_of}
+use Rattle.compiler.specs.pass_copies.Slots.{entry_instrs}
+use Rattle.compiler.specs.pass_copies.Uses.{used_before}
+use Rattle.compiler.specs.pass_copies.declared.slot.EarlySlot.{EarlySlot}
+use Rattle.compiler.specs.pass_frames.Tables.{class_flags, sizes_by_name}
 use Rattle.pass_frames_meaning.proofs.others.Names.{once, point_there, result_low}
-use Rattle.pass_frames_proof.proofs.lines.Cells.{contained}
-use Rattle.pass_frames_proof.specs.Framings.{IsFraming}
-use Rattle.pass_frames_proof.specs.Passes.{no_block}
-use Rattle.pass_frames_proof.specs.Places.{Framing, before_labels, copies, edged, instrs_at, with_copies, written}
-use Rattle.pass_proofs.proofs.copies.rules.Slots.{IsAlloca, from_allocas}
-use Rattle.pass_proofs.proofs.frames.begin_order.Framed.{woven}
-use Rattle.pass_proofs.specs.cells.rules.Weaving.{cells_weaving}
-use Rattle.rule_laws.specs.rules.woven_rules.Blocks.{AreWoven, AreWovenBlocks, Done, Gone, IsWoven, Kept, NoBlock, OneBlock, Put, Remain, Stays, Unpromised}
-use Rattle.rule_laws.specs.rules.woven_rules.Parts.{Alloca, Binary, Call, Cast, Gep, Icmp, InstrStays, Load, Select, Store}
-use Rattle.rule_laws.specs.rules.woven_rules.Weaving.{Weaving}
+use Rattle.pass_frames_meaning.proofs.pass_frames_proof.lines.Cells.{contained}
+use Rattle.pass_frames_meaning.specs.pass_frames_proof.Framings.{IsFraming}
+use Rattle.pass_frames_meaning.specs.pass_frames_proof.Passes.{no_block}
+use Rattle.pass_frames_meaning.specs.pass_frames_proof.Places.{Framing, before_labels, copies, edged, instrs_at, with_copies, written}
+use Rattle.compiler.proofs.pass_proofs.copies.rules.Slots.{IsAlloca, from_allocas}
+use Rattle.compiler.proofs.pass_proofs.frames.begin_order.Framed.{woven}
+use Rattle.compiler.specs.pass_proofs.cells.rules.Weaving.{cells_weaving}
+use Rattle.compiler.specs.rule_laws.rules.woven_rules.Blocks.{AreWoven, AreWovenBlocks, Done, Gone, IsWoven, Kept, NoBlock, OneBlock, Put, Remain, Stays, Unpromised}
+use Rattle.compiler.specs.rule_laws.rules.woven_rules.Parts.{Alloca, Binary, Call, Cast, Gep, Icmp, InstrStays, Load, Select, Store}
+use Rattle.compiler.specs.rule_laws.rules.woven_rules.Weaving.{Weaving}
 
 module _ (v align : ℕ) (ty : Ty) where
   abbrev A : Instr

@@ -10,16 +10,16 @@ use Rattle.compiler_theorem.specs.theorem.Between.{renewing}
 use Rattle.compiler_theorem.specs.theorem.Entries.{Run}
 use Rattle.compiler_theorem.specs.theorem.Lowered.{IsLowered, Lowered, early, edged}
 use Rattle.pass_frames_meaning.specs.Kinds.{KeepsKinds}
-use Rattle.pass_frames_proof.proofs.followed.Assembly.{other_instance}
-use Rattle.pass_frames_proof.specs.Related.{AreBuiltOf}
-use Rattle.pass_renewed_proof.specs.Renewed.{renewed_step}
-use Rattle.run_framed.specs.Framed.{layout_of}
-use Rattle.run_memory.specs.declared.block.MemoryBlock.{MemoryBlock}
-use Rattle.run_slots.specs.Slots.{IsSlottedState}
-use Rattle.run_source.specs.Source.{first_state}
-use Rattle.run_source.specs.declared.state.Instance.{Instance}
-use Rattle.run_source.specs.declared.state.State.{State}
-use Rattle.run_step.specs.Runs.{iterate}
+use Rattle.pass_frames_meaning.proofs.pass_frames_proof.followed.Assembly.{other_instance}
+use Rattle.pass_frames_meaning.specs.pass_frames_proof.Related.{AreBuiltOf}
+use Rattle.pass_frames_meaning.specs.pass_renewed_proof.Renewed.{renewed_step}
+use Rattle.compiler.specs.run_framed.Framed.{layout_of}
+use Rattle.compiler.specs.run_memory.declared.block.MemoryBlock.{MemoryBlock}
+use Rattle.pass_frames_meaning.specs.run_slots.Slots.{IsSlottedState}
+use Rattle.compiler.specs.run_source.Source.{first_state}
+use Rattle.compiler.specs.run_source.declared.state.Instance.{Instance}
+use Rattle.compiler.specs.run_source.declared.state.State.{State}
+use Rattle.compiler.specs.run_step.Runs.{iterate}
 
 module _ (l : Lowered) (low : IsLowered l) (a : Anew) (anew : IsAnewOf (early l) a) (r : Run) (n : ℕ) where
   abbrev s : State

@@ -1,24 +1,24 @@
 -- An instruction for which nothing is fetched stands at its own place in the framed form.
 use Rattle.std.proofs.Common.{◌≡◌, ℕ, Bool, true, false, List, Option, Some, None, refl, ap, ◌∙◌}
 use Rattle.std.specs.Prelude.{if◌then◌else◌, slice_get}
-use Rattle.ir_model.specs.declared.instr.Instr.{Instr}
-use Rattle.ir_model.specs.declared.module.Function.{Function}
-use Rattle.ir_parts.specs.Contents.{instr_operands}
-use Rattle.ir_paths.specs.Windows.{instr_at}
-use Rattle.pass_addresses.specs.Placing.{lies_outside, stays, without_promise_of}
-use Rattle.pass_cells.specs.Cells.{fetches_of}
-use Rattle.pass_copies.specs.BeginCopies.{is_fetched}
-use Rattle.pass_frames_proof.specs.Stepping.{state_in}
-use Rattle.pass_fetch.specs.Instrs.{with_fetched}
-use Rattle.pass_fetch.specs.declared.fetch.Fetch.{Fetch}
-use Rattle.pass_frames_proof.proofs.asking.Finals.{IsKeptIn, KeepsHere, both_here, own_there}
-use Rattle.pass_frames_proof.proofs.code.Idle.{instr_same}
-use Rattle.pass_frames_proof.specs.Code.{slot_table}
-use Rattle.pass_frames_proof.specs.Layers.{Layer, each, only}
-use Rattle.pass_frames_proof.specs.Passes.{fetching_at, unmarked_at}
-use Rattle.pass_frames_proof.specs.Places.{Framing, addressing_layer, celled_layer, copied_layer, copies, copying_layer, framed, instrs_at, loading_layer, marked, named, offsets, own_place, placed_layer, plan, unmarked, unmarked_layer, writing_layer}
-use Rattle.pass_front.specs.Front.{is_no_alloca}
-use Rattle.pass_proofs.specs.fetch.rules.Fetches.{AreUnfetched}
+use Rattle.compiler.specs.ir_model.declared.instr.Instr.{Instr}
+use Rattle.compiler.specs.ir_model.declared.module.Function.{Function}
+use Rattle.compiler.specs.ir_parts.Contents.{instr_operands}
+use Rattle.compiler.specs.ir_paths.Windows.{instr_at}
+use Rattle.compiler.specs.pass_addresses.Placing.{lies_outside, stays, without_promise_of}
+use Rattle.compiler.specs.pass_cells.Cells.{fetches_of}
+use Rattle.compiler.specs.pass_copies.BeginCopies.{is_fetched}
+use Rattle.pass_frames_meaning.specs.pass_frames_proof.Stepping.{state_in}
+use Rattle.compiler.specs.pass_fetch.Instrs.{with_fetched}
+use Rattle.compiler.specs.pass_fetch.declared.fetch.Fetch.{Fetch}
+use Rattle.pass_frames_meaning.proofs.pass_frames_proof.asking.Finals.{IsKeptIn, KeepsHere, both_here, own_there}
+use Rattle.pass_frames_meaning.proofs.pass_frames_proof.code.Idle.{instr_same}
+use Rattle.pass_frames_meaning.specs.pass_frames_proof.Code.{slot_table}
+use Rattle.pass_frames_meaning.specs.pass_frames_proof.Layers.{Layer, each, only}
+use Rattle.pass_frames_meaning.specs.pass_frames_proof.Passes.{fetching_at, unmarked_at}
+use Rattle.pass_frames_meaning.specs.pass_frames_proof.Places.{Framing, addressing_layer, celled_layer, copied_layer, copies, copying_layer, framed, instrs_at, loading_layer, marked, named, offsets, own_place, placed_layer, plan, unmarked, unmarked_layer, writing_layer}
+use Rattle.compiler.specs.pass_front.Front.{is_no_alloca}
+use Rattle.compiler.specs.pass_proofs.fetch.rules.Fetches.{AreUnfetched}
 
 module _ (x : Framing) (i0 : Instr) (loads : AreUnfetched (fetches_of (plan x)) (instr_operands i0))
     (wheres : AreUnfetched (copies x).fetches (instr_operands i0))

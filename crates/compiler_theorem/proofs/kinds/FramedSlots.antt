@@ -11,37 +11,37 @@ use Rattle.compiler_theorem.proofs.woken.FramedRuns.{framed_rules}
 use Rattle.compiler_theorem.specs.theorem.Built.{building}
 use Rattle.compiler_theorem.specs.theorem.Entries.{Run}
 use Rattle.compiler_theorem.specs.theorem.Lowered.{IsLowered, Lowered}
-use Rattle.flow_solver.specs.Paths.{IsListed}
-use Rattle.ir_model.specs.Names.{function_at, no_function}
-use Rattle.ir_model.specs.declared.instr.Instr.{Instr}
-use Rattle.ir_model.specs.declared.module.Function.{Function}
-use Rattle.ir_model.specs.declared.operand.Intrinsic.{Intrinsic}
-use Rattle.ir_paths.specs.Slots.{allocas_of, has_name}
-use Rattle.ir_paths.specs.declared.point.Facts.{Facts}
-use Rattle.ir_paths.specs.declared.point.Point.{Point}
-use Rattle.pass_frames_proof.proofs.lines.Cells.{contained}
-use Rattle.pass_kept_proof.specs.SuspendRules.{IsCallAt}
-use Rattle.pass_proofs.proofs.kept.sources.Names.{save_inside, suspend_inside}
-use Rattle.pass_proofs.proofs.kept.sources.Suspends.{is_switched}
+use Rattle.compiler.specs.flow_solver.Paths.{IsListed}
+use Rattle.compiler.specs.ir_model.Names.{function_at, no_function}
+use Rattle.compiler.specs.ir_model.declared.instr.Instr.{Instr}
+use Rattle.compiler.specs.ir_model.declared.module.Function.{Function}
+use Rattle.compiler.specs.ir_model.declared.operand.Intrinsic.{Intrinsic}
+use Rattle.compiler.specs.ir_paths.Slots.{allocas_of, has_name}
+use Rattle.compiler.specs.ir_paths.declared.point.Facts.{Facts}
+use Rattle.compiler.specs.ir_paths.declared.point.Point.{Point}
+use Rattle.pass_frames_meaning.proofs.pass_frames_proof.lines.Cells.{contained}
+use Rattle.compiler.specs.pass_kept_proof.SuspendRules.{IsCallAt}
+use Rattle.compiler.proofs.pass_proofs.kept.sources.Names.{save_inside, suspend_inside}
+use Rattle.compiler.proofs.pass_proofs.kept.sources.Suspends.{is_switched}
 use Rattle.pass_split_proof.proofs.ready.Rules.{function_of_instr}
 use Rattle.run_accepted.proofs.Alive.{listed}
 use Rattle.run_accepted.proofs.Once.{made_once}
 use Rattle.run_accepted.proofs.Plain.{no_call}
-use Rattle.run_framed.specs.Framed.{FramedGiven, framed_facts, framed_state_at, framed_step}
-use Rattle.run_hooks.proofs.Keeping.{framed_keeps}
-use Rattle.run_hooks.proofs.Reaching.{states_reached}
-use Rattle.run_hooks.proofs.Steps.{framed_steps, same_runs}
-use Rattle.run_hooks.specs.Hooks.{step_of}
-use Rattle.run_hooks.specs.Meanings.{framed_hooks}
-use Rattle.run_hooks.specs.Reached.{AllHaveSwitches, HasSwitches}
-use Rattle.run_slots.proofs.Made.{states_made}
-use Rattle.run_slots.proofs.MadeMeanings.{framed_keeps_made}
-use Rattle.run_slots.specs.Made.{AreMade, IsMadeAt, IsMadeState}
-use Rattle.run_source.specs.Source.{first_state, is_among}
-use Rattle.run_source.specs.State.{own_facts}
-use Rattle.run_source.specs.declared.state.State.{State}
-use Rattle.run_source_tables.specs.Given.{facts_at}
-use Rattle.run_step.specs.declared.world.Slot.{Slot}
+use Rattle.compiler.specs.run_framed.Framed.{FramedGiven, framed_facts, framed_state_at, framed_step}
+use Rattle.pass_frames_meaning.proofs.run_hooks.Keeping.{framed_keeps}
+use Rattle.pass_frames_meaning.proofs.run_hooks.Reaching.{states_reached}
+use Rattle.pass_frames_meaning.proofs.run_hooks.Steps.{framed_steps, same_runs}
+use Rattle.pass_frames_meaning.specs.run_hooks.Hooks.{step_of}
+use Rattle.pass_frames_meaning.specs.run_hooks.Meanings.{framed_hooks}
+use Rattle.pass_frames_meaning.specs.run_hooks.Reached.{AllHaveSwitches, HasSwitches}
+use Rattle.pass_frames_meaning.proofs.run_slots.Made.{states_made}
+use Rattle.pass_frames_meaning.proofs.run_slots.MadeMeanings.{framed_keeps_made}
+use Rattle.pass_frames_meaning.specs.run_slots.Made.{AreMade, IsMadeAt, IsMadeState}
+use Rattle.compiler.specs.run_source.Source.{first_state, is_among}
+use Rattle.compiler.specs.run_source.State.{own_facts}
+use Rattle.compiler.specs.run_source.declared.state.State.{State}
+use Rattle.compiler.specs.run_source_tables.Given.{facts_at}
+use Rattle.compiler.specs.run_step.declared.world.Slot.{Slot}
 
 none_there : (x : Intrinsic) (p : Point) → IsCallAt x no_function p → ⊥
 none_there x p c = let none = c.stands in absurd (cc)

@@ -4,47 +4,47 @@ use Rattle.std.specs.Prelude.{flat_map, get_or, if◌then◌else◌, option_to_l
 use Rattle.compiler_theorem.proofs.kinds.Classes.{alloca_low}
 use Rattle.compiler_theorem.proofs.theorem.Needed.{some_class, stands_at}
 use Rattle.compiler_theorem.proofs.theorem.shown.Contents.{class_once}
-use Rattle.flow_solver.specs.Paths.{IsListed}
-use Rattle.frame_classes.specs.Classes.{AreClasses, IsOf}
-use Rattle.frame_classes.specs.declared.class.SlotClass.{SlotClass}
-use Rattle.frame_contents.specs.Held.{crossing_values, frame_slots, frame_slots_from, held_blocks, held_instr, held_instrs, held_params, held_phis, is_frame, position_from, position_of, slot_held, slot_kind}
-use Rattle.frame_contents.specs.declared.held.Holding.{Holding}
-use Rattle.frame_layout.specs.declared.layout.FieldKind.{FieldKind}
-use Rattle.frame_layout.specs.declared.layout.Layout.{Layout}
-use Rattle.ir_laws.proofs.facts.Lists.{below}
-use Rattle.ir_laws.proofs.facts.Truth.{equal_numbers, itself}
-use Rattle.ir_laws.proofs.paths.source_rules.Locals.{listed_left, listed_right}
-use Rattle.ir_model.specs.Ty.{Ty}
-use Rattle.ir_model.specs.declared.instr.Instr.{Instr}
-use Rattle.ir_model.specs.declared.module.Block.{Block}
-use Rattle.ir_model.specs.declared.module.Module.{Module}
-use Rattle.ir_paths.specs.Slots.{allocas_in, allocas_of, has_name, promise_of}
-use Rattle.ir_paths.specs.Windows.{instr_at, instr_in}
-use Rattle.ir_paths.specs.declared.point.Point.{Point}
-use Rattle.pass_cells.specs.Links.{field_name}
-use Rattle.pass_frames.specs.Framed.{kept_of}
-use Rattle.pass_frames.specs.Tables.{is_slot_kind, offset_at, with_field_offset, with_field_offsets, with_slot_offset, with_slot_offsets}
+use Rattle.compiler.specs.flow_solver.Paths.{IsListed}
+use Rattle.compiler.specs.frame_classes.Classes.{AreClasses, IsOf}
+use Rattle.compiler.specs.frame_classes.declared.class.SlotClass.{SlotClass}
+use Rattle.compiler.specs.frame_contents.Held.{crossing_values, frame_slots, frame_slots_from, held_blocks, held_instr, held_instrs, held_params, held_phis, is_frame, position_from, position_of, slot_held, slot_kind}
+use Rattle.compiler.specs.frame_contents.declared.held.Holding.{Holding}
+use Rattle.compiler.specs.frame_layout.declared.layout.FieldKind.{FieldKind}
+use Rattle.compiler.specs.frame_layout.declared.layout.Layout.{Layout}
+use Rattle.compiler.proofs.ir_laws.facts.Lists.{below}
+use Rattle.compiler.proofs.ir_laws.facts.Truth.{equal_numbers, itself}
+use Rattle.compiler.proofs.ir_laws.paths.source_rules.Locals.{listed_left, listed_right}
+use Rattle.compiler.specs.ir_model.Ty.{Ty}
+use Rattle.compiler.specs.ir_model.declared.instr.Instr.{Instr}
+use Rattle.compiler.specs.ir_model.declared.module.Block.{Block}
+use Rattle.compiler.specs.ir_model.declared.module.Module.{Module}
+use Rattle.compiler.specs.ir_paths.Slots.{allocas_in, allocas_of, has_name, promise_of}
+use Rattle.compiler.specs.ir_paths.Windows.{instr_at, instr_in}
+use Rattle.compiler.specs.ir_paths.declared.point.Point.{Point}
+use Rattle.compiler.specs.pass_cells.Links.{field_name}
+use Rattle.compiler.specs.pass_frames.Framed.{kept_of}
+use Rattle.compiler.specs.pass_frames.Tables.{is_slot_kind, offset_at, with_field_offset, with_field_offsets, with_slot_offset, with_slot_offsets}
 use Rattle.pass_frames_meaning.proofs.others.Names.{once, point_there}
 use Rattle.pass_frames_meaning.proofs.placed.Placed.{held_once}
-use Rattle.ir_laws.proofs.paths.woven_rules.Unbroken.{of_listed}
-use Rattle.pass_copies.specs.declared.slot.EarlySlot.{EarlySlot}
-use Rattle.pass_frames_proof.proofs.anew.Lists.{alloca_listed}
-use Rattle.pass_frames_proof.proofs.early.Placed.{all_early}
-use Rattle.pass_frames_proof.proofs.lines.Cells.{contained}
-use Rattle.pass_frames_proof.specs.FromEdges.{IsEarlyInFrame}
+use Rattle.compiler.proofs.ir_laws.paths.woven_rules.Unbroken.{of_listed}
+use Rattle.compiler.specs.pass_copies.declared.slot.EarlySlot.{EarlySlot}
+use Rattle.pass_frames_meaning.proofs.pass_frames_proof.anew.Lists.{alloca_listed}
+use Rattle.pass_frames_meaning.proofs.pass_frames_proof.early.Placed.{all_early}
+use Rattle.pass_frames_meaning.proofs.pass_frames_proof.lines.Cells.{contained}
+use Rattle.pass_frames_meaning.specs.pass_frames_proof.FromEdges.{IsEarlyInFrame}
 use Rattle.std.specs.List.{Contains}
-use Rattle.pass_copies.specs.Slots.{slot_names}
-use Rattle.pass_frames_proof.proofs.code.Left.{longer}
-use Rattle.pass_frames_proof.proofs.stepping.Names.{edged_named, named_written}
-use Rattle.pass_frames_proof.specs.Framings.{IsFraming}
-use Rattle.pass_frames_proof.specs.Passes.{no_block}
-use Rattle.pass_frames_proof.specs.Places.{Framing, copies, edged, instrs_at, named, offsets, with_copies, written}
-use Rattle.pass_proofs.proofs.edges.paths.Slots.{same_allocas}
-use Rattle.pass_proofs.proofs.edges.paths.Windows.{instr_moved}
-use Rattle.pass_proofs.specs.addresses.rules.Addresses.{lies_in_frame}
-use Rattle.pass_proofs.specs.edges.paths.Spots.{moved}
-use Rattle.rule_laws.proofs.rules.source_rules.Slots.{alloca_of}
-use Rattle.rule_laws.specs.rules.function_rules.Kept.{KeepsFunctionRules}
+use Rattle.compiler.specs.pass_copies.Slots.{slot_names}
+use Rattle.pass_frames_meaning.proofs.pass_frames_proof.code.Left.{longer}
+use Rattle.pass_frames_meaning.proofs.pass_frames_proof.stepping.Names.{edged_named, named_written}
+use Rattle.pass_frames_meaning.specs.pass_frames_proof.Framings.{IsFraming}
+use Rattle.pass_frames_meaning.specs.pass_frames_proof.Passes.{no_block}
+use Rattle.pass_frames_meaning.specs.pass_frames_proof.Places.{Framing, copies, edged, instrs_at, named, offsets, with_copies, written}
+use Rattle.compiler.proofs.pass_proofs.edges.paths.Slots.{same_allocas}
+use Rattle.compiler.proofs.pass_proofs.edges.paths.Windows.{instr_moved}
+use Rattle.compiler.specs.pass_proofs.addresses.rules.Addresses.{lies_in_frame}
+use Rattle.compiler.specs.pass_proofs.edges.paths.Spots.{moved}
+use Rattle.compiler.proofs.rule_laws.rules.source_rules.Slots.{alloca_of}
+use Rattle.compiler.specs.rule_laws.rules.function_rules.Kept.{KeepsFunctionRules}
 
 -- ---- what is held
 

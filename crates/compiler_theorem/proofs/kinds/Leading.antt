@@ -4,32 +4,32 @@ use Rattle.std.specs.Prelude.{option_and_then, replicate, slice_get, unwrap_or}
 use Rattle.std.proofs.lemmas.Bool.{and_parts, false≢true}
 use Rattle.compiler_theorem.proofs.kinds.Fixed.{fixed_there}
 use Rattle.compiler_theorem.proofs.kinds.Suspends.{suspend_numbered, taken_number, token_in, token_told}
-use Rattle.flow_solver.specs.Paths.{IsListed}
-use Rattle.ir_laws.proofs.facts.Lists.{get_within}
-use Rattle.ir_laws.proofs.facts.Truth.{equal_numbers, itself}
-use Rattle.ir_laws.proofs.paths.path_rules.Where.{has_where}
-use Rattle.ir_laws.proofs.paths.sources.Listed.{point_listed}
-use Rattle.ir_laws.proofs.paths.woven_rules.Once.{times_none}
-use Rattle.ir_laws.specs.facts.renamed.Regular.{passes}
-use Rattle.ir_laws.specs.facts.woven_rules.Pairs.{one_if, times}
-use Rattle.ir_laws.specs.paths.woven_rules.Pairs.{AreDifferent}
-use Rattle.ir_model.specs.Names.{is_local}
-use Rattle.ir_model.specs.Ty.{Ty, token}
-use Rattle.ir_model.specs.declared.instr.Instr.{Instr}
-use Rattle.ir_model.specs.declared.module.Block.{Block}
-use Rattle.ir_model.specs.declared.operand.Arg.{Arg}
-use Rattle.ir_model.specs.declared.operand.Callee.{Callee}
-use Rattle.ir_model.specs.declared.operand.Intrinsic.{Intrinsic}
-use Rattle.ir_model.specs.declared.operand.Operand.{Operand}
-use Rattle.ir_parts.specs.Contents.{result_of}
-use Rattle.ir_paths.specs.Paths.{has_point, same_point}
-use Rattle.ir_paths.specs.Windows.{call_result, instr_at, instr_in, is_call_of, is_suspend_of, operand_at, points_where, suspend_of}
-use Rattle.ir_paths.specs.declared.point.Point.{Point}
-use Rattle.pass_cells.specs.Cells.{fetches_of}
-use Rattle.pass_cells.specs.Kept.{entry, joined}
-use Rattle.pass_fetch.specs.Fetching.{fetch_of}
-use Rattle.pass_fetch.specs.declared.fetch.Fetch.{Fetch}
-use Rattle.pass_frames.specs.Framed.{begin_of}
+use Rattle.compiler.specs.flow_solver.Paths.{IsListed}
+use Rattle.compiler.proofs.ir_laws.facts.Lists.{get_within}
+use Rattle.compiler.proofs.ir_laws.facts.Truth.{equal_numbers, itself}
+use Rattle.compiler.proofs.ir_laws.paths.path_rules.Where.{has_where}
+use Rattle.compiler.proofs.ir_laws.paths.sources.Listed.{point_listed}
+use Rattle.compiler.proofs.ir_laws.paths.woven_rules.Once.{times_none}
+use Rattle.compiler.specs.ir_laws.facts.renamed.Regular.{passes}
+use Rattle.compiler.specs.ir_laws.facts.woven_rules.Pairs.{one_if, times}
+use Rattle.compiler.specs.ir_laws.paths.woven_rules.Pairs.{AreDifferent}
+use Rattle.compiler.specs.ir_model.Names.{is_local}
+use Rattle.compiler.specs.ir_model.Ty.{Ty, token}
+use Rattle.compiler.specs.ir_model.declared.instr.Instr.{Instr}
+use Rattle.compiler.specs.ir_model.declared.module.Block.{Block}
+use Rattle.compiler.specs.ir_model.declared.operand.Arg.{Arg}
+use Rattle.compiler.specs.ir_model.declared.operand.Callee.{Callee}
+use Rattle.compiler.specs.ir_model.declared.operand.Intrinsic.{Intrinsic}
+use Rattle.compiler.specs.ir_model.declared.operand.Operand.{Operand}
+use Rattle.compiler.specs.ir_parts.Contents.{result_of}
+use Rattle.compiler.specs.ir_paths.Paths.{has_point, same_point}
+use Rattle.compiler.specs.ir_paths.Windows.{call_result, instr_at, instr_in, is_call_of, is_suspend_of, operand_at, points_where, suspend_of}
+use Rattle.compiler.specs.ir_paths.declared.point.Point.{Point}
+use Rattle.compiler.specs.pass_cells.Cells.{fetches_of}
+use Rattle.compiler.specs.pass_cells.Kept.{entry, joined}
+use Rattle.compiler.specs.pass_fetch.Fetching.{fetch_of}
+use Rattle.compiler.specs.pass_fetch.declared.fetch.Fetch.{Fetch}
+use Rattle.compiler.specs.pass_frames.Framed.{begin_of}
 use Rattle.pass_frames_meaning.proofs.begun.Begun.{begin_plain, first}
 use Rattle.pass_frames_meaning.proofs.coroutines.Suspends.{flag_unfetched}
 use Rattle.pass_frames_meaning.proofs.coroutines.Tokens.{token_nowhere}
@@ -37,26 +37,26 @@ use Rattle.pass_frames_meaning.proofs.others.AtPlace.{two_wanted}
 use Rattle.pass_frames_meaning.proofs.others.Names.{once, result_low}
 use Rattle.pass_frames_meaning.specs.Coroutines.{IsNowhere}
 use Rattle.pass_frames_meaning.specs.Kinds.{IsSaveWith}
-use Rattle.pass_frames_proof.proofs.code.Names.{early_name}
-use Rattle.pass_frames_proof.specs.Code.{slot_table}
-use Rattle.pass_frames_proof.specs.Framings.{IsFraming}
-use Rattle.pass_frames_proof.specs.Passes.{no_block}
-use Rattle.pass_frames_proof.specs.Places.{Framing, copies, edged, framed, instrs_at, offsets, own_place, plan}
-use Rattle.pass_frames_proof.specs.Saving.{save_call}
-use Rattle.pass_intrinsics.specs.Shapes.{suspends_of}
-use Rattle.pass_kept_proof.proofs.Same.{same_point_same}
-use Rattle.pass_proofs.proofs.addresses.rules.Placed.{outside_unfetched}
-use Rattle.pass_proofs.proofs.cells.rules.Planned.{unplaced_fetch}
-use Rattle.rule_laws.proofs.frames.shape.Tokens.{counted}
-use Rattle.rule_laws.proofs.rules.shape.Stands.{StandsAt, begin_stands}
-use Rattle.rule_laws.proofs.rules.source_rules.Slots.{alloca_of}
-use Rattle.rule_laws.specs.frames.replaced.Splittable.{tokens_taken}
-use Rattle.rule_types.specs.Signatures.{are_wanted}
-use Rattle.rule_types.specs.Wants.{any, is_basic, meets, want}
-use Rattle.rule_types.specs.declared.wants.Basic.{Basic}
-use Rattle.rule_types.specs.declared.wants.Demand.{Demand}
-use Rattle.rule_values.specs.Fits.{fits_kind}
-use Rattle.rule_values.specs.Kinds.{value_kind}
+use Rattle.pass_frames_meaning.proofs.pass_frames_proof.code.Names.{early_name}
+use Rattle.pass_frames_meaning.specs.pass_frames_proof.Code.{slot_table}
+use Rattle.pass_frames_meaning.specs.pass_frames_proof.Framings.{IsFraming}
+use Rattle.pass_frames_meaning.specs.pass_frames_proof.Passes.{no_block}
+use Rattle.pass_frames_meaning.specs.pass_frames_proof.Places.{Framing, copies, edged, framed, instrs_at, offsets, own_place, plan}
+use Rattle.pass_frames_meaning.specs.pass_frames_proof.Saving.{save_call}
+use Rattle.compiler.specs.pass_intrinsics.Shapes.{suspends_of}
+use Rattle.compiler.proofs.pass_kept_proof.Same.{same_point_same}
+use Rattle.compiler.proofs.pass_proofs.addresses.rules.Placed.{outside_unfetched}
+use Rattle.compiler.proofs.pass_proofs.cells.rules.Planned.{unplaced_fetch}
+use Rattle.compiler.proofs.rule_laws.frames.shape.Tokens.{counted}
+use Rattle.compiler.proofs.rule_laws.rules.shape.Stands.{StandsAt, begin_stands}
+use Rattle.compiler.proofs.rule_laws.rules.source_rules.Slots.{alloca_of}
+use Rattle.compiler.specs.rule_laws.frames.replaced.Splittable.{tokens_taken}
+use Rattle.compiler.specs.rule_types.Signatures.{are_wanted}
+use Rattle.compiler.specs.rule_types.Wants.{any, is_basic, meets, want}
+use Rattle.compiler.specs.rule_types.declared.wants.Basic.{Basic}
+use Rattle.compiler.specs.rule_types.declared.wants.Demand.{Demand}
+use Rattle.compiler.specs.rule_values.Fits.{fits_kind}
+use Rattle.compiler.specs.rule_values.Kinds.{value_kind}
 
 -- ---- a list of one
 

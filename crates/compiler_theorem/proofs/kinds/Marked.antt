@@ -5,43 +5,43 @@ use Rattle.std.specs.Prelude.{slice_get, unwrap_or}
 use Rattle.compiler_theorem.proofs.kinds.Classes.{frame_flagged, ramp_class, ramp_listed}
 use Rattle.compiler_theorem.proofs.kinds.Fixed.{fixed_there}
 use Rattle.compiler_theorem.proofs.theorem.shown.Contents.{class_once}
-use Rattle.frame_classes.specs.Classes.{IsOf}
-use Rattle.frame_classes.specs.declared.class.SlotClass.{SlotClass}
-use Rattle.ir_base.specs.declared.outcome.Place.{Place}
-use Rattle.ir_laws.proofs.facts.Members.{at_each}
-use Rattle.ir_laws.proofs.facts.Truth.{equal_numbers, holds}
-use Rattle.ir_model.specs.Names.{is_local}
-use Rattle.ir_model.specs.Ty.{Ty}
-use Rattle.ir_model.specs.declared.instr.Instr.{Instr}
-use Rattle.ir_model.specs.declared.module.Block.{Block}
-use Rattle.ir_model.specs.declared.module.Function.{Function}
-use Rattle.ir_model.specs.declared.operand.Arg.{Arg}
-use Rattle.ir_model.specs.declared.operand.Callee.{Callee}
-use Rattle.ir_model.specs.declared.operand.Intrinsic.{Intrinsic}
-use Rattle.ir_model.specs.declared.operand.Operand.{Operand}
-use Rattle.ir_parts.specs.Contents.{instr_operands}
-use Rattle.ir_paths.specs.Windows.{instr_at, instr_in}
-use Rattle.ir_paths.specs.declared.point.Point.{Point}
-use Rattle.pass_addresses.specs.Placing.{is_flagged, lies_outside, stays, without_promise_of}
-use Rattle.pass_cells.specs.Cells.{fetches_of}
-use Rattle.pass_copies.specs.Uses.{flag_at}
-use Rattle.pass_fetch.specs.Fetching.{fetch_of}
-use Rattle.pass_fetch.specs.declared.fetch.Fetch.{Fetch}
-use Rattle.pass_frames.specs.Tables.{class_flags}
+use Rattle.compiler.specs.frame_classes.Classes.{IsOf}
+use Rattle.compiler.specs.frame_classes.declared.class.SlotClass.{SlotClass}
+use Rattle.compiler.specs.ir_base.declared.outcome.Place.{Place}
+use Rattle.compiler.proofs.ir_laws.facts.Members.{at_each}
+use Rattle.compiler.proofs.ir_laws.facts.Truth.{equal_numbers, holds}
+use Rattle.compiler.specs.ir_model.Names.{is_local}
+use Rattle.compiler.specs.ir_model.Ty.{Ty}
+use Rattle.compiler.specs.ir_model.declared.instr.Instr.{Instr}
+use Rattle.compiler.specs.ir_model.declared.module.Block.{Block}
+use Rattle.compiler.specs.ir_model.declared.module.Function.{Function}
+use Rattle.compiler.specs.ir_model.declared.operand.Arg.{Arg}
+use Rattle.compiler.specs.ir_model.declared.operand.Callee.{Callee}
+use Rattle.compiler.specs.ir_model.declared.operand.Intrinsic.{Intrinsic}
+use Rattle.compiler.specs.ir_model.declared.operand.Operand.{Operand}
+use Rattle.compiler.specs.ir_parts.Contents.{instr_operands}
+use Rattle.compiler.specs.ir_paths.Windows.{instr_at, instr_in}
+use Rattle.compiler.specs.ir_paths.declared.point.Point.{Point}
+use Rattle.compiler.specs.pass_addresses.Placing.{is_flagged, lies_outside, stays, without_promise_of}
+use Rattle.compiler.specs.pass_cells.Cells.{fetches_of}
+use Rattle.compiler.specs.pass_copies.Uses.{flag_at}
+use Rattle.compiler.specs.pass_fetch.Fetching.{fetch_of}
+use Rattle.compiler.specs.pass_fetch.declared.fetch.Fetch.{Fetch}
+use Rattle.compiler.specs.pass_frames.Tables.{class_flags}
 use Rattle.pass_frames_meaning.proofs.kinds.Unkept.{alloca_unloaded, unfetched}
-use Rattle.pass_frames_proof.proofs.early.Placed.{flagged_slot}
-use Rattle.pass_frames_proof.proofs.ramps.Classes.{ramp_unfetched}
-use Rattle.pass_frames_proof.specs.Code.{slot_table}
-use Rattle.pass_frames_proof.specs.Framings.{IsFraming}
-use Rattle.pass_frames_proof.specs.Passes.{no_block}
-use Rattle.pass_frames_proof.specs.Places.{Framing, copies, edged, framed, instrs_at, marked, offsets, own_place, plan, written}
-use Rattle.pass_front.specs.Front.{is_no_alloca}
-use Rattle.pass_proofs.proofs.copies.rules.Slots.{cell_found}
-use Rattle.pass_proofs.specs.fetch.rules.Fetches.{AreUnfetched}
-use Rattle.rule_laws.proofs.rules.counted.PartFacts.{block_passes}
-use Rattle.rule_locals.specs.Instrs.{on_instr}
-use Rattle.rule_locals.specs.Markers.{marks, marks_otherwise, marks_size, marks_slot, slot_size}
-use Rattle.run_step.specs.Step.{has_markers, is_marker_of}
+use Rattle.pass_frames_meaning.proofs.pass_frames_proof.early.Placed.{flagged_slot}
+use Rattle.pass_frames_meaning.proofs.pass_frames_proof.ramps.Classes.{ramp_unfetched}
+use Rattle.pass_frames_meaning.specs.pass_frames_proof.Code.{slot_table}
+use Rattle.pass_frames_meaning.specs.pass_frames_proof.Framings.{IsFraming}
+use Rattle.pass_frames_meaning.specs.pass_frames_proof.Passes.{no_block}
+use Rattle.pass_frames_meaning.specs.pass_frames_proof.Places.{Framing, copies, edged, framed, instrs_at, marked, offsets, own_place, plan, written}
+use Rattle.compiler.specs.pass_front.Front.{is_no_alloca}
+use Rattle.compiler.proofs.pass_proofs.copies.rules.Slots.{cell_found}
+use Rattle.compiler.specs.pass_proofs.fetch.rules.Fetches.{AreUnfetched}
+use Rattle.compiler.proofs.rule_laws.rules.counted.PartFacts.{block_passes}
+use Rattle.compiler.specs.rule_locals.Instrs.{on_instr}
+use Rattle.compiler.specs.rule_locals.Markers.{marks, marks_otherwise, marks_size, marks_slot, slot_size}
+use Rattle.compiler.specs.run_step.Step.{has_markers, is_marker_of}
 
 -- ---- points of markers
 

@@ -2,19 +2,19 @@
 use Rattle.std.proofs.Common.{◌≡◌, ◌⊎◌, inl, inr, ⊎_elim, ◌==◌, ◌||◌, ℕ, zero, suc, ◌+◌, ◌≤◌, ◌%◌, ◌^◌, ◌∷◌, ◌++◌, [], Bool, true, false, List, max, map, Option, Some, refl, sym, ap, ◌∙◌, subst, arith}
 use Rattle.std.specs.Prelude.{slice_get, slice_index_or}
 use Rattle.std.proofs.lemmas.Option.{slice_get_within}
-use Rattle.frame_contents.specs.Held.{field_of, fields_of, index_field}
-use Rattle.frame_contents.specs.declared.held.Holding.{Holding}
-use Rattle.frame_good.specs.Good.{AreFit, IsGoodField, IsGoodLayout, is_alignment}
-use Rattle.frame_layout.specs.Layouts.{placed, placed_or}
-use Rattle.frame_layout.specs.declared.layout.Field.{Field}
-use Rattle.frame_layout.specs.declared.layout.Layout.{Layout}
-use Rattle.ir_laws.proofs.facts.Truth.{equal_numbers}
-use Rattle.ir_model.specs.declared.module.Function.{Function}
-use Rattle.ir_sizes.specs.Cut.{capped}
-use Rattle.pass_frames.specs.Tables.{offset_at}
-use Rattle.pass_frames_proof.specs.Slotted.{IsSlotField}
-use Rattle.run_framed.specs.Framed.{is_open_kind}
-use Rattle.run_laws.specs.memory.Standing.{IsAlignment}
+use Rattle.compiler.specs.frame_contents.Held.{field_of, fields_of, index_field}
+use Rattle.compiler.specs.frame_contents.declared.held.Holding.{Holding}
+use Rattle.compiler.specs.frame_good.Good.{AreFit, IsGoodField, IsGoodLayout, is_alignment}
+use Rattle.compiler.specs.frame_layout.Layouts.{placed, placed_or}
+use Rattle.compiler.specs.frame_layout.declared.layout.Field.{Field}
+use Rattle.compiler.specs.frame_layout.declared.layout.Layout.{Layout}
+use Rattle.compiler.proofs.ir_laws.facts.Truth.{equal_numbers}
+use Rattle.compiler.specs.ir_model.declared.module.Function.{Function}
+use Rattle.compiler.specs.ir_sizes.Cut.{capped}
+use Rattle.compiler.specs.pass_frames.Tables.{offset_at}
+use Rattle.pass_frames_meaning.specs.pass_frames_proof.Slotted.{IsSlotField}
+use Rattle.compiler.specs.run_framed.Framed.{is_open_kind}
+use Rattle.compiler.specs.run_laws.memory.Standing.{IsAlignment}
 
 -- ---- alignments
 

@@ -9,37 +9,37 @@ use Rattle.compiler_theorem.proofs.theorem.Needed.{named_in, some_class, stands_
 use Rattle.compiler_theorem.proofs.theorem.shown.Contents.{class_once}
 use Rattle.compiler_theorem.specs.theorem.Anew.{Anew, IsAnewOf, IsSlotOf}
 use Rattle.compiler_theorem.specs.theorem.Lowered.{IsLowered, Lowered, early, edged}
-use Rattle.flow_solver.specs.Paths.{IsListed}
-use Rattle.frame_classes.specs.Classes.{IsOf}
-use Rattle.frame_classes.specs.declared.class.SlotClass.{SlotClass}
-use Rattle.ir_laws.proofs.facts.Lists.{below}
-use Rattle.ir_model.specs.Names.{function_at, no_function}
-use Rattle.ir_model.specs.Ty.{Ty}
-use Rattle.ir_model.specs.declared.instr.Instr.{Instr}
-use Rattle.ir_model.specs.declared.module.Function.{Function}
-use Rattle.ir_paths.proofs.Right.{facts_of_right}
-use Rattle.ir_paths.specs.Facts.{all_facts, facts_of}
-use Rattle.ir_paths.specs.Slots.{IsRampSlot, allocas_of, has_name}
-use Rattle.ir_paths.specs.declared.point.Facts.{Facts}
-use Rattle.pass_cells.specs.Kept.{is_flagged}
-use Rattle.pass_edges.specs.EdgeBlocks.{with_edge_blocks}
-use Rattle.pass_proofs.proofs.kept.sources.Whole.{edges_kept}
-use Rattle.pass_proofs.specs.edges.states.MovedState.{KeepsEdges, edge_function}
-use Rattle.pass_frames.specs.Tables.{class_flags}
+use Rattle.compiler.specs.flow_solver.Paths.{IsListed}
+use Rattle.compiler.specs.frame_classes.Classes.{IsOf}
+use Rattle.compiler.specs.frame_classes.declared.class.SlotClass.{SlotClass}
+use Rattle.compiler.proofs.ir_laws.facts.Lists.{below}
+use Rattle.compiler.specs.ir_model.Names.{function_at, no_function}
+use Rattle.compiler.specs.ir_model.Ty.{Ty}
+use Rattle.compiler.specs.ir_model.declared.instr.Instr.{Instr}
+use Rattle.compiler.specs.ir_model.declared.module.Function.{Function}
+use Rattle.compiler.proofs.ir_paths.Right.{facts_of_right}
+use Rattle.compiler.specs.ir_paths.Facts.{all_facts, facts_of}
+use Rattle.compiler.specs.ir_paths.Slots.{IsRampSlot, allocas_of, has_name}
+use Rattle.compiler.specs.ir_paths.declared.point.Facts.{Facts}
+use Rattle.compiler.specs.pass_cells.Kept.{is_flagged}
+use Rattle.compiler.specs.pass_edges.EdgeBlocks.{with_edge_blocks}
+use Rattle.compiler.proofs.pass_proofs.kept.sources.Whole.{edges_kept}
+use Rattle.compiler.specs.pass_proofs.edges.states.MovedState.{KeepsEdges, edge_function}
+use Rattle.compiler.specs.pass_frames.Tables.{class_flags}
 use Rattle.pass_frames_meaning.proofs.others.Names.{result_low}
-use Rattle.pass_frames_proof.specs.Framings.{IsFraming}
-use Rattle.pass_frames_proof.specs.Places.{Framing, framed, instrs_at, marked, offsets}
-use Rattle.pass_frames_proof.specs.Places.{edged as edged_function}
-use Rattle.pass_copies.specs.Uses.{flag_at}
-use Rattle.pass_frames_proof.proofs.ramps.Markers.{none_marked}
-use Rattle.run_step.specs.Step.{has_markers}
-use Rattle.pass_proofs.proofs.edges.paths.Slots.{same_allocas, same_ramp_slots}
-use Rattle.pass_proofs.specs.addresses.rules.Addresses.{lies_in_frame}
-use Rattle.pass_renewed_meaning.proofs.Tables.{plain_facts, renewed_are}
-use Rattle.pass_renewed_proof.proofs.RampSlots.{both_names}
-use Rattle.pass_renewed_proof.specs.Renewed.{facts_from}
-use Rattle.rule_laws.specs.rules.function_rules.Kept.{KeepsFunctionRules}
-use Rattle.run_source_tables.specs.Given.{facts_at}
+use Rattle.pass_frames_meaning.specs.pass_frames_proof.Framings.{IsFraming}
+use Rattle.pass_frames_meaning.specs.pass_frames_proof.Places.{Framing, framed, instrs_at, marked, offsets}
+use Rattle.pass_frames_meaning.specs.pass_frames_proof.Places.{edged as edged_function}
+use Rattle.compiler.specs.pass_copies.Uses.{flag_at}
+use Rattle.pass_frames_meaning.proofs.pass_frames_proof.ramps.Markers.{none_marked}
+use Rattle.compiler.specs.run_step.Step.{has_markers}
+use Rattle.compiler.proofs.pass_proofs.edges.paths.Slots.{same_allocas, same_ramp_slots}
+use Rattle.compiler.specs.pass_proofs.addresses.rules.Addresses.{lies_in_frame}
+use Rattle.pass_frames_meaning.proofs.pass_renewed_meaning.Tables.{plain_facts, renewed_are}
+use Rattle.pass_frames_meaning.proofs.pass_renewed_proof.RampSlots.{both_names}
+use Rattle.pass_frames_meaning.specs.pass_renewed_proof.Renewed.{facts_from}
+use Rattle.compiler.specs.rule_laws.rules.function_rules.Kept.{KeepsFunctionRules}
+use Rattle.compiler.specs.run_source_tables.Given.{facts_at}
 
 module _ (l : Lowered) (low : IsLowered l) (a : Anew) (anew : IsAnewOf (early l) a) (func : ℕ) (f : Function)
     (there : slice_get (early l).functions func ≡ Some f) (coroutine : f.coroutine ≡ true) where

@@ -2,24 +2,24 @@
 use Rattle.std.proofs.Common.{◌≡◌, ◌⊎◌, inl, inr, ⊎_elim, ℕ, ◌+◌, ◌||◌, ◌==◌, Bool, true, false, List, [], ◌∷◌, length, map, Option, Some, None, refl, sym, ap, ◌∙◌, subst}
 use Rattle.std.specs.Prelude.{if◌then◌else◌, nat_lt, slice_get}
 use Rattle.std.proofs.lemmas.Bool.{and_parts}
-use Rattle.frame_classes.specs.Classes.{suspends}
-use Rattle.ir_laws.proofs.facts.Truth.{equal_numbers, itself}
-use Rattle.ir_model.specs.declared.instr.Instr.{Instr}
-use Rattle.ir_model.specs.declared.module.Block.{Block}
-use Rattle.ir_model.specs.declared.module.Function.{Function}
-use Rattle.ir_model.specs.declared.operand.Intrinsic.{Intrinsic}
-use Rattle.ir_paths.specs.Paths.{IsPath, entry_point, has_point, nexts, nexts_in, same_point, targets}
-use Rattle.ir_paths.specs.Slots.{has_name}
-use Rattle.ir_paths.specs.Windows.{destroy_label, instr_at, instr_in, is_call_of, resume_label}
-use Rattle.ir_paths.specs.declared.point.Point.{Point}
-use Rattle.pass_kept_proof.specs.Needed.{BranchesTo}
-use Rattle.pass_kept_proof.specs.SuspendRules.{IsCallAt, IsSwitched}
-use Rattle.pass_renewed_proof.specs.SlotRules.{KeepsSlots}
-use Rattle.pass_renewed_proof.specs.Way.{IsResumedAt}
-use Rattle.ir_model.specs.declared.module.Module.{Module}
-use Rattle.rule_laws.proofs.frames.alike_slots.Tests.{passed}
-use Rattle.run_step.specs.Step.{AtInstr, AtTerm, fetch, fetch_in, fetch_or}
-use Rattle.rule_windows.specs.Windows.{own_edges}
+use Rattle.compiler.specs.frame_classes.Classes.{suspends}
+use Rattle.compiler.proofs.ir_laws.facts.Truth.{equal_numbers, itself}
+use Rattle.compiler.specs.ir_model.declared.instr.Instr.{Instr}
+use Rattle.compiler.specs.ir_model.declared.module.Block.{Block}
+use Rattle.compiler.specs.ir_model.declared.module.Function.{Function}
+use Rattle.compiler.specs.ir_model.declared.operand.Intrinsic.{Intrinsic}
+use Rattle.compiler.specs.ir_paths.Paths.{IsPath, entry_point, has_point, nexts, nexts_in, same_point, targets}
+use Rattle.compiler.specs.ir_paths.Slots.{has_name}
+use Rattle.compiler.specs.ir_paths.Windows.{destroy_label, instr_at, instr_in, is_call_of, resume_label}
+use Rattle.compiler.specs.ir_paths.declared.point.Point.{Point}
+use Rattle.compiler.specs.pass_kept_proof.Needed.{BranchesTo}
+use Rattle.compiler.specs.pass_kept_proof.SuspendRules.{IsCallAt, IsSwitched}
+use Rattle.pass_frames_meaning.specs.pass_renewed_proof.SlotRules.{KeepsSlots}
+use Rattle.pass_frames_meaning.specs.pass_renewed_proof.Way.{IsResumedAt}
+use Rattle.compiler.specs.ir_model.declared.module.Module.{Module}
+use Rattle.compiler.proofs.rule_laws.frames.alike_slots.Tests.{passed}
+use Rattle.compiler.specs.run_step.Step.{AtInstr, AtTerm, fetch, fetch_in, fetch_or}
+use Rattle.compiler.specs.rule_windows.Windows.{own_edges}
 
 or_case : (b c : Bool) → (b || c) ≡ true → (b ≡ true) ⊎ (c ≡ true)
 or_case true c e = inl refl

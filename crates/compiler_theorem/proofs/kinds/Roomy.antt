@@ -4,53 +4,53 @@ use Rattle.std.proofs.Common.{Option, Some, None, Result, Ok, Err, refl, sym, ap
 use Rattle.std.proofs.lemmas.Bool.{and_parts, leb-true}
 use Rattle.std.proofs.lemmas.Option.{slice_get-map}
 use Rattle.std.specs.Prelude.{if◌then◌else◌, is_none, nat_le, not, option_map, slice_get, slice_set}
-use Rattle.ir_base.specs.declared.cause.Cause.{Cause}
-use Rattle.ir_base.specs.declared.outcome.Outcome.{Outcome}
-use Rattle.ir_base.specs.declared.outcome.Word.{Word}
-use Rattle.ir_model.specs.Names.{function_at}
-use Rattle.ir_model.specs.declared.module.Frame.{Frame}
-use Rattle.ir_model.specs.declared.operand.Arg.{Arg}
-use Rattle.ir_model.specs.declared.operand.Intrinsic.{Intrinsic}
-use Rattle.ir_model.specs.declared.operand.Operand.{Operand}
-use Rattle.ir_paths.specs.Windows.{operand_at, suspend_of}
-use Rattle.ir_paths.specs.declared.point.Point.{Point}
-use Rattle.ir_paths.specs.declared.point.Window.{Window}
+use Rattle.compiler.specs.ir_base.declared.cause.Cause.{Cause}
+use Rattle.compiler.specs.ir_base.declared.outcome.Outcome.{Outcome}
+use Rattle.compiler.specs.ir_base.declared.outcome.Word.{Word}
+use Rattle.compiler.specs.ir_model.Names.{function_at}
+use Rattle.compiler.specs.ir_model.declared.module.Frame.{Frame}
+use Rattle.compiler.specs.ir_model.declared.operand.Arg.{Arg}
+use Rattle.compiler.specs.ir_model.declared.operand.Intrinsic.{Intrinsic}
+use Rattle.compiler.specs.ir_model.declared.operand.Operand.{Operand}
+use Rattle.compiler.specs.ir_paths.Windows.{operand_at, suspend_of}
+use Rattle.compiler.specs.ir_paths.declared.point.Point.{Point}
+use Rattle.compiler.specs.ir_paths.declared.point.Window.{Window}
 use Rattle.pass_frames_meaning.proofs.sized.Renewed.{renewed_keeps_sizes}
 use Rattle.pass_frames_meaning.proofs.sized.Sized.{step_longer}
 use Rattle.pass_frames_meaning.specs.Sized.{sizes_of}
-use Rattle.pass_kept_proof.specs.Kept.{kept}
-use Rattle.pass_renewed_proof.specs.Renewed.{RenewedGiven, is_idle, renew_after, renewed_from, renewed_slot, renewed_step}
-use Rattle.pass_renewed_proof.specs.Renewed.{with_life}
-use Rattle.run_hooks.proofs.Reached.{at_is, own_is}
-use Rattle.run_hooks.proofs.Steps.{renewed_steps, same_runs}
-use Rattle.run_hooks.proofs.alive.Parts.{Here, IsSet, Other, get_set}
-use Rattle.run_hooks.specs.Hooks.{hooked_act, hooked_advance, hooked_context, hooked_coro, hooked_next, step_of}
-use Rattle.run_hooks.specs.Meanings.{renewed_hooks}
-use Rattle.run_memory.specs.Memory.{check, killed, may_be_owned, own, owned_to, start, with_block}
-use Rattle.run_memory.specs.declared.block.Kind.{Kind}
-use Rattle.run_memory.specs.declared.block.MemoryBlock.{MemoryBlock}
-use Rattle.run_memory.specs.declared.pointer.Pointer.{Pointer}
-use Rattle.run_memory.specs.declared.pointer.Value.{Value}
-use Rattle.run_slots.proofs.Times.{more_back, more_last}
-use Rattle.run_source.specs.Source.{Sleeper, after_end, begin, begin_at, begun, branch_leaving, change_own, deallocate}
-use Rattle.run_source.specs.Source.{end_of, finish, first_state, if_let_go, is_among, is_over, kill_late, left_windows}
-use Rattle.run_source.specs.Source.{let_go, may_be_freed, new_instance, new_slot, pop, push, resumed, return}
-use Rattle.run_source.specs.Source.{returned, save_for, sleeper_at, sleeper_of, suspend, with_new_slots}
-use Rattle.run_source.specs.State.{function_of, gives, instance_at, next, or_undefined, own_facts, own_frame}
-use Rattle.run_source.specs.State.{own_instance, point_of, settled, with_instance, with_left, with_memory, with_slots}
-use Rattle.run_source.specs.State.{with_status, work_of}
-use Rattle.run_source.specs.declared.state.Activation.{Activation}
-use Rattle.run_source.specs.declared.state.Instance.{Instance}
-use Rattle.run_source.specs.declared.state.Mode.{Mode}
-use Rattle.run_source.specs.declared.state.State.{State}
-use Rattle.run_source.specs.declared.state.Status.{Status}
-use Rattle.run_source_tables.specs.Given.{Given, frame_of}
-use Rattle.run_step.specs.Results.{and_then, found, ok_if}
-use Rattle.run_step.specs.Runs.{iterate}
-use Rattle.run_step.specs.Step.{Action, Coro, Deallocate, Done, Enter, Fetched, GoTo, NewSlot, Return, Stuck}
-use Rattle.run_step.specs.Step.{action_of, block_of, deallocated, fetch, outcome_of}
-use Rattle.run_step.specs.Values.{arg_values, nth}
-use Rattle.run_step.specs.declared.world.Slot.{Slot}
+use Rattle.compiler.specs.pass_kept_proof.Kept.{kept}
+use Rattle.pass_frames_meaning.specs.pass_renewed_proof.Renewed.{RenewedGiven, is_idle, renew_after, renewed_from, renewed_slot, renewed_step}
+use Rattle.pass_frames_meaning.specs.pass_renewed_proof.Renewed.{with_life}
+use Rattle.pass_frames_meaning.proofs.run_hooks.Reached.{at_is, own_is}
+use Rattle.pass_frames_meaning.proofs.run_hooks.Steps.{renewed_steps, same_runs}
+use Rattle.pass_frames_meaning.proofs.run_hooks.alive.Parts.{Here, IsSet, Other, get_set}
+use Rattle.pass_frames_meaning.specs.run_hooks.Hooks.{hooked_act, hooked_advance, hooked_context, hooked_coro, hooked_next, step_of}
+use Rattle.pass_frames_meaning.specs.run_hooks.Meanings.{renewed_hooks}
+use Rattle.compiler.specs.run_memory.Memory.{check, killed, may_be_owned, own, owned_to, start, with_block}
+use Rattle.compiler.specs.run_memory.declared.block.Kind.{Kind}
+use Rattle.compiler.specs.run_memory.declared.block.MemoryBlock.{MemoryBlock}
+use Rattle.compiler.specs.run_memory.declared.pointer.Pointer.{Pointer}
+use Rattle.compiler.specs.run_memory.declared.pointer.Value.{Value}
+use Rattle.pass_frames_meaning.proofs.run_slots.Times.{more_back, more_last}
+use Rattle.compiler.specs.run_source.Source.{Sleeper, after_end, begin, begin_at, begun, branch_leaving, change_own, deallocate}
+use Rattle.compiler.specs.run_source.Source.{end_of, finish, first_state, if_let_go, is_among, is_over, kill_late, left_windows}
+use Rattle.compiler.specs.run_source.Source.{let_go, may_be_freed, new_instance, new_slot, pop, push, resumed, return}
+use Rattle.compiler.specs.run_source.Source.{returned, save_for, sleeper_at, sleeper_of, suspend, with_new_slots}
+use Rattle.compiler.specs.run_source.State.{function_of, gives, instance_at, next, or_undefined, own_facts, own_frame}
+use Rattle.compiler.specs.run_source.State.{own_instance, point_of, settled, with_instance, with_left, with_memory, with_slots}
+use Rattle.compiler.specs.run_source.State.{with_status, work_of}
+use Rattle.compiler.specs.run_source.declared.state.Activation.{Activation}
+use Rattle.compiler.specs.run_source.declared.state.Instance.{Instance}
+use Rattle.compiler.specs.run_source.declared.state.Mode.{Mode}
+use Rattle.compiler.specs.run_source.declared.state.State.{State}
+use Rattle.compiler.specs.run_source.declared.state.Status.{Status}
+use Rattle.compiler.specs.run_source_tables.Given.{Given, frame_of}
+use Rattle.compiler.specs.run_step.Results.{and_then, found, ok_if}
+use Rattle.compiler.specs.run_step.Runs.{iterate}
+use Rattle.compiler.specs.run_step.Step.{Action, Coro, Deallocate, Done, Enter, Fetched, GoTo, NewSlot, Return, Stuck}
+use Rattle.compiler.specs.run_step.Step.{action_of, block_of, deallocated, fetch, outcome_of}
+use Rattle.compiler.specs.run_step.Values.{arg_values, nth}
+use Rattle.compiler.specs.run_step.declared.world.Slot.{Slot}
 
 -- ---- what holds of the coroutine and the block of each instance
 

@@ -6,52 +6,52 @@ use Rattle.compiler_theorem.proofs.theorem.Slots.{split_slots}
 use Rattle.compiler_theorem.specs.theorem.Anew.{Anew, IsAnewOf}
 use Rattle.compiler_theorem.specs.theorem.Entries.{Run}
 use Rattle.compiler_theorem.specs.theorem.Lowered.{HasFewBytes, IsLowered, Lowered, early, edged, sizes_of}
-use Rattle.ir_model.specs.Names.{function_at}
-use Rattle.ir_model.specs.Ty.{Ty}
-use Rattle.ir_model.specs.declared.instr.Instr.{Instr}
-use Rattle.ir_model.specs.declared.instr.Terminator.{Terminator}
-use Rattle.ir_model.specs.declared.module.Function.{Function}
-use Rattle.ir_model.specs.declared.module.Module.{Module}
-use Rattle.ir_model.specs.declared.operand.Arg.{Arg}
-use Rattle.ir_model.specs.declared.operand.Callee.{Callee}
-use Rattle.ir_model.specs.declared.operand.Intrinsic.{Intrinsic}
-use Rattle.ir_paths.specs.Windows.{is_call_of}
-use Rattle.ir_paths.specs.declared.point.Point.{Point}
-use Rattle.ir_paths.specs.declared.point.Window.{Window}
-use Rattle.ir_paths.specs.Facts.{IsWindow}
-use Rattle.pass_kept_proof.proofs.Rules.{suspend_is_suspend}
-use Rattle.pass_kept_proof.specs.Kept.{continue_keeping}
-use Rattle.pass_kept_proof.specs.SuspendRules.{IsCallAt}
-use Rattle.pass_renewed_meaning.proofs.Tables.{same_windows}
-use Rattle.pass_renewed_proof.specs.Beside.{AreInstancesBeside, IsBeside, IsInstanceBeside, IsStatusBeside}
-use Rattle.pass_renewed_proof.specs.Ledger.{Ledger}
-use Rattle.pass_renewed_proof.specs.Renewed.{Flags, RenewedGiven, Roots, renewed_step}
-use Rattle.pass_renewed_proof.specs.SlotRules.{KeepsAllSlots}
+use Rattle.compiler.specs.ir_model.Names.{function_at}
+use Rattle.compiler.specs.ir_model.Ty.{Ty}
+use Rattle.compiler.specs.ir_model.declared.instr.Instr.{Instr}
+use Rattle.compiler.specs.ir_model.declared.instr.Terminator.{Terminator}
+use Rattle.compiler.specs.ir_model.declared.module.Function.{Function}
+use Rattle.compiler.specs.ir_model.declared.module.Module.{Module}
+use Rattle.compiler.specs.ir_model.declared.operand.Arg.{Arg}
+use Rattle.compiler.specs.ir_model.declared.operand.Callee.{Callee}
+use Rattle.compiler.specs.ir_model.declared.operand.Intrinsic.{Intrinsic}
+use Rattle.compiler.specs.ir_paths.Windows.{is_call_of}
+use Rattle.compiler.specs.ir_paths.declared.point.Point.{Point}
+use Rattle.compiler.specs.ir_paths.declared.point.Window.{Window}
+use Rattle.compiler.specs.ir_paths.Facts.{IsWindow}
+use Rattle.compiler.proofs.pass_kept_proof.Rules.{suspend_is_suspend}
+use Rattle.compiler.specs.pass_kept_proof.Kept.{continue_keeping}
+use Rattle.compiler.specs.pass_kept_proof.SuspendRules.{IsCallAt}
+use Rattle.pass_frames_meaning.proofs.pass_renewed_meaning.Tables.{same_windows}
+use Rattle.pass_frames_meaning.specs.pass_renewed_proof.Beside.{AreInstancesBeside, IsBeside, IsInstanceBeside, IsStatusBeside}
+use Rattle.pass_frames_meaning.specs.pass_renewed_proof.Ledger.{Ledger}
+use Rattle.pass_frames_meaning.specs.pass_renewed_proof.Renewed.{Flags, RenewedGiven, Roots, renewed_step}
+use Rattle.pass_frames_meaning.specs.pass_renewed_proof.SlotRules.{KeepsAllSlots}
 use Rattle.run_accepted.proofs.Accepted.{edged_alive, edged_places, edged_switches}
-use Rattle.run_hooks.proofs.Keeping.{renewed_keeps}
-use Rattle.run_hooks.proofs.Left.{sleeps_at, states_last}
-use Rattle.run_hooks.proofs.LeftKeeping.{renewed_keeps_last}
-use Rattle.run_hooks.proofs.PlacedKeeping.{renewed_keeps_placed}
-use Rattle.run_hooks.proofs.PlacedSteps.{states_placed}
-use Rattle.run_hooks.proofs.Steps.{renewed_steps, same_runs}
-use Rattle.run_hooks.proofs.alive.Runs.{kept_alive}
-use Rattle.run_hooks.specs.Away.{AtEnd, Behind, IsAway, IsBehind, IsPlacedState, KeepsAllPlaceRules, Waits, spot_by, spot_of}
-use Rattle.run_hooks.specs.Hooks.{step_of}
-use Rattle.run_hooks.specs.Left.{IsLastState}
-use Rattle.run_hooks.specs.Meanings.{renewed_hooks}
-use Rattle.run_hooks.specs.Reached.{AllHaveSwitches}
-use Rattle.run_hooks.specs.alive.Alive.{IsAliveState, IsEnded}
-use Rattle.run_memory.specs.declared.block.MemoryBlock.{MemoryBlock}
-use Rattle.run_source.specs.Source.{first_state, given, step_by}
-use Rattle.run_source.specs.State.{is_finished, is_suspended}
-use Rattle.run_source.specs.declared.state.Activation.{Activation}
-use Rattle.run_source.specs.declared.state.Instance.{Instance}
-use Rattle.run_source.specs.declared.state.Mode.{Mode}
-use Rattle.run_source.specs.declared.state.State.{State}
-use Rattle.run_source.specs.declared.state.Status.{Status}
-use Rattle.run_source_tables.specs.Given.{Given}
-use Rattle.run_step.specs.Runs.{iterate}
-use Rattle.run_step.specs.Step.{AtInstr, AtTerm, fetch}
+use Rattle.pass_frames_meaning.proofs.run_hooks.Keeping.{renewed_keeps}
+use Rattle.pass_frames_meaning.proofs.run_hooks.Left.{sleeps_at, states_last}
+use Rattle.pass_frames_meaning.proofs.run_hooks.LeftKeeping.{renewed_keeps_last}
+use Rattle.pass_frames_meaning.proofs.run_hooks.PlacedKeeping.{renewed_keeps_placed}
+use Rattle.pass_frames_meaning.proofs.run_hooks.PlacedSteps.{states_placed}
+use Rattle.pass_frames_meaning.proofs.run_hooks.Steps.{renewed_steps, same_runs}
+use Rattle.pass_frames_meaning.proofs.run_hooks.alive.Runs.{kept_alive}
+use Rattle.pass_frames_meaning.specs.run_hooks.Away.{AtEnd, Behind, IsAway, IsBehind, IsPlacedState, KeepsAllPlaceRules, Waits, spot_by, spot_of}
+use Rattle.pass_frames_meaning.specs.run_hooks.Hooks.{step_of}
+use Rattle.pass_frames_meaning.specs.run_hooks.Left.{IsLastState}
+use Rattle.pass_frames_meaning.specs.run_hooks.Meanings.{renewed_hooks}
+use Rattle.pass_frames_meaning.specs.run_hooks.Reached.{AllHaveSwitches}
+use Rattle.pass_frames_meaning.specs.run_hooks.alive.Alive.{IsAliveState, IsEnded}
+use Rattle.compiler.specs.run_memory.declared.block.MemoryBlock.{MemoryBlock}
+use Rattle.compiler.specs.run_source.Source.{first_state, given, step_by}
+use Rattle.compiler.specs.run_source.State.{is_finished, is_suspended}
+use Rattle.compiler.specs.run_source.declared.state.Activation.{Activation}
+use Rattle.compiler.specs.run_source.declared.state.Instance.{Instance}
+use Rattle.compiler.specs.run_source.declared.state.Mode.{Mode}
+use Rattle.compiler.specs.run_source.declared.state.State.{State}
+use Rattle.compiler.specs.run_source.declared.state.Status.{Status}
+use Rattle.compiler.specs.run_source_tables.Given.{Given}
+use Rattle.compiler.specs.run_step.Runs.{iterate}
+use Rattle.compiler.specs.run_step.Step.{AtInstr, AtTerm, fetch}
 use Rattle.compiler_theorem.specs.theorem.Between.{renewing}
 
 -- ---- the instance of the run before

@@ -10,22 +10,22 @@ use Rattle.compiler_theorem.specs.theorem.Anew.{Anew, IsAnewOf}
 use Rattle.compiler_theorem.specs.theorem.Asked.{asking}
 use Rattle.compiler_theorem.specs.theorem.Entries.{Run}
 use Rattle.compiler_theorem.specs.theorem.Lowered.{HasFewBytes, IsLowered, Lowered, early, edged}
-use Rattle.ir_model.specs.Names.{function_at}
-use Rattle.ir_model.specs.declared.module.Module.{Module}
-use Rattle.pass_frames.specs.Framed.{begin_of}
+use Rattle.compiler.specs.ir_model.Names.{function_at}
+use Rattle.compiler.specs.ir_model.declared.module.Module.{Module}
+use Rattle.compiler.specs.pass_frames.Framed.{begin_of}
 use Rattle.pass_frames_meaning.specs.Led.{AreLedWith, IsLed}
-use Rattle.pass_frames_proof.specs.Related.{is_coroutine, is_first}
-use Rattle.pass_frames_proof.specs.Stepping.{AreGiven}
-use Rattle.pass_renewed_proof.specs.Beside.{IsBeside}
-use Rattle.pass_renewed_proof.specs.Renewed.{Flags, Roots}
-use Rattle.pass_renewed_proof.specs.SlotRules.{KeepsAllSlots}
-use Rattle.run_framed.specs.Framed.{begin_name}
-use Rattle.run_source.specs.State.{address_in, frame_address_of}
-use Rattle.run_source.specs.declared.state.Activation.{Activation}
-use Rattle.run_source.specs.declared.state.Instance.{Instance}
-use Rattle.run_source.specs.declared.state.Mode.{Mode}
-use Rattle.run_source.specs.declared.state.State.{State}
-use Rattle.run_step.specs.Values.{value_in}
+use Rattle.pass_frames_meaning.specs.pass_frames_proof.Related.{is_coroutine, is_first}
+use Rattle.pass_frames_meaning.specs.pass_frames_proof.Stepping.{AreGiven}
+use Rattle.pass_frames_meaning.specs.pass_renewed_proof.Beside.{IsBeside}
+use Rattle.pass_frames_meaning.specs.pass_renewed_proof.Renewed.{Flags, Roots}
+use Rattle.pass_frames_meaning.specs.pass_renewed_proof.SlotRules.{KeepsAllSlots}
+use Rattle.compiler.specs.run_framed.Framed.{begin_name}
+use Rattle.compiler.specs.run_source.State.{address_in, frame_address_of}
+use Rattle.compiler.specs.run_source.declared.state.Activation.{Activation}
+use Rattle.compiler.specs.run_source.declared.state.Instance.{Instance}
+use Rattle.compiler.specs.run_source.declared.state.Mode.{Mode}
+use Rattle.compiler.specs.run_source.declared.state.State.{State}
+use Rattle.compiler.specs.run_step.Values.{value_in}
 
 led_begun : (m : Module) (counts : ℕ → ℕ → Bool) (s : State) → IsLed m counts s → (i : ℕ) (x : Instance)
     → s.top.instance ≡ Some i → slice_get s.instances i ≡ Some x → (v : ℕ)

@@ -1,52 +1,52 @@
 -- Passes that build frames put no markers in.
 use Rattle.std.proofs.Common.{◌≡◌, ℕ, ◌+◌, Bool, true, List, ◌∷◌, length, refl, sym, ◌∙◌, subst, ◌&&◌, ◌||◌, ◌++◌, [], ap, false}
-use Rattle.ir_model.specs.declared.operand.Operand.{Operand}
+use Rattle.compiler.specs.ir_model.declared.operand.Operand.{Operand}
 use Rattle.std.specs.Prelude.{None, Option, Some, codes, filter, if◌then◌else◌, not}
-use Rattle.pass_proofs.proofs.addresses.rules.Placed.{fetched, slots_woven}
-use Rattle.pass_proofs.proofs.addresses.rules.Unmarked.{left_woven, markers_woven, stays_all}
-use Rattle.pass_proofs.specs.addresses.rules.Addresses.{AddressesFit, left_over, lies_in_frame, turning_weaving}
-use Rattle.pass_proofs.specs.cells.rules.Asked.{AreCellsFor}
-use Rattle.pass_proofs.specs.cells.rules.Weaving.{cells_weaving}
-use Rattle.pass_proofs.specs.copies.rules.Copies.{copied_slots, copy_weaving}
-use Rattle.rule_shape.specs.OneOfEach.{wrong_call}
-use Rattle.rule_shape.specs.Switches.{wrong_switch}
-use Rattle.frame_contents.specs.declared.contents.Contents.{Contents}
-use Rattle.pass_proofs.specs.edges.rules.Phis.{ArePhisEnteredByJumps}
-use Rattle.pass_edges.specs.EdgeBlocks.{with_edge_blocks}
-use Rattle.pass_proofs.specs.fetch.rules.Fetches.{fetch_weaving}
-use Rattle.pass_addresses.specs.Placing.{slot_fetches, with_frame_addresses, without_markers}
-use Rattle.frame_layout.specs.declared.layout.Layout.{Layout}
-use Rattle.pass_proofs.proofs.edges.calls.Edges.{edges_shaped}
-use Rattle.pass_proofs.proofs.frames.shape.Fits.{cells_fit}
-use Rattle.pass_proofs.proofs.frames.shape.Framed.{begin_is, coroutine_d, jumps_d, once_d, rules_d, shape_d, woven_c, woven_d}
-use Rattle.pass_proofs.specs.frames.shape.Passes.{PassesFit}
-use Rattle.rule_laws.specs.rules.function_rules.Kept.{KeepsFunctionRules}
-use Rattle.ir_model.specs.Calls.{first_result}
-use Rattle.ir_model.specs.declared.module.Block.{Block}
-use Rattle.ir_model.specs.declared.module.Function.{Function}
-use Rattle.ir_model.specs.declared.module.Module.{Module}
-use Rattle.ir_model.specs.declared.operand.Intrinsic.{Intrinsic}
-use Rattle.frame_classes.specs.declared.class.SlotClass.{SlotClass}
-use Rattle.pass_frames.specs.Framed.{begin_block, begin_of, celled, copied, offsets_of, placed}
-use Rattle.pass_frames.specs.Tables.{class_flags, label_flags, sizes_by_name}
-use Rattle.frame_crossing.specs.Crossing.{AreCrossing}
-use Rattle.pass_fetch.specs.Blocks.{with_fetches}
-use Rattle.pass_fetch.specs.declared.fetch.Fetch.{Fetch}
-use Rattle.rule_windows.specs.Outside.{IsFirstOutside}
-use Rattle.rule_windows.specs.Windows.{IsFirstWindow}
-use Rattle.rule_laws.specs.frames.woven_shape.Shaped.{IsShaped}
-use Rattle.rule_laws.specs.rules.woven_rules.Blocks.{AreWovenBlocks, IsWoven, NoBlock, OneBlock}
-use Rattle.rule_laws.specs.rules.woven_rules.Pairs.{AreIncomingOnce}
-use Rattle.rule_laws.specs.rules.woven_rules.Weaving.{Weaving}
+use Rattle.compiler.proofs.pass_proofs.addresses.rules.Placed.{fetched, slots_woven}
+use Rattle.compiler.proofs.pass_proofs.addresses.rules.Unmarked.{left_woven, markers_woven, stays_all}
+use Rattle.compiler.specs.pass_proofs.addresses.rules.Addresses.{AddressesFit, left_over, lies_in_frame, turning_weaving}
+use Rattle.compiler.specs.pass_proofs.cells.rules.Asked.{AreCellsFor}
+use Rattle.compiler.specs.pass_proofs.cells.rules.Weaving.{cells_weaving}
+use Rattle.compiler.specs.pass_proofs.copies.rules.Copies.{copied_slots, copy_weaving}
+use Rattle.compiler.specs.rule_shape.OneOfEach.{wrong_call}
+use Rattle.compiler.specs.rule_shape.Switches.{wrong_switch}
+use Rattle.compiler.specs.frame_contents.declared.contents.Contents.{Contents}
+use Rattle.compiler.specs.pass_proofs.edges.rules.Phis.{ArePhisEnteredByJumps}
+use Rattle.compiler.specs.pass_edges.EdgeBlocks.{with_edge_blocks}
+use Rattle.compiler.specs.pass_proofs.fetch.rules.Fetches.{fetch_weaving}
+use Rattle.compiler.specs.pass_addresses.Placing.{slot_fetches, with_frame_addresses, without_markers}
+use Rattle.compiler.specs.frame_layout.declared.layout.Layout.{Layout}
+use Rattle.compiler.proofs.pass_proofs.edges.calls.Edges.{edges_shaped}
+use Rattle.compiler.proofs.pass_proofs.frames.shape.Fits.{cells_fit}
+use Rattle.compiler.proofs.pass_proofs.frames.shape.Framed.{begin_is, coroutine_d, jumps_d, once_d, rules_d, shape_d, woven_c, woven_d}
+use Rattle.compiler.specs.pass_proofs.frames.shape.Passes.{PassesFit}
+use Rattle.compiler.specs.rule_laws.rules.function_rules.Kept.{KeepsFunctionRules}
+use Rattle.compiler.specs.ir_model.Calls.{first_result}
+use Rattle.compiler.specs.ir_model.declared.module.Block.{Block}
+use Rattle.compiler.specs.ir_model.declared.module.Function.{Function}
+use Rattle.compiler.specs.ir_model.declared.module.Module.{Module}
+use Rattle.compiler.specs.ir_model.declared.operand.Intrinsic.{Intrinsic}
+use Rattle.compiler.specs.frame_classes.declared.class.SlotClass.{SlotClass}
+use Rattle.compiler.specs.pass_frames.Framed.{begin_block, begin_of, celled, copied, offsets_of, placed}
+use Rattle.compiler.specs.pass_frames.Tables.{class_flags, label_flags, sizes_by_name}
+use Rattle.compiler.specs.frame_crossing.Crossing.{AreCrossing}
+use Rattle.compiler.specs.pass_fetch.Blocks.{with_fetches}
+use Rattle.compiler.specs.pass_fetch.declared.fetch.Fetch.{Fetch}
+use Rattle.compiler.specs.rule_windows.Outside.{IsFirstOutside}
+use Rattle.compiler.specs.rule_windows.Windows.{IsFirstWindow}
+use Rattle.compiler.specs.rule_laws.frames.woven_shape.Shaped.{IsShaped}
+use Rattle.compiler.specs.rule_laws.rules.woven_rules.Blocks.{AreWovenBlocks, IsWoven, NoBlock, OneBlock}
+use Rattle.compiler.specs.rule_laws.rules.woven_rules.Pairs.{AreIncomingOnce}
+use Rattle.compiler.specs.rule_laws.rules.woven_rules.Weaving.{Weaving}
 use Rattle.std.specs.List.{list_any}
-use Rattle.ir_model.specs.declared.instr.Instr.{Instr}
-use Rattle.ir_model.specs.declared.operand.Callee.{Callee}
-use Rattle.pass_front.specs.Front.{is_alloca, is_no_alloca, with_allocas_first, with_front_allocas}
-use Rattle.pass_proofs.specs.frames.rules.Buildable.{IsBuildable}
-use Rattle.pass_proofs.proofs.frames.rules.Built.{passes_fit}
-use Rattle.rule_laws.specs.rules.woven_rules.Blocks.{AreWoven, Done, Gone, Kept, Put, Remain, Stays, Unpromised, is_mark, may_stand}
-use Rattle.rule_laws.specs.rules.woven_rules.Parts.{Alloca, Binary, Call, CalleeStays, Cast, Direct, Gep, Icmp, Indirect, InstrStays, Load, Select, Store}
-use Rattle.run_step.specs.Step.{has_markers, is_marker_of}
+use Rattle.compiler.specs.ir_model.declared.instr.Instr.{Instr}
+use Rattle.compiler.specs.ir_model.declared.operand.Callee.{Callee}
+use Rattle.compiler.specs.pass_front.Front.{is_alloca, is_no_alloca, with_allocas_first, with_front_allocas}
+use Rattle.compiler.specs.pass_proofs.frames.rules.Buildable.{IsBuildable}
+use Rattle.compiler.proofs.pass_proofs.frames.rules.Built.{passes_fit}
+use Rattle.compiler.specs.rule_laws.rules.woven_rules.Blocks.{AreWoven, Done, Gone, Kept, Put, Remain, Stays, Unpromised, is_mark, may_stand}
+use Rattle.compiler.specs.rule_laws.rules.woven_rules.Parts.{Alloca, Binary, Call, CalleeStays, Cast, Direct, Gep, Icmp, Indirect, InstrStays, Load, Select, Store}
+use Rattle.compiler.specs.run_step.Step.{has_markers, is_marker_of}
 
 abbrev Unmarks : ℕ → Function → Function → Type 0
 Unmarks v f g = has_markers f v ≡ false → has_markers g v ≡ false

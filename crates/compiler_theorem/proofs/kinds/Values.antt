@@ -3,44 +3,44 @@ use Rattle.std.proofs.Common.{◌≡◌, ◌⊎◌, inl, inr, ⊎_elim, ℕ, zer
 use Rattle.std.specs.Prelude.{flat_map, if◌then◌else◌, slice_get}
 use Rattle.compiler_theorem.proofs.kinds.Held.{listed_placed}
 use Rattle.compiler_theorem.specs.kinds.Held.{IsHeldAsValue}
-use Rattle.flow_solver.specs.Paths.{IsListed}
-use Rattle.frame_contents.specs.Held.{answer_size, crossing_values, frame_slots, held_blocks, held_instr, held_instrs, held_params, held_phis, if_result, if_value, value_held, value_size}
-use Rattle.frame_contents.specs.declared.held.Holding.{Holding}
-use Rattle.ir_laws.proofs.facts.Truth.{equal_numbers, itself}
-use Rattle.ir_laws.proofs.paths.source_rules.Locals.{listed_left, listed_right}
-use Rattle.ir_locals.specs.Tables.{first_in, or_first}
-use Rattle.ir_model.specs.Layout.{bytes_of_width}
-use Rattle.ir_model.specs.Ty.{Ty, array, int, named, ptr, structure, token}
-use Rattle.ir_model.specs.declared.instr.Instr.{Instr}
-use Rattle.ir_model.specs.declared.instr.Phi.{Phi}
-use Rattle.ir_model.specs.declared.module.Block.{Block}
-use Rattle.ir_model.specs.declared.module.Module.{Module}
-use Rattle.ir_model.specs.declared.module.Param.{Param}
-use Rattle.ir_model.specs.declared.operand.Callee.{Callee}
-use Rattle.ir_model.specs.declared.operand.Intrinsic.{Intrinsic}
-use Rattle.ir_paths.specs.Slots.{allocas_in, allocas_of, has_name, promise_of}
-use Rattle.frame_classes.specs.declared.class.SlotClass.{SlotClass}
-use Rattle.pass_cells.specs.Kept.{entry, value_types}
-use Rattle.pass_cells.specs.Links.{bases_of, cell_name, field_name, slots_of}
-use Rattle.pass_cells.specs.Plan.{kept_from, kept_value, type_at}
-use Rattle.pass_cells.specs.declared.plan.KeptValue.{KeptValue}
-use Rattle.pass_fetch.specs.Fetching.{value_bytes}
-use Rattle.pass_frames.specs.Tables.{class_flags}
+use Rattle.compiler.specs.flow_solver.Paths.{IsListed}
+use Rattle.compiler.specs.frame_contents.Held.{answer_size, crossing_values, frame_slots, held_blocks, held_instr, held_instrs, held_params, held_phis, if_result, if_value, value_held, value_size}
+use Rattle.compiler.specs.frame_contents.declared.held.Holding.{Holding}
+use Rattle.compiler.proofs.ir_laws.facts.Truth.{equal_numbers, itself}
+use Rattle.compiler.proofs.ir_laws.paths.source_rules.Locals.{listed_left, listed_right}
+use Rattle.compiler.specs.ir_locals.Tables.{first_in, or_first}
+use Rattle.compiler.specs.ir_model.Layout.{bytes_of_width}
+use Rattle.compiler.specs.ir_model.Ty.{Ty, array, int, named, ptr, structure, token}
+use Rattle.compiler.specs.ir_model.declared.instr.Instr.{Instr}
+use Rattle.compiler.specs.ir_model.declared.instr.Phi.{Phi}
+use Rattle.compiler.specs.ir_model.declared.module.Block.{Block}
+use Rattle.compiler.specs.ir_model.declared.module.Module.{Module}
+use Rattle.compiler.specs.ir_model.declared.module.Param.{Param}
+use Rattle.compiler.specs.ir_model.declared.operand.Callee.{Callee}
+use Rattle.compiler.specs.ir_model.declared.operand.Intrinsic.{Intrinsic}
+use Rattle.compiler.specs.ir_paths.Slots.{allocas_in, allocas_of, has_name, promise_of}
+use Rattle.compiler.specs.frame_classes.declared.class.SlotClass.{SlotClass}
+use Rattle.compiler.specs.pass_cells.Kept.{entry, value_types}
+use Rattle.compiler.specs.pass_cells.Links.{bases_of, cell_name, field_name, slots_of}
+use Rattle.compiler.specs.pass_cells.Plan.{kept_from, kept_value, type_at}
+use Rattle.compiler.specs.pass_cells.declared.plan.KeptValue.{KeptValue}
+use Rattle.compiler.specs.pass_fetch.Fetching.{value_bytes}
+use Rattle.compiler.specs.pass_frames.Tables.{class_flags}
 use Rattle.pass_frames_meaning.proofs.begun.Begun.{first}
 use Rattle.pass_frames_meaning.proofs.kinds.Unkept.{alloca_unkept}
-use Rattle.pass_frames_proof.proofs.code.Names.{Kept, keeping}
-use Rattle.pass_frames_proof.specs.Framings.{IsFraming}
-use Rattle.pass_frames_proof.specs.Places.{Framing, edged, plan}
-use Rattle.pass_frames_proof.specs.Related.{IsKeptValue}
-use Rattle.pass_proofs.proofs.cells.rules.Keeping.{keeping_is}
-use Rattle.pass_proofs.proofs.cells.rules.Whole.{planned}
-use Rattle.pass_proofs.proofs.edges.rules.Noted.{kinds_same}
-use Rattle.pass_proofs.proofs.edges.paths.Slots.{same_allocas}
-use Rattle.rule_laws.proofs.rules.counted.Types.{is_cell_type}
-use Rattle.rule_laws.proofs.rules.shape.Stands.{StandsAt, begin_stands}
-use Rattle.rule_laws.specs.rules.function_rules.Kept.{KeepsFunctionRules}
-use Rattle.rule_values.specs.Kinds.{block_kind, call_kind, instr_kind, kind_of, param_kind, phi_kind, result_kind, value_kind}
-use Rattle.rule_values.specs.declared.kinds.Kind.{Kind}
+use Rattle.pass_frames_meaning.proofs.pass_frames_proof.code.Names.{Kept, keeping}
+use Rattle.pass_frames_meaning.specs.pass_frames_proof.Framings.{IsFraming}
+use Rattle.pass_frames_meaning.specs.pass_frames_proof.Places.{Framing, edged, plan}
+use Rattle.pass_frames_meaning.specs.pass_frames_proof.Related.{IsKeptValue}
+use Rattle.compiler.proofs.pass_proofs.cells.rules.Keeping.{keeping_is}
+use Rattle.compiler.proofs.pass_proofs.cells.rules.Whole.{planned}
+use Rattle.compiler.proofs.pass_proofs.edges.rules.Noted.{kinds_same}
+use Rattle.compiler.proofs.pass_proofs.edges.paths.Slots.{same_allocas}
+use Rattle.compiler.proofs.rule_laws.rules.counted.Types.{is_cell_type}
+use Rattle.compiler.proofs.rule_laws.rules.shape.Stands.{StandsAt, begin_stands}
+use Rattle.compiler.specs.rule_laws.rules.function_rules.Kept.{KeepsFunctionRules}
+use Rattle.compiler.specs.rule_values.Kinds.{block_kind, call_kind, instr_kind, kind_of, param_kind, phi_kind, result_kind, value_kind}
+use Rattle.compiler.specs.rule_values.declared.kinds.Kind.{Kind}
 
 -- ---- sizes
 

@@ -11,11 +11,11 @@ use Rattle.compiler_theorem.proofs.kinds.Held.{IsPlacedAs, early_lies, slot_plac
 use Rattle.compiler_theorem.proofs.kinds.Leading.{save_with}
 use Rattle.pass_frames_meaning.proofs.kinds.Unkept.{token_given}
 use Rattle.pass_frames_meaning.proofs.others.AtPlace.{args_wanted}
-use Rattle.pass_frames_proof.specs.Saving.{save_call}
-use Rattle.rule_types.specs.Signatures.{are_wanted}
-use Rattle.rule_types.specs.Wants.{any}
-use Rattle.rule_types.specs.declared.wants.Basic.{Basic}
-use Rattle.rule_values.specs.Fits.{fits_kind}
+use Rattle.pass_frames_meaning.specs.pass_frames_proof.Saving.{save_call}
+use Rattle.compiler.specs.rule_types.Signatures.{are_wanted}
+use Rattle.compiler.specs.rule_types.Wants.{any}
+use Rattle.compiler.specs.rule_types.declared.wants.Basic.{Basic}
+use Rattle.compiler.specs.rule_values.Fits.{fits_kind}
 use Rattle.std.proofs.lemmas.Bool.{and_parts, false≢true}
 use Rattle.compiler_theorem.proofs.kinds.Marked.{marks_left}
 use Rattle.compiler_theorem.proofs.kinds.Opened.{opened, size_low, uncut}
@@ -28,56 +28,56 @@ use Rattle.compiler_theorem.specs.theorem.Anew.{Anew, IsAnewOf, IsSlotOf}
 use Rattle.compiler_theorem.specs.theorem.Asked.{asking}
 use Rattle.compiler_theorem.specs.theorem.Entries.{Run}
 use Rattle.compiler_theorem.specs.theorem.Lowered.{IsLowered, Lowered, early, edged}
-use Rattle.flow_solver.specs.Paths.{IsListed}
-use Rattle.frame_contents.specs.Held.{fields_of, slot_held, slot_kind}
-use Rattle.frame_contents.specs.declared.held.Holding.{Holding}
-use Rattle.frame_good.specs.Frames.{AreInConflict}
-use Rattle.frame_good.specs.Good.{AreFit, IsGoodLayout}
-use Rattle.frame_layout.specs.declared.layout.FieldKind.{FieldKind}
-use Rattle.frame_layout.specs.declared.layout.Layout.{Layout}
-use Rattle.ir_model.specs.Layout.{extent_of, extent_or, size_of}
-use Rattle.ir_sizes.specs.Cut.{capped}
+use Rattle.compiler.specs.flow_solver.Paths.{IsListed}
+use Rattle.compiler.specs.frame_contents.Held.{fields_of, slot_held, slot_kind}
+use Rattle.compiler.specs.frame_contents.declared.held.Holding.{Holding}
+use Rattle.compiler.specs.frame_good.Frames.{AreInConflict}
+use Rattle.compiler.specs.frame_good.Good.{AreFit, IsGoodLayout}
+use Rattle.compiler.specs.frame_layout.declared.layout.FieldKind.{FieldKind}
+use Rattle.compiler.specs.frame_layout.declared.layout.Layout.{Layout}
+use Rattle.compiler.specs.ir_model.Layout.{extent_of, extent_or, size_of}
+use Rattle.compiler.specs.ir_sizes.Cut.{capped}
 use Rattle.pass_frames_meaning.proofs.others.Names.{result_low}
-use Rattle.pass_frames_proof.specs.Slotted.{IsSlotField}
-use Rattle.run_framed.specs.Framed.{is_open_kind, layout_of}
-use Rattle.frame_classes.specs.declared.class.SlotClass.{SlotClass}
-use Rattle.pass_cells.specs.Kept.{is_flagged}
-use Rattle.pass_frames.specs.Tables.{class_flags, offset_at}
-use Rattle.rule_laws.specs.rules.function_rules.Kept.{KeepsFunctionRules}
-use Rattle.ir_model.specs.Names.{function_at}
-use Rattle.ir_model.specs.Ty.{Ty, token}
-use Rattle.ir_model.specs.declared.instr.Instr.{Instr}
-use Rattle.ir_model.specs.declared.module.Function.{Function}
-use Rattle.ir_model.specs.declared.module.Module.{Module}
-use Rattle.ir_model.specs.declared.operand.Arg.{Arg}
-use Rattle.ir_model.specs.declared.operand.Callee.{Callee}
-use Rattle.ir_model.specs.declared.operand.Intrinsic.{Intrinsic}
-use Rattle.ir_paths.specs.Slots.{allocas_of, has_name, promise_of}
-use Rattle.ir_paths.specs.Windows.{instr_at, operand_at, suspend_of}
-use Rattle.ir_paths.specs.declared.point.Point.{Point}
-use Rattle.pass_edges.specs.EdgeBlocks.{with_edge_blocks}
+use Rattle.pass_frames_meaning.specs.pass_frames_proof.Slotted.{IsSlotField}
+use Rattle.compiler.specs.run_framed.Framed.{is_open_kind, layout_of}
+use Rattle.compiler.specs.frame_classes.declared.class.SlotClass.{SlotClass}
+use Rattle.compiler.specs.pass_cells.Kept.{is_flagged}
+use Rattle.compiler.specs.pass_frames.Tables.{class_flags, offset_at}
+use Rattle.compiler.specs.rule_laws.rules.function_rules.Kept.{KeepsFunctionRules}
+use Rattle.compiler.specs.ir_model.Names.{function_at}
+use Rattle.compiler.specs.ir_model.Ty.{Ty, token}
+use Rattle.compiler.specs.ir_model.declared.instr.Instr.{Instr}
+use Rattle.compiler.specs.ir_model.declared.module.Function.{Function}
+use Rattle.compiler.specs.ir_model.declared.module.Module.{Module}
+use Rattle.compiler.specs.ir_model.declared.operand.Arg.{Arg}
+use Rattle.compiler.specs.ir_model.declared.operand.Callee.{Callee}
+use Rattle.compiler.specs.ir_model.declared.operand.Intrinsic.{Intrinsic}
+use Rattle.compiler.specs.ir_paths.Slots.{allocas_of, has_name, promise_of}
+use Rattle.compiler.specs.ir_paths.Windows.{instr_at, operand_at, suspend_of}
+use Rattle.compiler.specs.ir_paths.declared.point.Point.{Point}
+use Rattle.compiler.specs.pass_edges.EdgeBlocks.{with_edge_blocks}
 use Rattle.pass_frames_meaning.proofs.others.Names.{point_there}
 use Rattle.pass_frames_meaning.proofs.others.Returns.{instr_in}
 use Rattle.pass_frames_meaning.specs.Kinds.{AreBehind, HasRowField, HasSlotField, IsSaveWith, KeepsKinds}
 use Rattle.pass_frames_meaning.specs.Setting.{Setting}
-use Rattle.rule_values.specs.Kinds.{value_kind}
-use Rattle.rule_values.specs.declared.kinds.Kind.{Kind}
-use Rattle.run_types.specs.Rules.{KeepsTypes}
-use Rattle.pass_cells.specs.Written.{row_at}
-use Rattle.pass_cells.specs.declared.plan.KeptValue.{KeptValue}
-use Rattle.pass_fetch.specs.Fetching.{value_bytes}
-use Rattle.pass_frames_proof.proofs.code.Names.{has_cells}
-use Rattle.pass_frames_proof.proofs.lines.Cells.{kept_type}
-use Rattle.pass_frames_proof.proofs.lines.Rows.{field_placed}
-use Rattle.pass_frames_proof.specs.Related.{IsKeptValue}
-use Rattle.pass_frames_proof.proofs.ramps.Markers.{new_unmarked}
-use Rattle.pass_frames_proof.specs.Framings.{IsFraming}
-use Rattle.pass_frames_proof.specs.Places.{Framing, instrs_at, offsets, plan}
-use Rattle.pass_frames_proof.specs.Places.{edged as edged_function}
-use Rattle.pass_frames_proof.specs.Stepping.{AreGiven}
-use Rattle.pass_proofs.proofs.edges.paths.Slots.{same_allocas, same_promise}
-use Rattle.pass_proofs.specs.addresses.rules.Addresses.{lies_in_frame}
-use Rattle.run_step.specs.Step.{AtInstr, fetch}
+use Rattle.compiler.specs.rule_values.Kinds.{value_kind}
+use Rattle.compiler.specs.rule_values.declared.kinds.Kind.{Kind}
+use Rattle.pass_frames_meaning.specs.run_types.Rules.{KeepsTypes}
+use Rattle.compiler.specs.pass_cells.Written.{row_at}
+use Rattle.compiler.specs.pass_cells.declared.plan.KeptValue.{KeptValue}
+use Rattle.compiler.specs.pass_fetch.Fetching.{value_bytes}
+use Rattle.pass_frames_meaning.proofs.pass_frames_proof.code.Names.{has_cells}
+use Rattle.pass_frames_meaning.proofs.pass_frames_proof.lines.Cells.{kept_type}
+use Rattle.pass_frames_meaning.proofs.pass_frames_proof.lines.Rows.{field_placed}
+use Rattle.pass_frames_meaning.specs.pass_frames_proof.Related.{IsKeptValue}
+use Rattle.pass_frames_meaning.proofs.pass_frames_proof.ramps.Markers.{new_unmarked}
+use Rattle.pass_frames_meaning.specs.pass_frames_proof.Framings.{IsFraming}
+use Rattle.pass_frames_meaning.specs.pass_frames_proof.Places.{Framing, instrs_at, offsets, plan}
+use Rattle.pass_frames_meaning.specs.pass_frames_proof.Places.{edged as edged_function}
+use Rattle.pass_frames_meaning.specs.pass_frames_proof.Stepping.{AreGiven}
+use Rattle.compiler.proofs.pass_proofs.edges.paths.Slots.{same_allocas, same_promise}
+use Rattle.compiler.specs.pass_proofs.addresses.rules.Addresses.{lies_in_frame}
+use Rattle.compiler.specs.run_step.Step.{AtInstr, fetch}
 
 open_slot : (o : Option ℕ) (v : ℕ) → is_open_kind (slot_kind o v) ≡ true
 open_slot o v = on (has_name (option_to_list o) v)

@@ -7,70 +7,70 @@ use Rattle.std.specs.Prelude.{codes, if◌then◌else◌, option_to_list, slice_
 use Rattle.compiler_theorem.proofs.known.Layers.{KeepsResults, all_fail, both_results, each_fails, none_before}
 use Rattle.compiler_theorem.proofs.known.Layers.{one_fails, own_index, own_stands}
 use Rattle.compiler_theorem.proofs.known.Plain.{there_at}
-use Rattle.flow_solver.specs.Paths.{IsListed}
-use Rattle.ir_laws.proofs.facts.Lists.{get_within}
-use Rattle.ir_model.specs.Names.{is_local, position_of}
-use Rattle.ir_model.specs.declared.instr.Instr.{Instr}
-use Rattle.ir_model.specs.declared.instr.Terminator.{Terminator}
-use Rattle.ir_model.specs.declared.module.Block.{Block}
-use Rattle.ir_model.specs.declared.module.Function.{Function}
-use Rattle.ir_model.specs.declared.operand.Callee.{Callee}
-use Rattle.ir_model.specs.declared.operand.Intrinsic.{Intrinsic}
-use Rattle.ir_model.specs.declared.operand.Operand.{Operand}
-use Rattle.ir_laws.proofs.facts.Truth.{itself}
-use Rattle.ir_laws.specs.facts.renamed.Regular.{is_result}
-use Rattle.ir_parts.specs.Contents.{instr_operands, result_of as part_result}
-use Rattle.ir_parts.specs.Parts.{instr_place}
-use Rattle.ir_base.specs.declared.outcome.Place.{Place}
-use Rattle.ir_paths.proofs.Search.{or_left, or_right}
-use Rattle.ir_paths.specs.Paths.{targets}
-use Rattle.ir_paths.specs.Slots.{has_name}
-use Rattle.ir_paths.specs.Windows.{instr_at, instr_in, is_call_of}
-use Rattle.ir_paths.specs.declared.point.Point.{Point}
-use Rattle.pass_addresses.specs.Placing.{stays, without_promise_of}
-use Rattle.pass_cells.specs.Cells.{fetched_function, fetches_of}
-use Rattle.pass_cells.specs.Written.{entry_front as cells_front}
-use Rattle.pass_copies.specs.BeginCopies.{entry_front as copies_front, first_fetched, is_fetched}
-use Rattle.pass_fetch.specs.Instrs.{fetched_term, with_fetched}
-use Rattle.pass_fetch.specs.declared.fetch.Fetch.{Fetch}
-use Rattle.pass_fetch.specs.Fetching.{fetch_of, next_after, operand_by}
+use Rattle.compiler.specs.flow_solver.Paths.{IsListed}
+use Rattle.compiler.proofs.ir_laws.facts.Lists.{get_within}
+use Rattle.compiler.specs.ir_model.Names.{is_local, position_of}
+use Rattle.compiler.specs.ir_model.declared.instr.Instr.{Instr}
+use Rattle.compiler.specs.ir_model.declared.instr.Terminator.{Terminator}
+use Rattle.compiler.specs.ir_model.declared.module.Block.{Block}
+use Rattle.compiler.specs.ir_model.declared.module.Function.{Function}
+use Rattle.compiler.specs.ir_model.declared.operand.Callee.{Callee}
+use Rattle.compiler.specs.ir_model.declared.operand.Intrinsic.{Intrinsic}
+use Rattle.compiler.specs.ir_model.declared.operand.Operand.{Operand}
+use Rattle.compiler.proofs.ir_laws.facts.Truth.{itself}
+use Rattle.compiler.specs.ir_laws.facts.renamed.Regular.{is_result}
+use Rattle.compiler.specs.ir_parts.Contents.{instr_operands, result_of as part_result}
+use Rattle.compiler.specs.ir_parts.Parts.{instr_place}
+use Rattle.compiler.specs.ir_base.declared.outcome.Place.{Place}
+use Rattle.compiler.proofs.ir_paths.Search.{or_left, or_right}
+use Rattle.compiler.specs.ir_paths.Paths.{targets}
+use Rattle.compiler.specs.ir_paths.Slots.{has_name}
+use Rattle.compiler.specs.ir_paths.Windows.{instr_at, instr_in, is_call_of}
+use Rattle.compiler.specs.ir_paths.declared.point.Point.{Point}
+use Rattle.compiler.specs.pass_addresses.Placing.{stays, without_promise_of}
+use Rattle.compiler.specs.pass_cells.Cells.{fetched_function, fetches_of}
+use Rattle.compiler.specs.pass_cells.Written.{entry_front as cells_front}
+use Rattle.compiler.specs.pass_copies.BeginCopies.{entry_front as copies_front, first_fetched, is_fetched}
+use Rattle.compiler.specs.pass_fetch.Instrs.{fetched_term, with_fetched}
+use Rattle.compiler.specs.pass_fetch.declared.fetch.Fetch.{Fetch}
+use Rattle.compiler.specs.pass_fetch.Fetching.{fetch_of, next_after, operand_by}
 use Rattle.pass_frames_meaning.proofs.begun.Begun.{first}
 use Rattle.pass_frames_meaning.specs.Led.{IsBegin}
 use Rattle.pass_frames_meaning.specs.Unbegun.{IsBefore, after, along, first as first_point}
-use Rattle.pass_frames_proof.proofs.code.Passes.{cells_made, copies_made, fetches_made, rows, unmarked_made}
-use Rattle.pass_frames_proof.proofs.layers.Standing.{end_stands}
-use Rattle.pass_frames_proof.proofs.led.Twice.{operands_fetched}
-use Rattle.pass_frames_proof.proofs.tests.Kept.{both_keep}
-use Rattle.pass_frames_proof.proofs.tests.Passes.{copying_keeps, fetching_keeps, unmarked_keeps, writing_keeps}
-use Rattle.pass_frames_proof.specs.Framings.{IsFraming}
-use Rattle.pass_frames_proof.specs.Layers.{each, only, state_at}
-use Rattle.pass_frames_proof.specs.Led.{fetched_all}
-use Rattle.pass_frames_proof.specs.Passes.{IsBlockMade, copying_at, fetched_before, fetching_at, unmarked_at}
-use Rattle.pass_frames_proof.specs.Passes.{writing_at}
-use Rattle.pass_frames_proof.specs.Places.{Framing, before_labels, celled_layer, copied_layer, copies, edged, fetched}
-use Rattle.pass_frames_proof.specs.Places.{marked, named}
-use Rattle.pass_frames_proof.specs.Places.{offsets, plan, unmarked, unmarked_layer, with_copies, written}
-use Rattle.pass_frames_proof.specs.Tests.{AllFail, KeepsTest, PassesLike}
-use Rattle.pass_kept_proof.proofs.Read.{made_phi}
-use Rattle.pass_kept_proof.specs.Needed.{BranchesTo, phis_give}
-use Rattle.pass_proofs.proofs.addresses.rules.Unmarked.{promise_result}
-use Rattle.pass_proofs.proofs.early.save_simulation.Suspending.{fetch_at}
-use Rattle.pass_proofs.proofs.fetch.rules.Times.{with_result}
-use Rattle.pass_proofs.proofs.kept.sources.Definite.{Comes, across, over_unmade}
-use Rattle.pass_proofs.proofs.kept.sources.Places.{branch_there}
-use Rattle.pass_proofs.specs.addresses.rules.Addresses.{HasBegin, lies_in_frame}
-use Rattle.rule_laws.proofs.rules.renamed.Outside.{each_left, each_right}
-use Rattle.rule_laws.proofs.rules.renamed.Uses.{of_block, result_spelt, three_kinds, use_at}
-use Rattle.rule_laws.proofs.rules.shape.Begin.{begin_result}
-use Rattle.rule_laws.proofs.rules.shape.Stands.{StandsAt, begin_stands}
-use Rattle.rule_laws.proofs.rules.source_rules.Locals.{same_result}
-use Rattle.rule_laws.proofs.rules.sources.Places.{any_param, point}
-use Rattle.rule_laws.specs.rules.function_rules.Kept.{KeepsFunctionRules}
-use Rattle.rule_uses.specs.Undefined.{Entry}
-use Rattle.rule_uses.specs.Uses.{Use, instr_uses, phi_values, use_of, uses_at, uses_of}
+use Rattle.pass_frames_meaning.proofs.pass_frames_proof.code.Passes.{cells_made, copies_made, fetches_made, rows, unmarked_made}
+use Rattle.pass_frames_meaning.proofs.pass_frames_proof.layers.Standing.{end_stands}
+use Rattle.pass_frames_meaning.proofs.pass_frames_proof.led.Twice.{operands_fetched}
+use Rattle.pass_frames_meaning.proofs.pass_frames_proof.tests.Kept.{both_keep}
+use Rattle.pass_frames_meaning.proofs.pass_frames_proof.tests.Passes.{copying_keeps, fetching_keeps, unmarked_keeps, writing_keeps}
+use Rattle.pass_frames_meaning.specs.pass_frames_proof.Framings.{IsFraming}
+use Rattle.pass_frames_meaning.specs.pass_frames_proof.Layers.{each, only, state_at}
+use Rattle.pass_frames_meaning.specs.pass_frames_proof.Led.{fetched_all}
+use Rattle.pass_frames_meaning.specs.pass_frames_proof.Passes.{IsBlockMade, copying_at, fetched_before, fetching_at, unmarked_at}
+use Rattle.pass_frames_meaning.specs.pass_frames_proof.Passes.{writing_at}
+use Rattle.pass_frames_meaning.specs.pass_frames_proof.Places.{Framing, before_labels, celled_layer, copied_layer, copies, edged, fetched}
+use Rattle.pass_frames_meaning.specs.pass_frames_proof.Places.{marked, named}
+use Rattle.pass_frames_meaning.specs.pass_frames_proof.Places.{offsets, plan, unmarked, unmarked_layer, with_copies, written}
+use Rattle.pass_frames_meaning.specs.pass_frames_proof.Tests.{AllFail, KeepsTest, PassesLike}
+use Rattle.compiler.proofs.pass_kept_proof.Read.{made_phi}
+use Rattle.compiler.specs.pass_kept_proof.Needed.{BranchesTo, phis_give}
+use Rattle.compiler.proofs.pass_proofs.addresses.rules.Unmarked.{promise_result}
+use Rattle.compiler.proofs.pass_proofs.early.save_simulation.Suspending.{fetch_at}
+use Rattle.compiler.proofs.pass_proofs.fetch.rules.Times.{with_result}
+use Rattle.compiler.proofs.pass_proofs.kept.sources.Definite.{Comes, across, over_unmade}
+use Rattle.compiler.proofs.pass_proofs.kept.sources.Places.{branch_there}
+use Rattle.compiler.specs.pass_proofs.addresses.rules.Addresses.{HasBegin, lies_in_frame}
+use Rattle.compiler.proofs.rule_laws.rules.renamed.Outside.{each_left, each_right}
+use Rattle.compiler.proofs.rule_laws.rules.renamed.Uses.{of_block, result_spelt, three_kinds, use_at}
+use Rattle.compiler.proofs.rule_laws.rules.shape.Begin.{begin_result}
+use Rattle.compiler.proofs.rule_laws.rules.shape.Stands.{StandsAt, begin_stands}
+use Rattle.compiler.proofs.rule_laws.rules.source_rules.Locals.{same_result}
+use Rattle.compiler.proofs.rule_laws.rules.sources.Places.{any_param, point}
+use Rattle.compiler.specs.rule_laws.rules.function_rules.Kept.{KeepsFunctionRules}
+use Rattle.compiler.specs.rule_uses.Undefined.{Entry}
+use Rattle.compiler.specs.rule_uses.Uses.{Use, instr_uses, phi_values, use_of, uses_at, uses_of}
 use Rattle.run_accepted.proofs.Once.{gives_no_param, no_phi_gives}
-use Rattle.run_laws.specs.changed.Changed.{Each, result_of}
-use Rattle.run_step.specs.Step.{AtInstr, fetch, phis_of}
+use Rattle.compiler.specs.run_laws.changed.Changed.{Each, result_of}
+use Rattle.compiler.specs.run_step.Step.{AtInstr, fetch, phis_of}
 
 -- ---- what layers keep
 

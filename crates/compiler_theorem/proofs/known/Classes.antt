@@ -14,59 +14,59 @@ use Rattle.compiler_theorem.specs.theorem.Anew.{Anew, IsAnewOf, IsSlotOf}
 use Rattle.compiler_theorem.specs.theorem.Asked.{asking}
 use Rattle.compiler_theorem.specs.theorem.Entries.{IsEntryCall, Run}
 use Rattle.compiler_theorem.specs.theorem.Lowered.{HasFewBytes, IsLowered, Lowered, early, edged}
-use Rattle.flow_solver.specs.Paths.{IsListed}
-use Rattle.frame_classes.specs.Classes.{IsOf}
-use Rattle.frame_classes.specs.declared.class.SlotClass.{SlotClass}
-use Rattle.ir_laws.proofs.facts.Lists.{get_within}
-use Rattle.ir_laws.specs.facts.expanded.Tokens.{IsNamedResult}
-use Rattle.ir_model.specs.Names.{function_at}
-use Rattle.ir_model.specs.Ty.{Ty}
-use Rattle.ir_model.specs.declared.instr.Instr.{Instr}
-use Rattle.ir_model.specs.declared.module.Block.{Block}
-use Rattle.ir_model.specs.declared.module.Function.{Function}
-use Rattle.ir_model.specs.declared.operand.Arg.{Arg}
-use Rattle.ir_paths.proofs.Right.{facts_of_right}
-use Rattle.ir_paths.proofs.Search.{or_right}
-use Rattle.ir_paths.specs.Slots.{IsRampSlot, allocas_of, has_name}
-use Rattle.ir_paths.specs.Windows.{instr_at}
-use Rattle.ir_paths.specs.declared.point.Facts.{Facts}
-use Rattle.pass_addresses.specs.Placing.{stays}
-use Rattle.pass_cells.specs.Kept.{entry, joined}
-use Rattle.pass_copies.specs.Slots.{entry_instrs}
-use Rattle.pass_copies.specs.Uses.{flag_at, used_before}
-use Rattle.pass_copies.specs.declared.slot.EarlySlot.{EarlySlot}
-use Rattle.pass_edges.specs.EdgeBlocks.{with_edge_blocks}
-use Rattle.pass_frames.specs.Tables.{class_flags, is_of, offset_at, sizes_by_name}
+use Rattle.compiler.specs.flow_solver.Paths.{IsListed}
+use Rattle.compiler.specs.frame_classes.Classes.{IsOf}
+use Rattle.compiler.specs.frame_classes.declared.class.SlotClass.{SlotClass}
+use Rattle.compiler.proofs.ir_laws.facts.Lists.{get_within}
+use Rattle.compiler.specs.ir_laws.facts.expanded.Tokens.{IsNamedResult}
+use Rattle.compiler.specs.ir_model.Names.{function_at}
+use Rattle.compiler.specs.ir_model.Ty.{Ty}
+use Rattle.compiler.specs.ir_model.declared.instr.Instr.{Instr}
+use Rattle.compiler.specs.ir_model.declared.module.Block.{Block}
+use Rattle.compiler.specs.ir_model.declared.module.Function.{Function}
+use Rattle.compiler.specs.ir_model.declared.operand.Arg.{Arg}
+use Rattle.compiler.proofs.ir_paths.Right.{facts_of_right}
+use Rattle.compiler.proofs.ir_paths.Search.{or_right}
+use Rattle.compiler.specs.ir_paths.Slots.{IsRampSlot, allocas_of, has_name}
+use Rattle.compiler.specs.ir_paths.Windows.{instr_at}
+use Rattle.compiler.specs.ir_paths.declared.point.Facts.{Facts}
+use Rattle.compiler.specs.pass_addresses.Placing.{stays}
+use Rattle.compiler.specs.pass_cells.Kept.{entry, joined}
+use Rattle.compiler.specs.pass_copies.Slots.{entry_instrs}
+use Rattle.compiler.specs.pass_copies.Uses.{flag_at, used_before}
+use Rattle.compiler.specs.pass_copies.declared.slot.EarlySlot.{EarlySlot}
+use Rattle.compiler.specs.pass_edges.EdgeBlocks.{with_edge_blocks}
+use Rattle.compiler.specs.pass_frames.Tables.{class_flags, is_of, offset_at, sizes_by_name}
 use Rattle.pass_frames_meaning.proofs.placed.Placed.{held_once}
 use Rattle.pass_frames_meaning.specs.Marks.{IsMarkedClass, IsMarkerRight, KeepsMarkers, OfFrame, OfLocal, OfRamp}
-use Rattle.pass_frames_proof.proofs.code.Names.{F, keeping, local}
-use Rattle.pass_frames_proof.proofs.early.Placed.{held_there, names_more}
-use Rattle.pass_frames_proof.proofs.lines.Cells.{contained}
-use Rattle.pass_frames_proof.proofs.offsets.Tables.{slots_told}
-use Rattle.pass_frames_proof.specs.Framings.{IsFraming}
-use Rattle.pass_frames_proof.specs.Marking.{marking}
-use Rattle.pass_frames_proof.specs.Places.{Framing, before_labels, copies, instrs_at, marked, offsets, plan}
-use Rattle.pass_frames_proof.specs.Places.{with_copies, written}
-use Rattle.pass_frames_proof.specs.Places as place
-use Rattle.pass_proofs.proofs.cells.rules.Keepable.{once as names_once}
-use Rattle.pass_proofs.proofs.copies.begin_order.Marks.{none_flagged}
-use Rattle.pass_proofs.proofs.copies.rules.Slots.{AreNumbered, numbered}
-use Rattle.pass_proofs.proofs.edges.paths.Slots.{same_allocas, same_ramp_slots}
-use Rattle.pass_proofs.proofs.frames.begin_order.Framed.{celled_behind}
-use Rattle.pass_proofs.proofs.frames.begin_order.Tables.{IsOfClass, flagged_slot, slot_flagged}
-use Rattle.pass_proofs.proofs.edges.sources.Accepted.{locals_now}
-use Rattle.pass_proofs.proofs.early.save_simulation.Suspending.{fetch_at}
-use Rattle.pass_proofs.proofs.kept.sources.Whole.{edges_kept, split_definite}
-use Rattle.pass_proofs.specs.edges.states.MovedState.{KeepsEdges}
-use Rattle.pass_renewed_meaning.proofs.Tables.{facts_are, renewed_are}
-use Rattle.pass_kept_proof.proofs.Read.{listed_by_name}
-use Rattle.rule_laws.proofs.rules.counted.Slots.{alloca_sized}
-use Rattle.rule_laws.proofs.rules.source_rules.Slots.{alloca_of}
-use Rattle.rule_laws.specs.rules.function_rules.Kept.{KeepsFunctionRules}
-use Rattle.run_laws.specs.changed.Changed.{result_at}
-use Rattle.run_states.proofs.sound_states.Fits.{result_named}
-use Rattle.run_step.specs.Step.{AtInstr, fetch, fetch_in, fetch_or}
-use Rattle.pass_frames_proof.specs.Passes.{no_block}
+use Rattle.pass_frames_meaning.proofs.pass_frames_proof.code.Names.{F, keeping, local}
+use Rattle.pass_frames_meaning.proofs.pass_frames_proof.early.Placed.{held_there, names_more}
+use Rattle.pass_frames_meaning.proofs.pass_frames_proof.lines.Cells.{contained}
+use Rattle.pass_frames_meaning.proofs.pass_frames_proof.offsets.Tables.{slots_told}
+use Rattle.pass_frames_meaning.specs.pass_frames_proof.Framings.{IsFraming}
+use Rattle.pass_frames_meaning.specs.pass_frames_proof.Marking.{marking}
+use Rattle.pass_frames_meaning.specs.pass_frames_proof.Places.{Framing, before_labels, copies, instrs_at, marked, offsets, plan}
+use Rattle.pass_frames_meaning.specs.pass_frames_proof.Places.{with_copies, written}
+use Rattle.pass_frames_meaning.specs.pass_frames_proof.Places as place
+use Rattle.compiler.proofs.pass_proofs.cells.rules.Keepable.{once as names_once}
+use Rattle.compiler.proofs.pass_proofs.copies.begin_order.Marks.{none_flagged}
+use Rattle.compiler.proofs.pass_proofs.copies.rules.Slots.{AreNumbered, numbered}
+use Rattle.compiler.proofs.pass_proofs.edges.paths.Slots.{same_allocas, same_ramp_slots}
+use Rattle.compiler.proofs.pass_proofs.frames.begin_order.Framed.{celled_behind}
+use Rattle.compiler.proofs.pass_proofs.frames.begin_order.Tables.{IsOfClass, flagged_slot, slot_flagged}
+use Rattle.compiler.proofs.pass_proofs.edges.sources.Accepted.{locals_now}
+use Rattle.compiler.proofs.pass_proofs.early.save_simulation.Suspending.{fetch_at}
+use Rattle.compiler.proofs.pass_proofs.kept.sources.Whole.{edges_kept, split_definite}
+use Rattle.compiler.specs.pass_proofs.edges.states.MovedState.{KeepsEdges}
+use Rattle.pass_frames_meaning.proofs.pass_renewed_meaning.Tables.{facts_are, renewed_are}
+use Rattle.compiler.proofs.pass_kept_proof.Read.{listed_by_name}
+use Rattle.compiler.proofs.rule_laws.rules.counted.Slots.{alloca_sized}
+use Rattle.compiler.proofs.rule_laws.rules.source_rules.Slots.{alloca_of}
+use Rattle.compiler.specs.rule_laws.rules.function_rules.Kept.{KeepsFunctionRules}
+use Rattle.compiler.specs.run_laws.changed.Changed.{result_at}
+use Rattle.compiler.proofs.run_states.sound_states.Fits.{result_named}
+use Rattle.compiler.specs.run_step.Step.{AtInstr, fetch, fetch_in, fetch_or}
+use Rattle.pass_frames_meaning.specs.pass_frames_proof.Passes.{no_block}
 
 ramp_alone : (o : Option SlotClass) → is_of SlotClass.Ramp o ≡ true → o ≡ Some SlotClass.Ramp
 ramp_alone None e = absurd (cc)

@@ -15,53 +15,53 @@ use Rattle.compiler_theorem.specs.theorem.Asked.{asking}
 use Rattle.compiler_theorem.specs.theorem.Entries.{IsEntryCall, Run}
 use Rattle.compiler_theorem.specs.theorem.Lowered.{HasFewBytes, IsLowered, Lowered, early, edged}
 use Rattle.compiler.proofs.whole.lowered_sources.Sources.{early_rules}
-use Rattle.flow_solver.specs.Paths.{IsListed}
-use Rattle.frame_classes.specs.declared.class.SlotClass.{SlotClass}
-use Rattle.frame_contents.specs.Frames.{AreContents}
-use Rattle.frame_contents.specs.Held.{crossing_values, field_of, fields_of, frame_slots, position_of, slot_held}
-use Rattle.frame_contents.specs.Held.{slot_kind, value_held}
-use Rattle.frame_contents.specs.declared.contents.Contents.{Contents}
-use Rattle.frame_contents.specs.declared.held.Holding.{Holding}
-use Rattle.frame_crossing.specs.Values.{values_of}
-use Rattle.frame_good.specs.Frames.{AreInConflict, HasFitFields}
-use Rattle.frame_good.specs.Good.{IsGoodLayout, is_alignment}
-use Rattle.frame_layout.specs.Layouts.{placed_or}
-use Rattle.frame_layout.specs.declared.layout.Field.{Field}
-use Rattle.frame_layout.specs.declared.layout.FieldKind.{FieldKind}
-use Rattle.frame_layout.specs.declared.layout.Layout.{Layout}
-use Rattle.ir_laws.proofs.facts.Truth.{equal_numbers}
-use Rattle.ir_model.specs.Layout.{size_of}
-use Rattle.ir_model.specs.Names.{function_at, no_function}
-use Rattle.ir_model.specs.Ty.{Ty}
-use Rattle.ir_model.specs.declared.instr.Instr.{Instr}
-use Rattle.ir_model.specs.declared.module.Function.{Function}
-use Rattle.ir_model.specs.declared.module.Module.{Module}
-use Rattle.ir_paths.proofs.Search.{either}
-use Rattle.ir_paths.specs.Slots.{allocas_of, has_name, promise_of}
-use Rattle.ir_paths.specs.Windows.{instr_at}
-use Rattle.ir_paths.specs.declared.point.Point.{Point}
-use Rattle.pass_frames.specs.Tables.{offset_at}
+use Rattle.compiler.specs.flow_solver.Paths.{IsListed}
+use Rattle.compiler.specs.frame_classes.declared.class.SlotClass.{SlotClass}
+use Rattle.compiler.specs.frame_contents.Frames.{AreContents}
+use Rattle.compiler.specs.frame_contents.Held.{crossing_values, field_of, fields_of, frame_slots, position_of, slot_held}
+use Rattle.compiler.specs.frame_contents.Held.{slot_kind, value_held}
+use Rattle.compiler.specs.frame_contents.declared.contents.Contents.{Contents}
+use Rattle.compiler.specs.frame_contents.declared.held.Holding.{Holding}
+use Rattle.compiler.specs.frame_crossing.Values.{values_of}
+use Rattle.compiler.specs.frame_good.Frames.{AreInConflict, HasFitFields}
+use Rattle.compiler.specs.frame_good.Good.{IsGoodLayout, is_alignment}
+use Rattle.compiler.specs.frame_layout.Layouts.{placed_or}
+use Rattle.compiler.specs.frame_layout.declared.layout.Field.{Field}
+use Rattle.compiler.specs.frame_layout.declared.layout.FieldKind.{FieldKind}
+use Rattle.compiler.specs.frame_layout.declared.layout.Layout.{Layout}
+use Rattle.compiler.proofs.ir_laws.facts.Truth.{equal_numbers}
+use Rattle.compiler.specs.ir_model.Layout.{size_of}
+use Rattle.compiler.specs.ir_model.Names.{function_at, no_function}
+use Rattle.compiler.specs.ir_model.Ty.{Ty}
+use Rattle.compiler.specs.ir_model.declared.instr.Instr.{Instr}
+use Rattle.compiler.specs.ir_model.declared.module.Function.{Function}
+use Rattle.compiler.specs.ir_model.declared.module.Module.{Module}
+use Rattle.compiler.proofs.ir_paths.Search.{either}
+use Rattle.compiler.specs.ir_paths.Slots.{allocas_of, has_name, promise_of}
+use Rattle.compiler.specs.ir_paths.Windows.{instr_at}
+use Rattle.compiler.specs.ir_paths.declared.point.Point.{Point}
+use Rattle.compiler.specs.pass_frames.Tables.{offset_at}
 use Rattle.pass_frames_meaning.specs.Sized.{IsSizedAt}
-use Rattle.pass_frames_proof.specs.Places.{Framing}
-use Rattle.pass_frames_proof.specs.Slotted.{IsSlotField}
-use Rattle.pass_proofs.proofs.early.save_simulation.Suspending.{fetch_at}
-use Rattle.pass_kept_proof.proofs.Read.{listed_by_name}
-use Rattle.pass_proofs.proofs.edges.paths.Slots.{same_allocas}
-use Rattle.pass_proofs.proofs.edges.paths.Windows.{instr_moved}
-use Rattle.pass_proofs.specs.edges.paths.Spots.{moved}
-use Rattle.pass_renewed_proof.specs.SlotRules.{IsMadeOnce}
-use Rattle.pass_renewed_proof.specs.Steps.{given_at}
-use Rattle.rule_laws.proofs.frames.alike_frames.Held.{crossing_holds}
-use Rattle.rule_laws.proofs.frames.needed.Apart.{apart_no_value}
-use Rattle.rule_laws.proofs.rules.source_rules.Slots.{HasAlloca, alloca_of}
-use Rattle.rule_laws.specs.rules.function_rules.Kept.{KeepsFunctionRules}
+use Rattle.pass_frames_meaning.specs.pass_frames_proof.Places.{Framing}
+use Rattle.pass_frames_meaning.specs.pass_frames_proof.Slotted.{IsSlotField}
+use Rattle.compiler.proofs.pass_proofs.early.save_simulation.Suspending.{fetch_at}
+use Rattle.compiler.proofs.pass_kept_proof.Read.{listed_by_name}
+use Rattle.compiler.proofs.pass_proofs.edges.paths.Slots.{same_allocas}
+use Rattle.compiler.proofs.pass_proofs.edges.paths.Windows.{instr_moved}
+use Rattle.compiler.specs.pass_proofs.edges.paths.Spots.{moved}
+use Rattle.pass_frames_meaning.specs.pass_renewed_proof.SlotRules.{IsMadeOnce}
+use Rattle.pass_frames_meaning.specs.pass_renewed_proof.Steps.{given_at}
+use Rattle.compiler.proofs.rule_laws.frames.alike_frames.Held.{crossing_holds}
+use Rattle.compiler.proofs.rule_laws.frames.needed.Apart.{apart_no_value}
+use Rattle.compiler.proofs.rule_laws.rules.source_rules.Slots.{HasAlloca, alloca_of}
+use Rattle.compiler.specs.rule_laws.rules.function_rules.Kept.{KeepsFunctionRules}
 use Rattle.run_accepted.proofs.Alive.{listed}
 use Rattle.run_accepted.proofs.Once.{made_once}
-use Rattle.run_framed.specs.Framed.{is_open_kind, layout_of}
-use Rattle.run_laws.specs.changed.Changed.{Each}
-use Rattle.run_laws.specs.memory.Standing.{IsAlignment}
-use Rattle.run_step.specs.Step.{AtInstr, fetch}
-use Rattle.run_step.specs.declared.world.Slot.{Slot}
+use Rattle.compiler.specs.run_framed.Framed.{is_open_kind, layout_of}
+use Rattle.compiler.specs.run_laws.changed.Changed.{Each}
+use Rattle.compiler.specs.run_laws.memory.Standing.{IsAlignment}
+use Rattle.compiler.specs.run_step.Step.{AtInstr, fetch}
+use Rattle.compiler.specs.run_step.declared.world.Slot.{Slot}
 
 -- ---- alignments
 

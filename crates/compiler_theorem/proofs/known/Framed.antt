@@ -13,8 +13,8 @@ use Rattle.compiler_theorem.specs.theorem.Entries.{IsEntryCall, Run}
 use Rattle.compiler_theorem.specs.theorem.Lowered.{HasFewBytes, IsLowered, Lowered, early}
 use Rattle.pass_frames_meaning.proofs.framed.AllocaHooks.{runs_hold_frames}
 use Rattle.pass_frames_meaning.proofs.framed.There.{frame_same}
-use Rattle.pass_frames_proof.specs.Slotted.{HasFrameThere}
-use Rattle.run_source.specs.declared.state.Instance.{Instance}
+use Rattle.pass_frames_meaning.specs.pass_frames_proof.Slotted.{HasFrameThere}
+use Rattle.compiler.specs.run_source.declared.state.Instance.{Instance}
 
 module _ (l : Lowered) (low : IsLowered l) (few : HasFewBytes l) (a : Anew) (anew : IsAnewOf (early l) a) (r : Run)
     (entered : IsEntryCall l.source r) (n : ℕ) where

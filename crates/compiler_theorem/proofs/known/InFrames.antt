@@ -13,31 +13,31 @@ use Rattle.compiler_theorem.specs.theorem.Anew.{Anew, IsAnewOf}
 use Rattle.compiler_theorem.specs.theorem.Asked.{asking}
 use Rattle.compiler_theorem.specs.theorem.Entries.{IsEntryCall, Run}
 use Rattle.compiler_theorem.specs.theorem.Lowered.{HasFewBytes, IsLowered, Lowered, early, edged}
-use Rattle.ir_base.specs.declared.outcome.Outcome.{Outcome}
-use Rattle.ir_model.specs.Names.{function_at}
-use Rattle.ir_model.specs.Ty.{Ty}
-use Rattle.ir_model.specs.declared.module.Function.{Function}
-use Rattle.ir_model.specs.declared.operand.Arg.{Arg}
-use Rattle.ir_paths.proofs.Search.{or_right}
+use Rattle.compiler.specs.ir_base.declared.outcome.Outcome.{Outcome}
+use Rattle.compiler.specs.ir_model.Names.{function_at}
+use Rattle.compiler.specs.ir_model.Ty.{Ty}
+use Rattle.compiler.specs.ir_model.declared.module.Function.{Function}
+use Rattle.compiler.specs.ir_model.declared.operand.Arg.{Arg}
+use Rattle.compiler.proofs.ir_paths.Search.{or_right}
 use Rattle.pass_frames_meaning.proofs.known.Operands.{own_there}
 use Rattle.pass_frames_meaning.proofs.slotted.Facts.{listed_times}
 use Rattle.pass_frames_meaning.proofs.sized.Slotwise.{kept_at}
 use Rattle.pass_frames_meaning.specs.Coroutines.{MayMark}
 use Rattle.pass_frames_meaning.specs.Marks.{AreMarkedSlotsThere}
 use Rattle.pass_frames_meaning.specs.Sized.{AreSlotwise, IsSizedAt, sizes_of}
-use Rattle.pass_frames_proof.proofs.lines.Cells.{contained}
-use Rattle.pass_frames_proof.specs.Marking.{marking}
-use Rattle.pass_frames_proof.specs.Related.{AreBuiltOf, is_coroutine}
-use Rattle.pass_frames_proof.specs.Slotted.{HasFrameThere, IsSlotInFrame}
-use Rattle.run_memory.specs.Memory.{is_killed}
-use Rattle.run_memory.specs.declared.block.MemoryBlock.{MemoryBlock}
-use Rattle.run_slots.specs.Slots.{is_killed_in}
-use Rattle.run_source.specs.State.{function_of, is_finished}
-use Rattle.run_source.specs.declared.state.Instance.{Instance}
-use Rattle.run_source.specs.declared.state.State.{State}
-use Rattle.run_states.specs.sound_states.Sound.{IsInstanceOf}
-use Rattle.run_step.specs.Step.{AtInstr, fetch}
-use Rattle.run_step.specs.declared.world.Slot.{Slot}
+use Rattle.pass_frames_meaning.proofs.pass_frames_proof.lines.Cells.{contained}
+use Rattle.pass_frames_meaning.specs.pass_frames_proof.Marking.{marking}
+use Rattle.pass_frames_meaning.specs.pass_frames_proof.Related.{AreBuiltOf, is_coroutine}
+use Rattle.pass_frames_meaning.specs.pass_frames_proof.Slotted.{HasFrameThere, IsSlotInFrame}
+use Rattle.compiler.specs.run_memory.Memory.{is_killed}
+use Rattle.compiler.specs.run_memory.declared.block.MemoryBlock.{MemoryBlock}
+use Rattle.pass_frames_meaning.specs.run_slots.Slots.{is_killed_in}
+use Rattle.compiler.specs.run_source.State.{function_of, is_finished}
+use Rattle.compiler.specs.run_source.declared.state.Instance.{Instance}
+use Rattle.compiler.specs.run_source.declared.state.State.{State}
+use Rattle.compiler.specs.run_states.sound_states.Sound.{IsInstanceOf}
+use Rattle.compiler.specs.run_step.Step.{AtInstr, fetch}
+use Rattle.compiler.specs.run_step.declared.world.Slot.{Slot}
 use Rattle.compiler_theorem.specs.theorem.Between.{renewing}
 
 slot_among : (W : Function → Slot → Type 0) (f : Function) (ss : List Slot) (slot : Slot) (k : ℕ) → k < length ss

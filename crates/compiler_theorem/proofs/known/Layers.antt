@@ -2,13 +2,13 @@
 use Rattle.std.proofs.Common.{◌≡◌, ℕ, zero, suc, ◌+◌, ◌<◌, Bool, false, List, [], ◌∷◌, ◌++◌, length, Option, Some, None}
 use Rattle.std.proofs.Common.{refl, sym, ap, ◌∙◌, subst, arith}
 use Rattle.std.specs.Prelude.{option_to_list, slice_get, take}
-use Rattle.ir_laws.proofs.facts.Members.{each_joined}
-use Rattle.ir_model.specs.declared.instr.Instr.{Instr}
-use Rattle.ir_parts.specs.Contents.{result_of}
-use Rattle.pass_frames_proof.proofs.layers.Standing.{rest, split_woven}
-use Rattle.pass_frames_proof.proofs.tests.Kept.{grown_fails}
-use Rattle.pass_frames_proof.specs.Layers.{Layer, becomes, both, grown, here_of, met, passed, state_at, up_to, woven}
-use Rattle.pass_frames_proof.specs.Tests.{AllFail, KeepsTest}
+use Rattle.compiler.proofs.ir_laws.facts.Members.{each_joined}
+use Rattle.compiler.specs.ir_model.declared.instr.Instr.{Instr}
+use Rattle.compiler.specs.ir_parts.Contents.{result_of}
+use Rattle.pass_frames_meaning.proofs.pass_frames_proof.layers.Standing.{rest, split_woven}
+use Rattle.pass_frames_meaning.proofs.pass_frames_proof.tests.Kept.{grown_fails}
+use Rattle.pass_frames_meaning.specs.pass_frames_proof.Layers.{Layer, becomes, both, grown, here_of, met, passed, state_at, up_to, woven}
+use Rattle.pass_frames_meaning.specs.pass_frames_proof.Tests.{AllFail, KeepsTest}
 
 -- ---- lists
 

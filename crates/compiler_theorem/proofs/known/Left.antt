@@ -1,34 +1,34 @@
 -- The coroutine of which the framed form is made, before addresses in frames are put in, breaks no rule of functions.
 use Rattle.std.proofs.Common.{◌≡◌, ℕ, Bool, List, ◌∷◌, length, refl, sym, ap, ◌∙◌, subst}
-use Rattle.frame_classes.specs.declared.class.SlotClass.{SlotClass}
-use Rattle.frame_contents.specs.declared.contents.Contents.{Contents}
-use Rattle.frame_layout.specs.declared.layout.Layout.{Layout}
-use Rattle.ir_model.specs.Names.{position_of}
-use Rattle.ir_model.specs.declared.module.Function.{Function}
-use Rattle.ir_model.specs.declared.module.Module.{Module}
-use Rattle.pass_addresses.specs.Placing.{without_markers}
-use Rattle.pass_copies.specs.BeginCopies.{with_begin_copies}
-use Rattle.pass_edges.specs.EdgeBlocks.{with_edge_blocks}
-use Rattle.pass_frames.specs.Framed.{begin_block, begin_of, celled, copied}
-use Rattle.pass_frames.specs.Tables.{class_flags, label_flags, sizes_by_name}
-use Rattle.pass_frames_proof.specs.Places.{Framing, edged, offsets, unmarked}
-use Rattle.pass_proofs.proofs.addresses.begin_order.Passing.{woven_passes}
-use Rattle.pass_proofs.proofs.addresses.rules.Unmarked.{left_woven, markers_woven, stays_all, unmarked_keeps}
-use Rattle.pass_proofs.proofs.copies.rules.KeptCopies.{with_copies_keeps, with_copies_woven}
-use Rattle.pass_proofs.proofs.frames.begin_order.Framed.{celled_keeps, celled_once, woven}
-use Rattle.pass_proofs.proofs.frames.rules.Built.{frameable, passes_fit}
-use Rattle.pass_proofs.specs.addresses.rules.Addresses.{HasBegin, left_over, turning_weaving}
-use Rattle.pass_proofs.specs.cells.rules.Weaving.{cells_weaving}
-use Rattle.pass_proofs.specs.copies.rules.Copies.{copied_slots, copy_weaving}
-use Rattle.pass_proofs.specs.frames.begin_order.Frames.{IsFrameable}
-use Rattle.pass_proofs.specs.frames.rules.Buildable.{IsBuildable}
-use Rattle.pass_proofs.specs.frames.shape.Passes.{PassesFit}
-use Rattle.rule_laws.proofs.rules.woven_rules.All.{rules_woven}
-use Rattle.rule_laws.proofs.rules.woven_rules.Edges.{incoming_woven}
-use Rattle.rule_laws.specs.rules.function_rules.Kept.{KeepsFunctionRules}
-use Rattle.rule_laws.specs.rules.woven_rules.Pairs.{AreIncomingOnce}
-use Rattle.rule_uses.specs.Uses.{uses_of}
-use Rattle.run_laws.specs.changed.Changed.{Each}
+use Rattle.compiler.specs.frame_classes.declared.class.SlotClass.{SlotClass}
+use Rattle.compiler.specs.frame_contents.declared.contents.Contents.{Contents}
+use Rattle.compiler.specs.frame_layout.declared.layout.Layout.{Layout}
+use Rattle.compiler.specs.ir_model.Names.{position_of}
+use Rattle.compiler.specs.ir_model.declared.module.Function.{Function}
+use Rattle.compiler.specs.ir_model.declared.module.Module.{Module}
+use Rattle.compiler.specs.pass_addresses.Placing.{without_markers}
+use Rattle.compiler.specs.pass_copies.BeginCopies.{with_begin_copies}
+use Rattle.compiler.specs.pass_edges.EdgeBlocks.{with_edge_blocks}
+use Rattle.compiler.specs.pass_frames.Framed.{begin_block, begin_of, celled, copied}
+use Rattle.compiler.specs.pass_frames.Tables.{class_flags, label_flags, sizes_by_name}
+use Rattle.pass_frames_meaning.specs.pass_frames_proof.Places.{Framing, edged, offsets, unmarked}
+use Rattle.compiler.proofs.pass_proofs.addresses.begin_order.Passing.{woven_passes}
+use Rattle.compiler.proofs.pass_proofs.addresses.rules.Unmarked.{left_woven, markers_woven, stays_all, unmarked_keeps}
+use Rattle.compiler.proofs.pass_proofs.copies.rules.KeptCopies.{with_copies_keeps, with_copies_woven}
+use Rattle.compiler.proofs.pass_proofs.frames.begin_order.Framed.{celled_keeps, celled_once, woven}
+use Rattle.compiler.proofs.pass_proofs.frames.rules.Built.{frameable, passes_fit}
+use Rattle.compiler.specs.pass_proofs.addresses.rules.Addresses.{HasBegin, left_over, turning_weaving}
+use Rattle.compiler.specs.pass_proofs.cells.rules.Weaving.{cells_weaving}
+use Rattle.compiler.specs.pass_proofs.copies.rules.Copies.{copied_slots, copy_weaving}
+use Rattle.compiler.specs.pass_proofs.frames.begin_order.Frames.{IsFrameable}
+use Rattle.compiler.specs.pass_proofs.frames.rules.Buildable.{IsBuildable}
+use Rattle.compiler.specs.pass_proofs.frames.shape.Passes.{PassesFit}
+use Rattle.compiler.proofs.rule_laws.rules.woven_rules.All.{rules_woven}
+use Rattle.compiler.proofs.rule_laws.rules.woven_rules.Edges.{incoming_woven}
+use Rattle.compiler.specs.rule_laws.rules.function_rules.Kept.{KeepsFunctionRules}
+use Rattle.compiler.specs.rule_laws.rules.woven_rules.Pairs.{AreIncomingOnce}
+use Rattle.compiler.specs.rule_uses.Uses.{uses_of}
+use Rattle.compiler.specs.run_laws.changed.Changed.{Each}
 
 module _ (m : Module) (k : ℕ) (l : Layout) (f : Function) (c : Contents) (before : List ℕ) (begin : ℕ)
     (h : IsBuildable m k l f c before begin) where

@@ -16,48 +16,48 @@ use Rattle.compiler_theorem.specs.theorem.Asked.{asking}
 use Rattle.compiler_theorem.specs.theorem.Between.{renewing}
 use Rattle.compiler_theorem.specs.theorem.Entries.{IsEntryCall, Run}
 use Rattle.compiler_theorem.specs.theorem.Lowered.{HasFewBytes, IsLowered, Lowered, early, edged}
-use Rattle.frame_classes.specs.Classes.{suspends}
-use Rattle.ir_laws.proofs.facts.Truth.{and_first, and_second}
-use Rattle.ir_paths.proofs.Search.{or_left, or_right}
-use Rattle.ir_laws.proofs.paths.path_rules.Where.{where_has}
-use Rattle.ir_laws.specs.facts.expanded.Tokens.{IsNamedResult}
-use Rattle.ir_model.specs.Names.{function_at, no_function}
-use Rattle.ir_model.specs.declared.instr.Instr.{Instr}
-use Rattle.ir_model.specs.declared.module.Function.{Function}
-use Rattle.ir_model.specs.declared.operand.Callee.{Callee}
-use Rattle.ir_model.specs.declared.operand.Intrinsic.{Intrinsic}
-use Rattle.ir_paths.specs.Slots.{allocas_of, has_name}
-use Rattle.ir_paths.specs.Paths.{has_point}
-use Rattle.ir_paths.specs.Windows.{call_result, instr_at, is_call_of}
-use Rattle.ir_paths.specs.declared.point.Point.{Point}
-use Rattle.pass_edges.specs.EdgeBlocks.{with_edge_blocks}
-use Rattle.pass_frames.specs.Framed.{begin_of}
+use Rattle.compiler.specs.frame_classes.Classes.{suspends}
+use Rattle.compiler.proofs.ir_laws.facts.Truth.{and_first, and_second}
+use Rattle.compiler.proofs.ir_paths.Search.{or_left, or_right}
+use Rattle.compiler.proofs.ir_laws.paths.path_rules.Where.{where_has}
+use Rattle.compiler.specs.ir_laws.facts.expanded.Tokens.{IsNamedResult}
+use Rattle.compiler.specs.ir_model.Names.{function_at, no_function}
+use Rattle.compiler.specs.ir_model.declared.instr.Instr.{Instr}
+use Rattle.compiler.specs.ir_model.declared.module.Function.{Function}
+use Rattle.compiler.specs.ir_model.declared.operand.Callee.{Callee}
+use Rattle.compiler.specs.ir_model.declared.operand.Intrinsic.{Intrinsic}
+use Rattle.compiler.specs.ir_paths.Slots.{allocas_of, has_name}
+use Rattle.compiler.specs.ir_paths.Paths.{has_point}
+use Rattle.compiler.specs.ir_paths.Windows.{call_result, instr_at, is_call_of}
+use Rattle.compiler.specs.ir_paths.declared.point.Point.{Point}
+use Rattle.compiler.specs.pass_edges.EdgeBlocks.{with_edge_blocks}
+use Rattle.compiler.specs.pass_frames.Framed.{begin_of}
 use Rattle.pass_frames_meaning.proofs.led.Tables.{tables_led}
 use Rattle.pass_frames_meaning.specs.Executed.{IsUnframed, KeepAllOwn}
 use Rattle.pass_frames_meaning.specs.Led.{IsBegin, IsBegunOnce, KeepAllNames, KeepsLedTables}
-use Rattle.pass_frames_proof.specs.Framings.{IsFraming}
-use Rattle.pass_frames_proof.specs.Places as place
-use Rattle.pass_kept_proof.proofs.Read.{listed_by_name}
-use Rattle.pass_kept_proof.specs.SuspendRules.{IsCallAt}
-use Rattle.pass_proofs.proofs.early.save_simulation.Suspending.{fetch_at}
-use Rattle.pass_proofs.proofs.kept.sources.Names.{suspend_inside}
-use Rattle.pass_proofs.proofs.kept.sources.Whole.{split_rules}
-use Rattle.pass_proofs.specs.edges.states.MovedState.{edge_function}
-use Rattle.pass_renewed_meaning.proofs.Tables.{renewed_are}
-use Rattle.pass_renewed_proof.specs.SlotRules.{IsMadeOnce}
-use Rattle.rule_laws.proofs.rules.source_rules.Slots.{alloca_of}
-use Rattle.rule_laws.proofs.rules.sources.Places.{instr_there, point}
+use Rattle.pass_frames_meaning.specs.pass_frames_proof.Framings.{IsFraming}
+use Rattle.pass_frames_meaning.specs.pass_frames_proof.Places as place
+use Rattle.compiler.proofs.pass_kept_proof.Read.{listed_by_name}
+use Rattle.compiler.specs.pass_kept_proof.SuspendRules.{IsCallAt}
+use Rattle.compiler.proofs.pass_proofs.early.save_simulation.Suspending.{fetch_at}
+use Rattle.compiler.proofs.pass_proofs.kept.sources.Names.{suspend_inside}
+use Rattle.compiler.proofs.pass_proofs.kept.sources.Whole.{split_rules}
+use Rattle.compiler.specs.pass_proofs.edges.states.MovedState.{edge_function}
+use Rattle.pass_frames_meaning.proofs.pass_renewed_meaning.Tables.{renewed_are}
+use Rattle.pass_frames_meaning.specs.pass_renewed_proof.SlotRules.{IsMadeOnce}
+use Rattle.compiler.proofs.rule_laws.rules.source_rules.Slots.{alloca_of}
+use Rattle.compiler.proofs.rule_laws.rules.sources.Places.{instr_there, point}
 use Rattle.run_accepted.proofs.Once.{made_once}
 use Rattle.run_accepted.proofs.Plain.{no_call}
-use Rattle.run_framed.specs.Framed.{begin_name}
-use Rattle.run_laws.specs.changed.Changed.{result_at}
-use Rattle.run_source.specs.Source.{is_among}
-use Rattle.run_source_tables.specs.Given.{facts_at}
-use Rattle.run_states.proofs.sound_states.Fits.{result_named}
-use Rattle.ir_paths.specs.declared.point.Facts.{Facts}
-use Rattle.run_step.specs.Step.{AtInstr, fetch}
-use Rattle.run_step.specs.declared.world.Slot.{Slot}
-use Rattle.rule_laws.specs.rules.function_rules.Kept.{KeepsFunctionRules}
+use Rattle.compiler.specs.run_framed.Framed.{begin_name}
+use Rattle.compiler.specs.run_laws.changed.Changed.{result_at}
+use Rattle.compiler.specs.run_source.Source.{is_among}
+use Rattle.compiler.specs.run_source_tables.Given.{facts_at}
+use Rattle.compiler.proofs.run_states.sound_states.Fits.{result_named}
+use Rattle.compiler.specs.ir_paths.declared.point.Facts.{Facts}
+use Rattle.compiler.specs.run_step.Step.{AtInstr, fetch}
+use Rattle.compiler.specs.run_step.declared.world.Slot.{Slot}
+use Rattle.compiler.specs.rule_laws.rules.function_rules.Kept.{KeepsFunctionRules}
 
 -- ---- lists of names
 

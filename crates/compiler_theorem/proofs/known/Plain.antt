@@ -3,33 +3,33 @@ use Rattle.std.proofs.Common.{◌≡◌, ⊎_elim, ℕ, zero, suc, ◌+◌, ◌<
 use Rattle.std.proofs.Common.{length, Option, Some, refl, sym, ap, ◌∙◌, subst, arith}
 use Rattle.std.proofs.lemmas.Bool.{cases_lt}
 use Rattle.std.specs.Prelude.{slice_get, ◌==◌}
-use Rattle.ir_laws.proofs.facts.Lists.{get_within}
-use Rattle.ir_laws.proofs.facts.Truth.{itself}
-use Rattle.ir_laws.proofs.paths.renamed.Uses.{stands_in}
-use Rattle.ir_model.specs.Names.{is_local}
-use Rattle.ir_model.specs.Ty.{Ty}
-use Rattle.ir_model.specs.declared.instr.Instr.{Instr}
-use Rattle.ir_model.specs.declared.module.Block.{Block}
-use Rattle.ir_model.specs.declared.module.Function.{Function}
-use Rattle.ir_model.specs.declared.module.Module.{Module}
-use Rattle.ir_model.specs.declared.operand.Arg.{Arg}
-use Rattle.ir_model.specs.declared.operand.Operand.{Operand}
-use Rattle.ir_model.specs.declared.operand.Intrinsic.{Intrinsic}
-use Rattle.ir_paths.proofs.Search.{or_left, or_right}
-use Rattle.ir_paths.specs.Slots.{allocas_of, has_name}
-use Rattle.ir_paths.specs.Windows.{instr_in}
-use Rattle.pass_frames_proof.specs.Marking.{marking}
-use Rattle.pass_kept_proof.specs.Crossing.{IsDefinite, IsReachedWithout, after_without, first_without}
-use Rattle.pass_kept_proof.specs.Needed.{given_by, reads_at}
-use Rattle.pass_proofs.proofs.early.save_simulation.Suspending.{fetch_at}
-use Rattle.pass_renewed_proof.specs.SlotRules.{IsMadeOnce}
-use Rattle.pass_renewed_proof.specs.Steps.{given_at}
-use Rattle.rule_laws.proofs.rules.sources.Places.{instr_there, point}
-use Rattle.rule_laws.specs.rules.function_rules.Kept.{KeepsFunctionRules}
+use Rattle.compiler.proofs.ir_laws.facts.Lists.{get_within}
+use Rattle.compiler.proofs.ir_laws.facts.Truth.{itself}
+use Rattle.compiler.proofs.ir_laws.paths.renamed.Uses.{stands_in}
+use Rattle.compiler.specs.ir_model.Names.{is_local}
+use Rattle.compiler.specs.ir_model.Ty.{Ty}
+use Rattle.compiler.specs.ir_model.declared.instr.Instr.{Instr}
+use Rattle.compiler.specs.ir_model.declared.module.Block.{Block}
+use Rattle.compiler.specs.ir_model.declared.module.Function.{Function}
+use Rattle.compiler.specs.ir_model.declared.module.Module.{Module}
+use Rattle.compiler.specs.ir_model.declared.operand.Arg.{Arg}
+use Rattle.compiler.specs.ir_model.declared.operand.Operand.{Operand}
+use Rattle.compiler.specs.ir_model.declared.operand.Intrinsic.{Intrinsic}
+use Rattle.compiler.proofs.ir_paths.Search.{or_left, or_right}
+use Rattle.compiler.specs.ir_paths.Slots.{allocas_of, has_name}
+use Rattle.compiler.specs.ir_paths.Windows.{instr_in}
+use Rattle.pass_frames_meaning.specs.pass_frames_proof.Marking.{marking}
+use Rattle.compiler.specs.pass_kept_proof.Crossing.{IsDefinite, IsReachedWithout, after_without, first_without}
+use Rattle.compiler.specs.pass_kept_proof.Needed.{given_by, reads_at}
+use Rattle.compiler.proofs.pass_proofs.early.save_simulation.Suspending.{fetch_at}
+use Rattle.pass_frames_meaning.specs.pass_renewed_proof.SlotRules.{IsMadeOnce}
+use Rattle.pass_frames_meaning.specs.pass_renewed_proof.Steps.{given_at}
+use Rattle.compiler.proofs.rule_laws.rules.sources.Places.{instr_there, point}
+use Rattle.compiler.specs.rule_laws.rules.function_rules.Kept.{KeepsFunctionRules}
 use Rattle.run_accepted.proofs.Alive.{listed}
 use Rattle.run_accepted.proofs.Marks.{marks_alloca}
-use Rattle.run_hooks.specs.alive.Alive.{IsEnd, IsStart, MarksAlloca}
-use Rattle.run_step.specs.Step.{AtInstr, fetch}
+use Rattle.pass_frames_meaning.specs.run_hooks.alive.Alive.{IsEnd, IsStart, MarksAlloca}
+use Rattle.compiler.specs.run_step.Step.{AtInstr, fetch}
 
 pub there_at : {A : Type 0} (xs : List A) (i : ℕ) → i < length xs → (x : A) × (slice_get xs i ≡ Some x)
 there_at [] i lt = absurd (omega (arith, lt))

@@ -8,20 +8,20 @@ use Rattle.compiler_theorem.specs.known.Counts.{is_slot_of, own, stays_own}
 use Rattle.compiler_theorem.specs.theorem.Anew.{Anew, IsAnewOf}
 use Rattle.compiler_theorem.specs.theorem.Entries.{IsEntryCall, Run}
 use Rattle.compiler_theorem.specs.theorem.Lowered.{HasFewBytes, IsLowered, Lowered, early, edged}
-use Rattle.ir_laws.proofs.facts.Truth.{and_first, and_second, equal_numbers}
-use Rattle.ir_model.specs.Names.{function_at}
-use Rattle.ir_model.specs.Ty.{Ty}
-use Rattle.ir_model.specs.declared.operand.Arg.{Arg}
-use Rattle.ir_paths.specs.Slots.{IsRampSlot, allocas_of, has_name}
-use Rattle.ir_paths.specs.declared.point.Facts.{Facts}
-use Rattle.pass_frames_proof.specs.Marking.{marking}
-use Rattle.pass_kept_proof.specs.Needed.{reads_at}
-use Rattle.pass_proofs.proofs.kept.sources.Whole.{split_named}
-use Rattle.pass_renewed_meaning.proofs.Tables.{facts_are, renewed_are}
-use Rattle.pass_renewed_proof.specs.Way.{IsResumedAt}
-use Rattle.rule_laws.proofs.rules.sources.Places.{point}
+use Rattle.compiler.proofs.ir_laws.facts.Truth.{and_first, and_second, equal_numbers}
+use Rattle.compiler.specs.ir_model.Names.{function_at}
+use Rattle.compiler.specs.ir_model.Ty.{Ty}
+use Rattle.compiler.specs.ir_model.declared.operand.Arg.{Arg}
+use Rattle.compiler.specs.ir_paths.Slots.{IsRampSlot, allocas_of, has_name}
+use Rattle.compiler.specs.ir_paths.declared.point.Facts.{Facts}
+use Rattle.pass_frames_meaning.specs.pass_frames_proof.Marking.{marking}
+use Rattle.compiler.specs.pass_kept_proof.Needed.{reads_at}
+use Rattle.compiler.proofs.pass_proofs.kept.sources.Whole.{split_named}
+use Rattle.pass_frames_meaning.proofs.pass_renewed_meaning.Tables.{facts_are, renewed_are}
+use Rattle.pass_frames_meaning.specs.pass_renewed_proof.Way.{IsResumedAt}
+use Rattle.compiler.proofs.rule_laws.rules.sources.Places.{point}
 use Rattle.run_accepted.proofs.RampSlots.{ramp_unread}
-use Rattle.run_step.specs.Step.{AtInstr, fetch}
+use Rattle.compiler.specs.run_step.Step.{AtInstr, fetch}
 
 behind_filter : (p : ℕ → Bool) (xs ys : List ℕ) (v : ℕ) → p v ≡ false → has_name (filter p xs ++ ys) v ≡ true
     → has_name ys v ≡ true

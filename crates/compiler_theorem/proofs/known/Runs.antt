@@ -15,12 +15,12 @@ use Rattle.compiler_theorem.specs.theorem.Asked.{asking}
 use Rattle.compiler_theorem.specs.theorem.Between.{renewing}
 use Rattle.compiler_theorem.specs.theorem.Entries.{IsEntryCall, IsIntegerParam, Run}
 use Rattle.compiler_theorem.specs.theorem.Lowered.{HasFewBytes, IsLowered, Lowered, early, edged}
-use Rattle.ir_base.specs.declared.outcome.Outcome.{Outcome}
-use Rattle.ir_model.specs.Names.{no_function}
-use Rattle.ir_model.specs.Ty.{Ty, int, ptr}
-use Rattle.ir_model.specs.declared.module.Function.{Function}
-use Rattle.ir_model.specs.declared.module.Param.{Param}
-use Rattle.ir_model.specs.declared.operand.Arg.{Arg}
+use Rattle.compiler.specs.ir_base.declared.outcome.Outcome.{Outcome}
+use Rattle.compiler.specs.ir_model.Names.{no_function}
+use Rattle.compiler.specs.ir_model.Ty.{Ty, int, ptr}
+use Rattle.compiler.specs.ir_model.declared.module.Function.{Function}
+use Rattle.compiler.specs.ir_model.declared.module.Param.{Param}
+use Rattle.compiler.specs.ir_model.declared.operand.Arg.{Arg}
 use Rattle.pass_frames_meaning.proofs.anew.Anew.{states_anew}
 use Rattle.pass_frames_meaning.proofs.anew.Renewed.{renewed_keeps_anew}
 use Rattle.pass_frames_meaning.proofs.executed.Executed.{states_executed}
@@ -49,23 +49,23 @@ use Rattle.pass_frames_meaning.specs.Setting.{MayStep}
 use Rattle.pass_frames_meaning.specs.Sized.{IsSizedAt, IsSizedState}
 use Rattle.pass_frames_meaning.specs.Spared.{AreFieldsApart}
 use Rattle.pass_frames_meaning.specs.Unbegun.{IsUnbegunState}
-use Rattle.pass_frames_proof.specs.Marking.{marking}
-use Rattle.pass_frames_proof.specs.Related.{AreBuiltOf, is_coroutine}
-use Rattle.pass_frames_proof.specs.Stepping.{IsNotEntering}
-use Rattle.pass_renewed_proof.specs.Renewed.{RenewedGiven, renewed_step}
-use Rattle.run_hooks.proofs.Keeping.{renewed_keeps}
-use Rattle.run_hooks.proofs.Reaching.{states_reached}
-use Rattle.run_hooks.specs.Away.{KeepsAllPlaceRules}
-use Rattle.run_hooks.specs.Hooks.{hooked_state_at}
-use Rattle.run_hooks.specs.Meanings.{renewed_hooks}
-use Rattle.run_hooks.specs.Reached.{AllHaveSwitches}
-use Rattle.run_source.specs.Source.{first_state}
-use Rattle.run_source.specs.State.{function_of}
-use Rattle.run_source.specs.declared.state.State.{State}
-use Rattle.run_states.specs.sound_states.Sound.{HasValues}
-use Rattle.run_step.specs.Runs.{iterate}
-use Rattle.run_step.specs.Step.{AtInstr, fetch}
-use Rattle.run_types.specs.Rules.{KeepsAllTypes}
+use Rattle.pass_frames_meaning.specs.pass_frames_proof.Marking.{marking}
+use Rattle.pass_frames_meaning.specs.pass_frames_proof.Related.{AreBuiltOf, is_coroutine}
+use Rattle.pass_frames_meaning.specs.pass_frames_proof.Stepping.{IsNotEntering}
+use Rattle.pass_frames_meaning.specs.pass_renewed_proof.Renewed.{RenewedGiven, renewed_step}
+use Rattle.pass_frames_meaning.proofs.run_hooks.Keeping.{renewed_keeps}
+use Rattle.pass_frames_meaning.proofs.run_hooks.Reaching.{states_reached}
+use Rattle.pass_frames_meaning.specs.run_hooks.Away.{KeepsAllPlaceRules}
+use Rattle.pass_frames_meaning.specs.run_hooks.Hooks.{hooked_state_at}
+use Rattle.pass_frames_meaning.specs.run_hooks.Meanings.{renewed_hooks}
+use Rattle.pass_frames_meaning.specs.run_hooks.Reached.{AllHaveSwitches}
+use Rattle.compiler.specs.run_source.Source.{first_state}
+use Rattle.compiler.specs.run_source.State.{function_of}
+use Rattle.compiler.specs.run_source.declared.state.State.{State}
+use Rattle.compiler.specs.run_states.sound_states.Sound.{HasValues}
+use Rattle.compiler.specs.run_step.Runs.{iterate}
+use Rattle.compiler.specs.run_step.Step.{AtInstr, fetch}
+use Rattle.pass_frames_meaning.specs.run_types.Rules.{KeepsAllTypes}
 
 -- the last step of a run
 pub last_step : {S : Type 0} (f : S → S) (n : ℕ) (s : S) → iterate f (suc n) s ≡ f (iterate f n s)

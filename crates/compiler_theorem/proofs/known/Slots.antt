@@ -12,31 +12,31 @@ use Rattle.compiler_theorem.specs.theorem.Anew.{Anew, IsAnewOf}
 use Rattle.compiler_theorem.specs.theorem.Asked.{asking}
 use Rattle.compiler_theorem.specs.theorem.Entries.{IsEntryCall, Run}
 use Rattle.compiler_theorem.specs.theorem.Lowered.{HasFewBytes, IsLowered, Lowered, early, edged}
-use Rattle.frame_classes.specs.Classes.{IsOf}
-use Rattle.frame_classes.specs.declared.class.SlotClass.{SlotClass}
-use Rattle.ir_model.specs.Names.{function_at}
-use Rattle.ir_model.specs.declared.module.Function.{Function}
-use Rattle.ir_paths.proofs.Right.{facts_of_right}
-use Rattle.ir_paths.specs.Facts.{all_facts}
-use Rattle.ir_paths.specs.Slots.{IsRampSlot, allocas_of, has_name}
-use Rattle.ir_paths.specs.declared.point.Facts.{Facts}
-use Rattle.pass_addresses.specs.Placing.{is_none}
-use Rattle.pass_cells.specs.Kept.{entry, joined}
-use Rattle.pass_edges.specs.EdgeBlocks.{with_edge_blocks}
-use Rattle.pass_frames.specs.Tables.{is_of}
-use Rattle.pass_frames_proof.specs.Framings.{IsFraming}
-use Rattle.pass_frames_proof.specs.Places.{Framing, offsets, with_copies}
-use Rattle.pass_frames_proof.specs.Places as place
-use Rattle.pass_proofs.proofs.edges.paths.Slots.{same_ramp_slots}
-use Rattle.pass_proofs.proofs.frames.begin_order.Framed.{frame_alone, in_either, old_slot, slot_alloca}
-use Rattle.pass_proofs.proofs.frames.begin_order.Tables.{IsOfClass}
-use Rattle.pass_proofs.proofs.kept.sources.Whole.{edges_kept}
-use Rattle.pass_proofs.specs.addresses.rules.Addresses.{lies_in_frame}
-use Rattle.pass_proofs.specs.edges.states.MovedState.{KeepsEdges}
-use Rattle.pass_proofs.specs.frames.begin_order.Fields.{IsField, values_kept}
-use Rattle.pass_renewed_meaning.proofs.Tables.{facts_are, renewed_are}
-use Rattle.pass_renewed_proof.specs.Renewed.{renewed_facts}
-use Rattle.run_source_tables.specs.Given.{facts_at}
+use Rattle.compiler.specs.frame_classes.Classes.{IsOf}
+use Rattle.compiler.specs.frame_classes.declared.class.SlotClass.{SlotClass}
+use Rattle.compiler.specs.ir_model.Names.{function_at}
+use Rattle.compiler.specs.ir_model.declared.module.Function.{Function}
+use Rattle.compiler.proofs.ir_paths.Right.{facts_of_right}
+use Rattle.compiler.specs.ir_paths.Facts.{all_facts}
+use Rattle.compiler.specs.ir_paths.Slots.{IsRampSlot, allocas_of, has_name}
+use Rattle.compiler.specs.ir_paths.declared.point.Facts.{Facts}
+use Rattle.compiler.specs.pass_addresses.Placing.{is_none}
+use Rattle.compiler.specs.pass_cells.Kept.{entry, joined}
+use Rattle.compiler.specs.pass_edges.EdgeBlocks.{with_edge_blocks}
+use Rattle.compiler.specs.pass_frames.Tables.{is_of}
+use Rattle.pass_frames_meaning.specs.pass_frames_proof.Framings.{IsFraming}
+use Rattle.pass_frames_meaning.specs.pass_frames_proof.Places.{Framing, offsets, with_copies}
+use Rattle.pass_frames_meaning.specs.pass_frames_proof.Places as place
+use Rattle.compiler.proofs.pass_proofs.edges.paths.Slots.{same_ramp_slots}
+use Rattle.compiler.proofs.pass_proofs.frames.begin_order.Framed.{frame_alone, in_either, old_slot, slot_alloca}
+use Rattle.compiler.proofs.pass_proofs.frames.begin_order.Tables.{IsOfClass}
+use Rattle.compiler.proofs.pass_proofs.kept.sources.Whole.{edges_kept}
+use Rattle.compiler.specs.pass_proofs.addresses.rules.Addresses.{lies_in_frame}
+use Rattle.compiler.specs.pass_proofs.edges.states.MovedState.{KeepsEdges}
+use Rattle.compiler.specs.pass_proofs.frames.begin_order.Fields.{IsField, values_kept}
+use Rattle.pass_frames_meaning.proofs.pass_renewed_meaning.Tables.{facts_are, renewed_are}
+use Rattle.pass_frames_meaning.specs.pass_renewed_proof.Renewed.{renewed_facts}
+use Rattle.compiler.specs.run_source_tables.Given.{facts_at}
 
 -- what a table tells of a name
 pub in_frame : (t : List (Option ℕ)) (v d : ℕ) → entry t v ≡ Some d → lies_in_frame t v ≡ true

@@ -12,36 +12,36 @@ use Rattle.compiler_theorem.specs.theorem.Anew.{Anew, IsAnewOf}
 use Rattle.compiler_theorem.specs.theorem.Asked.{asking}
 use Rattle.compiler_theorem.specs.theorem.Entries.{IsEntryCall, Run}
 use Rattle.compiler_theorem.specs.theorem.Lowered.{HasFewBytes, IsLowered, Lowered, early, edged}
-use Rattle.ir_laws.proofs.paths.renamed.Uses.{stands_in}
-use Rattle.ir_model.specs.Names.{function_at, position_of}
-use Rattle.ir_model.specs.declared.module.Block.{Block}
-use Rattle.ir_model.specs.declared.module.Function.{Function}
-use Rattle.ir_model.specs.declared.operand.Operand.{Operand}
-use Rattle.pass_addresses.specs.Placing.{slot_fetches}
-use Rattle.pass_cells.specs.Cells.{fetches_of}
-use Rattle.pass_cells.specs.Kept.{entry}
-use Rattle.pass_fetch.specs.Fetching.{fetch_of}
-use Rattle.pass_fetch.specs.declared.fetch.Fetch.{Fetch}
-use Rattle.pass_frames.specs.Framed.{begin_of, layout_at}
+use Rattle.compiler.proofs.ir_laws.paths.renamed.Uses.{stands_in}
+use Rattle.compiler.specs.ir_model.Names.{function_at, position_of}
+use Rattle.compiler.specs.ir_model.declared.module.Block.{Block}
+use Rattle.compiler.specs.ir_model.declared.module.Function.{Function}
+use Rattle.compiler.specs.ir_model.declared.operand.Operand.{Operand}
+use Rattle.compiler.specs.pass_addresses.Placing.{slot_fetches}
+use Rattle.compiler.specs.pass_cells.Cells.{fetches_of}
+use Rattle.compiler.specs.pass_cells.Kept.{entry}
+use Rattle.compiler.specs.pass_fetch.Fetching.{fetch_of}
+use Rattle.compiler.specs.pass_fetch.declared.fetch.Fetch.{Fetch}
+use Rattle.compiler.specs.pass_frames.Framed.{begin_of, layout_at}
 use Rattle.pass_frames_meaning.specs.Known.{AreSlotsBehind}
 use Rattle.pass_frames_meaning.specs.Unbegun.{IsBefore}
-use Rattle.pass_frames_proof.proofs.code.Left.{fetch_found}
-use Rattle.pass_frames_proof.proofs.code.Names.{kept_left}
-use Rattle.pass_frames_proof.proofs.code.Passes.{block_is}
-use Rattle.pass_frames_proof.proofs.layers.Grown.{both_passed}
-use Rattle.pass_frames_proof.specs.Framings.{IsFraming}
-use Rattle.pass_frames_proof.specs.Layers.{passed, state_at}
-use Rattle.pass_frames_proof.specs.Places.{Framing, Placed, Unmarked, addressing_layer, instrs_at, offsets, plan}
-use Rattle.pass_frames_proof.specs.Places.{unmarked, unmarked_layer}
-use Rattle.pass_frames_proof.specs.Places as place
-use Rattle.pass_frames_proof.specs.Stepping.{state_in}
-use Rattle.pass_proofs.proofs.frames.numbers.Numbers.{number_given}
-use Rattle.pass_proofs.specs.addresses.rules.Addresses.{HasBegin, lies_in_frame}
-use Rattle.rule_laws.proofs.rules.sources.Places.{instr_there, point}
-use Rattle.rule_laws.specs.rules.function_rules.Kept.{KeepsFunctionRules}
-use Rattle.rule_uses.specs.Uses.{uses_of}
-use Rattle.run_laws.specs.changed.Changed.{Each}
-use Rattle.run_step.specs.Step.{fetch}
+use Rattle.pass_frames_meaning.proofs.pass_frames_proof.code.Left.{fetch_found}
+use Rattle.pass_frames_meaning.proofs.pass_frames_proof.code.Names.{kept_left}
+use Rattle.pass_frames_meaning.proofs.pass_frames_proof.code.Passes.{block_is}
+use Rattle.pass_frames_meaning.proofs.pass_frames_proof.layers.Grown.{both_passed}
+use Rattle.pass_frames_meaning.specs.pass_frames_proof.Framings.{IsFraming}
+use Rattle.pass_frames_meaning.specs.pass_frames_proof.Layers.{passed, state_at}
+use Rattle.pass_frames_meaning.specs.pass_frames_proof.Places.{Framing, Placed, Unmarked, addressing_layer, instrs_at, offsets, plan}
+use Rattle.pass_frames_meaning.specs.pass_frames_proof.Places.{unmarked, unmarked_layer}
+use Rattle.pass_frames_meaning.specs.pass_frames_proof.Places as place
+use Rattle.pass_frames_meaning.specs.pass_frames_proof.Stepping.{state_in}
+use Rattle.compiler.proofs.pass_proofs.frames.numbers.Numbers.{number_given}
+use Rattle.compiler.specs.pass_proofs.addresses.rules.Addresses.{HasBegin, lies_in_frame}
+use Rattle.compiler.proofs.rule_laws.rules.sources.Places.{instr_there, point}
+use Rattle.compiler.specs.rule_laws.rules.function_rules.Kept.{KeepsFunctionRules}
+use Rattle.compiler.specs.rule_uses.Uses.{uses_of}
+use Rattle.compiler.specs.run_laws.changed.Changed.{Each}
+use Rattle.compiler.specs.run_step.Step.{fetch}
 
 -- a slot in the frame is kept in no cell
 has_place : (begin : ℕ) (t : List (Option ℕ)) (v d : ℕ) → entry t v ≡ Some d

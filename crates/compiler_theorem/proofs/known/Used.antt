@@ -5,29 +5,29 @@ use Rattle.std.proofs.lemmas.Bool.{eqb-true}
 use Rattle.std.specs.List.{list_any}
 use Rattle.std.specs.Prelude.{if◌then◌else◌, ◌==◌}
 use Rattle.compiler_theorem.proofs.known.Behind.{cell_keeps, named_there}
-use Rattle.flow_solver.specs.Paths.{IsListed}
-use Rattle.ir_model.specs.Names.{is_local}
-use Rattle.ir_model.specs.declared.instr.Instr.{Instr}
-use Rattle.ir_model.specs.declared.operand.Callee.{Callee}
-use Rattle.ir_model.specs.declared.operand.Intrinsic.{Intrinsic}
-use Rattle.ir_model.specs.declared.operand.Operand.{Operand}
-use Rattle.ir_parts.specs.Contents.{instr_operands}
-use Rattle.ir_paths.specs.Windows.{is_call_of}
-use Rattle.pass_addresses.specs.Placing.{stays, without_promise_of}
-use Rattle.pass_cells.specs.Cells.{fetches_of}
-use Rattle.pass_copies.specs.BeginCopies.{is_fetched}
-use Rattle.pass_fetch.specs.Fetching.{fetch_of, fetches_by, fetches_of_all, next_after}
-use Rattle.pass_fetch.specs.Instrs.{with_fetched}
-use Rattle.pass_fetch.specs.declared.fetch.Fetch.{Fetch}
-use Rattle.pass_frames.specs.Framed.{is_begin}
+use Rattle.compiler.specs.flow_solver.Paths.{IsListed}
+use Rattle.compiler.specs.ir_model.Names.{is_local}
+use Rattle.compiler.specs.ir_model.declared.instr.Instr.{Instr}
+use Rattle.compiler.specs.ir_model.declared.operand.Callee.{Callee}
+use Rattle.compiler.specs.ir_model.declared.operand.Intrinsic.{Intrinsic}
+use Rattle.compiler.specs.ir_model.declared.operand.Operand.{Operand}
+use Rattle.compiler.specs.ir_parts.Contents.{instr_operands}
+use Rattle.compiler.specs.ir_paths.Windows.{is_call_of}
+use Rattle.compiler.specs.pass_addresses.Placing.{stays, without_promise_of}
+use Rattle.compiler.specs.pass_cells.Cells.{fetches_of}
+use Rattle.compiler.specs.pass_copies.BeginCopies.{is_fetched}
+use Rattle.compiler.specs.pass_fetch.Fetching.{fetch_of, fetches_by, fetches_of_all, next_after}
+use Rattle.compiler.specs.pass_fetch.Instrs.{with_fetched}
+use Rattle.compiler.specs.pass_fetch.declared.fetch.Fetch.{Fetch}
+use Rattle.compiler.specs.pass_frames.Framed.{is_begin}
 use Rattle.pass_frames_meaning.specs.Standing.{IsStaying}
-use Rattle.pass_frames_proof.specs.Code.{is_ahead, where_name}
-use Rattle.pass_frames_proof.specs.Layers.{met, passed}
-use Rattle.pass_frames_proof.specs.Places.{Framing, Placed, Unmarked, celled_layer, copies, copying_layer, marked}
-use Rattle.pass_frames_proof.specs.Places.{plan, unmarked_layer}
-use Rattle.pass_frames_proof.specs.Stepping.{IsUnlocated}
-use Rattle.pass_frames_proof.specs.Tests.{AllFail}
-use Rattle.pass_proofs.proofs.cells.crossing.Calls.{same_call}
+use Rattle.pass_frames_meaning.specs.pass_frames_proof.Code.{is_ahead, where_name}
+use Rattle.pass_frames_meaning.specs.pass_frames_proof.Layers.{met, passed}
+use Rattle.pass_frames_meaning.specs.pass_frames_proof.Places.{Framing, Placed, Unmarked, celled_layer, copies, copying_layer, marked}
+use Rattle.pass_frames_meaning.specs.pass_frames_proof.Places.{plan, unmarked_layer}
+use Rattle.pass_frames_meaning.specs.pass_frames_proof.Stepping.{IsUnlocated}
+use Rattle.pass_frames_meaning.specs.pass_frames_proof.Tests.{AllFail}
+use Rattle.compiler.proofs.pass_proofs.cells.crossing.Calls.{same_call}
 
 -- ---- lists
 

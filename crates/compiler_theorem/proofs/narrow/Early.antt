@@ -1,15 +1,15 @@
 -- The first pass puts in no structure.
 use Rattle.std.proofs.Common.{ℕ, List}
 use Rattle.compiler_theorem.specs.narrow.Narrow.{IsNarrowBlock, IsNarrowFunction, IsNarrowInstr}
-use Rattle.ir_laws.proofs.facts.Members.{each_joined}
-use Rattle.ir_model.specs.declared.instr.Instr.{Instr}
-use Rattle.ir_model.specs.declared.module.Block.{Block}
-use Rattle.ir_model.specs.declared.module.Function.{Function}
-use Rattle.pass_early.specs.Early.{early_function}
-use Rattle.pass_early.specs.Renaming.{renamed_instr}
-use Rattle.pass_early.specs.declared.renaming.Renaming.{Renaming}
-use Rattle.pass_proofs.proofs.early.local_rules.Turned.{Any, Begins, Further, NoBlock, Nothing, OneMore, Saves, Stays, Turns, TurnsAll, TurnsBlocks, turned_function}
-use Rattle.run_laws.specs.changed.Changed.{Each}
+use Rattle.compiler.proofs.ir_laws.facts.Members.{each_joined}
+use Rattle.compiler.specs.ir_model.declared.instr.Instr.{Instr}
+use Rattle.compiler.specs.ir_model.declared.module.Block.{Block}
+use Rattle.compiler.specs.ir_model.declared.module.Function.{Function}
+use Rattle.compiler.specs.pass_early.Early.{early_function}
+use Rattle.compiler.specs.pass_early.Renaming.{renamed_instr}
+use Rattle.compiler.specs.pass_early.declared.renaming.Renaming.{Renaming}
+use Rattle.compiler.proofs.pass_proofs.early.local_rules.Turned.{Any, Begins, Further, NoBlock, Nothing, OneMore, Saves, Stays, Turns, TurnsAll, TurnsBlocks, turned_function}
+use Rattle.compiler.specs.run_laws.changed.Changed.{Each}
 
 module _ (bound : ℕ) where
   renamed_narrow : (r : Renaming) (i : Instr) → IsNarrowInstr bound i → IsNarrowInstr bound (renamed_instr r i)

@@ -6,34 +6,34 @@ use Rattle.std.specs.Prelude.{pos, slice_get, ◌&&◌, unwrap_or, if◌then◌e
 use Rattle.compiler_theorem.proofs.parts.Fields.{int_is, same_field}
 use Rattle.compiler_theorem.specs.narrow.Narrow.{AreNarrow, IsNarrow, IsNarrowBlock, IsNarrowFunction, IsNarrowInstr, IsNarrowModule, field_count}
 use Rattle.compiler_theorem.specs.parts.Framed.{AreSmallIndices, AreSmallInnerIndices, IsSmallIndex}
-use Rattle.ir_base.specs.declared.name.Name.{Name}
-use Rattle.ir_laws.proofs.facts.Members.{at_each}
-use Rattle.ir_laws.proofs.facts.Truth.{and_second, holds}
-use Rattle.ir_laws.proofs.paths.renamed.Uses.{stands_in}
-use Rattle.ir_model.specs.Layout.{field_type, type_named, type_or, unnamed}
-use Rattle.ir_model.specs.Names.{same_name}
-use Rattle.ir_model.specs.Ty.{Ty, Tys, array, field, int, named, none, ptr, structure, token}
-use Rattle.ir_model.specs.declared.instr.Instr.{Instr}
-use Rattle.ir_model.specs.declared.module.Function.{Function}
-use Rattle.ir_model.specs.declared.module.Module.{Module}
-use Rattle.ir_model.specs.declared.module.TypeItem.{TypeItem}
-use Rattle.ir_model.specs.declared.operand.Arg.{Arg}
-use Rattle.ir_model.specs.declared.operand.Operand.{Operand}
-use Rattle.pass_renewed_proof.specs.SlotRules.{AreSteady, AreSteadyInside, IsNoLocal, IsSteady}
+use Rattle.compiler.specs.ir_base.declared.name.Name.{Name}
+use Rattle.compiler.proofs.ir_laws.facts.Members.{at_each}
+use Rattle.compiler.proofs.ir_laws.facts.Truth.{and_second, holds}
+use Rattle.compiler.proofs.ir_laws.paths.renamed.Uses.{stands_in}
+use Rattle.compiler.specs.ir_model.Layout.{field_type, type_named, type_or, unnamed}
+use Rattle.compiler.specs.ir_model.Names.{same_name}
+use Rattle.compiler.specs.ir_model.Ty.{Ty, Tys, array, field, int, named, none, ptr, structure, token}
+use Rattle.compiler.specs.ir_model.declared.instr.Instr.{Instr}
+use Rattle.compiler.specs.ir_model.declared.module.Function.{Function}
+use Rattle.compiler.specs.ir_model.declared.module.Module.{Module}
+use Rattle.compiler.specs.ir_model.declared.module.TypeItem.{TypeItem}
+use Rattle.compiler.specs.ir_model.declared.operand.Arg.{Arg}
+use Rattle.compiler.specs.ir_model.declared.operand.Operand.{Operand}
+use Rattle.pass_frames_meaning.specs.pass_renewed_proof.SlotRules.{AreSteady, AreSteadyInside, IsNoLocal, IsSteady}
 use Rattle.pass_split_proof.proofs.ready.Distances.{field_index}
 use Rattle.pass_split_proof.specs.ready.Fields.{AreFieldIndices, AreInnerIndices, IsFieldIndex, number_in, type_inside}
-use Rattle.rule_laws.proofs.rules.counted.PartFacts.{block_passes}
-use Rattle.rule_laws.proofs.rules.sources.Places.{instr_there, point}
-use Rattle.rule_laws.specs.rules.function_rules.Kept.{KeepsFunctionRules}
-use Rattle.rule_types.specs.Wants.{is_int}
-use Rattle.rule_values.specs.Fits.{fits, fits_integer, is_tokenless}
-use Rattle.rule_values.specs.Geps.{field_at, field_number, field_of, indices_fit, leads_in, only_if, part_of}
-use Rattle.rule_values.specs.Instrs.{fits_instr}
-use Rattle.rule_values.specs.Kinds.{value_kind}
-use Rattle.rule_values.specs.Values.{breaks_values}
-use Rattle.run_laws.specs.changed.Changed.{Each}
-use Rattle.run_step.specs.Step.{AtInstr, fetch}
-use Rattle.run_step.specs.Values.{arg_value, index_of, number_at, part_at}
+use Rattle.compiler.proofs.rule_laws.rules.counted.PartFacts.{block_passes}
+use Rattle.compiler.proofs.rule_laws.rules.sources.Places.{instr_there, point}
+use Rattle.compiler.specs.rule_laws.rules.function_rules.Kept.{KeepsFunctionRules}
+use Rattle.compiler.specs.rule_types.Wants.{is_int}
+use Rattle.compiler.specs.rule_values.Fits.{fits, fits_integer, is_tokenless}
+use Rattle.compiler.specs.rule_values.Geps.{field_at, field_number, field_of, indices_fit, leads_in, only_if, part_of}
+use Rattle.compiler.specs.rule_values.Instrs.{fits_instr}
+use Rattle.compiler.specs.rule_values.Kinds.{value_kind}
+use Rattle.compiler.specs.rule_values.Values.{breaks_values}
+use Rattle.compiler.specs.run_laws.changed.Changed.{Each}
+use Rattle.compiler.specs.run_step.Step.{AtInstr, fetch}
+use Rattle.compiler.specs.run_step.Values.{arg_value, index_of, number_at, part_at}
 
 -- ---- fields
 

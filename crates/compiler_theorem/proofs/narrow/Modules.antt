@@ -12,25 +12,25 @@ use Rattle.compiler_theorem.specs.narrow.Narrow.{IsNarrow, IsNarrowFunction, IsN
 use Rattle.compiler_theorem.specs.parts.Framed.{AreSmallInnerIndices}
 use Rattle.compiler_theorem.specs.theorem.Anew.{HaveSteadyIndices}
 use Rattle.compiler_theorem.specs.theorem.Lowered.{HasFewBytes, IsLowered, Lowered, early, edged}
-use Rattle.ir_laws.proofs.facts.Members.{at_each, each_by}
-use Rattle.ir_model.specs.Names.{function_at, no_function}
-use Rattle.ir_model.specs.Ty.{Ty}
-use Rattle.ir_model.specs.declared.instr.Instr.{Instr}
-use Rattle.ir_model.specs.declared.module.Function.{Function}
-use Rattle.ir_model.specs.declared.module.TypeItem.{TypeItem}
-use Rattle.ir_model.specs.declared.operand.Arg.{Arg}
-use Rattle.ir_model.specs.declared.operand.Operand.{Operand}
-use Rattle.pass_edges.specs.EdgeBlocks.{with_edge_blocks}
-use Rattle.pass_exits.specs.ExitBlocks.{with_exit_blocks}
-use Rattle.pass_frames.specs.Framed.{layout_at}
-use Rattle.pass_proofs.proofs.frames.unnamed.Positions.{Becomes, FramedBy, Unchanged, stands_as}
-use Rattle.pass_proofs.proofs.kept.sources.Whole.{split_rules}
-use Rattle.pass_proofs.specs.edges.states.MovedState.{edge_function}
-use Rattle.pass_proofs.specs.exits.states.Exits.{exits_split}
+use Rattle.compiler.proofs.ir_laws.facts.Members.{at_each, each_by}
+use Rattle.compiler.specs.ir_model.Names.{function_at, no_function}
+use Rattle.compiler.specs.ir_model.Ty.{Ty}
+use Rattle.compiler.specs.ir_model.declared.instr.Instr.{Instr}
+use Rattle.compiler.specs.ir_model.declared.module.Function.{Function}
+use Rattle.compiler.specs.ir_model.declared.module.TypeItem.{TypeItem}
+use Rattle.compiler.specs.ir_model.declared.operand.Arg.{Arg}
+use Rattle.compiler.specs.ir_model.declared.operand.Operand.{Operand}
+use Rattle.compiler.specs.pass_edges.EdgeBlocks.{with_edge_blocks}
+use Rattle.compiler.specs.pass_exits.ExitBlocks.{with_exit_blocks}
+use Rattle.compiler.specs.pass_frames.Framed.{layout_at}
+use Rattle.compiler.proofs.pass_proofs.frames.unnamed.Positions.{Becomes, FramedBy, Unchanged, stands_as}
+use Rattle.compiler.proofs.pass_proofs.kept.sources.Whole.{split_rules}
+use Rattle.compiler.specs.pass_proofs.edges.states.MovedState.{edge_function}
+use Rattle.compiler.specs.pass_proofs.exits.states.Exits.{exits_split}
 use Rattle.pass_split_proof.specs.ready.Fields.{AreInnerIndices}
-use Rattle.rule_laws.specs.rules.function_rules.Kept.{KeepsFunctionRules}
-use Rattle.run_laws.specs.changed.Changed.{Each}
-use Rattle.run_step.specs.Step.{AtInstr, fetch}
+use Rattle.compiler.specs.rule_laws.rules.function_rules.Kept.{KeepsFunctionRules}
+use Rattle.compiler.specs.run_laws.changed.Changed.{Each}
+use Rattle.compiler.specs.run_step.Step.{AtInstr, fetch}
 
 module _ (l : Lowered) (low : IsLowered l) (few : HasFewBytes l) where
   abbrev bound : ℕ

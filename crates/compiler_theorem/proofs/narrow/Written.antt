@@ -1,31 +1,31 @@
 -- What a type takes of the symbols of a text.
 use Rattle.std.proofs.Common.{◌≡◌, ◌<◌, ◌≤◌, ◌+◌, ℕ, zero, suc, Bool, true, false, cond, List, [], ◌∷◌, length, Option, Some, None, inl, inr, ap, arith, refl, subst, sym}
 use Rattle.std.proofs.lemmas.List.{length-map}
-use Rattle.ir_base.specs.declared.name.Name.{Name}
-use Rattle.ir_model.specs.Ty.{Ty, Tys, int, ptr, token, array, structure, named, none, field}
-use Rattle.ir_model.specs.declared.instr.Instr.{Instr}
-use Rattle.ir_model.specs.declared.module.Block.{Block}
-use Rattle.ir_model.specs.declared.module.Function.{Function}
-use Rattle.ir_model.specs.declared.module.Module.{Module}
-use Rattle.ir_model.specs.declared.module.TypeItem.{TypeItem}
+use Rattle.compiler.specs.ir_base.declared.name.Name.{Name}
+use Rattle.compiler.specs.ir_model.Ty.{Ty, Tys, int, ptr, token, array, structure, named, none, field}
+use Rattle.compiler.specs.ir_model.declared.instr.Instr.{Instr}
+use Rattle.compiler.specs.ir_model.declared.module.Block.{Block}
+use Rattle.compiler.specs.ir_model.declared.module.Function.{Function}
+use Rattle.compiler.specs.ir_model.declared.module.Module.{Module}
+use Rattle.compiler.specs.ir_model.declared.module.TypeItem.{TypeItem}
 use Rattle.compiler_theorem.specs.narrow.Narrow.{AreNarrow, IsNarrow, IsNarrowBlock, IsNarrowFunction, IsNarrowInstr, IsNarrowModule, field_count}
-use Rattle.run_laws.specs.changed.Changed.{Each}
-use Rattle.text_grammar.proofs.ItemsTake.{item_takes, param_takes}
-use Rattle.text_grammar.proofs.LinesTake.{block_takes, blocks_keep, line_takes, phi_line_takes}
-use Rattle.text_grammar.proofs.Takes.{KeepsSymbols, any_keeps, attr_takes, attributes_keep, commas_keep, each_keeps, flag_keeps, left, local_takes, one, one_keeps, result_takes, seq_keeps, seq_takes, takes_keeps, three, two, type_takes}
-use Rattle.text_grammar.specs.Attributes.{IsAttr, attributes, pairs}
-use Rattle.text_grammar.specs.Blocks.{AreBlocks, IsBlock, IsBody, IsLine, label, unwritten_label}
-use Rattle.text_grammar.specs.Functions.{AreParams, IsFunction, IsHead, IsParam, Written}
-use Rattle.text_grammar.specs.Instructions.{IsInstr, IsNamed}
-use Rattle.text_grammar.specs.Items.{Item, IsItem, declaration, function, functions_of, global_item, group, groups_of, other, type_item, types_of}
-use Rattle.text_grammar.specs.Phrases.{Locals, commas, each, ◌∥◌}
-use Rattle.text_grammar.specs.Text.{StandsFor}
-use Rattle.text_grammar.specs.Types.{AreFields, IsResult, IsType}
-use Rattle.text_lexer.specs.Lists.{front, is_shorter, up_to, when}
-use Rattle.text_lexer.specs.Tokens.{first_token, tokens}
-use Rattle.text_symbols.specs.Listing.{symbols_of}
-use Rattle.text_symbols.specs.Sym.{sym_of}
-use Rattle.text_symbols.specs.declared.sym.Sym.{Sym}
+use Rattle.compiler.specs.run_laws.changed.Changed.{Each}
+use Rattle.compiler.proofs.text_grammar.ItemsTake.{item_takes, param_takes}
+use Rattle.compiler.proofs.text_grammar.LinesTake.{block_takes, blocks_keep, line_takes, phi_line_takes}
+use Rattle.compiler.proofs.text_grammar.Takes.{KeepsSymbols, any_keeps, attr_takes, attributes_keep, commas_keep, each_keeps, flag_keeps, left, local_takes, one, one_keeps, result_takes, seq_keeps, seq_takes, takes_keeps, three, two, type_takes}
+use Rattle.compiler.specs.text_grammar.Attributes.{IsAttr, attributes, pairs}
+use Rattle.compiler.specs.text_grammar.Blocks.{AreBlocks, IsBlock, IsBody, IsLine, label, unwritten_label}
+use Rattle.compiler.specs.text_grammar.Functions.{AreParams, IsFunction, IsHead, IsParam, Written}
+use Rattle.compiler.specs.text_grammar.Instructions.{IsInstr, IsNamed}
+use Rattle.compiler.specs.text_grammar.Items.{Item, IsItem, declaration, function, functions_of, global_item, group, groups_of, other, type_item, types_of}
+use Rattle.compiler.specs.text_grammar.Phrases.{Locals, commas, each, ◌∥◌}
+use Rattle.compiler.specs.text_grammar.Text.{StandsFor}
+use Rattle.compiler.specs.text_grammar.Types.{AreFields, IsResult, IsType}
+use Rattle.compiler.specs.text_lexer.Lists.{front, is_shorter, up_to, when}
+use Rattle.compiler.specs.text_lexer.Tokens.{first_token, tokens}
+use Rattle.compiler.specs.text_symbols.Listing.{symbols_of}
+use Rattle.compiler.specs.text_symbols.Sym.{sym_of}
+use Rattle.compiler.specs.text_symbols.declared.sym.Sym.{Sym}
 
 -- ---- types
 

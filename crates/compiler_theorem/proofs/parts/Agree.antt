@@ -20,20 +20,20 @@ use Rattle.compiler_theorem.specs.parts.Framed.{AreFramedFacts}
 use Rattle.compiler_theorem.specs.theorem.Entries.{IsEntry, IsEntryCall, Run}
 use Rattle.compiler_theorem.specs.theorem.GoodLayouts.{AreGoodLayouts}
 use Rattle.compiler_theorem.specs.theorem.Lowered.{HasFewBytes, IsLowered, Lowered, early, framed_run, plain_run, split_from}
-use Rattle.ir_base.specs.declared.name.Name.{Name}
-use Rattle.ir_laws.specs.facts.function_rules.Signatures.{Heading, heading}
-use Rattle.ir_laws.specs.facts.same_names.Same.{naming}
-use Rattle.ir_model.specs.Names.{function_at, no_function}
-use Rattle.ir_model.specs.Ty.{Ty}
-use Rattle.ir_model.specs.declared.module.Function.{Function}
-use Rattle.ir_model.specs.declared.module.Module.{Module}
-use Rattle.ir_model.specs.declared.module.Param.{Param}
-use Rattle.pass_cleanup.specs.Cleaned.{plain_machine}
-use Rattle.pass_exits.specs.ExitBlocks.{with_exit_blocks}
-use Rattle.pass_proofs.proofs.early.widths.Headings.{early_names, early_signatures}
-use Rattle.pass_proofs.proofs.exits.exited.Exited.{signatures_same}
-use Rattle.pass_proofs.proofs.frames.headings.Headings.{framed_names, framed_signatures}
-use Rattle.pass_proofs.specs.exits.states.Exits.{AreExitsKept, exit_function, exits_split}
+use Rattle.compiler.specs.ir_base.declared.name.Name.{Name}
+use Rattle.compiler.specs.ir_laws.facts.function_rules.Signatures.{Heading, heading}
+use Rattle.compiler.specs.ir_laws.facts.same_names.Same.{naming}
+use Rattle.compiler.specs.ir_model.Names.{function_at, no_function}
+use Rattle.compiler.specs.ir_model.Ty.{Ty}
+use Rattle.compiler.specs.ir_model.declared.module.Function.{Function}
+use Rattle.compiler.specs.ir_model.declared.module.Module.{Module}
+use Rattle.compiler.specs.ir_model.declared.module.Param.{Param}
+use Rattle.compiler.specs.pass_cleanup.Cleaned.{plain_machine}
+use Rattle.compiler.specs.pass_exits.ExitBlocks.{with_exit_blocks}
+use Rattle.compiler.proofs.pass_proofs.early.widths.Headings.{early_names, early_signatures}
+use Rattle.compiler.proofs.pass_proofs.exits.exited.Exited.{signatures_same}
+use Rattle.compiler.proofs.pass_proofs.frames.headings.Headings.{framed_names, framed_signatures}
+use Rattle.compiler.specs.pass_proofs.exits.states.Exits.{AreExitsKept, exit_function, exits_split}
 use Rattle.pass_split_proof.proofs.first_exits.Parted.{split_parted}
 use Rattle.pass_split_proof.proofs.ready.Entries.{entry_moves}
 use Rattle.pass_split_proof.proofs.ready.Gives.{gives_none}
@@ -43,12 +43,12 @@ use Rattle.pass_split_proof.specs.first_exits.Parted.{parted_module}
 use Rattle.pass_split_proof.specs.priced.Returns.{AllJumpBehind}
 use Rattle.pass_split_proof.specs.simulation.Statement.{IsEntryOfParts}
 use Rattle.pass_split_proof.specs.whole.Whole.{PartsKeepCalls}
-use Rattle.run_agreement.specs.Agreements.{AgreesWithin}
-use Rattle.run_agreement.specs.Machines.{at}
-use Rattle.run_framed.specs.Framed.{layout_of}
-use Rattle.run_memory.specs.declared.pointer.Value.{Value}
-use Rattle.run_types.specs.Fitting.{FitParams, FitsType}
-use Rattle.run_types.specs.States.{AreArguments}
+use Rattle.compiler.specs.run_agreement.Agreements.{AgreesWithin}
+use Rattle.compiler.specs.run_agreement.Machines.{at}
+use Rattle.compiler.specs.run_framed.Framed.{layout_of}
+use Rattle.compiler.specs.run_memory.declared.pointer.Value.{Value}
+use Rattle.pass_frames_meaning.specs.run_types.Fitting.{FitParams, FitsType}
+use Rattle.pass_frames_meaning.specs.run_types.States.{AreArguments}
 
 -- ---- functions one for one
 

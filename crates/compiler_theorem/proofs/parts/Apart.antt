@@ -9,39 +9,39 @@ use Rattle.compiler_theorem.proofs.parts.Returned.{called}
 use Rattle.compiler_theorem.proofs.parts.Taken.{end_told, front_ones, has_one, no_alloca_kind, of_kind, one_kind, same_ones, suspend_told}
 use Rattle.compiler_theorem.specs.theorem.Lowered.{IsLowered, Lowered, early, edged, sizes_of}
 use Rattle.compiler.specs.cleanup.accepted.Ready.{IsReady}
-use Rattle.frame_layout.specs.declared.layout.Layout.{Layout}
-use Rattle.ir_laws.proofs.facts.Truth.{not_both}
-use Rattle.ir_model.specs.Names.{first_where, function_at, no_function, position_of, same_intrinsic}
-use Rattle.ir_model.specs.declared.instr.Instr.{Instr}
-use Rattle.ir_model.specs.declared.module.Block.{Block}
-use Rattle.ir_model.specs.declared.module.Function.{Function}
-use Rattle.ir_model.specs.declared.module.Module.{Module}
-use Rattle.ir_model.specs.declared.operand.Callee.{Callee}
-use Rattle.ir_model.specs.declared.operand.Intrinsic.{Intrinsic}
-use Rattle.ir_paths.specs.Windows.{end_block, is_call_of}
-use Rattle.ir_paths.specs.declared.point.Point.{Point}
-use Rattle.pass_edges.specs.EdgeBlocks.{with_edge_blocks}
-use Rattle.pass_exits.specs.ExitBlocks.{blocks_by, exit_blocks, with_exit_blocks}
-use Rattle.pass_exits.specs.Exits.{block_exits}
-use Rattle.pass_exits.specs.declared.exit.Exit.{Exit}
-use Rattle.pass_frames.specs.Framed.{IsFramedCoroutine, celled, copied, layout_at, placed}
-use Rattle.pass_front.specs.Front.{with_allocas_first}
-use Rattle.pass_intrinsics.specs.Shapes.{end_label, has_end, is_end, shape_of}
-use Rattle.pass_kept_proof.specs.Handed.{HasPlainNames}
-use Rattle.pass_kept_proof.specs.SuspendRules.{IsCallAt}
-use Rattle.pass_proofs.proofs.frames.numbers.Numbers.{number_given}
-use Rattle.pass_proofs.proofs.frames.unnamed.Positions.{Becomes, FramedBy, Unchanged, stands_as}
-use Rattle.pass_proofs.proofs.kept.sources.Whole.{split_named}
-use Rattle.pass_proofs.specs.edges.states.MovedState.{edge_function}
-use Rattle.pass_proofs.specs.exits.states.Exits.{exits_split}
-use Rattle.rule_laws.proofs.rules.source_rules.Locals.{own_label}
-use Rattle.rule_laws.specs.rules.woven_shape.Calls.{calls_of_block}
-use Rattle.rule_shape.specs.Suspends.{is_suspend}
-use Rattle.rule_windows.specs.Sets.{IsAfterEnd}
+use Rattle.compiler.specs.frame_layout.declared.layout.Layout.{Layout}
+use Rattle.compiler.proofs.ir_laws.facts.Truth.{not_both}
+use Rattle.compiler.specs.ir_model.Names.{first_where, function_at, no_function, position_of, same_intrinsic}
+use Rattle.compiler.specs.ir_model.declared.instr.Instr.{Instr}
+use Rattle.compiler.specs.ir_model.declared.module.Block.{Block}
+use Rattle.compiler.specs.ir_model.declared.module.Function.{Function}
+use Rattle.compiler.specs.ir_model.declared.module.Module.{Module}
+use Rattle.compiler.specs.ir_model.declared.operand.Callee.{Callee}
+use Rattle.compiler.specs.ir_model.declared.operand.Intrinsic.{Intrinsic}
+use Rattle.compiler.specs.ir_paths.Windows.{end_block, is_call_of}
+use Rattle.compiler.specs.ir_paths.declared.point.Point.{Point}
+use Rattle.compiler.specs.pass_edges.EdgeBlocks.{with_edge_blocks}
+use Rattle.compiler.specs.pass_exits.ExitBlocks.{blocks_by, exit_blocks, with_exit_blocks}
+use Rattle.compiler.specs.pass_exits.Exits.{block_exits}
+use Rattle.compiler.specs.pass_exits.declared.exit.Exit.{Exit}
+use Rattle.compiler.specs.pass_frames.Framed.{IsFramedCoroutine, celled, copied, layout_at, placed}
+use Rattle.compiler.specs.pass_front.Front.{with_allocas_first}
+use Rattle.compiler.specs.pass_intrinsics.Shapes.{end_label, has_end, is_end, shape_of}
+use Rattle.compiler.specs.pass_kept_proof.Handed.{HasPlainNames}
+use Rattle.compiler.specs.pass_kept_proof.SuspendRules.{IsCallAt}
+use Rattle.compiler.proofs.pass_proofs.frames.numbers.Numbers.{number_given}
+use Rattle.compiler.proofs.pass_proofs.frames.unnamed.Positions.{Becomes, FramedBy, Unchanged, stands_as}
+use Rattle.compiler.proofs.pass_proofs.kept.sources.Whole.{split_named}
+use Rattle.compiler.specs.pass_proofs.edges.states.MovedState.{edge_function}
+use Rattle.compiler.specs.pass_proofs.exits.states.Exits.{exits_split}
+use Rattle.compiler.proofs.rule_laws.rules.source_rules.Locals.{own_label}
+use Rattle.compiler.specs.rule_laws.rules.woven_shape.Calls.{calls_of_block}
+use Rattle.compiler.specs.rule_shape.Suspends.{is_suspend}
+use Rattle.compiler.specs.rule_windows.Sets.{IsAfterEnd}
 use Rattle.run_accepted.proofs.Accepted.{edged_places}
 use Rattle.run_accepted.proofs.Alive.{ended}
-use Rattle.run_hooks.specs.Away.{KeepsPlaceRules}
-use Rattle.run_step.specs.Step.{AtInstr, Nowhere, fetch, fetch_in, fetch_or}
+use Rattle.pass_frames_meaning.specs.run_hooks.Away.{KeepsPlaceRules}
+use Rattle.compiler.specs.run_step.Step.{AtInstr, Nowhere, fetch, fetch_in, fetch_or}
 
 -- ---- what stands in a block: an end, and a suspend
 

@@ -2,30 +2,30 @@
 use Rattle.std.proofs.Common.{◌≡◌, inl, inr, ℕ, ◌≤◌, ◌<◌, Bool, true, false, List, [], ◌∷◌, length, refl, sym, ap, ◌∙◌, subst, arith}
 use Rattle.std.proofs.lemmas.Bool.{false≢true}
 use Rattle.std.specs.Prelude.{None, ◌||◌, ◌==◌}
-use Rattle.flow_solver.specs.Paths.{IsListed}
-use Rattle.ir_laws.proofs.facts.Truth.{equal_numbers}
-use Rattle.ir_laws.proofs.paths.uses.Paths.{place_of}
-use Rattle.ir_laws.specs.facts.branches.MovedState.{IsSwitch}
-use Rattle.ir_laws.specs.paths.threads.Labels.{HasLabelsBelow}
-use Rattle.ir_model.specs.declared.instr.Instr.{Instr}
-use Rattle.ir_model.specs.declared.module.Block.{Block}
-use Rattle.ir_model.specs.declared.module.Function.{Function}
-use Rattle.ir_model.specs.declared.module.Module.{Module}
-use Rattle.ir_model.specs.declared.operand.Callee.{Callee}
-use Rattle.ir_model.specs.declared.operand.Intrinsic.{Intrinsic}
-use Rattle.ir_paths.specs.Paths.{targets}
-use Rattle.ir_paths.specs.Windows.{is_call_of, label_of_term}
-use Rattle.pass_edges.specs.Edges.{is_suspend}
-use Rattle.pass_intrinsics.specs.Shapes.{suspends_of}
-use Rattle.pass_intrinsics.specs.declared.shape.SuspendPoint.{SuspendPoint}
-use Rattle.pass_proofs.proofs.edges.rules.CaseLabels.{switch_target}
-use Rattle.pass_proofs.proofs.edges.rules.Switched.{switched}
+use Rattle.compiler.specs.flow_solver.Paths.{IsListed}
+use Rattle.compiler.proofs.ir_laws.facts.Truth.{equal_numbers}
+use Rattle.compiler.proofs.ir_laws.paths.uses.Paths.{place_of}
+use Rattle.compiler.specs.ir_laws.facts.branches.MovedState.{IsSwitch}
+use Rattle.compiler.specs.ir_laws.paths.threads.Labels.{HasLabelsBelow}
+use Rattle.compiler.specs.ir_model.declared.instr.Instr.{Instr}
+use Rattle.compiler.specs.ir_model.declared.module.Block.{Block}
+use Rattle.compiler.specs.ir_model.declared.module.Function.{Function}
+use Rattle.compiler.specs.ir_model.declared.module.Module.{Module}
+use Rattle.compiler.specs.ir_model.declared.operand.Callee.{Callee}
+use Rattle.compiler.specs.ir_model.declared.operand.Intrinsic.{Intrinsic}
+use Rattle.compiler.specs.ir_paths.Paths.{targets}
+use Rattle.compiler.specs.ir_paths.Windows.{is_call_of, label_of_term}
+use Rattle.compiler.specs.pass_edges.Edges.{is_suspend}
+use Rattle.compiler.specs.pass_intrinsics.Shapes.{suspends_of}
+use Rattle.compiler.specs.pass_intrinsics.declared.shape.SuspendPoint.{SuspendPoint}
+use Rattle.compiler.proofs.pass_proofs.edges.rules.CaseLabels.{switch_target}
+use Rattle.compiler.proofs.pass_proofs.edges.rules.Switched.{switched}
 use Rattle.pass_split_proof.specs.states.Related.{is_return_label}
-use Rattle.rule_laws.proofs.frames.edges.Shaped.{point_home}
-use Rattle.rule_laws.proofs.rules.known_labels.Known.{labels_known}
-use Rattle.rule_laws.specs.rules.function_rules.Kept.{KeepsFunctionRules}
-use Rattle.rule_shape.specs.Switches.{wrong_switch}
-use Rattle.run_laws.specs.changed.Changed.{Each}
+use Rattle.compiler.proofs.rule_laws.frames.edges.Shaped.{point_home}
+use Rattle.compiler.proofs.rule_laws.rules.known_labels.Known.{labels_known}
+use Rattle.compiler.specs.rule_laws.rules.function_rules.Kept.{KeepsFunctionRules}
+use Rattle.compiler.specs.rule_shape.Switches.{wrong_switch}
+use Rattle.compiler.specs.run_laws.changed.Changed.{Each}
 
 each_listed : {A : Type 0} (P : A → Type 0) (xs : List A) → Each P xs → (x : A) → IsListed x xs → P x
 each_listed P [] h x l = absurd l

@@ -3,25 +3,25 @@ use Rattle.std.proofs.Common.{◌≡◌, ℕ, suc, ◌+◌, Bool, true, false, L
 use Rattle.std.proofs.lemmas.Bool.{false≢true}
 use Rattle.std.specs.Prelude.{is_some, option_and_then, if◌then◌else◌}
 use Rattle.compiler_theorem.proofs.parts.Tokens.{HasTokens, is_bare}
-use Rattle.ir_base.specs.declared.outcome.Place.{Place}
-use Rattle.ir_laws.proofs.facts.Members.{at_each}
-use Rattle.ir_model.specs.declared.instr.Instr.{Instr}
-use Rattle.ir_model.specs.declared.module.Block.{Block}
-use Rattle.ir_model.specs.declared.module.Function.{Function}
-use Rattle.ir_model.specs.declared.operand.Callee.{Callee}
-use Rattle.ir_model.specs.declared.operand.Intrinsic.{Intrinsic}
-use Rattle.ir_parts.specs.Parts.{Part, instr_place, parts_of}
-use Rattle.ir_paths.specs.Windows.{call_result, instr_at, instr_in, is_call_of, is_suspend_of, points_from, points_in, points_where}
-use Rattle.ir_paths.specs.declared.point.Point.{Point}
-use Rattle.pass_early.specs.BeginName.{with_begin_name}
-use Rattle.pass_early.specs.Early.{after_instrs, after_one, early_blocks, early_function, early_instrs, early_named, early_one, is_unsaved, renaming_of, save_call, saved}
-use Rattle.pass_early.specs.Renaming.{renamed_instr}
-use Rattle.pass_early.specs.declared.renaming.Renaming.{Renaming}
-use Rattle.rule_laws.proofs.rules.path_rules.Holding.{part_none, to_parts}
-use Rattle.rule_laws.proofs.rules.path_rules.Windows.{of_window}
-use Rattle.rule_locals.specs.Instrs.{on_instr}
-use Rattle.rule_windows.specs.Windows.{IsFirstWindow, NotOne, suspends_of}
-use Rattle.run_laws.specs.changed.Changed.{Each}
+use Rattle.compiler.specs.ir_base.declared.outcome.Place.{Place}
+use Rattle.compiler.proofs.ir_laws.facts.Members.{at_each}
+use Rattle.compiler.specs.ir_model.declared.instr.Instr.{Instr}
+use Rattle.compiler.specs.ir_model.declared.module.Block.{Block}
+use Rattle.compiler.specs.ir_model.declared.module.Function.{Function}
+use Rattle.compiler.specs.ir_model.declared.operand.Callee.{Callee}
+use Rattle.compiler.specs.ir_model.declared.operand.Intrinsic.{Intrinsic}
+use Rattle.compiler.specs.ir_parts.Parts.{Part, instr_place, parts_of}
+use Rattle.compiler.specs.ir_paths.Windows.{call_result, instr_at, instr_in, is_call_of, is_suspend_of, points_from, points_in, points_where}
+use Rattle.compiler.specs.ir_paths.declared.point.Point.{Point}
+use Rattle.compiler.specs.pass_early.BeginName.{with_begin_name}
+use Rattle.compiler.specs.pass_early.Early.{after_instrs, after_one, early_blocks, early_function, early_instrs, early_named, early_one, is_unsaved, renaming_of, save_call, saved}
+use Rattle.compiler.specs.pass_early.Renaming.{renamed_instr}
+use Rattle.compiler.specs.pass_early.declared.renaming.Renaming.{Renaming}
+use Rattle.compiler.proofs.rule_laws.rules.path_rules.Holding.{part_none, to_parts}
+use Rattle.compiler.proofs.rule_laws.rules.path_rules.Windows.{of_window}
+use Rattle.compiler.specs.rule_locals.Instrs.{on_instr}
+use Rattle.compiler.specs.rule_windows.Windows.{IsFirstWindow, NotOne, suspends_of}
+use Rattle.compiler.specs.run_laws.changed.Changed.{Each}
 
 -- ---- no suspend is left without a save
 

@@ -1,18 +1,18 @@
 -- What holds of the instructions of a block, and of what fetches their operands, holds once operands are fetched.
 use Rattle.std.proofs.Common.{ℕ, zero, suc, List, [], ◌∷◌, ◌++◌, replicate}
 use Rattle.std.specs.Prelude.{None, Option, Some}
-use Rattle.ir_laws.proofs.facts.Members.{each_joined, each_set}
-use Rattle.ir_model.specs.declared.instr.Incoming.{Incoming}
-use Rattle.ir_model.specs.declared.instr.Instr.{Instr}
-use Rattle.ir_model.specs.declared.instr.Phi.{Phi}
-use Rattle.ir_model.specs.declared.module.Block.{Block}
-use Rattle.ir_model.specs.declared.operand.Operand.{Operand}
-use Rattle.ir_parts.specs.Contents.{instr_operands}
-use Rattle.pass_fetch.specs.Blocks.{end_at, ends_of_blocks, ends_of_incoming, ends_of_phis, fetched_block, next_after_phi, next_after_phis, with_end}
-use Rattle.pass_fetch.specs.Fetching.{fetch_into, fetch_of, fetches_by, fetches_of, fetches_of_all, next_after}
-use Rattle.pass_fetch.specs.Instrs.{fetched_instr, fetched_instrs, next_after_instr, next_after_instrs, term_operands, with_fetched}
-use Rattle.pass_fetch.specs.declared.fetch.Fetch.{Fetch}
-use Rattle.run_laws.specs.changed.Changed.{Each}
+use Rattle.compiler.proofs.ir_laws.facts.Members.{each_joined, each_set}
+use Rattle.compiler.specs.ir_model.declared.instr.Incoming.{Incoming}
+use Rattle.compiler.specs.ir_model.declared.instr.Instr.{Instr}
+use Rattle.compiler.specs.ir_model.declared.instr.Phi.{Phi}
+use Rattle.compiler.specs.ir_model.declared.module.Block.{Block}
+use Rattle.compiler.specs.ir_model.declared.operand.Operand.{Operand}
+use Rattle.compiler.specs.ir_parts.Contents.{instr_operands}
+use Rattle.compiler.specs.pass_fetch.Blocks.{end_at, ends_of_blocks, ends_of_incoming, ends_of_phis, fetched_block, next_after_phi, next_after_phis, with_end}
+use Rattle.compiler.specs.pass_fetch.Fetching.{fetch_into, fetch_of, fetches_by, fetches_of, fetches_of_all, next_after}
+use Rattle.compiler.specs.pass_fetch.Instrs.{fetched_instr, fetched_instrs, next_after_instr, next_after_instrs, term_operands, with_fetched}
+use Rattle.compiler.specs.pass_fetch.declared.fetch.Fetch.{Fetch}
+use Rattle.compiler.specs.run_laws.changed.Changed.{Each}
 
 module _ (P : Instr → Type 0) (into : (n : ℕ) (f : Fetch) → P (fetch_into n f))
     (over : (t : List (Option Fetch)) (n : ℕ) (i : Instr) → P i → P (with_fetched t n i)) (t : List (Option Fetch)) where

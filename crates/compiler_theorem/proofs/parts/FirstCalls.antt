@@ -2,21 +2,21 @@
 -- an alloca (K10).
 use Rattle.std.proofs.Common.{◌≡◌, ℕ, suc, ◌+◌, Bool, true, false, List, [], ◌∷◌, ◌++◌, refl, sym, ap, ◌∙◌, subst, arith}
 use Rattle.std.specs.Prelude.{None, Option, Some, find, is_some, not, option_and_then, option_map, slice_get, if◌then◌else◌, ◌||◌}
-use Rattle.flow_solver.specs.Paths.{IsListed}
-use Rattle.ir_base.specs.declared.outcome.Place.{Place}
-use Rattle.ir_calls.specs.Calls.{first_call, first_call_by, first_call_in, is_null, or_instr}
-use Rattle.ir_model.specs.declared.instr.Instr.{Instr}
-use Rattle.ir_model.specs.declared.module.Block.{Block}
-use Rattle.ir_model.specs.declared.module.Function.{Function}
-use Rattle.ir_model.specs.declared.operand.Intrinsic.{Intrinsic}
-use Rattle.ir_model.specs.declared.operand.Operand.{Operand}
-use Rattle.ir_parts.specs.Parts.{instr_place, place_if}
-use Rattle.ir_paths.specs.Slots.{allocas_of, local_of, promise_of}
-use Rattle.ir_paths.specs.Windows.{call_operand, instr_at, instr_in, is_call_of, points_from, points_in, points_where}
-use Rattle.ir_paths.specs.declared.point.Point.{Point}
-use Rattle.rule_laws.proofs.rules.source_rules.Slots.{found_listed}
-use Rattle.rule_shape.specs.Places.{places_by, places_in, places_where}
-use Rattle.rule_shape.specs.Promise.{is_wrong_promise, slot_named, slot_of, wrong_promise}
+use Rattle.compiler.specs.flow_solver.Paths.{IsListed}
+use Rattle.compiler.specs.ir_base.declared.outcome.Place.{Place}
+use Rattle.compiler.specs.ir_calls.Calls.{first_call, first_call_by, first_call_in, is_null, or_instr}
+use Rattle.compiler.specs.ir_model.declared.instr.Instr.{Instr}
+use Rattle.compiler.specs.ir_model.declared.module.Block.{Block}
+use Rattle.compiler.specs.ir_model.declared.module.Function.{Function}
+use Rattle.compiler.specs.ir_model.declared.operand.Intrinsic.{Intrinsic}
+use Rattle.compiler.specs.ir_model.declared.operand.Operand.{Operand}
+use Rattle.compiler.specs.ir_parts.Parts.{instr_place, place_if}
+use Rattle.compiler.specs.ir_paths.Slots.{allocas_of, local_of, promise_of}
+use Rattle.compiler.specs.ir_paths.Windows.{call_operand, instr_at, instr_in, is_call_of, points_from, points_in, points_where}
+use Rattle.compiler.specs.ir_paths.declared.point.Point.{Point}
+use Rattle.compiler.proofs.rule_laws.rules.source_rules.Slots.{found_listed}
+use Rattle.compiler.specs.rule_shape.Places.{places_by, places_in, places_where}
+use Rattle.compiler.specs.rule_shape.Promise.{is_wrong_promise, slot_named, slot_of, wrong_promise}
 
 module _ (j : Intrinsic) where
   abbrev test : Instr → Bool

@@ -5,26 +5,26 @@ use Rattle.std.specs.Prelude.{Option, codes, map, option_map, slice_get, unwrap_
 use Rattle.compiler_theorem.proofs.parts.Fields.{fields_found}
 use Rattle.compiler.specs.cleanup.accepted.Ready.{IsReady}
 use Rattle.compiler_theorem.specs.parts.Framed.{AreFramedFacts, AreLaidFacts, HaveFirstBlocks, HavePlainWidths, HaveTokens, IsLightBlock}
-use Rattle.flow_solver.specs.Paths.{IsListed}
-use Rattle.frame_layout.specs.declared.layout.Layout.{Layout}
-use Rattle.frame_layout.specs.declared.layout.Layouts.{Layouts}
-use Rattle.ir_laws.specs.facts.sound_states.Named.{AreLocalsNamed, HasNamedLocals}
-use Rattle.ir_base.specs.declared.name.Name.{Name}
-use Rattle.ir_model.specs.Names.{function_named, no_function, position_of}
-use Rattle.ir_model.specs.Calls.{first_result, first_result_by}
-use Rattle.ir_model.specs.declared.module.Block.{Block}
-use Rattle.ir_model.specs.declared.module.Function.{Function}
-use Rattle.ir_model.specs.declared.module.Module.{Module}
-use Rattle.ir_model.specs.declared.operand.Intrinsic.{Intrinsic}
-use Rattle.pass_exits.specs.ExitBlocks.{with_exit_blocks}
-use Rattle.pass_intrinsics.specs.Shapes.{part_name, shape_of, suspends_of}
-use Rattle.pass_intrinsics.specs.declared.shape.SuspendPoint.{SuspendPoint}
-use Rattle.pass_proofs.proofs.exits.exited.Exited.{signatures_same}
-use Rattle.pass_proofs.proofs.split.edges.Rules.{destroy_known, resume_known}
-use Rattle.pass_proofs.proofs.split.exited.Exited.{splittable_exited}
-use Rattle.pass_proofs.specs.exits.states.Exits.{exit_function, exits_split}
-use Rattle.pass_proofs.specs.split.rules.Splittable.{IsSplittable}
-use Rattle.pass_split.specs.Parts.{first_layout, layouts_after, other_layouts}
+use Rattle.compiler.specs.flow_solver.Paths.{IsListed}
+use Rattle.compiler.specs.frame_layout.declared.layout.Layout.{Layout}
+use Rattle.compiler.specs.frame_layout.declared.layout.Layouts.{Layouts}
+use Rattle.compiler.specs.ir_laws.facts.sound_states.Named.{AreLocalsNamed, HasNamedLocals}
+use Rattle.compiler.specs.ir_base.declared.name.Name.{Name}
+use Rattle.compiler.specs.ir_model.Names.{function_named, no_function, position_of}
+use Rattle.compiler.specs.ir_model.Calls.{first_result, first_result_by}
+use Rattle.compiler.specs.ir_model.declared.module.Block.{Block}
+use Rattle.compiler.specs.ir_model.declared.module.Function.{Function}
+use Rattle.compiler.specs.ir_model.declared.module.Module.{Module}
+use Rattle.compiler.specs.ir_model.declared.operand.Intrinsic.{Intrinsic}
+use Rattle.compiler.specs.pass_exits.ExitBlocks.{with_exit_blocks}
+use Rattle.compiler.specs.pass_intrinsics.Shapes.{part_name, shape_of, suspends_of}
+use Rattle.compiler.specs.pass_intrinsics.declared.shape.SuspendPoint.{SuspendPoint}
+use Rattle.compiler.proofs.pass_proofs.exits.exited.Exited.{signatures_same}
+use Rattle.compiler.proofs.pass_proofs.split.edges.Rules.{destroy_known, resume_known}
+use Rattle.compiler.proofs.pass_proofs.split.exited.Exited.{splittable_exited}
+use Rattle.compiler.specs.pass_proofs.exits.states.Exits.{exit_function, exits_split}
+use Rattle.compiler.specs.pass_proofs.split.rules.Splittable.{IsSplittable}
+use Rattle.compiler.specs.pass_split.Parts.{first_layout, layouts_after, other_layouts}
 use Rattle.pass_split_proof.proofs.ready.Globals.{globals_kept}
 use Rattle.pass_split_proof.proofs.ready.Layouts.{layouts_found, no_layouts}
 use Rattle.pass_split_proof.proofs.ready.Moved.{cleanup_untaken, names_moved}
@@ -33,18 +33,18 @@ use Rattle.pass_split_proof.specs.ready.Layouts.{AreLayoutsOf}
 use Rattle.pass_split_proof.specs.ready.Module.{IsFollowable}
 use Rattle.pass_split_proof.specs.states.Memories.{AreContents}
 use Rattle.pass_split_proof.specs.steps.Returns.{IsReturnBlock}
-use Rattle.rule_laws.proofs.rules.function_rules.Signatures.{go_by_signatures}
-use Rattle.rule_laws.proofs.rules.named_results.Named.{locals_tabled}
-use Rattle.ir_laws.proofs.paths.uses.Paths.{place_of}
-use Rattle.rule_laws.proofs.rules.source_rules.Locals.{own_label}
-use Rattle.pass_proofs.proofs.split.edges.Cuttable.{HasBlock}
-use Rattle.rule_laws.specs.frames.replaced.Parted.{IsSmall}
-use Rattle.rule_laws.specs.frames.replaced.Splittable.{HasOwnEdges, IsLedToBy}
-use Rattle.rule_laws.specs.frames.suspend_counts.Given.{IsGiven}
-use Rattle.rule_laws.specs.rules.counted.Widths.{first_other_width}
-use Rattle.rule_laws.specs.rules.function_rules.Kept.{KeepsFunctionRules}
-use Rattle.run_framed.specs.Framed.{layout_of, no_layout}
-use Rattle.run_laws.specs.changed.Changed.{Each}
+use Rattle.compiler.proofs.rule_laws.rules.function_rules.Signatures.{go_by_signatures}
+use Rattle.compiler.proofs.rule_laws.rules.named_results.Named.{locals_tabled}
+use Rattle.compiler.proofs.ir_laws.paths.uses.Paths.{place_of}
+use Rattle.compiler.proofs.rule_laws.rules.source_rules.Locals.{own_label}
+use Rattle.compiler.proofs.pass_proofs.split.edges.Cuttable.{HasBlock}
+use Rattle.compiler.specs.rule_laws.frames.replaced.Parted.{IsSmall}
+use Rattle.compiler.specs.rule_laws.frames.replaced.Splittable.{HasOwnEdges, IsLedToBy}
+use Rattle.compiler.specs.rule_laws.frames.suspend_counts.Given.{IsGiven}
+use Rattle.compiler.specs.rule_laws.rules.counted.Widths.{first_other_width}
+use Rattle.compiler.specs.rule_laws.rules.function_rules.Kept.{KeepsFunctionRules}
+use Rattle.compiler.specs.run_framed.Framed.{layout_of, no_layout}
+use Rattle.compiler.specs.run_laws.changed.Changed.{Each}
 
 -- ---- functions, one for one
 

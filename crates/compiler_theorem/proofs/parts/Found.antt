@@ -3,25 +3,25 @@ use Rattle.std.proofs.Common.{◌≡◌, ◌⊎◌, ◌≢◌, inl, inr, ⊎_eli
 use Rattle.std.proofs.lemmas.Bool.{cases_lt, false≢true, lt-ltb}
 use Rattle.std.specs.Prelude.{None, Option, Some, find, max, nat_le, slice_get, slice_index_or, unwrap_or, if◌then◌else◌}
 use Rattle.compiler_theorem.proofs.parts.Index.{conflicts_there, fields_length, held_kinds, index_there, stands_before}
-use Rattle.frame_contents.specs.Frames.{AreContents}
-use Rattle.frame_contents.specs.Held.{at_fields, both_at_fields, fields_of, index_field, position_of, slot_position, suspend_count}
-use Rattle.frame_contents.specs.declared.contents.Contents.{Contents}
-use Rattle.frame_contents.specs.declared.held.Holding.{Holding}
-use Rattle.frame_good.proofs.Frames.{layouts_found}
-use Rattle.frame_good.specs.Frames.{AreGood, AreInConflict, Coroutine, IsGoodFor, NoMore, Other}
-use Rattle.frame_good.specs.Good.{AreApart, IsGoodField, IsGoodLayout, offset_of}
-use Rattle.frame_layout.specs.Frames.{index_size}
-use Rattle.frame_layout.specs.Layouts.{is_index, is_promise, placed, placed_or}
-use Rattle.frame_layout.specs.declared.layout.Field.{Field}
-use Rattle.frame_layout.specs.declared.layout.FieldKind.{FieldKind}
-use Rattle.frame_layout.specs.declared.layout.Layout.{Layout}
-use Rattle.frame_layout.specs.declared.layout.PlacedField.{PlacedField}
-use Rattle.ir_model.specs.declared.module.Function.{Function}
-use Rattle.ir_model.specs.declared.module.Module.{Module}
+use Rattle.compiler.specs.frame_contents.Frames.{AreContents}
+use Rattle.compiler.specs.frame_contents.Held.{at_fields, both_at_fields, fields_of, index_field, position_of, slot_position, suspend_count}
+use Rattle.compiler.specs.frame_contents.declared.contents.Contents.{Contents}
+use Rattle.compiler.specs.frame_contents.declared.held.Holding.{Holding}
+use Rattle.compiler.proofs.frame_good.Frames.{layouts_found}
+use Rattle.compiler.specs.frame_good.Frames.{AreGood, AreInConflict, Coroutine, IsGoodFor, NoMore, Other}
+use Rattle.compiler.specs.frame_good.Good.{AreApart, IsGoodField, IsGoodLayout, offset_of}
+use Rattle.compiler.specs.frame_layout.Frames.{index_size}
+use Rattle.compiler.specs.frame_layout.Layouts.{is_index, is_promise, placed, placed_or}
+use Rattle.compiler.specs.frame_layout.declared.layout.Field.{Field}
+use Rattle.compiler.specs.frame_layout.declared.layout.FieldKind.{FieldKind}
+use Rattle.compiler.specs.frame_layout.declared.layout.Layout.{Layout}
+use Rattle.compiler.specs.frame_layout.declared.layout.PlacedField.{PlacedField}
+use Rattle.compiler.specs.ir_model.declared.module.Function.{Function}
+use Rattle.compiler.specs.ir_model.declared.module.Module.{Module}
 use Rattle.pass_split_proof.specs.ready.Layouts.{AreLayoutsOf}
 use Rattle.pass_split_proof.specs.states.Instances.{IsLaidOut, index_length}
-use Rattle.run_framed.specs.Framed.{framed_given, is_open_kind, is_promise_kind, layout_of, no_layout}
-use Rattle.run_laws.specs.changed.Changed.{Each}
+use Rattle.compiler.specs.run_framed.Framed.{framed_given, is_open_kind, is_promise_kind, layout_of, no_layout}
+use Rattle.compiler.specs.run_laws.changed.Changed.{Each}
 
 -- ---- layouts in order
 

@@ -12,26 +12,26 @@ use Rattle.compiler.proofs.whole.lowered_sources.Sources.{early_named, early_oth
 use Rattle.compiler.specs.cleanup.accepted.Ready.{IsReady}
 use Rattle.compiler_theorem.specs.parts.Framed.{HaveTokens}
 use Rattle.compiler_theorem.specs.theorem.Lowered.{IsLowered, Lowered, early}
-use Rattle.frame_layout.specs.declared.layout.Layout.{Layout}
-use Rattle.ir_laws.proofs.facts.Truth.{not_both}
-use Rattle.ir_model.specs.declared.module.Function.{Function}
-use Rattle.ir_model.specs.declared.module.Module.{Module}
-use Rattle.pass_early.specs.Early.{early_function}
-use Rattle.pass_exits.specs.ExitBlocks.{with_exit_blocks}
-use Rattle.pass_frames.specs.Framed.{IsFramedCoroutine, celled, copied, layout_at, placed}
-use Rattle.pass_proofs.proofs.early.named_sources.BeginNames.{HasBeginName}
-use Rattle.pass_proofs.proofs.early.path_rules.RenamedOperands.{map_was}
-use Rattle.pass_proofs.proofs.frames.numbers.Numbers.{all_near, number_given}
-use Rattle.pass_proofs.proofs.frames.rules.Built.{passes_fit}
-use Rattle.pass_proofs.proofs.frames.slots_behind.Behind.{blocks_behind}
-use Rattle.pass_proofs.proofs.frames.unnamed.Positions.{Becomes, FramedBy, Unchanged, stands_as}
-use Rattle.pass_proofs.specs.exits.states.Exits.{exits_split}
-use Rattle.pass_proofs.specs.frames.rules.Buildable.{IsBuildable}
-use Rattle.pass_proofs.specs.frames.shape.Passes.{PassesFit}
-use Rattle.rule_laws.specs.frames.suspend_counts.Given.{IsGiven}
-use Rattle.rule_laws.specs.rules.function_rules.Kept.{KeepsFunctionRules}
-use Rattle.rule_laws.specs.rules.path_rules.Paths.{KeepsPaths}
-use Rattle.rule_laws.specs.rules.path_rules.Shape.{KeepsShape}
+use Rattle.compiler.specs.frame_layout.declared.layout.Layout.{Layout}
+use Rattle.compiler.proofs.ir_laws.facts.Truth.{not_both}
+use Rattle.compiler.specs.ir_model.declared.module.Function.{Function}
+use Rattle.compiler.specs.ir_model.declared.module.Module.{Module}
+use Rattle.compiler.specs.pass_early.Early.{early_function}
+use Rattle.compiler.specs.pass_exits.ExitBlocks.{with_exit_blocks}
+use Rattle.compiler.specs.pass_frames.Framed.{IsFramedCoroutine, celled, copied, layout_at, placed}
+use Rattle.compiler.proofs.pass_proofs.early.named_sources.BeginNames.{HasBeginName}
+use Rattle.compiler.proofs.pass_proofs.early.path_rules.RenamedOperands.{map_was}
+use Rattle.compiler.proofs.pass_proofs.frames.numbers.Numbers.{all_near, number_given}
+use Rattle.compiler.proofs.pass_proofs.frames.rules.Built.{passes_fit}
+use Rattle.compiler.proofs.pass_proofs.frames.slots_behind.Behind.{blocks_behind}
+use Rattle.compiler.proofs.pass_proofs.frames.unnamed.Positions.{Becomes, FramedBy, Unchanged, stands_as}
+use Rattle.compiler.specs.pass_proofs.exits.states.Exits.{exits_split}
+use Rattle.compiler.specs.pass_proofs.frames.rules.Buildable.{IsBuildable}
+use Rattle.compiler.specs.pass_proofs.frames.shape.Passes.{PassesFit}
+use Rattle.compiler.specs.rule_laws.frames.suspend_counts.Given.{IsGiven}
+use Rattle.compiler.specs.rule_laws.rules.function_rules.Kept.{KeepsFunctionRules}
+use Rattle.compiler.specs.rule_laws.rules.path_rules.Paths.{KeepsPaths}
+use Rattle.compiler.specs.rule_laws.rules.path_rules.Shape.{KeepsShape}
 
 module _ (l : Lowered) (low : IsLowered l) where
   abbrev e : Module

@@ -2,29 +2,29 @@
 use Rattle.std.proofs.Common.{◌≡◌, ℕ, zero, suc, ◌<◌, ◌^◌, List, [], ◌∷◌, get_or, length, map, replicate, Option, None, Some, refl, sym, subst, arith}
 use Rattle.std.proofs.lemmas.List.{length-map}
 use Rattle.std.specs.Prelude.{ℤ, slice_get, ◌/◌}
-use Rattle.ir_model.specs.Names.{declaration_named, function_named, global_named, same_name}
-use Rattle.ir_model.specs.Ty.{Ty, array, int, named, ptr, structure, token}
-use Rattle.ir_model.specs.declared.module.GlobalItem.{GlobalItem}
-use Rattle.ir_model.specs.declared.module.Module.{Module}
-use Rattle.ir_model.specs.declared.operand.Operand.{Operand}
-use Rattle.ir_tables.proofs.Tables.{first_where-within}
+use Rattle.compiler.specs.ir_model.Names.{declaration_named, function_named, global_named, same_name}
+use Rattle.compiler.specs.ir_model.Ty.{Ty, array, int, named, ptr, structure, token}
+use Rattle.compiler.specs.ir_model.declared.module.GlobalItem.{GlobalItem}
+use Rattle.compiler.specs.ir_model.declared.module.Module.{Module}
+use Rattle.compiler.specs.ir_model.declared.operand.Operand.{Operand}
+use Rattle.compiler.proofs.ir_tables.Tables.{first_where-within}
 use Rattle.compiler_theorem.specs.theorem.Lowered.{IsLowered, Lowered}
-use Rattle.pass_proofs.specs.exits.states.Exits.{exits_split}
-use Rattle.pass_renewed_proof.specs.Ledger.{AreSmallGlobals}
+use Rattle.compiler.specs.pass_proofs.exits.states.Exits.{exits_split}
+use Rattle.pass_frames_meaning.specs.pass_renewed_proof.Ledger.{AreSmallGlobals}
 use Rattle.run_accepted.proofs.Steps.{small_globals}
-use Rattle.text_canonical.proofs.order.Shaped.{text_is_shaped}
+use Rattle.compiler.proofs.text_canonical.order.Shaped.{text_is_shaped}
 use Rattle.pass_split_proof.specs.states.Memories.{AreContents}
-use Rattle.run_ints.specs.declared.num.Num.{Num}
-use Rattle.run_laws.specs.changed.Changed.{Each}
-use Rattle.run_laws.specs.memory.Standing.{AreOffsets, byte_of}
-use Rattle.run_memory.specs.Memory.{access_bytes, digits, encode, parts}
-use Rattle.run_memory.specs.declared.block.Byte.{Byte}
-use Rattle.run_memory.specs.declared.block.MemoryBlock.{MemoryBlock}
-use Rattle.run_memory.specs.declared.pointer.Access.{Access}
-use Rattle.run_memory.specs.declared.pointer.Pointer.{Pointer}
-use Rattle.run_memory.specs.declared.pointer.Value.{Value}
-use Rattle.run_step.specs.Step.{global_block}
-use Rattle.run_step.specs.Values.{access_of, address, address_from, literal, number_of_width, operand_value, stored, value_of}
+use Rattle.compiler.specs.run_ints.declared.num.Num.{Num}
+use Rattle.compiler.specs.run_laws.changed.Changed.{Each}
+use Rattle.compiler.specs.run_laws.memory.Standing.{AreOffsets, byte_of}
+use Rattle.compiler.specs.run_memory.Memory.{access_bytes, digits, encode, parts}
+use Rattle.compiler.specs.run_memory.declared.block.Byte.{Byte}
+use Rattle.compiler.specs.run_memory.declared.block.MemoryBlock.{MemoryBlock}
+use Rattle.compiler.specs.run_memory.declared.pointer.Access.{Access}
+use Rattle.compiler.specs.run_memory.declared.pointer.Pointer.{Pointer}
+use Rattle.compiler.specs.run_memory.declared.pointer.Value.{Value}
+use Rattle.compiler.specs.run_step.Step.{global_block}
+use Rattle.compiler.specs.run_step.Values.{access_of, address, address_from, literal, number_of_width, operand_value, stored, value_of}
 
 -- ---- values
 

@@ -1,19 +1,19 @@
 -- What holds of each value and each slot that a frame may hold holds of all that it holds.
 use Rattle.std.proofs.Common.{◌≡◌, ℕ, suc, Bool, true, false, List, [], ◌∷◌, ◌++◌, refl, ap, ◌∙◌}
 use Rattle.std.specs.Prelude.{None, Option, Some, slice_get, if◌then◌else◌}
-use Rattle.frame_contents.specs.Held.{held_blocks, held_by, held_instr, held_instrs, held_params, held_phis, if_result, if_value, slot_held, value_held}
-use Rattle.frame_contents.specs.declared.held.Holding.{Holding}
-use Rattle.ir_model.specs.Ty.{Ty}
-use Rattle.ir_model.specs.declared.instr.Instr.{Instr}
-use Rattle.ir_model.specs.declared.instr.Phi.{Phi}
-use Rattle.ir_model.specs.declared.module.Block.{Block}
-use Rattle.ir_model.specs.declared.module.Function.{Function}
-use Rattle.ir_model.specs.declared.module.Module.{Module}
-use Rattle.ir_model.specs.declared.module.Param.{Param}
-use Rattle.ir_paths.specs.Slots.{promise_of}
-use Rattle.ir_paths.specs.Windows.{instr_at, instr_in}
-use Rattle.ir_paths.specs.declared.point.Point.{Point}
-use Rattle.run_laws.specs.changed.Changed.{Each}
+use Rattle.compiler.specs.frame_contents.Held.{held_blocks, held_by, held_instr, held_instrs, held_params, held_phis, if_result, if_value, slot_held, value_held}
+use Rattle.compiler.specs.frame_contents.declared.held.Holding.{Holding}
+use Rattle.compiler.specs.ir_model.Ty.{Ty}
+use Rattle.compiler.specs.ir_model.declared.instr.Instr.{Instr}
+use Rattle.compiler.specs.ir_model.declared.instr.Phi.{Phi}
+use Rattle.compiler.specs.ir_model.declared.module.Block.{Block}
+use Rattle.compiler.specs.ir_model.declared.module.Function.{Function}
+use Rattle.compiler.specs.ir_model.declared.module.Module.{Module}
+use Rattle.compiler.specs.ir_model.declared.module.Param.{Param}
+use Rattle.compiler.specs.ir_paths.Slots.{promise_of}
+use Rattle.compiler.specs.ir_paths.Windows.{instr_at, instr_in}
+use Rattle.compiler.specs.ir_paths.declared.point.Point.{Point}
+use Rattle.compiler.specs.run_laws.changed.Changed.{Each}
 
 each_more : {A : Type 0} (P : A → Type 0) (xs ys : List A) → Each P xs → Each P ys → Each P (xs ++ ys)
 each_more P [] ys a b = b

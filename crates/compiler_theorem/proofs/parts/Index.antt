@@ -5,17 +5,17 @@ use Rattle.std.proofs.lemmas.List.Elements.{Contains-append_left, Contains-appen
 use Rattle.std.specs.List.{Contains, position, position_or_len}
 use Rattle.std.specs.Prelude.{None, Some, map, nat_lt, not, option_to_list, slice_get, if◌then◌else◌, ◌||◌, ◌&&◌}
 use Rattle.compiler_theorem.proofs.parts.Held.{held_each}
-use Rattle.frame_contents.specs.Held.{field_of, fields_of, held_by, index_field, slot_held}
-use Rattle.frame_contents.specs.declared.held.Holding.{Holding}
-use Rattle.frame_layout.specs.Conflicts.{conflict, field_conflicts, is_apart, is_apart_at, pairs_from, pairs_of}
-use Rattle.frame_layout.specs.Layouts.{is_index}
-use Rattle.frame_layout.specs.declared.layout.Field.{Field}
-use Rattle.frame_layout.specs.declared.layout.FieldKind.{FieldKind}
-use Rattle.ir_model.specs.declared.module.Function.{Function}
-use Rattle.ir_model.specs.declared.module.Module.{Module}
-use Rattle.ir_paths.specs.Slots.{has_name, promise_of}
-use Rattle.ir_model.specs.Ty.{Ty}
-use Rattle.run_laws.specs.changed.Changed.{Each}
+use Rattle.compiler.specs.frame_contents.Held.{field_of, fields_of, held_by, index_field, slot_held}
+use Rattle.compiler.specs.frame_contents.declared.held.Holding.{Holding}
+use Rattle.compiler.specs.frame_layout.Conflicts.{conflict, field_conflicts, is_apart, is_apart_at, pairs_from, pairs_of}
+use Rattle.compiler.specs.frame_layout.Layouts.{is_index}
+use Rattle.compiler.specs.frame_layout.declared.layout.Field.{Field}
+use Rattle.compiler.specs.frame_layout.declared.layout.FieldKind.{FieldKind}
+use Rattle.compiler.specs.ir_model.declared.module.Function.{Function}
+use Rattle.compiler.specs.ir_model.declared.module.Module.{Module}
+use Rattle.compiler.specs.ir_paths.Slots.{has_name, promise_of}
+use Rattle.compiler.specs.ir_model.Ty.{Ty}
+use Rattle.compiler.specs.run_laws.changed.Changed.{Each}
 
 -- ---- what is held is no index
 

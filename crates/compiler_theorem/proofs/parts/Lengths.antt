@@ -6,29 +6,29 @@ use Rattle.compiler_theorem.proofs.parts.Followable.{comes, same_kind}
 use Rattle.compiler_theorem.proofs.parts.Found.{laid_found, promise_found}
 use Rattle.compiler_theorem.specs.parts.Framed.{AreLaidFacts, IsLaidFact, TakeBytes}
 use Rattle.compiler_theorem.specs.theorem.GoodLayouts.{AreGoodLayouts}
-use Rattle.frame_contents.specs.Held.{suspend_count}
-use Rattle.frame_layout.specs.Frames.{index_size}
-use Rattle.frame_layout.specs.declared.layout.Layouts.{Layouts}
-use Rattle.ir_model.specs.Names.{no_function}
-use Rattle.ir_model.specs.declared.instr.Instr.{Instr}
-use Rattle.ir_model.specs.declared.ir_type.IntWidth.{IntWidth}
-use Rattle.ir_model.specs.declared.module.Block.{Block}
-use Rattle.ir_model.specs.declared.module.Function.{Function}
-use Rattle.ir_model.specs.declared.module.Module.{Module}
-use Rattle.ir_model.specs.declared.operand.Callee.{Callee}
-use Rattle.ir_model.specs.declared.operand.Intrinsic.{Intrinsic}
-use Rattle.ir_paths.specs.Windows.{is_call_of, points_from, points_in}
-use Rattle.ir_paths.specs.declared.point.Point.{Point}
-use Rattle.pass_exits.specs.ExitBlocks.{with_exit_blocks}
-use Rattle.pass_frames.specs.Framed.{IsFramedForm, layout_at}
-use Rattle.pass_intrinsics.specs.Shapes.{index_bytes, index_width, suspends_of}
-use Rattle.pass_proofs.proofs.exits.numbers.Edges.{exits_as_many}
-use Rattle.pass_proofs.proofs.frames.numbers.Framed.{framed_as_many}
-use Rattle.pass_proofs.proofs.frames.unnamed.Positions.{Becomes, FramedBy, Unchanged, stands_as}
-use Rattle.pass_proofs.specs.exits.states.Exits.{exits_split}
+use Rattle.compiler.specs.frame_contents.Held.{suspend_count}
+use Rattle.compiler.specs.frame_layout.Frames.{index_size}
+use Rattle.compiler.specs.frame_layout.declared.layout.Layouts.{Layouts}
+use Rattle.compiler.specs.ir_model.Names.{no_function}
+use Rattle.compiler.specs.ir_model.declared.instr.Instr.{Instr}
+use Rattle.compiler.specs.ir_model.declared.ir_type.IntWidth.{IntWidth}
+use Rattle.compiler.specs.ir_model.declared.module.Block.{Block}
+use Rattle.compiler.specs.ir_model.declared.module.Function.{Function}
+use Rattle.compiler.specs.ir_model.declared.module.Module.{Module}
+use Rattle.compiler.specs.ir_model.declared.operand.Callee.{Callee}
+use Rattle.compiler.specs.ir_model.declared.operand.Intrinsic.{Intrinsic}
+use Rattle.compiler.specs.ir_paths.Windows.{is_call_of, points_from, points_in}
+use Rattle.compiler.specs.ir_paths.declared.point.Point.{Point}
+use Rattle.compiler.specs.pass_exits.ExitBlocks.{with_exit_blocks}
+use Rattle.compiler.specs.pass_frames.Framed.{IsFramedForm, layout_at}
+use Rattle.compiler.specs.pass_intrinsics.Shapes.{index_bytes, index_width, suspends_of}
+use Rattle.compiler.proofs.pass_proofs.exits.numbers.Edges.{exits_as_many}
+use Rattle.compiler.proofs.pass_proofs.frames.numbers.Framed.{framed_as_many}
+use Rattle.compiler.proofs.pass_proofs.frames.unnamed.Positions.{Becomes, FramedBy, Unchanged, stands_as}
+use Rattle.compiler.specs.pass_proofs.exits.states.Exits.{exits_split}
 use Rattle.pass_split_proof.specs.states.Instances.{index_length}
-use Rattle.rule_laws.proofs.frames.suspend_counts.Counted.{count, counted, one, total}
-use Rattle.run_framed.specs.Framed.{framed_given}
+use Rattle.compiler.proofs.rule_laws.frames.suspend_counts.Counted.{count, counted, one, total}
+use Rattle.compiler.specs.run_framed.Framed.{framed_given}
 
 -- ---- suspends are counted alike
 

@@ -3,47 +3,47 @@ use Rattle.std.proofs.Common.{◌≡◌, ℕ, zero, suc, ◌+◌, Bool, true, fa
 use Rattle.std.proofs.lemmas.Option.{slice_get-map}
 use Rattle.std.specs.Prelude.{None, Option, Some, codes, filter, map, option_map, replicate, slice_get, if◌then◌else◌}
 use Rattle.compiler_theorem.proofs.parts.Fetched.{block_fetched, first_ends, one_fetched}
-use Rattle.frame_classes.specs.declared.class.SlotClass.{SlotClass}
-use Rattle.frame_contents.specs.declared.contents.Contents.{Contents}
-use Rattle.frame_layout.specs.declared.layout.Layout.{Layout}
-use Rattle.ir_base.specs.declared.ops.CastOp.{CastOp}
-use Rattle.ir_laws.proofs.facts.Members.{each_filtered, each_joined, each_mapped}
-use Rattle.ir_model.specs.Ty.{Ty, int}
-use Rattle.ir_model.specs.declared.instr.Instr.{Instr}
-use Rattle.ir_model.specs.declared.instr.Phi.{Phi}
-use Rattle.ir_model.specs.declared.instr.Terminator.{Terminator}
-use Rattle.ir_model.specs.declared.module.Block.{Block}
-use Rattle.ir_model.specs.declared.module.Function.{Function}
-use Rattle.ir_model.specs.declared.module.Module.{Module}
-use Rattle.ir_model.specs.declared.operand.Arg.{Arg}
-use Rattle.ir_model.specs.declared.operand.Operand.{Operand}
-use Rattle.ir_parts.specs.Contents.{result_of}
-use Rattle.pass_addresses.specs.Placing.{lies_outside, slot_fetches, stays, turned_block, with_frame_addresses, without_markers, without_promise, without_promise_of}
-use Rattle.pass_cells.specs.Cells.{fetched_function, fetches_of as cell_fetches, named_function, with_cells}
-use Rattle.pass_cells.specs.Kept.{entry}
-use Rattle.pass_cells.specs.Moves.{address_again, after_again, after_saved, again_one, again_values, saved_one, saved_values}
-use Rattle.pass_cells.specs.Plan.{plan_of}
-use Rattle.pass_cells.specs.Written.{after_block as after_written, after_one, again_row, distance_behind, distance_from, distance_into, entry_blocks, entry_front, save_row, stored, stored_at, stored_one, stored_phis, stored_result, written_block, written_blocks, written_instrs, written_one}
-use Rattle.pass_cells.specs.declared.plan.KeptValue.{KeptValue}
-use Rattle.pass_cells.specs.declared.plan.Plan.{Plan}
-use Rattle.pass_copies.specs.BeginCopies as copies
-use Rattle.pass_copies.specs.BeginCopies.{after_block as after_copied, after_instr as after_copied_instr, block_front, copied_block, copied_blocks, copied_instr, copied_instrs, copying_of, entry_front as copies_front, first_fetched, is_fetched, put, puts, with_begin_copies}
-use Rattle.pass_copies.specs.Slots.{early_slots}
-use Rattle.pass_copies.specs.Uses.{flag_at, still_before, used_before}
-use Rattle.pass_copies.specs.declared.copying.Copying.{Copying}
-use Rattle.pass_copies.specs.declared.slot.EarlySlot.{EarlySlot}
-use Rattle.pass_distances.specs.Sums.{distance_instrs, is_wide, start_instrs, start_value, sum_instrs, way_instrs, widening}
-use Rattle.pass_distances.specs.Ways.{ways_of}
-use Rattle.pass_distances.specs.declared.way.Way.{Way}
-use Rattle.pass_edges.specs.EdgeBlocks.{with_edge_blocks}
-use Rattle.pass_fetch.specs.Blocks.{ends_of_blocks, fetched_block, fetched_blocks, next_after_block, next_after_phis, next_after_phis_by, with_fetches}
-use Rattle.pass_fetch.specs.Fetching.{fetch_into}
-use Rattle.pass_fetch.specs.Instrs.{fetched_instr, fetched_term, with_fetched}
-use Rattle.pass_fetch.specs.declared.fetch.Fetch.{Fetch}
-use Rattle.pass_frames.specs.Framed.{IsFramedCoroutine, begin_block, begin_of, celled, copied, offsets_of, placed}
-use Rattle.pass_frames.specs.Tables.{class_flags, label_flags, sizes_by_name}
-use Rattle.pass_front.specs.Front.{with_allocas_first}
-use Rattle.run_laws.specs.changed.Changed.{Each}
+use Rattle.compiler.specs.frame_classes.declared.class.SlotClass.{SlotClass}
+use Rattle.compiler.specs.frame_contents.declared.contents.Contents.{Contents}
+use Rattle.compiler.specs.frame_layout.declared.layout.Layout.{Layout}
+use Rattle.compiler.specs.ir_base.declared.ops.CastOp.{CastOp}
+use Rattle.compiler.proofs.ir_laws.facts.Members.{each_filtered, each_joined, each_mapped}
+use Rattle.compiler.specs.ir_model.Ty.{Ty, int}
+use Rattle.compiler.specs.ir_model.declared.instr.Instr.{Instr}
+use Rattle.compiler.specs.ir_model.declared.instr.Phi.{Phi}
+use Rattle.compiler.specs.ir_model.declared.instr.Terminator.{Terminator}
+use Rattle.compiler.specs.ir_model.declared.module.Block.{Block}
+use Rattle.compiler.specs.ir_model.declared.module.Function.{Function}
+use Rattle.compiler.specs.ir_model.declared.module.Module.{Module}
+use Rattle.compiler.specs.ir_model.declared.operand.Arg.{Arg}
+use Rattle.compiler.specs.ir_model.declared.operand.Operand.{Operand}
+use Rattle.compiler.specs.ir_parts.Contents.{result_of}
+use Rattle.compiler.specs.pass_addresses.Placing.{lies_outside, slot_fetches, stays, turned_block, with_frame_addresses, without_markers, without_promise, without_promise_of}
+use Rattle.compiler.specs.pass_cells.Cells.{fetched_function, fetches_of as cell_fetches, named_function, with_cells}
+use Rattle.compiler.specs.pass_cells.Kept.{entry}
+use Rattle.compiler.specs.pass_cells.Moves.{address_again, after_again, after_saved, again_one, again_values, saved_one, saved_values}
+use Rattle.compiler.specs.pass_cells.Plan.{plan_of}
+use Rattle.compiler.specs.pass_cells.Written.{after_block as after_written, after_one, again_row, distance_behind, distance_from, distance_into, entry_blocks, entry_front, save_row, stored, stored_at, stored_one, stored_phis, stored_result, written_block, written_blocks, written_instrs, written_one}
+use Rattle.compiler.specs.pass_cells.declared.plan.KeptValue.{KeptValue}
+use Rattle.compiler.specs.pass_cells.declared.plan.Plan.{Plan}
+use Rattle.compiler.specs.pass_copies.BeginCopies as copies
+use Rattle.compiler.specs.pass_copies.BeginCopies.{after_block as after_copied, after_instr as after_copied_instr, block_front, copied_block, copied_blocks, copied_instr, copied_instrs, copying_of, entry_front as copies_front, first_fetched, is_fetched, put, puts, with_begin_copies}
+use Rattle.compiler.specs.pass_copies.Slots.{early_slots}
+use Rattle.compiler.specs.pass_copies.Uses.{flag_at, still_before, used_before}
+use Rattle.compiler.specs.pass_copies.declared.copying.Copying.{Copying}
+use Rattle.compiler.specs.pass_copies.declared.slot.EarlySlot.{EarlySlot}
+use Rattle.compiler.specs.pass_distances.Sums.{distance_instrs, is_wide, start_instrs, start_value, sum_instrs, way_instrs, widening}
+use Rattle.compiler.specs.pass_distances.Ways.{ways_of}
+use Rattle.compiler.specs.pass_distances.declared.way.Way.{Way}
+use Rattle.compiler.specs.pass_edges.EdgeBlocks.{with_edge_blocks}
+use Rattle.compiler.specs.pass_fetch.Blocks.{ends_of_blocks, fetched_block, fetched_blocks, next_after_block, next_after_phis, next_after_phis_by, with_fetches}
+use Rattle.compiler.specs.pass_fetch.Fetching.{fetch_into}
+use Rattle.compiler.specs.pass_fetch.Instrs.{fetched_instr, fetched_term, with_fetched}
+use Rattle.compiler.specs.pass_fetch.declared.fetch.Fetch.{Fetch}
+use Rattle.compiler.specs.pass_frames.Framed.{IsFramedCoroutine, begin_block, begin_of, celled, copied, offsets_of, placed}
+use Rattle.compiler.specs.pass_frames.Tables.{class_flags, label_flags, sizes_by_name}
+use Rattle.compiler.specs.pass_front.Front.{with_allocas_first}
+use Rattle.compiler.specs.run_laws.changed.Changed.{Each}
 
 -- neither a call nor an alloca
 abbrev pub IsLight : Instr → Type 0

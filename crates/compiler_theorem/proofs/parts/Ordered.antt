@@ -3,14 +3,14 @@ use Rattle.std.proofs.Common.{◌≡◌, inl, inr, ℕ, ◌+◌, Bool, List, [],
 use Rattle.std.specs.Prelude.{map}
 use Rattle.compiler_theorem.proofs.parts.Found.{found_in_order}
 use Rattle.compiler_theorem.specs.theorem.GoodLayouts.{AreGoodLayouts}
-use Rattle.frame_layout.specs.declared.layout.Layout.{Layout}
-use Rattle.frame_layout.specs.declared.layout.Layouts.{Layouts}
-use Rattle.ir_base.specs.declared.name.Name.{Name}
-use Rattle.ir_laws.specs.facts.same_names.Same.{naming}
-use Rattle.ir_model.specs.declared.module.Function.{Function}
-use Rattle.ir_model.specs.declared.module.Module.{Module}
-use Rattle.pass_frames.specs.Framed.{IsFramedForm}
-use Rattle.pass_proofs.proofs.frames.headings.Headings.{framed_names}
+use Rattle.compiler.specs.frame_layout.declared.layout.Layout.{Layout}
+use Rattle.compiler.specs.frame_layout.declared.layout.Layouts.{Layouts}
+use Rattle.compiler.specs.ir_base.declared.name.Name.{Name}
+use Rattle.compiler.specs.ir_laws.facts.same_names.Same.{naming}
+use Rattle.compiler.specs.ir_model.declared.module.Function.{Function}
+use Rattle.compiler.specs.ir_model.declared.module.Module.{Module}
+use Rattle.compiler.specs.pass_frames.Framed.{IsFramedForm}
+use Rattle.compiler.proofs.pass_proofs.frames.headings.Headings.{framed_names}
 use Rattle.pass_split_proof.specs.ready.Layouts.{AreLayoutsOf}
 
 -- ---- framed forms

@@ -4,23 +4,23 @@ use Rattle.std.proofs.lemmas.Bool.{false≢true}
 use Rattle.std.specs.Prelude.{None, Some, slice_get, if◌then◌else◌}
 use Rattle.compiler_theorem.proofs.parts.Followable.{comes, same_kind}
 use Rattle.compiler_theorem.specs.theorem.Lowered.{IsLowered, Lowered, early}
-use Rattle.ir_base.specs.declared.name.Name.{Name}
-use Rattle.ir_model.specs.declared.module.Block.{Block}
-use Rattle.ir_model.specs.declared.module.Function.{Function}
-use Rattle.pass_early.specs.Early.{early_function, early_named}
-use Rattle.pass_early.specs.BeginName.{with_begin_name}
-use Rattle.pass_exits.specs.ExitBlocks.{with_exit_blocks}
-use Rattle.pass_frames.specs.Framed.{layout_at}
-use Rattle.pass_proofs.proofs.early.local_rules.Turned.{turned_function}
-use Rattle.pass_proofs.proofs.early.path_rules.RenamedOperands.{map_was}
-use Rattle.pass_proofs.proofs.frames.headings.Headings.{framed_headed}
-use Rattle.pass_proofs.proofs.frames.unnamed.Positions.{Becomes, FramedBy, Unchanged, stands_as}
-use Rattle.pass_proofs.specs.exits.states.Exits.{exit_function, exits_split}
-use Rattle.rule_laws.proofs.texts.named_texts.Placed.{part_at}
-use Rattle.rule_laws.proofs.rules.widths.Written.{text_wide}
-use Rattle.rule_laws.specs.rules.counted.Widths.{first_other_width}
-use Rattle.text_canonical.proofs.order.Shaped.{text_is_shaped}
-use Rattle.text_canonical.specs.order.Shape.{IsBlock, IsFunction, Some_of}
+use Rattle.compiler.specs.ir_base.declared.name.Name.{Name}
+use Rattle.compiler.specs.ir_model.declared.module.Block.{Block}
+use Rattle.compiler.specs.ir_model.declared.module.Function.{Function}
+use Rattle.compiler.specs.pass_early.Early.{early_function, early_named}
+use Rattle.compiler.specs.pass_early.BeginName.{with_begin_name}
+use Rattle.compiler.specs.pass_exits.ExitBlocks.{with_exit_blocks}
+use Rattle.compiler.specs.pass_frames.Framed.{layout_at}
+use Rattle.compiler.proofs.pass_proofs.early.local_rules.Turned.{turned_function}
+use Rattle.compiler.proofs.pass_proofs.early.path_rules.RenamedOperands.{map_was}
+use Rattle.compiler.proofs.pass_proofs.frames.headings.Headings.{framed_headed}
+use Rattle.compiler.proofs.pass_proofs.frames.unnamed.Positions.{Becomes, FramedBy, Unchanged, stands_as}
+use Rattle.compiler.specs.pass_proofs.exits.states.Exits.{exit_function, exits_split}
+use Rattle.compiler.proofs.rule_laws.texts.named_texts.Placed.{part_at}
+use Rattle.compiler.proofs.rule_laws.rules.widths.Written.{text_wide}
+use Rattle.compiler.specs.rule_laws.rules.counted.Widths.{first_other_width}
+use Rattle.compiler.proofs.text_canonical.order.Shaped.{text_is_shaped}
+use Rattle.compiler.specs.text_canonical.order.Shape.{IsBlock, IsFunction, Some_of}
 
 -- ---- passes leave them as they are
 

@@ -9,47 +9,47 @@ use Rattle.compiler_theorem.proofs.parts.Light.{HasReturn, IsLight, behind_one a
 use Rattle.compiler_theorem.specs.parts.Framed.{IsLightBlock}
 use Rattle.compiler_theorem.specs.theorem.Lowered.{IsLowered, Lowered, early}
 use Rattle.compiler.specs.cleanup.accepted.Ready.{IsReady}
-use Rattle.flow_solver.specs.Paths.{IsListed}
-use Rattle.frame_classes.specs.declared.class.SlotClass.{SlotClass}
-use Rattle.frame_layout.specs.declared.layout.Layout.{Layout}
-use Rattle.ir_laws.proofs.facts.Truth.{equal_numbers, not_both}
-use Rattle.ir_laws.specs.paths.rows.Returns.{IsOwnBlock}
-use Rattle.ir_model.specs.Names.{position_of}
-use Rattle.ir_model.specs.declared.instr.Instr.{Instr}
-use Rattle.ir_model.specs.declared.instr.Terminator.{Terminator}
-use Rattle.ir_model.specs.declared.module.Block.{Block}
-use Rattle.ir_model.specs.declared.module.Function.{Function}
-use Rattle.ir_model.specs.declared.module.Module.{Module}
-use Rattle.pass_edges.specs.EdgeBlocks.{with_edge_blocks}
-use Rattle.pass_exits.specs.ExitBlocks.{blocks_by, exit_blocks, exit_label, exit_term, with_exit_blocks, with_exits}
-use Rattle.pass_exits.specs.Exits.{block_exits, mark_of}
-use Rattle.pass_exits.specs.declared.exit.Exit.{Exit}
-use Rattle.pass_frames.specs.Framed.{IsFramedCoroutine, celled, copied, layout_at, placed}
-use Rattle.pass_frames.specs.Tables.{class_flags}
-use Rattle.pass_intrinsics.specs.Shapes.{is_end, suspends_of}
-use Rattle.pass_intrinsics.specs.declared.shape.SuspendPoint.{SuspendPoint}
-use Rattle.pass_proofs.proofs.early.named_sources.BeginNames.{HasBeginName}
-use Rattle.pass_proofs.proofs.edges.rules.Kept.{suspend_blocks}
-use Rattle.pass_proofs.proofs.exits.rules.Suspends.{same_suspends as same_exited}
-use Rattle.pass_proofs.proofs.frames.numbers.Numbers.{all_near, number_given}
-use Rattle.pass_proofs.proofs.frames.rules.Built.{passes_fit}
-use Rattle.pass_proofs.proofs.frames.shape.Fits.{cells_fit}
-use Rattle.pass_proofs.proofs.frames.slots_behind.Behind.{blocks_behind}
-use Rattle.pass_proofs.proofs.frames.unnamed.Positions.{Becomes, FramedBy, Unchanged, stands_as}
-use Rattle.pass_proofs.specs.cells.rules.Asked.{AreCellsFor}
-use Rattle.pass_proofs.specs.exits.states.Exits.{exits_split}
-use Rattle.pass_proofs.specs.frames.rules.Buildable.{IsBuildable}
-use Rattle.pass_proofs.specs.frames.shape.Passes.{PassesFit}
+use Rattle.compiler.specs.flow_solver.Paths.{IsListed}
+use Rattle.compiler.specs.frame_classes.declared.class.SlotClass.{SlotClass}
+use Rattle.compiler.specs.frame_layout.declared.layout.Layout.{Layout}
+use Rattle.compiler.proofs.ir_laws.facts.Truth.{equal_numbers, not_both}
+use Rattle.compiler.specs.ir_laws.paths.rows.Returns.{IsOwnBlock}
+use Rattle.compiler.specs.ir_model.Names.{position_of}
+use Rattle.compiler.specs.ir_model.declared.instr.Instr.{Instr}
+use Rattle.compiler.specs.ir_model.declared.instr.Terminator.{Terminator}
+use Rattle.compiler.specs.ir_model.declared.module.Block.{Block}
+use Rattle.compiler.specs.ir_model.declared.module.Function.{Function}
+use Rattle.compiler.specs.ir_model.declared.module.Module.{Module}
+use Rattle.compiler.specs.pass_edges.EdgeBlocks.{with_edge_blocks}
+use Rattle.compiler.specs.pass_exits.ExitBlocks.{blocks_by, exit_blocks, exit_label, exit_term, with_exit_blocks, with_exits}
+use Rattle.compiler.specs.pass_exits.Exits.{block_exits, mark_of}
+use Rattle.compiler.specs.pass_exits.declared.exit.Exit.{Exit}
+use Rattle.compiler.specs.pass_frames.Framed.{IsFramedCoroutine, celled, copied, layout_at, placed}
+use Rattle.compiler.specs.pass_frames.Tables.{class_flags}
+use Rattle.compiler.specs.pass_intrinsics.Shapes.{is_end, suspends_of}
+use Rattle.compiler.specs.pass_intrinsics.declared.shape.SuspendPoint.{SuspendPoint}
+use Rattle.compiler.proofs.pass_proofs.early.named_sources.BeginNames.{HasBeginName}
+use Rattle.compiler.proofs.pass_proofs.edges.rules.Kept.{suspend_blocks}
+use Rattle.compiler.proofs.pass_proofs.exits.rules.Suspends.{same_suspends as same_exited}
+use Rattle.compiler.proofs.pass_proofs.frames.numbers.Numbers.{all_near, number_given}
+use Rattle.compiler.proofs.pass_proofs.frames.rules.Built.{passes_fit}
+use Rattle.compiler.proofs.pass_proofs.frames.shape.Fits.{cells_fit}
+use Rattle.compiler.proofs.pass_proofs.frames.slots_behind.Behind.{blocks_behind}
+use Rattle.compiler.proofs.pass_proofs.frames.unnamed.Positions.{Becomes, FramedBy, Unchanged, stands_as}
+use Rattle.compiler.specs.pass_proofs.cells.rules.Asked.{AreCellsFor}
+use Rattle.compiler.specs.pass_proofs.exits.states.Exits.{exits_split}
+use Rattle.compiler.specs.pass_proofs.frames.rules.Buildable.{IsBuildable}
+use Rattle.compiler.specs.pass_proofs.frames.shape.Passes.{PassesFit}
 use Rattle.pass_split_proof.specs.states.Related.{is_return_label, weight}
-use Rattle.rule_laws.proofs.frames.front_rules.Shape.{same_suspends as same_front}
-use Rattle.rule_laws.proofs.rules.source_rules.Locals.{own_label}
-use Rattle.rule_laws.specs.frames.rows.Returns.{HaveOwnReturns, return_labels}
-use Rattle.rule_laws.specs.frames.suspend_counts.Given.{IsGiven}
-use Rattle.rule_laws.specs.rules.function_rules.Kept.{KeepsFunctionRules}
-use Rattle.rule_laws.specs.rules.path_rules.Paths.{KeepsPaths}
-use Rattle.rule_laws.specs.rules.path_rules.Shape.{KeepsShape}
-use Rattle.run_laws.specs.changed.Changed.{Each}
-use Rattle.run_step.specs.Step.{AtInstr, fetch_in, fetch_or}
+use Rattle.compiler.proofs.rule_laws.frames.front_rules.Shape.{same_suspends as same_front}
+use Rattle.compiler.proofs.rule_laws.rules.source_rules.Locals.{own_label}
+use Rattle.compiler.specs.rule_laws.frames.rows.Returns.{HaveOwnReturns, return_labels}
+use Rattle.compiler.specs.rule_laws.frames.suspend_counts.Given.{IsGiven}
+use Rattle.compiler.specs.rule_laws.rules.function_rules.Kept.{KeepsFunctionRules}
+use Rattle.compiler.specs.rule_laws.rules.path_rules.Paths.{KeepsPaths}
+use Rattle.compiler.specs.rule_laws.rules.path_rules.Shape.{KeepsShape}
+use Rattle.compiler.specs.run_laws.changed.Changed.{Each}
+use Rattle.compiler.specs.run_step.Step.{AtInstr, fetch_in, fetch_or}
 
 -- a block with the label that isn't the first
 abbrev IsReturned : Function → ℕ → Type 0

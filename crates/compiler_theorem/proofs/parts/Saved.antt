@@ -4,35 +4,35 @@ use Rattle.std.proofs.Common.{None, Some, Option}
 use Rattle.std.proofs.lemmas.Bool.{false≢true}
 use Rattle.std.specs.Prelude.{is_some, ◌&&◌}
 use Rattle.compiler_theorem.proofs.parts.Tokens.{HasTokens, is_bare}
-use Rattle.flow_solver.specs.Paths.{IsListed}
-use Rattle.ir_base.specs.declared.outcome.Place.{Place}
-use Rattle.ir_laws.proofs.facts.Members.{at_each}
-use Rattle.ir_laws.proofs.facts.Truth.{and_first, and_second, holds}
-use Rattle.ir_laws.proofs.paths.renamed.Uses.{stands_in}
-use Rattle.ir_laws.proofs.paths.source_rules.Locals.{listed_either}
-use Rattle.ir_laws.proofs.paths.uses.Paths.{place_of}
-use Rattle.ir_model.specs.declared.instr.Instr.{Instr}
-use Rattle.ir_model.specs.declared.module.Block.{Block}
-use Rattle.ir_model.specs.declared.module.Function.{Function}
-use Rattle.ir_model.specs.declared.module.Module.{Module}
-use Rattle.ir_model.specs.declared.operand.Callee.{Callee}
-use Rattle.ir_model.specs.declared.operand.Intrinsic.{Intrinsic}
-use Rattle.ir_model.specs.declared.operand.Operand.{Operand}
-use Rattle.ir_parts.specs.Parts.{OfInstr}
-use Rattle.ir_paths.specs.Windows.{call_result, is_call_of}
-use Rattle.pass_early.specs.Early.{is_none}
-use Rattle.pass_intrinsics.specs.Shapes.{save_of, suspends_of, token_of, with_suspend, with_suspends_by, with_suspends_in}
-use Rattle.pass_intrinsics.specs.declared.shape.SuspendPoint.{SuspendPoint}
-use Rattle.rule_laws.proofs.rules.counted.PartFacts.{block_passes}
-use Rattle.rule_laws.proofs.rules.sources.Places.{instr_there, point}
-use Rattle.rule_laws.specs.rules.function_rules.Kept.{KeepsFunctionRules}
-use Rattle.rule_locals.specs.Instrs.{on_instr}
-use Rattle.rule_types.specs.Signatures.{calls_otherwise}
-use Rattle.rule_values.specs.Instrs.{fits_called, fits_instr, fits_result, is_save_or_none, passes}
-use Rattle.rule_values.specs.Kinds.{value_kind}
-use Rattle.rule_values.specs.Values.{breaks_values}
-use Rattle.rule_values.specs.declared.kinds.Kind.{Kind}
-use Rattle.run_step.specs.Step.{AtInstr, fetch}
+use Rattle.compiler.specs.flow_solver.Paths.{IsListed}
+use Rattle.compiler.specs.ir_base.declared.outcome.Place.{Place}
+use Rattle.compiler.proofs.ir_laws.facts.Members.{at_each}
+use Rattle.compiler.proofs.ir_laws.facts.Truth.{and_first, and_second, holds}
+use Rattle.compiler.proofs.ir_laws.paths.renamed.Uses.{stands_in}
+use Rattle.compiler.proofs.ir_laws.paths.source_rules.Locals.{listed_either}
+use Rattle.compiler.proofs.ir_laws.paths.uses.Paths.{place_of}
+use Rattle.compiler.specs.ir_model.declared.instr.Instr.{Instr}
+use Rattle.compiler.specs.ir_model.declared.module.Block.{Block}
+use Rattle.compiler.specs.ir_model.declared.module.Function.{Function}
+use Rattle.compiler.specs.ir_model.declared.module.Module.{Module}
+use Rattle.compiler.specs.ir_model.declared.operand.Callee.{Callee}
+use Rattle.compiler.specs.ir_model.declared.operand.Intrinsic.{Intrinsic}
+use Rattle.compiler.specs.ir_model.declared.operand.Operand.{Operand}
+use Rattle.compiler.specs.ir_parts.Parts.{OfInstr}
+use Rattle.compiler.specs.ir_paths.Windows.{call_result, is_call_of}
+use Rattle.compiler.specs.pass_early.Early.{is_none}
+use Rattle.compiler.specs.pass_intrinsics.Shapes.{save_of, suspends_of, token_of, with_suspend, with_suspends_by, with_suspends_in}
+use Rattle.compiler.specs.pass_intrinsics.declared.shape.SuspendPoint.{SuspendPoint}
+use Rattle.compiler.proofs.rule_laws.rules.counted.PartFacts.{block_passes}
+use Rattle.compiler.proofs.rule_laws.rules.sources.Places.{instr_there, point}
+use Rattle.compiler.specs.rule_laws.rules.function_rules.Kept.{KeepsFunctionRules}
+use Rattle.compiler.specs.rule_locals.Instrs.{on_instr}
+use Rattle.compiler.specs.rule_types.Signatures.{calls_otherwise}
+use Rattle.compiler.specs.rule_values.Instrs.{fits_called, fits_instr, fits_result, is_save_or_none, passes}
+use Rattle.compiler.specs.rule_values.Kinds.{value_kind}
+use Rattle.compiler.specs.rule_values.Values.{breaks_values}
+use Rattle.compiler.specs.rule_values.declared.kinds.Kind.{Kind}
+use Rattle.compiler.specs.run_step.Step.{AtInstr, fetch}
 use Rattle.std.specs.List.{list_all}
 
 -- ---- an instruction

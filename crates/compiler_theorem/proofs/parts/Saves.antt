@@ -15,43 +15,43 @@ use Rattle.compiler_theorem.proofs.parts.Saved.{tokens_named}
 use Rattle.compiler_theorem.proofs.parts.Taken.{first_same, front_ones, has_one, no_alloca_passes, one_passes, passed, passes, same_ones, save_told, suspend_told}
 use Rattle.compiler_theorem.proofs.parts.Ways.{Edge, More, Reaches, blocks_on, path_on, reaches_same, way_of, within}
 use Rattle.compiler_theorem.specs.theorem.Lowered.{IsLowered, Lowered, early}
-use Rattle.flow_solver.specs.Paths.{IsListed}
-use Rattle.frame_layout.specs.declared.layout.Layout.{Layout}
-use Rattle.frame_slots.proofs.Points.{where_complete}
-use Rattle.ir_laws.proofs.facts.Truth.{and_first, and_second, not_both}
-use Rattle.ir_laws.proofs.paths.renamed.Uses.{StandsIn, stands_in}
-use Rattle.ir_laws.proofs.paths.threaded.Threads.{IsOver, LeadsForth, between, ended}
-use Rattle.ir_model.specs.Names.{is_local, position_of}
-use Rattle.ir_model.specs.declared.instr.Instr.{Instr}
-use Rattle.ir_model.specs.declared.module.Block.{Block}
-use Rattle.ir_model.specs.declared.module.Function.{Function}
-use Rattle.ir_model.specs.declared.operand.Callee.{Callee}
-use Rattle.ir_model.specs.declared.operand.Intrinsic.{Intrinsic}
-use Rattle.ir_model.specs.declared.operand.Operand.{Operand}
-use Rattle.ir_paths.proofs.Search.{eq_from, eq_itself}
-use Rattle.ir_paths.specs.Paths.{Leads, has_point, targets}
-use Rattle.ir_paths.specs.Windows.{call_result, instr_at, instr_in, is_call_of, is_suspend_of, points_where, suspend_of}
-use Rattle.ir_paths.specs.declared.point.Point.{Point}
-use Rattle.pass_edges.specs.EdgeBlocks.{with_edge_blocks}
-use Rattle.pass_exits.specs.ExitBlocks.{with_exit_blocks}
-use Rattle.pass_frames.specs.Framed.{IsFramedCoroutine, celled, copied, layout_at, placed}
-use Rattle.pass_front.specs.Front.{with_allocas_first}
-use Rattle.pass_kept_proof.proofs.Rules.{suspend_is_suspend}
-use Rattle.pass_kept_proof.specs.SuspendRules.{IsCallAt, KeepsSuspendRules}
-use Rattle.pass_proofs.proofs.early.save_simulation.Suspending.{fetch_at}
-use Rattle.pass_proofs.proofs.edges.paths.Points.{IsMovedFrom, map_has}
-use Rattle.pass_proofs.proofs.exits.rules.Places.{spot}
-use Rattle.pass_proofs.proofs.exits.rules.Threaded.{moves, threaded}
-use Rattle.pass_proofs.proofs.exits.states.Points.{instr_moved, moved, points_moved, suspend_moved}
-use Rattle.pass_proofs.proofs.frames.numbers.Numbers.{number_given}
-use Rattle.pass_proofs.proofs.frames.unnamed.Positions.{Becomes, FramedBy, StandsAs, Unchanged, stands_as}
-use Rattle.pass_proofs.proofs.kept.sources.Whole.{split_keeps}
-use Rattle.pass_proofs.specs.exits.states.Exits.{KeepsExits, exits_split}
-use Rattle.rule_laws.proofs.rules.sources.Places.{instr_there, point}
-use Rattle.rule_laws.proofs.rules.threaded.Threads.{IsThreaded}
-use Rattle.rule_laws.proofs.rules.uses.Switched.{switched}
-use Rattle.rule_shape.specs.Switches.{wrong_switch}
-use Rattle.run_step.specs.Step.{AtInstr, fetch}
+use Rattle.compiler.specs.flow_solver.Paths.{IsListed}
+use Rattle.compiler.specs.frame_layout.declared.layout.Layout.{Layout}
+use Rattle.compiler.proofs.frame_slots.Points.{where_complete}
+use Rattle.compiler.proofs.ir_laws.facts.Truth.{and_first, and_second, not_both}
+use Rattle.compiler.proofs.ir_laws.paths.renamed.Uses.{StandsIn, stands_in}
+use Rattle.compiler.proofs.ir_laws.paths.threaded.Threads.{IsOver, LeadsForth, between, ended}
+use Rattle.compiler.specs.ir_model.Names.{is_local, position_of}
+use Rattle.compiler.specs.ir_model.declared.instr.Instr.{Instr}
+use Rattle.compiler.specs.ir_model.declared.module.Block.{Block}
+use Rattle.compiler.specs.ir_model.declared.module.Function.{Function}
+use Rattle.compiler.specs.ir_model.declared.operand.Callee.{Callee}
+use Rattle.compiler.specs.ir_model.declared.operand.Intrinsic.{Intrinsic}
+use Rattle.compiler.specs.ir_model.declared.operand.Operand.{Operand}
+use Rattle.compiler.proofs.ir_paths.Search.{eq_from, eq_itself}
+use Rattle.compiler.specs.ir_paths.Paths.{Leads, has_point, targets}
+use Rattle.compiler.specs.ir_paths.Windows.{call_result, instr_at, instr_in, is_call_of, is_suspend_of, points_where, suspend_of}
+use Rattle.compiler.specs.ir_paths.declared.point.Point.{Point}
+use Rattle.compiler.specs.pass_edges.EdgeBlocks.{with_edge_blocks}
+use Rattle.compiler.specs.pass_exits.ExitBlocks.{with_exit_blocks}
+use Rattle.compiler.specs.pass_frames.Framed.{IsFramedCoroutine, celled, copied, layout_at, placed}
+use Rattle.compiler.specs.pass_front.Front.{with_allocas_first}
+use Rattle.compiler.proofs.pass_kept_proof.Rules.{suspend_is_suspend}
+use Rattle.compiler.specs.pass_kept_proof.SuspendRules.{IsCallAt, KeepsSuspendRules}
+use Rattle.compiler.proofs.pass_proofs.early.save_simulation.Suspending.{fetch_at}
+use Rattle.compiler.proofs.pass_proofs.edges.paths.Points.{IsMovedFrom, map_has}
+use Rattle.compiler.proofs.pass_proofs.exits.rules.Places.{spot}
+use Rattle.compiler.proofs.pass_proofs.exits.rules.Threaded.{moves, threaded}
+use Rattle.compiler.proofs.pass_proofs.exits.states.Points.{instr_moved, moved, points_moved, suspend_moved}
+use Rattle.compiler.proofs.pass_proofs.frames.numbers.Numbers.{number_given}
+use Rattle.compiler.proofs.pass_proofs.frames.unnamed.Positions.{Becomes, FramedBy, StandsAs, Unchanged, stands_as}
+use Rattle.compiler.proofs.pass_proofs.kept.sources.Whole.{split_keeps}
+use Rattle.compiler.specs.pass_proofs.exits.states.Exits.{KeepsExits, exits_split}
+use Rattle.compiler.proofs.rule_laws.rules.sources.Places.{instr_there, point}
+use Rattle.compiler.proofs.rule_laws.rules.threaded.Threads.{IsThreaded}
+use Rattle.compiler.proofs.rule_laws.rules.uses.Switched.{switched}
+use Rattle.compiler.specs.rule_shape.Switches.{wrong_switch}
+use Rattle.compiler.specs.run_step.Step.{AtInstr, fetch}
 
 -- ---- tests of saves by what they give, and of suspends by what they take
 

@@ -4,18 +4,18 @@ use Rattle.std.proofs.lemmas.Bool.{false≢true}
 use Rattle.std.proofs.lemmas.List.Folds.{list_any-append}
 use Rattle.std.specs.List.{list_any}
 use Rattle.std.specs.Prelude.{None, Option, Some, filter, if◌then◌else◌, map, option_map, slice_get, ◌&&◌, ◌||◌}
-use Rattle.ir_model.specs.Names.{same_intrinsic}
-use Rattle.ir_model.specs.declared.instr.Instr.{Instr}
-use Rattle.ir_model.specs.declared.module.Block.{Block}
-use Rattle.ir_model.specs.declared.module.Function.{Function}
-use Rattle.ir_model.specs.declared.operand.Arg.{Arg}
-use Rattle.ir_model.specs.declared.operand.Callee.{Callee}
-use Rattle.ir_model.specs.declared.operand.Intrinsic.{Intrinsic}
-use Rattle.ir_model.specs.declared.operand.Operand.{Operand}
-use Rattle.ir_paths.specs.Windows.{call_operand, call_result, is_call_of, operand_at, points_from, points_in, points_where}
-use Rattle.ir_paths.specs.declared.point.Point.{Point}
-use Rattle.pass_front.specs.Front.{is_alloca, is_no_alloca, with_allocas_first}
-use Rattle.rule_laws.specs.rules.woven_shape.Calls.{ShapingCall, call_at, calls_in, calls_of_block, first_named, is_shaping, shaping_call}
+use Rattle.compiler.specs.ir_model.Names.{same_intrinsic}
+use Rattle.compiler.specs.ir_model.declared.instr.Instr.{Instr}
+use Rattle.compiler.specs.ir_model.declared.module.Block.{Block}
+use Rattle.compiler.specs.ir_model.declared.module.Function.{Function}
+use Rattle.compiler.specs.ir_model.declared.operand.Arg.{Arg}
+use Rattle.compiler.specs.ir_model.declared.operand.Callee.{Callee}
+use Rattle.compiler.specs.ir_model.declared.operand.Intrinsic.{Intrinsic}
+use Rattle.compiler.specs.ir_model.declared.operand.Operand.{Operand}
+use Rattle.compiler.specs.ir_paths.Windows.{call_operand, call_result, is_call_of, operand_at, points_from, points_in, points_where}
+use Rattle.compiler.specs.ir_paths.declared.point.Point.{Point}
+use Rattle.compiler.specs.pass_front.Front.{is_alloca, is_no_alloca, with_allocas_first}
+use Rattle.compiler.specs.rule_laws.rules.woven_shape.Calls.{ShapingCall, call_at, calls_in, calls_of_block, first_named, is_shaping, shaping_call}
 
 or_false : (b : Bool) → (b || false) ≡ b
 or_false true = refl

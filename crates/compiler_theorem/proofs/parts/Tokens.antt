@@ -1,37 +1,37 @@
 -- Suspends whose saves are written out, and saves with names, stay so where instructions are woven in and edges have blocks.
 use Rattle.std.proofs.Common.{◌≡◌, ℕ, Bool, true, false, List, Option, refl, None}
 use Rattle.std.specs.Prelude.{is_none, not, ◌&&◌}
-use Rattle.ir_base.specs.declared.outcome.Place.{Place}
-use Rattle.ir_laws.proofs.facts.Truth.{and_second}
-use Rattle.ir_laws.specs.facts.woven_rules.Pairs.{Empty, Pair, Pairwise}
-use Rattle.ir_laws.specs.facts.woven_rules.Parts.{ArgStays}
-use Rattle.ir_model.specs.Ty.{Ty}
-use Rattle.ir_model.specs.declared.instr.Instr.{Instr}
-use Rattle.ir_model.specs.declared.module.Function.{Function}
-use Rattle.ir_model.specs.declared.module.Module.{Module}
-use Rattle.ir_model.specs.declared.operand.Arg.{Arg}
-use Rattle.ir_model.specs.declared.operand.Callee.{Callee}
-use Rattle.ir_model.specs.declared.operand.Intrinsic.{Intrinsic}
-use Rattle.ir_model.specs.declared.operand.Operand.{Operand}
-use Rattle.ir_parts.specs.Parts.{first_part, parts_of}
-use Rattle.pass_early.specs.Early.{first_is_none, is_none as is_no_operand}
-use Rattle.pass_edges.specs.EdgeBlocks.{with_edge_blocks}
-use Rattle.pass_exits.specs.ExitBlocks.{with_exit_blocks}
-use Rattle.pass_front.specs.Front.{with_front_allocas}
-use Rattle.pass_proofs.proofs.edges.rules.Carried as edges
-use Rattle.pass_proofs.proofs.exits.rules.Threaded.{moves, threaded}
-use Rattle.pass_proofs.specs.edges.rules.Phis.{ArePhisEnteredByJumps}
-use Rattle.rule_laws.proofs.rules.front_rules.Carried as front
-use Rattle.rule_laws.proofs.rules.threaded.Carried as over
-use Rattle.rule_laws.proofs.rules.woven_rules.Carried as woven
-use Rattle.rule_laws.proofs.rules.woven_rules.Laid.{IsLike, KeptOne, NoPromise, Remains, Renamed, Stayed, laid}
-use Rattle.rule_laws.proofs.rules.woven_rules.Once.{below}
-use Rattle.rule_laws.specs.rules.function_rules.Kept.{KeepsFunctionRules}
-use Rattle.rule_laws.specs.rules.woven_rules.Blocks.{IsWoven, may_stand}
-use Rattle.rule_laws.specs.rules.woven_rules.Pairs.{AreIncomingOnce}
-use Rattle.rule_laws.specs.rules.woven_rules.Parts.{Call, Direct, Indirect, InstrStays}
-use Rattle.rule_laws.specs.rules.woven_rules.Weaving.{Weaving}
-use Rattle.rule_locals.specs.Instrs.{on_instr}
+use Rattle.compiler.specs.ir_base.declared.outcome.Place.{Place}
+use Rattle.compiler.proofs.ir_laws.facts.Truth.{and_second}
+use Rattle.compiler.specs.ir_laws.facts.woven_rules.Pairs.{Empty, Pair, Pairwise}
+use Rattle.compiler.specs.ir_laws.facts.woven_rules.Parts.{ArgStays}
+use Rattle.compiler.specs.ir_model.Ty.{Ty}
+use Rattle.compiler.specs.ir_model.declared.instr.Instr.{Instr}
+use Rattle.compiler.specs.ir_model.declared.module.Function.{Function}
+use Rattle.compiler.specs.ir_model.declared.module.Module.{Module}
+use Rattle.compiler.specs.ir_model.declared.operand.Arg.{Arg}
+use Rattle.compiler.specs.ir_model.declared.operand.Callee.{Callee}
+use Rattle.compiler.specs.ir_model.declared.operand.Intrinsic.{Intrinsic}
+use Rattle.compiler.specs.ir_model.declared.operand.Operand.{Operand}
+use Rattle.compiler.specs.ir_parts.Parts.{first_part, parts_of}
+use Rattle.compiler.specs.pass_early.Early.{first_is_none, is_none as is_no_operand}
+use Rattle.compiler.specs.pass_edges.EdgeBlocks.{with_edge_blocks}
+use Rattle.compiler.specs.pass_exits.ExitBlocks.{with_exit_blocks}
+use Rattle.compiler.specs.pass_front.Front.{with_front_allocas}
+use Rattle.compiler.proofs.pass_proofs.edges.rules.Carried as edges
+use Rattle.compiler.proofs.pass_proofs.exits.rules.Threaded.{moves, threaded}
+use Rattle.compiler.specs.pass_proofs.edges.rules.Phis.{ArePhisEnteredByJumps}
+use Rattle.compiler.proofs.rule_laws.rules.front_rules.Carried as front
+use Rattle.compiler.proofs.rule_laws.rules.threaded.Carried as over
+use Rattle.compiler.proofs.rule_laws.rules.woven_rules.Carried as woven
+use Rattle.compiler.proofs.rule_laws.rules.woven_rules.Laid.{IsLike, KeptOne, NoPromise, Remains, Renamed, Stayed, laid}
+use Rattle.compiler.proofs.rule_laws.rules.woven_rules.Once.{below}
+use Rattle.compiler.specs.rule_laws.rules.function_rules.Kept.{KeepsFunctionRules}
+use Rattle.compiler.specs.rule_laws.rules.woven_rules.Blocks.{IsWoven, may_stand}
+use Rattle.compiler.specs.rule_laws.rules.woven_rules.Pairs.{AreIncomingOnce}
+use Rattle.compiler.specs.rule_laws.rules.woven_rules.Parts.{Call, Direct, Indirect, InstrStays}
+use Rattle.compiler.specs.rule_laws.rules.woven_rules.Weaving.{Weaving}
+use Rattle.compiler.specs.rule_locals.Instrs.{on_instr}
 
 -- a suspend without a save, or a save without a name
 abbrev pub is_bare : Place → Instr → Bool

@@ -4,16 +4,16 @@ use Rattle.std.proofs.lemmas.Bool.{cases_lt, le-ltb, lt-ltb}
 use Rattle.std.proofs.lemmas.List.{length-map}
 use Rattle.std.proofs.lemmas.Option.{slice_get-map}
 use Rattle.std.specs.Prelude.{None, Option, Some, if◌then◌else◌, map, nat_lt, option_map, slice_get, unwrap_or, ◌==◌}
-use Rattle.flow_solver.specs.Paths.{IsListed}
-use Rattle.ir_laws.proofs.paths.alike_slots.Strands.{leads_at}
-use Rattle.ir_laws.proofs.paths.expanded.Strands.{leads_on}
-use Rattle.ir_laws.proofs.paths.threads.Edges.{one_there, only_one}
-use Rattle.ir_model.specs.Names.{first_where, position_of}
-use Rattle.ir_model.specs.declared.module.Block.{Block}
-use Rattle.ir_model.specs.declared.module.Function.{Function}
-use Rattle.ir_paths.proofs.Search.{Has, either, eq_itself, or_left, or_right, same_point-itself, same_point-same}
-use Rattle.ir_paths.specs.Paths.{IsPath, Leads, entry_point, has_point, nexts, nexts_in, same_point, targets}
-use Rattle.ir_paths.specs.declared.point.Point.{Point}
+use Rattle.compiler.specs.flow_solver.Paths.{IsListed}
+use Rattle.compiler.proofs.ir_laws.paths.alike_slots.Strands.{leads_at}
+use Rattle.compiler.proofs.ir_laws.paths.expanded.Strands.{leads_on}
+use Rattle.compiler.proofs.ir_laws.paths.threads.Edges.{one_there, only_one}
+use Rattle.compiler.specs.ir_model.Names.{first_where, position_of}
+use Rattle.compiler.specs.ir_model.declared.module.Block.{Block}
+use Rattle.compiler.specs.ir_model.declared.module.Function.{Function}
+use Rattle.compiler.proofs.ir_paths.Search.{Has, either, eq_itself, or_left, or_right, same_point-itself, same_point-same}
+use Rattle.compiler.specs.ir_paths.Paths.{IsPath, Leads, entry_point, has_point, nexts, nexts_in, same_point, targets}
+use Rattle.compiler.specs.ir_paths.declared.point.Point.{Point}
 
 -- a path of blocks, of one edge or more
 pub data Reaches (f : Function) : ℕ → ℕ → Type 0 where

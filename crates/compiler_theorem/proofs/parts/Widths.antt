@@ -6,33 +6,33 @@ use Rattle.compiler.proofs.whole.lowered_sources.Sources.{comes_from}
 use Rattle.compiler.proofs.whole.printed_forms.Lowered.{framed_spelled}
 use Rattle.compiler_theorem.proofs.parts.Followable.{comes}
 use Rattle.compiler_theorem.specs.theorem.Lowered.{IsLowered, Lowered, early}
-use Rattle.ir_base.specs.declared.outcome.Place.{Place}
-use Rattle.ir_laws.proofs.facts.Members.{each_joined}
-use Rattle.ir_laws.proofs.facts.Truth.{and_both, and_first, and_second}
-use Rattle.ir_laws.specs.facts.counted.Widths.{has_width, is_width}
-use Rattle.ir_model.specs.Ty.{Ty, array, int, named, ptr, structure, token}
-use Rattle.ir_model.specs.TypeView.{bits_of}
-use Rattle.ir_model.specs.declared.instr.Instr.{Instr}
-use Rattle.ir_model.specs.declared.instr.Phi.{Phi}
-use Rattle.ir_model.specs.declared.ir_type.IntWidth.{IntWidth}
-use Rattle.ir_model.specs.declared.ir_type.IntWidth.TheVariants.{I1, I16, I32, I64, I8}
-use Rattle.ir_model.specs.declared.module.Block.{Block}
-use Rattle.ir_model.specs.declared.module.Function.{Function}
-use Rattle.ir_model.specs.declared.module.Param.{Param}
-use Rattle.ir_parts.specs.Contents.{ending_types, instr_types, part_types}
-use Rattle.ir_parts.specs.Parts.{Ending, Part, Signature, block_parts, blocks_parts, instr_parts, instr_place, parts_of, phi_parts}
-use Rattle.pass_exits.specs.ExitBlocks.{with_exit_blocks}
-use Rattle.pass_frames.specs.Framed.{layout_at}
-use Rattle.pass_proofs.proofs.early.spelled.Early.{early_spelled}
-use Rattle.pass_proofs.proofs.exits.spelled.Edges.{exits_spelled}
-use Rattle.pass_proofs.proofs.frames.unnamed.Positions.{Becomes, FramedBy, Unchanged, stands_as}
-use Rattle.pass_proofs.specs.exits.states.Exits.{exits_split}
-use Rattle.rule_laws.proofs.rules.local_rules.Carried.{Passing, none_of}
-use Rattle.rule_laws.proofs.rules.spelled.Text.{source_spelled}
-use Rattle.rule_laws.specs.rules.counted.Widths.{first_other_width, is_of_other_width}
-use Rattle.rule_laws.specs.rules.spelled.Spelled.{IsSpelledBlock, IsSpelledFunction, IsSpelledInstr}
-use Rattle.rule_laws.specs.texts.spelled.Spelled.{IsSpelled}
-use Rattle.run_laws.specs.changed.Changed.{Each}
+use Rattle.compiler.specs.ir_base.declared.outcome.Place.{Place}
+use Rattle.compiler.proofs.ir_laws.facts.Members.{each_joined}
+use Rattle.compiler.proofs.ir_laws.facts.Truth.{and_both, and_first, and_second}
+use Rattle.compiler.specs.ir_laws.facts.counted.Widths.{has_width, is_width}
+use Rattle.compiler.specs.ir_model.Ty.{Ty, array, int, named, ptr, structure, token}
+use Rattle.compiler.specs.ir_model.TypeView.{bits_of}
+use Rattle.compiler.specs.ir_model.declared.instr.Instr.{Instr}
+use Rattle.compiler.specs.ir_model.declared.instr.Phi.{Phi}
+use Rattle.compiler.specs.ir_model.declared.ir_type.IntWidth.{IntWidth}
+use Rattle.compiler.specs.ir_model.declared.ir_type.IntWidth.TheVariants.{I1, I16, I32, I64, I8}
+use Rattle.compiler.specs.ir_model.declared.module.Block.{Block}
+use Rattle.compiler.specs.ir_model.declared.module.Function.{Function}
+use Rattle.compiler.specs.ir_model.declared.module.Param.{Param}
+use Rattle.compiler.specs.ir_parts.Contents.{ending_types, instr_types, part_types}
+use Rattle.compiler.specs.ir_parts.Parts.{Ending, Part, Signature, block_parts, blocks_parts, instr_parts, instr_place, parts_of, phi_parts}
+use Rattle.compiler.specs.pass_exits.ExitBlocks.{with_exit_blocks}
+use Rattle.compiler.specs.pass_frames.Framed.{layout_at}
+use Rattle.compiler.proofs.pass_proofs.early.spelled.Early.{early_spelled}
+use Rattle.compiler.proofs.pass_proofs.exits.spelled.Edges.{exits_spelled}
+use Rattle.compiler.proofs.pass_proofs.frames.unnamed.Positions.{Becomes, FramedBy, Unchanged, stands_as}
+use Rattle.compiler.specs.pass_proofs.exits.states.Exits.{exits_split}
+use Rattle.compiler.proofs.rule_laws.rules.local_rules.Carried.{Passing, none_of}
+use Rattle.compiler.proofs.rule_laws.rules.spelled.Text.{source_spelled}
+use Rattle.compiler.specs.rule_laws.rules.counted.Widths.{first_other_width, is_of_other_width}
+use Rattle.compiler.specs.rule_laws.rules.spelled.Spelled.{IsSpelledBlock, IsSpelledFunction, IsSpelledInstr}
+use Rattle.compiler.specs.rule_laws.texts.spelled.Spelled.{IsSpelled}
+use Rattle.compiler.specs.run_laws.changed.Changed.{Each}
 
 -- ---- what can be written
 

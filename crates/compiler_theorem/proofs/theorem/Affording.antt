@@ -4,20 +4,20 @@ use Rattle.std.proofs.Common.{◌≡◌, ◌⊎◌, inl, inr, ⊎_elim, ℕ, ◌
 use Rattle.std.specs.List.{list_all}
 use Rattle.std.specs.Prelude.{not, slice_get, unwrap_or, ◌==◌, ◌&&◌}
 use Rattle.compiler_theorem.proofs.theorem.Standing.{AreBehind, IsBottom, IsDone, IsNoWake, IsStanding, QuietResult, bottom_same, coro_quiet, freed_quiet, itself, next_quiet, not_first, return_quiet, slot_quiet}
-use Rattle.flow_solver.specs.Paths.{IsListed}
-use Rattle.ir_base.specs.declared.cause.Cause.{Cause}
-use Rattle.ir_base.specs.declared.outcome.Outcome.{Outcome}
-use Rattle.ir_model.specs.Names.{function_at, position_of}
-use Rattle.ir_model.specs.declared.instr.Instr.{Instr}
-use Rattle.ir_model.specs.declared.instr.Terminator.{Terminator}
-use Rattle.ir_model.specs.declared.module.Block.{Block}
-use Rattle.ir_model.specs.declared.module.Function.{Function}
-use Rattle.ir_model.specs.declared.operand.Arg.{Arg}
-use Rattle.ir_model.specs.declared.operand.Intrinsic.{Intrinsic}
-use Rattle.ir_paths.specs.Paths.{targets}
-use Rattle.ir_paths.specs.Windows.{destroy_label, resume_label}
-use Rattle.ir_paths.specs.declared.point.Point.{Point}
-use Rattle.ir_paths.specs.declared.point.Window.{Window}
+use Rattle.compiler.specs.flow_solver.Paths.{IsListed}
+use Rattle.compiler.specs.ir_base.declared.cause.Cause.{Cause}
+use Rattle.compiler.specs.ir_base.declared.outcome.Outcome.{Outcome}
+use Rattle.compiler.specs.ir_model.Names.{function_at, position_of}
+use Rattle.compiler.specs.ir_model.declared.instr.Instr.{Instr}
+use Rattle.compiler.specs.ir_model.declared.instr.Terminator.{Terminator}
+use Rattle.compiler.specs.ir_model.declared.module.Block.{Block}
+use Rattle.compiler.specs.ir_model.declared.module.Function.{Function}
+use Rattle.compiler.specs.ir_model.declared.operand.Arg.{Arg}
+use Rattle.compiler.specs.ir_model.declared.operand.Intrinsic.{Intrinsic}
+use Rattle.compiler.specs.ir_paths.Paths.{targets}
+use Rattle.compiler.specs.ir_paths.Windows.{destroy_label, resume_label}
+use Rattle.compiler.specs.ir_paths.declared.point.Point.{Point}
+use Rattle.compiler.specs.ir_paths.declared.point.Window.{Window}
 use Rattle.pass_frames_meaning.proofs.called.Comes.{Comes, comes}
 use Rattle.pass_frames_prices.proofs.bounds.Entry.{entry_unreturned}
 use Rattle.pass_frames_prices.proofs.priced.Jumps.{Leads, leads}
@@ -25,34 +25,34 @@ use Rattle.pass_frames_prices.proofs.priced.Afforded.{afforded}
 use Rattle.pass_frames_prices.proofs.priced.Left.{resume_leaves}
 use Rattle.pass_frames_prices.proofs.priced.Sums.{place_few}
 use Rattle.pass_frames_prices.specs.FramePrices.{AreWithin, coroutine_price, credit, frame_prices, full_price, left_at}
-use Rattle.pass_frames_proof.proofs.ramps.Plain.{entry_there}
-use Rattle.pass_frames_proof.specs.Framings.{IsFraming}
-use Rattle.pass_frames_proof.specs.Passes.{block_at, no_block}
-use Rattle.pass_frames_proof.specs.Places.{Framing, edged, instrs_at, is_return}
-use Rattle.pass_frames_proof.specs.Related.{Building, is_coroutine}
-use Rattle.pass_kept_proof.specs.Kept.{Keep, continue_keeping}
-use Rattle.pass_kept_proof.specs.SuspendRules.{IsCallAt}
-use Rattle.pass_kept_proof.specs.Related.{IsSoundStatus}
-use Rattle.pass_renewed_meaning.proofs.ResumeCases.{sleeper_there}
-use Rattle.pass_renewed_proof.specs.Prices.{Prices, anew_price, coroutine_of, kept_price, price_of, resumed_by, resumed_in}
-use Rattle.pass_renewed_proof.specs.Renewed.{Flags}
-use Rattle.rule_laws.proofs.rules.sources.Places.{IsEnd, term_there}
-use Rattle.rule_laws.specs.frames.rows.Returns.{HaveOwnReturns}
-use Rattle.run_agreement.specs.Machines.{IsFine}
-use Rattle.run_hooks.proofs.Reached.{sound_get}
-use Rattle.run_hooks.specs.Reached.{IsReachedState}
-use Rattle.run_memory.specs.declared.pointer.Value.{Value}
-use Rattle.run_source.specs.Source.{Continues, Sleeper, act, advance_by, branch_leaving, context_of, coro, deallocate, destroy, enter, enter_block, left_windows, may_leave, new_slot, resume, return, sleeper_at, step_by}
-use Rattle.run_source.specs.State.{function_of, or_undefined, own_instance, settled, with_left, with_status, work_of}
-use Rattle.run_source.specs.declared.state.Activation.{Activation}
-use Rattle.run_source.specs.declared.state.Instance.{Instance}
-use Rattle.run_source.specs.declared.state.State.{State}
-use Rattle.run_source.specs.declared.state.Status.{Status}
-use Rattle.run_source_tables.specs.Given.{Given, is_final}
-use Rattle.run_step.specs.Results.{and_then, found, ok_if}
-use Rattle.run_step.specs.Step.{Action, AtInstr, AtTerm, Coro, Deallocate, Done, Enter, Fetched, GoTo, NewSlot, Nowhere, Return, Stuck, Work, action_of, fetch, instr_action, term_action}
-use Rattle.run_step.specs.Values.{Env, arg_values, nth}
-use Rattle.run_step.specs.declared.world.Slot.{Slot}
+use Rattle.pass_frames_meaning.proofs.pass_frames_proof.ramps.Plain.{entry_there}
+use Rattle.pass_frames_meaning.specs.pass_frames_proof.Framings.{IsFraming}
+use Rattle.pass_frames_meaning.specs.pass_frames_proof.Passes.{block_at, no_block}
+use Rattle.pass_frames_meaning.specs.pass_frames_proof.Places.{Framing, edged, instrs_at, is_return}
+use Rattle.pass_frames_meaning.specs.pass_frames_proof.Related.{Building, is_coroutine}
+use Rattle.compiler.specs.pass_kept_proof.Kept.{Keep, continue_keeping}
+use Rattle.compiler.specs.pass_kept_proof.SuspendRules.{IsCallAt}
+use Rattle.compiler.specs.pass_kept_proof.Related.{IsSoundStatus}
+use Rattle.pass_frames_meaning.proofs.pass_renewed_meaning.ResumeCases.{sleeper_there}
+use Rattle.pass_frames_meaning.specs.pass_renewed_proof.Prices.{Prices, anew_price, coroutine_of, kept_price, price_of, resumed_by, resumed_in}
+use Rattle.pass_frames_meaning.specs.pass_renewed_proof.Renewed.{Flags}
+use Rattle.compiler.proofs.rule_laws.rules.sources.Places.{IsEnd, term_there}
+use Rattle.compiler.specs.rule_laws.frames.rows.Returns.{HaveOwnReturns}
+use Rattle.compiler.specs.run_agreement.Machines.{IsFine}
+use Rattle.pass_frames_meaning.proofs.run_hooks.Reached.{sound_get}
+use Rattle.pass_frames_meaning.specs.run_hooks.Reached.{IsReachedState}
+use Rattle.compiler.specs.run_memory.declared.pointer.Value.{Value}
+use Rattle.compiler.specs.run_source.Source.{Continues, Sleeper, act, advance_by, branch_leaving, context_of, coro, deallocate, destroy, enter, enter_block, left_windows, may_leave, new_slot, resume, return, sleeper_at, step_by}
+use Rattle.compiler.specs.run_source.State.{function_of, or_undefined, own_instance, settled, with_left, with_status, work_of}
+use Rattle.compiler.specs.run_source.declared.state.Activation.{Activation}
+use Rattle.compiler.specs.run_source.declared.state.Instance.{Instance}
+use Rattle.compiler.specs.run_source.declared.state.State.{State}
+use Rattle.compiler.specs.run_source.declared.state.Status.{Status}
+use Rattle.compiler.specs.run_source_tables.Given.{Given, is_final}
+use Rattle.compiler.specs.run_step.Results.{and_then, found, ok_if}
+use Rattle.compiler.specs.run_step.Step.{Action, AtInstr, AtTerm, Coro, Deallocate, Done, Enter, Fetched, GoTo, NewSlot, Nowhere, Return, Stuck, Work, action_of, fetch, instr_action, term_action}
+use Rattle.compiler.specs.run_step.Values.{Env, arg_values, nth}
+use Rattle.compiler.specs.run_step.declared.world.Slot.{Slot}
 
 -- what is asked of the coroutines of a run
 pub record MayBePaid (b : Building) (k : Given) (names operands : ℕ) : Type 0 where

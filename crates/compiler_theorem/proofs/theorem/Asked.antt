@@ -12,53 +12,53 @@ use Rattle.compiler_theorem.specs.theorem.Anew.{Anew, IsAnewOf}
 use Rattle.compiler_theorem.specs.theorem.Asked.{asking}
 use Rattle.compiler_theorem.specs.theorem.Entries.{Run}
 use Rattle.compiler_theorem.specs.theorem.Lowered.{HasFewBytes, IsLowered, Lowered, early, edged}
-use Rattle.ir_base.specs.declared.name.Name.{Name}
-use Rattle.ir_laws.proofs.facts.Truth.{and_first, and_second, not_both}
-use Rattle.ir_laws.proofs.facts.same_names.Lists.{what_is_found}
-use Rattle.ir_laws.specs.facts.same_names.Same.{naming}
-use Rattle.ir_laws.specs.facts.sound_states.Named.{AreUsesNamed}
-use Rattle.ir_model.specs.Layout.{field_type, unnamed}
-use Rattle.ir_model.specs.Names.{declaration_named, function_at, global_named, no_function, noalloc_of, same_name}
-use Rattle.ir_model.specs.Ty.{Ty, array, int, named, ptr, structure, token}
-use Rattle.ir_model.specs.declared.instr.Instr.{Instr}
-use Rattle.ir_model.specs.declared.module.Function.{Function}
-use Rattle.ir_model.specs.declared.module.Module.{Module}
-use Rattle.ir_model.specs.declared.operand.Arg.{Arg}
-use Rattle.ir_model.specs.declared.operand.Callee.{Callee}
-use Rattle.ir_model.specs.declared.operand.Operand.{Operand}
-use Rattle.ir_paths.specs.Facts.{facts_of}
-use Rattle.ir_paths.specs.Windows.{windows_of}
-use Rattle.ir_tables.proofs.Tables.{same_name-same}
-use Rattle.pass_distances.specs.Ways.{field_number, inner_type}
-use Rattle.pass_edges.specs.EdgeBlocks.{with_edge_blocks}
+use Rattle.compiler.specs.ir_base.declared.name.Name.{Name}
+use Rattle.compiler.proofs.ir_laws.facts.Truth.{and_first, and_second, not_both}
+use Rattle.compiler.proofs.ir_laws.facts.same_names.Lists.{what_is_found}
+use Rattle.compiler.specs.ir_laws.facts.same_names.Same.{naming}
+use Rattle.compiler.specs.ir_laws.facts.sound_states.Named.{AreUsesNamed}
+use Rattle.compiler.specs.ir_model.Layout.{field_type, unnamed}
+use Rattle.compiler.specs.ir_model.Names.{declaration_named, function_at, global_named, no_function, noalloc_of, same_name}
+use Rattle.compiler.specs.ir_model.Ty.{Ty, array, int, named, ptr, structure, token}
+use Rattle.compiler.specs.ir_model.declared.instr.Instr.{Instr}
+use Rattle.compiler.specs.ir_model.declared.module.Function.{Function}
+use Rattle.compiler.specs.ir_model.declared.module.Module.{Module}
+use Rattle.compiler.specs.ir_model.declared.operand.Arg.{Arg}
+use Rattle.compiler.specs.ir_model.declared.operand.Callee.{Callee}
+use Rattle.compiler.specs.ir_model.declared.operand.Operand.{Operand}
+use Rattle.compiler.specs.ir_paths.Facts.{facts_of}
+use Rattle.compiler.specs.ir_paths.Windows.{windows_of}
+use Rattle.compiler.proofs.ir_tables.Tables.{same_name-same}
+use Rattle.compiler.specs.pass_distances.Ways.{field_number, inner_type}
+use Rattle.compiler.specs.pass_edges.EdgeBlocks.{with_edge_blocks}
 use Rattle.pass_frames_meaning.specs.Setting.{KeepsAll}
-use Rattle.pass_frames_proof.specs.Distances.{AreFieldsInside, IsField}
-use Rattle.pass_frames_proof.specs.Lined.{GivesNone}
-use Rattle.pass_frames_proof.specs.Stepping.{HasFieldIndices}
-use Rattle.pass_proofs.proofs.early.meaning.Names.{named_uses, renamed_uses}
-use Rattle.pass_proofs.proofs.early.path_rules.RenamedOperands.{map_was}
-use Rattle.pass_proofs.proofs.early.renaming.Composition.{early_in_turn}
-use Rattle.pass_proofs.proofs.early.save_simulation.Tables.{uses_stay_named}
-use Rattle.pass_proofs.proofs.early.source_rules.Accepted.{all_named_keep}
-use Rattle.pass_proofs.proofs.edges.rules.Kept.{suspend_blocks}
-use Rattle.pass_proofs.proofs.edges.simulation.Names.{uses_named as edged_named}
-use Rattle.pass_proofs.proofs.edges.states.Parts.{named_moved}
-use Rattle.pass_proofs.proofs.frames.headings.Headings.{framed_names}
-use Rattle.pass_proofs.proofs.kept.sources.Whole.{split_rules}
-use Rattle.pass_proofs.specs.early.renaming.Passes.{named_module, renamed_module}
-use Rattle.pass_renewed_meaning.proofs.Tables.{same_windows}
+use Rattle.pass_frames_meaning.specs.pass_frames_proof.Distances.{AreFieldsInside, IsField}
+use Rattle.pass_frames_meaning.specs.pass_frames_proof.Lined.{GivesNone}
+use Rattle.pass_frames_meaning.specs.pass_frames_proof.Stepping.{HasFieldIndices}
+use Rattle.compiler.proofs.pass_proofs.early.meaning.Names.{named_uses, renamed_uses}
+use Rattle.compiler.proofs.pass_proofs.early.path_rules.RenamedOperands.{map_was}
+use Rattle.compiler.proofs.pass_proofs.early.renaming.Composition.{early_in_turn}
+use Rattle.compiler.proofs.pass_proofs.early.save_simulation.Tables.{uses_stay_named}
+use Rattle.compiler.proofs.pass_proofs.early.source_rules.Accepted.{all_named_keep}
+use Rattle.compiler.proofs.pass_proofs.edges.rules.Kept.{suspend_blocks}
+use Rattle.compiler.proofs.pass_proofs.edges.simulation.Names.{uses_named as edged_named}
+use Rattle.compiler.proofs.pass_proofs.edges.states.Parts.{named_moved}
+use Rattle.compiler.proofs.pass_proofs.frames.headings.Headings.{framed_names}
+use Rattle.compiler.proofs.pass_proofs.kept.sources.Whole.{split_rules}
+use Rattle.compiler.specs.pass_proofs.early.renaming.Passes.{named_module, renamed_module}
+use Rattle.pass_frames_meaning.proofs.pass_renewed_meaning.Tables.{same_windows}
 use Rattle.pass_split_proof.proofs.ready.Callees.{callee_known}
 use Rattle.pass_split_proof.proofs.ready.Gives.{unknown_ramp}
 use Rattle.pass_split_proof.specs.ready.Fields.{AreFieldIndices, AreInnerIndices, IsFieldIndex, number_in, type_inside}
-use Rattle.rule_laws.proofs.rules.sources.Tables.{all_tabled}
-use Rattle.rule_laws.proofs.texts.named_texts.Placed.{uses_named}
-use Rattle.rule_laws.specs.frames.rows.Returns.{HaveOwnReturns}
-use Rattle.rule_names.specs.Known.{knows_name}
+use Rattle.compiler.proofs.rule_laws.rules.sources.Tables.{all_tabled}
+use Rattle.compiler.proofs.rule_laws.texts.named_texts.Placed.{uses_named}
+use Rattle.compiler.specs.rule_laws.frames.rows.Returns.{HaveOwnReturns}
+use Rattle.compiler.specs.rule_names.Known.{knows_name}
 use Rattle.run_accepted.proofs.Accepted.{edged_steps, edged_types}
-use Rattle.run_framed.specs.Framed.{framed_facts, given_ramp}
-use Rattle.run_source_tables.specs.Given.{facts_at}
-use Rattle.ir_paths.specs.declared.point.Facts.{Facts}
-use Rattle.run_step.specs.Step.{AtInstr, fetch}
+use Rattle.compiler.specs.run_framed.Framed.{framed_facts, given_ramp}
+use Rattle.compiler.specs.run_source_tables.Given.{facts_at}
+use Rattle.compiler.specs.ir_paths.declared.point.Facts.{Facts}
+use Rattle.compiler.specs.run_step.Step.{AtInstr, fetch}
 
 -- ---- indices into structures are fields
 

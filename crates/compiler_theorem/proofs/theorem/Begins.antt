@@ -1,20 +1,20 @@
 -- Begin alone gives its name, in a function that breaks no rule.
 use Rattle.std.proofs.Common.{◌≡◌, ℕ, sym, ap, ◌∙◌, subst}
 use Rattle.std.specs.Prelude.{Some, length}
-use Rattle.ir_laws.specs.facts.expanded.Tokens.{IsNamedResult}
-use Rattle.ir_laws.specs.facts.sound_states.Named.{HasNamedLocals}
-use Rattle.ir_model.specs.declared.module.Function.{Function}
-use Rattle.ir_model.specs.declared.module.Module.{Module}
-use Rattle.ir_paths.specs.declared.point.Point.{Point}
+use Rattle.compiler.specs.ir_laws.facts.expanded.Tokens.{IsNamedResult}
+use Rattle.compiler.specs.ir_laws.facts.sound_states.Named.{HasNamedLocals}
+use Rattle.compiler.specs.ir_model.declared.module.Function.{Function}
+use Rattle.compiler.specs.ir_model.declared.module.Module.{Module}
+use Rattle.compiler.specs.ir_paths.declared.point.Point.{Point}
 use Rattle.pass_frames_meaning.proofs.led.Begins.{HasBegin, has_begin}
 use Rattle.pass_frames_meaning.specs.Led.{IsBegin, IsBegunOnce}
-use Rattle.pass_renewed_proof.specs.Steps.{given_at}
-use Rattle.rule_laws.specs.rules.function_rules.Kept.{KeepsFunctionRules}
+use Rattle.pass_frames_meaning.specs.pass_renewed_proof.Steps.{given_at}
+use Rattle.compiler.specs.rule_laws.rules.function_rules.Kept.{KeepsFunctionRules}
 use Rattle.run_accepted.proofs.Once.{given_alone, gives_no_param, no_phi_gives}
-use Rattle.run_framed.specs.Framed.{begin_name}
-use Rattle.run_laws.specs.changed.Changed.{result_at}
-use Rattle.run_states.proofs.sound_states.Fits.{result_named}
-use Rattle.run_step.specs.Step.{AtInstr, fetch}
+use Rattle.compiler.specs.run_framed.Framed.{begin_name}
+use Rattle.compiler.specs.run_laws.changed.Changed.{result_at}
+use Rattle.compiler.proofs.run_states.sound_states.Fits.{result_named}
+use Rattle.compiler.specs.run_step.Step.{AtInstr, fetch}
 
 pub begun_once : (m : Module) (k : ℕ) (f : Function) → KeepsFunctionRules m k f → HasNamedLocals f → (v : ℕ)
     → begin_name f ≡ Some v → IsBegunOnce f v

@@ -11,30 +11,30 @@ use Rattle.compiler_theorem.proofs.parts.Returned.{buildable, named}
 use Rattle.compiler_theorem.proofs.theorem.Facts.{good_layouts}
 use Rattle.compiler_theorem.specs.theorem.Built.{building, framing_in}
 use Rattle.compiler_theorem.specs.theorem.Lowered.{IsLowered, Lowered, early}
-use Rattle.frame_layout.specs.declared.layout.Layout.{Layout}
-use Rattle.ir_laws.proofs.facts.Lists.{get_behind, get_front, one_longer}
-use Rattle.ir_laws.proofs.facts.Truth.{itself, not_both, other_number}
-use Rattle.ir_laws.specs.facts.same_names.Same.{naming}
-use Rattle.ir_model.specs.Names.{function_at, no_function}
-use Rattle.ir_model.specs.declared.module.Function.{Function}
-use Rattle.ir_model.specs.declared.module.Module.{Module}
-use Rattle.pass_edges.specs.EdgeBlocks.{with_edge_blocks}
-use Rattle.run_step.specs.Step.{has_markers}
-use Rattle.pass_frames.specs.Framed.{AreFramed, Coroutine, IsFramedCoroutine, NoneYet, Other, layout_at}
-use Rattle.pass_frames_proof.proofs.framings.Built.{framing_there}
-use Rattle.pass_frames_proof.specs.Framings.{IsFraming}
-use Rattle.pass_frames_proof.specs.Places.{Framing, framed, framing_of}
-use Rattle.pass_frames_proof.specs.Related.{AreBuilt, Building, IsBuiltBy}
-use Rattle.pass_proofs.proofs.frames.headings.Headings.{framed_names}
-use Rattle.pass_proofs.proofs.frames.numbers.Numbers.{number_given}
-use Rattle.pass_proofs.proofs.frames.unnamed.Positions.{Becomes, FramedBy, Unchanged, stands_as}
-use Rattle.ir_laws.specs.paths.woven_rules.Pairs.{AreDifferent}
-use Rattle.pass_proofs.proofs.edges.calls.Edges.{edges_shaped}
-use Rattle.rule_laws.specs.frames.replaced.Splittable.{tokens_taken}
-use Rattle.pass_split.specs.Parts.{first_layout, layouts_after, other_layouts}
+use Rattle.compiler.specs.frame_layout.declared.layout.Layout.{Layout}
+use Rattle.compiler.proofs.ir_laws.facts.Lists.{get_behind, get_front, one_longer}
+use Rattle.compiler.proofs.ir_laws.facts.Truth.{itself, not_both, other_number}
+use Rattle.compiler.specs.ir_laws.facts.same_names.Same.{naming}
+use Rattle.compiler.specs.ir_model.Names.{function_at, no_function}
+use Rattle.compiler.specs.ir_model.declared.module.Function.{Function}
+use Rattle.compiler.specs.ir_model.declared.module.Module.{Module}
+use Rattle.compiler.specs.pass_edges.EdgeBlocks.{with_edge_blocks}
+use Rattle.compiler.specs.run_step.Step.{has_markers}
+use Rattle.compiler.specs.pass_frames.Framed.{AreFramed, Coroutine, IsFramedCoroutine, NoneYet, Other, layout_at}
+use Rattle.pass_frames_meaning.proofs.pass_frames_proof.framings.Built.{framing_there}
+use Rattle.pass_frames_meaning.specs.pass_frames_proof.Framings.{IsFraming}
+use Rattle.pass_frames_meaning.specs.pass_frames_proof.Places.{Framing, framed, framing_of}
+use Rattle.pass_frames_meaning.specs.pass_frames_proof.Related.{AreBuilt, Building, IsBuiltBy}
+use Rattle.compiler.proofs.pass_proofs.frames.headings.Headings.{framed_names}
+use Rattle.compiler.proofs.pass_proofs.frames.numbers.Numbers.{number_given}
+use Rattle.compiler.proofs.pass_proofs.frames.unnamed.Positions.{Becomes, FramedBy, Unchanged, stands_as}
+use Rattle.compiler.specs.ir_laws.paths.woven_rules.Pairs.{AreDifferent}
+use Rattle.compiler.proofs.pass_proofs.edges.calls.Edges.{edges_shaped}
+use Rattle.compiler.specs.rule_laws.frames.replaced.Splittable.{tokens_taken}
+use Rattle.compiler.specs.pass_split.Parts.{first_layout, layouts_after, other_layouts}
 use Rattle.pass_split_proof.proofs.ready.Layouts.{layouts_found}
 use Rattle.pass_split_proof.specs.code.Positions.{layouts_from}
-use Rattle.rule_laws.specs.rules.function_rules.Kept.{KeepsFunctionRules}
+use Rattle.compiler.specs.rule_laws.rules.function_rules.Kept.{KeepsFunctionRules}
 
 -- ---- layouts that are left
 

@@ -1,14 +1,14 @@
 -- All rows in turn, with calls elided.
 use Rattle.std.proofs.Common.{◌≡◌, ℕ, ◌+◌, ◌*◌, ◌≤◌, ap, ◌∙◌, subst, arith}
-use Rattle.run_agreement.proofs.Compose.{compose, compose_within, follows_returned, returned_fine, weaken}
-use Rattle.run_agreement.proofs.Costs.{agrees_within, cost_below}
-use Rattle.run_agreement.specs.Agreements.{Agrees, AgreesWithin}
-use Rattle.run_agreement.specs.Costs.{cost_at}
-use Rattle.run_agreement.specs.Factor.{size_factor, step_factor}
-use Rattle.run_agreement.specs.Machines.{IsReturned, Machine, Seen, at, state_at}
-use Rattle.pass_cleanup.proofs.Simulation.{clean_agrees, clean_corresponds}
-use Rattle.pass_cleanup.specs.Cleaned.{IsCleanedOf}
-use Rattle.run_source.specs.declared.state.State.{State}
+use Rattle.compiler.proofs.run_agreement.Compose.{compose, compose_within, follows_returned, returned_fine, weaken}
+use Rattle.compiler.proofs.run_agreement.Costs.{agrees_within, cost_below}
+use Rattle.compiler.specs.run_agreement.Agreements.{Agrees, AgreesWithin}
+use Rattle.compiler.specs.run_agreement.Costs.{cost_at}
+use Rattle.compiler.specs.run_agreement.Factor.{size_factor, step_factor}
+use Rattle.compiler.specs.run_agreement.Machines.{IsReturned, Machine, Seen, at, state_at}
+use Rattle.compiler.proofs.pass_cleanup.Simulation.{clean_agrees, clean_corresponds}
+use Rattle.compiler.specs.pass_cleanup.Cleaned.{IsCleanedOf}
+use Rattle.compiler.specs.run_source.declared.state.State.{State}
 use Rattle.compiler_theorem.proofs.theorem.Numbered.{counted_on, plain_stays, same_state}
 use Rattle.compiler_theorem.proofs.theorem.Rows.{at_least, framed_within}
 use Rattle.compiler_theorem.proofs.theorem.Stack.{gives_no_stack_back}
@@ -18,9 +18,9 @@ use Rattle.compiler_theorem.specs.theorem.Elision.{CountsElided, ElidedSteps, El
 use Rattle.compiler_theorem.specs.theorem.Entries.{IsEntry, IsEntryCall, Run}
 use Rattle.compiler_theorem.specs.theorem.Lowered.{HasFewBytes, IsLowered, Lowered, framed_run, lowered_from, plain_run, printed_from, source_run, split_from}
 use Rattle.compiler_theorem.specs.theorem.Theorem.{Steps}
-use Rattle.ir_model.specs.declared.module.Module.{Module}
-use Rattle.run_types.specs.States.{AreArguments}
-use Rattle.run_plain.specs.declared.state.PlainState.{PlainState}
+use Rattle.compiler.specs.ir_model.declared.module.Module.{Module}
+use Rattle.pass_frames_meaning.specs.run_types.States.{AreArguments}
+use Rattle.compiler.specs.run_plain.declared.state.PlainState.{PlainState}
 use Rattle.compiler.proofs.order.meaning.Main.{order_agrees}
 use Rattle.compiler.proofs.whole.printed_order.Main.{order_corresponds}
 use Rattle.compiler.specs.order.meaning.Beside.{IsInOrderOf}

@@ -2,9 +2,9 @@
 use Rattle.std.proofs.Common.{◌≡◌, ℕ, List, sym, ap, ◌∙◌}
 use Rattle.std.specs.Prelude.{map, slice_get}
 use Rattle.compiler_theorem.specs.theorem.Entries.{IsEntry}
-use Rattle.pass_proofs.proofs.early.path_rules.RenamedOperands.{map_was}
-use Rattle.ir_model.specs.declared.module.Function.{Function}
-use Rattle.ir_model.specs.declared.module.Module.{Module}
+use Rattle.compiler.proofs.pass_proofs.early.path_rules.RenamedOperands.{map_was}
+use Rattle.compiler.specs.ir_model.declared.module.Function.{Function}
+use Rattle.compiler.specs.ir_model.declared.module.Module.{Module}
 
 pub entry_before : (m n k : Module) (pass : Function → Function) → ((f : Function) → (pass f).name ≡ f.name)
     → k.functions ≡ map pass n.functions → (entry other : ℕ) → IsEntry m k entry other → IsEntry m n entry other

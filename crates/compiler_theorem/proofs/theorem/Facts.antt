@@ -8,19 +8,19 @@ use Rattle.compiler_theorem.specs.parts.Framed.{TakeBytes}
 use Rattle.compiler_theorem.specs.theorem.Entries.{Run}
 use Rattle.compiler_theorem.specs.theorem.GoodLayouts.{AreGoodLayouts}
 use Rattle.compiler_theorem.specs.theorem.Lowered.{IsAccepted, IsLowered, Lowered, early, sizes_of, source_run}
-use Rattle.frame_good.proofs.Frames.{layouts_good}
-use Rattle.frame_good.specs.Frames.{HasFitFields}
-use Rattle.ir_model.specs.declared.module.Function.{Function}
-use Rattle.pass_early.specs.Early.{early_function}
-use Rattle.pass_proofs.proofs.early.path_rules.RenamedOperands.{map_was}
-use Rattle.pass_proofs.proofs.early.sources.Laid.{accepted_laid}
-use Rattle.pass_proofs.proofs.early.widths.Widths.{early_widths}
-use Rattle.pass_proofs.proofs.kept.sources.Modules.{early_rules}
-use Rattle.rule_laws.proofs.rules.widths.Written.{text_wide}
-use Rattle.rule_laws.specs.rules.counted.Widths.{first_other_width}
+use Rattle.compiler.proofs.frame_good.Frames.{layouts_good}
+use Rattle.compiler.specs.frame_good.Frames.{HasFitFields}
+use Rattle.compiler.specs.ir_model.declared.module.Function.{Function}
+use Rattle.compiler.specs.pass_early.Early.{early_function}
+use Rattle.compiler.proofs.pass_proofs.early.path_rules.RenamedOperands.{map_was}
+use Rattle.compiler.proofs.pass_proofs.early.sources.Laid.{accepted_laid}
+use Rattle.compiler.proofs.pass_proofs.early.widths.Widths.{early_widths}
+use Rattle.compiler.proofs.pass_proofs.kept.sources.Modules.{early_rules}
+use Rattle.compiler.proofs.rule_laws.rules.widths.Written.{text_wide}
+use Rattle.compiler.specs.rule_laws.rules.counted.Widths.{first_other_width}
 use Rattle.run_accepted.proofs.Accepted.{apart}
-use Rattle.run_agreement.specs.Machines.{state_at}
-use Rattle.run_hooks.specs.alive.Apart.{LiveAreApart}
+use Rattle.compiler.specs.run_agreement.Machines.{state_at}
+use Rattle.pass_frames_meaning.specs.run_hooks.alive.Apart.{LiveAreApart}
 
 -- ---- layouts
 

@@ -12,36 +12,36 @@ use Rattle.compiler_theorem.specs.theorem.Built.{building}
 use Rattle.compiler_theorem.specs.theorem.Entries.{IsEntryCall, Run}
 use Rattle.compiler_theorem.specs.theorem.Lowered.{HasFewBytes, IsLowered, Lowered, early, edged, price_renewed, sizes_of}
 use Rattle.compiler_theorem.specs.theorem.Between.{renewing, setting}
-use Rattle.ir_base.specs.declared.name.Name.{Name}
-use Rattle.ir_laws.proofs.facts.Lists.{map_same}
-use Rattle.ir_laws.specs.facts.same_names.Same.{naming}
-use Rattle.ir_model.specs.Names.{first_where, function_at, no_function, same_name}
-use Rattle.ir_model.specs.declared.module.Function.{Function}
-use Rattle.ir_model.specs.declared.module.GlobalItem.{GlobalItem}
-use Rattle.ir_model.specs.declared.module.Module.{Module}
+use Rattle.compiler.specs.ir_base.declared.name.Name.{Name}
+use Rattle.compiler.proofs.ir_laws.facts.Lists.{map_same}
+use Rattle.compiler.specs.ir_laws.facts.same_names.Same.{naming}
+use Rattle.compiler.specs.ir_model.Names.{first_where, function_at, no_function, same_name}
+use Rattle.compiler.specs.ir_model.declared.module.Function.{Function}
+use Rattle.compiler.specs.ir_model.declared.module.GlobalItem.{GlobalItem}
+use Rattle.compiler.specs.ir_model.declared.module.Module.{Module}
 use Rattle.pass_frames_meaning.proofs.covered.Assembly.{kept_agrees}
 use Rattle.pass_frames_meaning.specs.Covered.{AgreesWithFrames, AreCoveredStepsFollowed}
-use Rattle.pass_frames_proof.proofs.givens.Runs.{given_runs}
-use Rattle.pass_frames_proof.proofs.start.States.{starts_built}
-use Rattle.pass_frames_proof.proofs.stepping.Operands.{AreSameNames, empty_same}
-use Rattle.pass_frames_proof.specs.Meaning.{PaysForFrames}
-use Rattle.pass_frames_proof.specs.Related.{AreBuiltOf, Building}
-use Rattle.pass_frames_proof.specs.Stepping.{AreGiven}
-use Rattle.pass_proofs.proofs.frames.headings.Headings.{framed_names}
+use Rattle.pass_frames_meaning.proofs.pass_frames_proof.givens.Runs.{given_runs}
+use Rattle.pass_frames_meaning.proofs.pass_frames_proof.start.States.{starts_built}
+use Rattle.pass_frames_meaning.proofs.pass_frames_proof.stepping.Operands.{AreSameNames, empty_same}
+use Rattle.pass_frames_meaning.specs.pass_frames_proof.Meaning.{PaysForFrames}
+use Rattle.pass_frames_meaning.specs.pass_frames_proof.Related.{AreBuiltOf, Building}
+use Rattle.pass_frames_meaning.specs.pass_frames_proof.Stepping.{AreGiven}
+use Rattle.compiler.proofs.pass_proofs.frames.headings.Headings.{framed_names}
 use Rattle.pass_split_proof.specs.states.Memories.{AreContents}
-use Rattle.pass_renewed_proof.specs.Ledger.{AreSmallGlobals}
-use Rattle.pass_renewed_proof.specs.Prices.{Prices}
+use Rattle.pass_frames_meaning.specs.pass_renewed_proof.Ledger.{AreSmallGlobals}
+use Rattle.pass_frames_meaning.specs.pass_renewed_proof.Prices.{Prices}
 use Rattle.run_accepted.proofs.Accepted.{edged_globals}
-use Rattle.run_laws.proofs.memory.Itself.{stands_in_itself}
-use Rattle.run_laws.specs.memory.Standing.{Embeds, own_homes}
-use Rattle.run_memory.proofs.Digits.{length-encode}
-use Rattle.run_memory.specs.Whole.{AreWhole, IsWhole}
-use Rattle.run_memory.specs.Memory.{access_bytes, encode, owner_rights}
-use Rattle.run_memory.specs.declared.block.MemoryBlock.{MemoryBlock}
-use Rattle.run_memory.specs.declared.pointer.Value.{Value}
-use Rattle.run_source.specs.Source.{first_state}
-use Rattle.run_step.specs.Step.{first_world, global_block}
-use Rattle.run_step.specs.Values.{access_of, stored}
+use Rattle.compiler.proofs.run_laws.memory.Itself.{stands_in_itself}
+use Rattle.compiler.specs.run_laws.memory.Standing.{Embeds, own_homes}
+use Rattle.compiler.proofs.run_memory.Digits.{length-encode}
+use Rattle.compiler.specs.run_memory.Whole.{AreWhole, IsWhole}
+use Rattle.compiler.specs.run_memory.Memory.{access_bytes, encode, owner_rights}
+use Rattle.compiler.specs.run_memory.declared.block.MemoryBlock.{MemoryBlock}
+use Rattle.compiler.specs.run_memory.declared.pointer.Value.{Value}
+use Rattle.compiler.specs.run_source.Source.{first_state}
+use Rattle.compiler.specs.run_step.Step.{first_world, global_block}
+use Rattle.compiler.specs.run_step.Values.{access_of, stored}
 
 -- ---- functions by their names
 

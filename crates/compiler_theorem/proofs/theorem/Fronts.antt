@@ -2,17 +2,17 @@
 use Rattle.std.proofs.Common.{◌≡◌, ⊎_elim, ℕ, ◌<◌, ◌+◌, zero, suc, Bool, true, false, List, [], ◌∷◌, length, refl, sym, ap, ◌∙◌, subst, arith}
 use Rattle.std.specs.Prelude.{Some, filter, slice_get, if◌then◌else◌}
 use Rattle.compiler_theorem.specs.theorem.Lowered.{AreAllocasFirst, HasAllocasFirst}
-use Rattle.frame_layout.specs.declared.layout.Layouts.{Layouts}
-use Rattle.ir_laws.proofs.facts.Lists.{below, in_front, of_row}
-use Rattle.ir_laws.proofs.facts.Truth.{not_both}
-use Rattle.ir_model.specs.declared.instr.Instr.{Instr}
-use Rattle.ir_model.specs.declared.module.Block.{Block}
-use Rattle.ir_model.specs.declared.module.Function.{Function}
-use Rattle.ir_model.specs.declared.module.Module.{Module}
-use Rattle.pass_frames.specs.Framed.{IsFramedForm}
-use Rattle.pass_front.specs.Front.{allocas_first, is_alloca, is_no_alloca, with_allocas_first, with_front_allocas}
-use Rattle.pass_proofs.proofs.frames.unnamed.Positions.{Becomes, FramedBy, Unchanged, stands_as}
-use Rattle.run_step.specs.Effects.{is_alloca as is_slot}
+use Rattle.compiler.specs.frame_layout.declared.layout.Layouts.{Layouts}
+use Rattle.compiler.proofs.ir_laws.facts.Lists.{below, in_front, of_row}
+use Rattle.compiler.proofs.ir_laws.facts.Truth.{not_both}
+use Rattle.compiler.specs.ir_model.declared.instr.Instr.{Instr}
+use Rattle.compiler.specs.ir_model.declared.module.Block.{Block}
+use Rattle.compiler.specs.ir_model.declared.module.Function.{Function}
+use Rattle.compiler.specs.ir_model.declared.module.Module.{Module}
+use Rattle.compiler.specs.pass_frames.Framed.{IsFramedForm}
+use Rattle.compiler.specs.pass_front.Front.{allocas_first, is_alloca, is_no_alloca, with_allocas_first, with_front_allocas}
+use Rattle.compiler.proofs.pass_proofs.frames.unnamed.Positions.{Becomes, FramedBy, Unchanged, stands_as}
+use Rattle.compiler.specs.run_step.Effects.{is_alloca as is_slot}
 
 -- what is filtered passes the test
 passed : {A : Type 0} (t : A → Bool) (xs : List A) (j : ℕ) (x : A) → slice_get (filter t xs) j ≡ Some x → t x ≡ true

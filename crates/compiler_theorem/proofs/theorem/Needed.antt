@@ -8,46 +8,46 @@ use Rattle.compiler_theorem.proofs.theorem.Facts.{good_layouts}
 use Rattle.compiler.proofs.whole.lowered_sources.Sources.{early_unused}
 use Rattle.compiler_theorem.specs.theorem.Anew.{Anew, IsAnewIn, IsAnewOf, IsMemorySlot}
 use Rattle.compiler_theorem.specs.theorem.Lowered.{IsLowered, Lowered, early, edged}
-use Rattle.flow_solver.specs.Paths.{IsListed}
-use Rattle.frame_classes.specs.Classes.{IsOf, suspends}
-use Rattle.frame_classes.specs.declared.class.SlotClass.{SlotClass}
-use Rattle.frame_crossing.specs.Crossing.{Crosses}
-use Rattle.frame_crossing.specs.Values.{values_of}
-use Rattle.frame_good.proofs.Frames.{layouts_found}
-use Rattle.frame_slots.proofs.Points.{where_complete}
-use Rattle.ir_laws.proofs.facts.Lists.{below}
-use Rattle.ir_laws.proofs.facts.Truth.{and_both, and_first, and_second, itself}
-use Rattle.ir_model.specs.Names.{function_at, no_function}
-use Rattle.ir_model.specs.declared.module.Function.{Function}
-use Rattle.ir_model.specs.declared.operand.Intrinsic.{Intrinsic}
-use Rattle.ir_paths.proofs.Right.{facts_of_right}
-use Rattle.ir_paths.specs.Paths.{has_point}
-use Rattle.ir_paths.specs.Slots.{IsRampSlot, allocas_of, has_name}
-use Rattle.ir_paths.specs.Windows.{is_call_of}
-use Rattle.ir_paths.specs.declared.point.Point.{Point}
-use Rattle.pass_edges.specs.EdgeBlocks.{with_edge_blocks}
-use Rattle.pass_kept_proof.proofs.Handed.{keeps}
-use Rattle.pass_kept_proof.proofs.Read.{listed_by_name}
-use Rattle.pass_kept_proof.specs.Crossing.{IsDefinite}
-use Rattle.pass_kept_proof.specs.Handed.{HandsOn, HasPlainNames}
-use Rattle.pass_kept_proof.specs.Kept.{Keep}
-use Rattle.pass_kept_proof.specs.Needed.{IsNeededBehind, IsReached}
-use Rattle.pass_kept_proof.specs.SuspendRules.{IsCallAt, KeepsNeeded, KeepsSuspendRules}
-use Rattle.pass_proofs.proofs.edges.paths.Slots.{same_allocas, same_ramp_slots}
-use Rattle.pass_proofs.proofs.edges.shape.Kept.{calls_kept}
-use Rattle.pass_proofs.proofs.edges.unused_frames.Edges.{unused_where_edges_have_blocks}
-use Rattle.pass_proofs.proofs.kept.sources.Modules.{early_has_shape, early_rules}
-use Rattle.pass_proofs.proofs.kept.sources.Names.{none_outside, suspend_inside}
-use Rattle.pass_proofs.proofs.kept.sources.Whole.{edges_kept, split_definite, split_keeps, split_named, split_rules}
-use Rattle.pass_proofs.specs.edges.states.MovedState.{KeepsEdges, edge_function}
-use Rattle.pass_renewed_proof.specs.SlotRules.{IsMadeOnce}
-use Rattle.rule_laws.proofs.rules.sources.Places.{instr_there}
-use Rattle.rule_laws.specs.rules.unused.Unused.{AreFramesUnused}
-use Rattle.rule_shape.specs.OneOfEach.{wrong_call}
+use Rattle.compiler.specs.flow_solver.Paths.{IsListed}
+use Rattle.compiler.specs.frame_classes.Classes.{IsOf, suspends}
+use Rattle.compiler.specs.frame_classes.declared.class.SlotClass.{SlotClass}
+use Rattle.compiler.specs.frame_crossing.Crossing.{Crosses}
+use Rattle.compiler.specs.frame_crossing.Values.{values_of}
+use Rattle.compiler.proofs.frame_good.Frames.{layouts_found}
+use Rattle.compiler.proofs.frame_slots.Points.{where_complete}
+use Rattle.compiler.proofs.ir_laws.facts.Lists.{below}
+use Rattle.compiler.proofs.ir_laws.facts.Truth.{and_both, and_first, and_second, itself}
+use Rattle.compiler.specs.ir_model.Names.{function_at, no_function}
+use Rattle.compiler.specs.ir_model.declared.module.Function.{Function}
+use Rattle.compiler.specs.ir_model.declared.operand.Intrinsic.{Intrinsic}
+use Rattle.compiler.proofs.ir_paths.Right.{facts_of_right}
+use Rattle.compiler.specs.ir_paths.Paths.{has_point}
+use Rattle.compiler.specs.ir_paths.Slots.{IsRampSlot, allocas_of, has_name}
+use Rattle.compiler.specs.ir_paths.Windows.{is_call_of}
+use Rattle.compiler.specs.ir_paths.declared.point.Point.{Point}
+use Rattle.compiler.specs.pass_edges.EdgeBlocks.{with_edge_blocks}
+use Rattle.compiler.proofs.pass_kept_proof.Handed.{keeps}
+use Rattle.compiler.proofs.pass_kept_proof.Read.{listed_by_name}
+use Rattle.compiler.specs.pass_kept_proof.Crossing.{IsDefinite}
+use Rattle.compiler.specs.pass_kept_proof.Handed.{HandsOn, HasPlainNames}
+use Rattle.compiler.specs.pass_kept_proof.Kept.{Keep}
+use Rattle.compiler.specs.pass_kept_proof.Needed.{IsNeededBehind, IsReached}
+use Rattle.compiler.specs.pass_kept_proof.SuspendRules.{IsCallAt, KeepsNeeded, KeepsSuspendRules}
+use Rattle.compiler.proofs.pass_proofs.edges.paths.Slots.{same_allocas, same_ramp_slots}
+use Rattle.compiler.proofs.pass_proofs.edges.shape.Kept.{calls_kept}
+use Rattle.compiler.proofs.pass_proofs.edges.unused_frames.Edges.{unused_where_edges_have_blocks}
+use Rattle.compiler.proofs.pass_proofs.kept.sources.Modules.{early_has_shape, early_rules}
+use Rattle.compiler.proofs.pass_proofs.kept.sources.Names.{none_outside, suspend_inside}
+use Rattle.compiler.proofs.pass_proofs.kept.sources.Whole.{edges_kept, split_definite, split_keeps, split_named, split_rules}
+use Rattle.compiler.specs.pass_proofs.edges.states.MovedState.{KeepsEdges, edge_function}
+use Rattle.pass_frames_meaning.specs.pass_renewed_proof.SlotRules.{IsMadeOnce}
+use Rattle.compiler.proofs.rule_laws.rules.sources.Places.{instr_there}
+use Rattle.compiler.specs.rule_laws.rules.unused.Unused.{AreFramesUnused}
+use Rattle.compiler.specs.rule_shape.OneOfEach.{wrong_call}
 use Rattle.run_accepted.proofs.Alive.{listed}
 use Rattle.run_accepted.proofs.Needed.{Begun, IsAnew, Slot, other_anew}
-use Rattle.run_framed.specs.Framed.{begin_name}
-use Rattle.run_step.specs.Step.{AtInstr, Nowhere}
+use Rattle.compiler.specs.run_framed.Framed.{begin_name}
+use Rattle.compiler.specs.run_step.Step.{AtInstr, Nowhere}
 
 -- ---- names in lists
 

@@ -1,16 +1,16 @@
 -- The number of elided calls that a plain run counts goes on through the last passes.
 use Rattle.std.proofs.Common.{◌≡◌, ⊎_elim, ℕ, ◌+◌, ◌-◌, ◌≤◌, ℤ, List, refl, sym, ap, ◌∙◌, arith}
 use Rattle.std.proofs.lemmas.Bool.{cases_lt}
-use Rattle.run_agreement.proofs.Compose.{follows_returned, returned_fine}
-use Rattle.run_agreement.proofs.Runs.{iterate-add, over_stays, returned_over}
-use Rattle.run_agreement.specs.Costs.{AgreesBy}
-use Rattle.run_agreement.specs.Machines.{IsReturned, IsRunning, Machine, Stays, at, iterate, state_at}
-use Rattle.ir_base.specs.declared.outcome.Outcome.{Outcome}
-use Rattle.ir_base.specs.declared.outcome.Word.{Word}
-use Rattle.pass_cleanup.specs.Cleaned.{plain_machine}
-use Rattle.ir_model.specs.declared.module.Module.{Module}
-use Rattle.run_plain.specs.Plain.{PlainGiven, plain_advance}
-use Rattle.run_plain.specs.declared.state.PlainState.{PlainState}
+use Rattle.compiler.proofs.run_agreement.Compose.{follows_returned, returned_fine}
+use Rattle.compiler.proofs.run_agreement.Runs.{iterate-add, over_stays, returned_over}
+use Rattle.compiler.specs.run_agreement.Costs.{AgreesBy}
+use Rattle.compiler.specs.run_agreement.Machines.{IsReturned, IsRunning, Machine, Stays, at, iterate, state_at}
+use Rattle.compiler.specs.ir_base.declared.outcome.Outcome.{Outcome}
+use Rattle.compiler.specs.ir_base.declared.outcome.Word.{Word}
+use Rattle.compiler.specs.pass_cleanup.Cleaned.{plain_machine}
+use Rattle.compiler.specs.ir_model.declared.module.Module.{Module}
+use Rattle.compiler.specs.run_plain.Plain.{PlainGiven, plain_advance}
+use Rattle.compiler.specs.run_plain.declared.state.PlainState.{PlainState}
 
 -- a run that has returned stays in its state
 module _ {S : Type 0} (a : Machine S) (stays : Stays a) where

@@ -10,15 +10,15 @@ use Rattle.compiler_theorem.specs.theorem.Entries.{Run}
 use Rattle.compiler_theorem.specs.theorem.Lowered.{IsLowered, Lowered, price_renewed}
 use Rattle.compiler_theorem.specs.theorem.Between.{renewing}
 use Rattle.compiler_theorem.specs.theorem.Theorem.{prices_of}
-use Rattle.ir_model.specs.declared.module.Function.{Function}
-use Rattle.pass_edges.specs.EdgeBlocks.{with_edge_blocks}
+use Rattle.compiler.specs.ir_model.declared.module.Function.{Function}
+use Rattle.compiler.specs.pass_edges.EdgeBlocks.{with_edge_blocks}
 use Rattle.pass_frames_prices.proofs.priced.Paid.{pays}
 use Rattle.pass_frames_prices.proofs.priced.Within.{within}
 use Rattle.pass_frames_prices.specs.FramePrices.{AreWithin}
-use Rattle.pass_frames_proof.specs.Meaning.{PaysForFrames}
-use Rattle.rule_laws.specs.frames.rows.Returns.{HaveOwnReturns}
+use Rattle.pass_frames_meaning.specs.pass_frames_proof.Meaning.{PaysForFrames}
+use Rattle.compiler.specs.rule_laws.frames.rows.Returns.{HaveOwnReturns}
 use Rattle.run_accepted.proofs.Sources.{source_rules}
-use Rattle.run_agreement.specs.Factor.{most_operands_of_functions, most_phis_of_functions, names_of_functions}
+use Rattle.compiler.specs.run_agreement.Factor.{most_operands_of_functions, most_phis_of_functions, names_of_functions}
 
 module _ (l : Lowered) (low : IsLowered l) (a : Anew) (r : Run) where
   pub numbers : AreWithin (building l low.is_framed r.answers) (names_of_functions l.source.functions)

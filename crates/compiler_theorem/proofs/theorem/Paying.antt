@@ -13,32 +13,32 @@ use Rattle.compiler_theorem.specs.theorem.Built.{building}
 use Rattle.compiler_theorem.specs.theorem.Entries.{IsEntryCall, Run}
 use Rattle.compiler_theorem.specs.theorem.Lowered.{HasFewBytes, IsLowered, Lowered, early, edged, kept_run, price_kept, sizes_of}
 use Rattle.compiler_theorem.specs.theorem.Theorem.{prices_of}
-use Rattle.ir_base.specs.declared.outcome.Outcome.{Outcome}
-use Rattle.ir_model.specs.Names.{function_at, no_function}
-use Rattle.ir_model.specs.declared.module.Function.{Function}
-use Rattle.ir_model.specs.declared.operand.Intrinsic.{Intrinsic}
-use Rattle.ir_paths.specs.declared.point.Point.{Point}
+use Rattle.compiler.specs.ir_base.declared.outcome.Outcome.{Outcome}
+use Rattle.compiler.specs.ir_model.Names.{function_at, no_function}
+use Rattle.compiler.specs.ir_model.declared.module.Function.{Function}
+use Rattle.compiler.specs.ir_model.declared.operand.Intrinsic.{Intrinsic}
+use Rattle.compiler.specs.ir_paths.declared.point.Point.{Point}
 use Rattle.pass_frames_meaning.specs.Setting.{KeepsAll}
 use Rattle.pass_frames_prices.specs.FramePrices.{credit, full_price, left_at}
-use Rattle.pass_frames_proof.specs.Places.{is_return}
-use Rattle.pass_frames_proof.specs.Related.{Building, is_coroutine}
-use Rattle.pass_kept_proof.specs.Kept.{continue_keeping}
-use Rattle.pass_kept_proof.specs.SuspendRules.{IsCallAt}
+use Rattle.pass_frames_meaning.specs.pass_frames_proof.Places.{is_return}
+use Rattle.pass_frames_meaning.specs.pass_frames_proof.Related.{Building, is_coroutine}
+use Rattle.compiler.specs.pass_kept_proof.Kept.{continue_keeping}
+use Rattle.compiler.specs.pass_kept_proof.SuspendRules.{IsCallAt}
 use Rattle.run_accepted.proofs.Accepted.{edged_switches}
 use Rattle.run_accepted.proofs.Plain.{no_call}
-use Rattle.pass_proofs.proofs.kept.sources.Names.{suspend_inside}
-use Rattle.run_agreement.proofs.Costs.{cost_below, cost_paid}
-use Rattle.run_agreement.specs.Costs.{cost_at, cost_from}
-use Rattle.run_agreement.specs.Factor.{most_operands_of_functions, most_phis_of_functions, names_of_functions, size_factor}
-use Rattle.run_agreement.specs.Machines.{IsFine, IsRunning, Machine, at}
-use Rattle.run_hooks.proofs.Keeping.{kept_keeps}
-use Rattle.run_hooks.proofs.Reaching.{states_reached, step_stays}
-use Rattle.run_hooks.proofs.Steps.{source_step}
-use Rattle.run_hooks.specs.Meanings.{kept_hooks}
-use Rattle.run_hooks.specs.Reached.{AllHaveSwitches, IsReachedState}
-use Rattle.run_source.specs.Source.{Continues, advance_by, first_state, given, step_by}
-use Rattle.run_source.specs.declared.state.State.{State}
-use Rattle.run_source_tables.specs.Given.{Given}
+use Rattle.compiler.proofs.pass_proofs.kept.sources.Names.{suspend_inside}
+use Rattle.compiler.proofs.run_agreement.Costs.{cost_below, cost_paid}
+use Rattle.compiler.specs.run_agreement.Costs.{cost_at, cost_from}
+use Rattle.compiler.specs.run_agreement.Factor.{most_operands_of_functions, most_phis_of_functions, names_of_functions, size_factor}
+use Rattle.compiler.specs.run_agreement.Machines.{IsFine, IsRunning, Machine, at}
+use Rattle.pass_frames_meaning.proofs.run_hooks.Keeping.{kept_keeps}
+use Rattle.pass_frames_meaning.proofs.run_hooks.Reaching.{states_reached, step_stays}
+use Rattle.pass_frames_meaning.proofs.run_hooks.Steps.{source_step}
+use Rattle.pass_frames_meaning.specs.run_hooks.Meanings.{kept_hooks}
+use Rattle.pass_frames_meaning.specs.run_hooks.Reached.{AllHaveSwitches, IsReachedState}
+use Rattle.compiler.specs.run_source.Source.{Continues, advance_by, first_state, given, step_by}
+use Rattle.compiler.specs.run_source.declared.state.State.{State}
+use Rattle.compiler.specs.run_source_tables.Given.{Given}
 
 at_start : (full n cost left : ℕ) → left ≡ 0 → cost ≤ n + left → n ≤ full → cost ≤ full
 at_start full n cost left e a c = omega (arith, e, a, c)

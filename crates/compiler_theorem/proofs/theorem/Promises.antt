@@ -12,38 +12,38 @@ use Rattle.compiler_theorem.specs.theorem.Asked.{ArePromisesLaid}
 use Rattle.compiler_theorem.specs.theorem.Built.{building}
 use Rattle.compiler_theorem.specs.theorem.Entries.{Run}
 use Rattle.compiler_theorem.specs.theorem.Lowered.{IsLowered, Lowered, early}
-use Rattle.flow_solver.specs.Paths.{IsListed}
-use Rattle.frame_crossing.specs.Values.{values_of}
-use Rattle.frame_contents.specs.Frames.{AreContents}
-use Rattle.frame_contents.specs.Held.{crossing_values, field_of, fields_of, frame_slots, index_field, position_from, position_of, slot_held, slot_kind, value_held}
-use Rattle.frame_contents.specs.declared.contents.Contents.{Contents}
-use Rattle.frame_contents.specs.declared.held.Holding.{Holding}
-use Rattle.frame_good.proofs.Frames.{layouts_found}
-use Rattle.frame_good.specs.Frames.{AreInConflict}
-use Rattle.frame_good.specs.Good.{IsGoodLayout}
-use Rattle.frame_layout.specs.Layouts.{is_promise, placed, placed_or}
-use Rattle.frame_layout.specs.declared.layout.Field.{Field}
-use Rattle.frame_layout.specs.declared.layout.FieldKind.{FieldKind}
-use Rattle.frame_layout.specs.declared.layout.Layout.{Layout}
-use Rattle.frame_layout.specs.declared.layout.PlacedField.{PlacedField}
-use Rattle.ir_laws.proofs.facts.Truth.{equal_numbers, itself}
-use Rattle.ir_model.specs.Names.{function_at}
-use Rattle.ir_model.specs.Ty.{Ty}
-use Rattle.ir_model.specs.declared.instr.Instr.{Instr}
-use Rattle.ir_model.specs.declared.module.Function.{Function}
-use Rattle.ir_model.specs.declared.module.Module.{Module}
-use Rattle.ir_paths.specs.Slots.{allocas_of, has_name, promise_of}
-use Rattle.pass_edges.specs.EdgeBlocks.{with_edge_blocks}
-use Rattle.pass_frames.specs.Tables.{offset_at}
-use Rattle.pass_frames_proof.specs.Asking.{IsPromiseLaid, promise_field}
-use Rattle.pass_frames_proof.specs.Places.{Framing, edged}
-use Rattle.pass_proofs.proofs.edges.paths.Slots.{same_promise}
-use Rattle.rule_laws.proofs.frames.alike_frames.Held.{crossing_holds}
-use Rattle.rule_laws.proofs.frames.needed.Apart.{apart_no_value}
-use Rattle.rule_laws.proofs.rules.source_rules.Slots.{alloca_of}
-use Rattle.rule_laws.specs.rules.function_rules.Kept.{KeepsFunctionRules}
-use Rattle.run_framed.specs.Framed.{is_promise_kind, layout_of, no_layout}
-use Rattle.run_laws.specs.changed.Changed.{Each}
+use Rattle.compiler.specs.flow_solver.Paths.{IsListed}
+use Rattle.compiler.specs.frame_crossing.Values.{values_of}
+use Rattle.compiler.specs.frame_contents.Frames.{AreContents}
+use Rattle.compiler.specs.frame_contents.Held.{crossing_values, field_of, fields_of, frame_slots, index_field, position_from, position_of, slot_held, slot_kind, value_held}
+use Rattle.compiler.specs.frame_contents.declared.contents.Contents.{Contents}
+use Rattle.compiler.specs.frame_contents.declared.held.Holding.{Holding}
+use Rattle.compiler.proofs.frame_good.Frames.{layouts_found}
+use Rattle.compiler.specs.frame_good.Frames.{AreInConflict}
+use Rattle.compiler.specs.frame_good.Good.{IsGoodLayout}
+use Rattle.compiler.specs.frame_layout.Layouts.{is_promise, placed, placed_or}
+use Rattle.compiler.specs.frame_layout.declared.layout.Field.{Field}
+use Rattle.compiler.specs.frame_layout.declared.layout.FieldKind.{FieldKind}
+use Rattle.compiler.specs.frame_layout.declared.layout.Layout.{Layout}
+use Rattle.compiler.specs.frame_layout.declared.layout.PlacedField.{PlacedField}
+use Rattle.compiler.proofs.ir_laws.facts.Truth.{equal_numbers, itself}
+use Rattle.compiler.specs.ir_model.Names.{function_at}
+use Rattle.compiler.specs.ir_model.Ty.{Ty}
+use Rattle.compiler.specs.ir_model.declared.instr.Instr.{Instr}
+use Rattle.compiler.specs.ir_model.declared.module.Function.{Function}
+use Rattle.compiler.specs.ir_model.declared.module.Module.{Module}
+use Rattle.compiler.specs.ir_paths.Slots.{allocas_of, has_name, promise_of}
+use Rattle.compiler.specs.pass_edges.EdgeBlocks.{with_edge_blocks}
+use Rattle.compiler.specs.pass_frames.Tables.{offset_at}
+use Rattle.pass_frames_meaning.specs.pass_frames_proof.Asking.{IsPromiseLaid, promise_field}
+use Rattle.pass_frames_meaning.specs.pass_frames_proof.Places.{Framing, edged}
+use Rattle.compiler.proofs.pass_proofs.edges.paths.Slots.{same_promise}
+use Rattle.compiler.proofs.rule_laws.frames.alike_frames.Held.{crossing_holds}
+use Rattle.compiler.proofs.rule_laws.frames.needed.Apart.{apart_no_value}
+use Rattle.compiler.proofs.rule_laws.rules.source_rules.Slots.{alloca_of}
+use Rattle.compiler.specs.rule_laws.rules.function_rules.Kept.{KeepsFunctionRules}
+use Rattle.compiler.specs.run_framed.Framed.{is_promise_kind, layout_of, no_layout}
+use Rattle.compiler.specs.run_laws.changed.Changed.{Each}
 
 -- ---- what is held at a position
 

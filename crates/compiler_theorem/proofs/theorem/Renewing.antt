@@ -8,21 +8,21 @@ use Rattle.compiler_theorem.specs.theorem.Anew.{Anew, IsAnewOf}
 use Rattle.compiler_theorem.specs.theorem.Entries.{IsEntryCall, Run}
 use Rattle.compiler_theorem.specs.theorem.Lowered.{HasFewBytes, IsLowered, Lowered, early, edged, sizes_of}
 use Rattle.compiler_theorem.specs.theorem.Between.{setting}
-use Rattle.ir_laws.specs.facts.sound_states.Named.{AreLocalsNamed}
-use Rattle.ir_model.specs.Names.{function_at, no_function}
-use Rattle.ir_model.specs.declared.module.Function.{Function}
-use Rattle.pass_early.specs.BeginName.{with_begin_name}
-use Rattle.pass_early.specs.Early.{early_function, early_named}
-use Rattle.pass_edges.specs.EdgeBlocks.{with_edge_blocks}
-use Rattle.pass_proofs.proofs.edges.simulation.Names.{locals_named}
-use Rattle.pass_proofs.proofs.edges.sources.Accepted.{locals_now}
-use Rattle.pass_proofs.specs.edges.states.MovedState.{edge_function}
-use Rattle.pass_renewed_meaning.specs.Rules.{KeepsAll}
-use Rattle.pass_renewed_proof.specs.SlotRules.{KeepsAllSlots}
+use Rattle.compiler.specs.ir_laws.facts.sound_states.Named.{AreLocalsNamed}
+use Rattle.compiler.specs.ir_model.Names.{function_at, no_function}
+use Rattle.compiler.specs.ir_model.declared.module.Function.{Function}
+use Rattle.compiler.specs.pass_early.BeginName.{with_begin_name}
+use Rattle.compiler.specs.pass_early.Early.{early_function, early_named}
+use Rattle.compiler.specs.pass_edges.EdgeBlocks.{with_edge_blocks}
+use Rattle.compiler.proofs.pass_proofs.edges.simulation.Names.{locals_named}
+use Rattle.compiler.proofs.pass_proofs.edges.sources.Accepted.{locals_now}
+use Rattle.compiler.specs.pass_proofs.edges.states.MovedState.{edge_function}
+use Rattle.pass_frames_meaning.specs.pass_renewed_meaning.Rules.{KeepsAll}
+use Rattle.pass_frames_meaning.specs.pass_renewed_proof.SlotRules.{KeepsAllSlots}
 use Rattle.run_accepted.proofs.Accepted.{edged_globals, edged_places, edged_steps, edged_types}
-use Rattle.run_memory.specs.declared.pointer.Value.{Value}
-use Rattle.run_types.specs.Fitting.{FitParams}
-use Rattle.run_types.specs.States.{AreArguments}
+use Rattle.compiler.specs.run_memory.declared.pointer.Value.{Value}
+use Rattle.pass_frames_meaning.specs.run_types.Fitting.{FitParams}
+use Rattle.pass_frames_meaning.specs.run_types.States.{AreArguments}
 
 module _ (l : Lowered) (low : IsLowered l) (a : Anew) (anew : IsAnewOf (early l) a) (r : Run)
     (call : IsEntryCall l.source r) where

@@ -2,22 +2,22 @@
 use Rattle.std.proofs.Common.{◌≡◌, inl, inr, ℕ, zero, suc, Bool, true, List, refl, sym, ap, ◌∙◌, subst, Option, Some}
 use Rattle.std.specs.Prelude.{flat_map}
 use Rattle.compiler_theorem.proofs.theorem.Needed.{named_in}
-use Rattle.flow_solver.specs.Paths.{IsListed}
-use Rattle.ir_model.specs.Ty.{Ty}
-use Rattle.ir_model.specs.declared.instr.Instr.{Instr}
-use Rattle.ir_model.specs.declared.module.Block.{Block}
-use Rattle.ir_model.specs.declared.module.Function.{Function}
-use Rattle.ir_model.specs.declared.module.Module.{Module}
-use Rattle.ir_model.specs.declared.operand.Arg.{Arg}
-use Rattle.ir_model.specs.declared.operand.Operand.{Operand}
-use Rattle.ir_paths.specs.Slots.{addresses_within, geps_from, has_name}
-use Rattle.ir_paths.specs.Windows.{instr_at, instr_in}
-use Rattle.ir_paths.specs.declared.point.Point.{Point}
-use Rattle.pass_kept_proof.proofs.Read.{listed_by_name}
-use Rattle.rule_laws.proofs.rules.source_rules.Locals.{same_result}
-use Rattle.rule_laws.proofs.rules.source_rules.Slots.{HasAlloca}
-use Rattle.rule_laws.proofs.rules.sources.Places.{point}
-use Rattle.rule_laws.specs.rules.function_rules.Kept.{KeepsFunctionRules}
+use Rattle.compiler.specs.flow_solver.Paths.{IsListed}
+use Rattle.compiler.specs.ir_model.Ty.{Ty}
+use Rattle.compiler.specs.ir_model.declared.instr.Instr.{Instr}
+use Rattle.compiler.specs.ir_model.declared.module.Block.{Block}
+use Rattle.compiler.specs.ir_model.declared.module.Function.{Function}
+use Rattle.compiler.specs.ir_model.declared.module.Module.{Module}
+use Rattle.compiler.specs.ir_model.declared.operand.Arg.{Arg}
+use Rattle.compiler.specs.ir_model.declared.operand.Operand.{Operand}
+use Rattle.compiler.specs.ir_paths.Slots.{addresses_within, geps_from, has_name}
+use Rattle.compiler.specs.ir_paths.Windows.{instr_at, instr_in}
+use Rattle.compiler.specs.ir_paths.declared.point.Point.{Point}
+use Rattle.compiler.proofs.pass_kept_proof.Read.{listed_by_name}
+use Rattle.compiler.proofs.rule_laws.rules.source_rules.Locals.{same_result}
+use Rattle.compiler.proofs.rule_laws.rules.source_rules.Slots.{HasAlloca}
+use Rattle.compiler.proofs.rule_laws.rules.sources.Places.{point}
+use Rattle.compiler.specs.rule_laws.rules.function_rules.Kept.{KeepsFunctionRules}
 use Rattle.run_accepted.proofs.Slots.{part_of}
 
 -- a getelementptr of such a base gives a name

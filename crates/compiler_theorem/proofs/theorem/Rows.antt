@@ -1,12 +1,12 @@
 -- The rows of the theorem: what each pass costs, up to the framed form and from there on.
 use Rattle.std.proofs.Common.{ℕ, ◌*◌, ◌≤◌, arith}
-use Rattle.run_agreement.proofs.Compose.{compose_within}
-use Rattle.run_agreement.proofs.Costs.{agrees_within, agrees_within_by_steps, cost_above}
-use Rattle.run_agreement.specs.Agreements.{AgreesWithin}
-use Rattle.run_agreement.specs.Costs.{AgreesBy, Through, cost_at}
-use Rattle.run_agreement.specs.Factor.{size_factor}
-use Rattle.run_agreement.specs.Machines.{IsFine, Machine, at, state_at}
-use Rattle.run_source.specs.declared.state.State.{State}
+use Rattle.compiler.proofs.run_agreement.Compose.{compose_within}
+use Rattle.compiler.proofs.run_agreement.Costs.{agrees_within, agrees_within_by_steps, cost_above}
+use Rattle.compiler.specs.run_agreement.Agreements.{AgreesWithin}
+use Rattle.compiler.specs.run_agreement.Costs.{AgreesBy, Through, cost_at}
+use Rattle.compiler.specs.run_agreement.Factor.{size_factor}
+use Rattle.compiler.specs.run_agreement.Machines.{IsFine, Machine, at, state_at}
+use Rattle.compiler.specs.run_source.declared.state.State.{State}
 use Rattle.compiler_theorem.proofs.theorem.Framing.{framing}
 use Rattle.compiler_theorem.proofs.theorem.Needed.{split_needed}
 use Rattle.compiler_theorem.proofs.theorem.shown.Slots.{slots_shown}
@@ -21,10 +21,10 @@ use Rattle.compiler_theorem.specs.theorem.Theorem.{AreFramesShown, AreMadeAnew, 
 use Rattle.compiler_theorem.proofs.theorem.Paying.{runs_paid}
 use Rattle.compiler_theorem.proofs.theorem.Paid.{frames_paid}
 use Rattle.compiler_theorem.proofs.theorem.Steps.{covered_followed}
-use Rattle.pass_frames_proof.specs.Related.{AreBuiltOf, AreShownAlike}
-use Rattle.pass_renewed_meaning.specs.Followed.{AreAlike}
-use Rattle.pass_proofs.proofs.kept.sources.States.{split_corresponds}
-use Rattle.pass_proofs.specs.kept.sources.Beside.{IsKeptOf, IsNearlyKeptOf}
+use Rattle.pass_frames_meaning.specs.pass_frames_proof.Related.{AreBuiltOf, AreShownAlike}
+use Rattle.pass_frames_meaning.specs.pass_renewed_meaning.Followed.{AreAlike}
+use Rattle.compiler.proofs.pass_proofs.kept.sources.States.{split_corresponds}
+use Rattle.compiler.specs.pass_proofs.kept.sources.Beside.{IsKeptOf, IsNearlyKeptOf}
 
 -- each step costs 1 or more
 pub at_least : {T : Type 0} (b : Machine T) (n : ℕ) → n ≤ cost_at b (λ t. 1) n

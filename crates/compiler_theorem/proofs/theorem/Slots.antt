@@ -4,21 +4,21 @@ use Rattle.std.proofs.lemmas.Option.{slice_get-map}
 use Rattle.std.specs.Prelude.{IsTrue, option_map, slice_get, unwrap_or, if◌then◌else◌}
 use Rattle.compiler_theorem.specs.theorem.Anew.{Anew, HaveSteadyIndices, IsAnewIn, IsAnewOf, IsSlotOf}
 use Rattle.compiler_theorem.specs.theorem.Lowered.{IsLowered, Lowered, early, edged}
-use Rattle.frame_classes.specs.Classes.{suspends}
-use Rattle.frame_classes.specs.declared.class.SlotClass.{SlotClass}
-use Rattle.ir_model.specs.Names.{function_at, no_function}
-use Rattle.ir_model.specs.declared.module.Function.{Function}
-use Rattle.ir_paths.specs.Paths.{has_point}
-use Rattle.ir_paths.proofs.Right.{facts_of_right}
-use Rattle.ir_paths.specs.Slots.{IsRampSlot, allocas_of, has_name}
-use Rattle.ir_paths.specs.declared.point.Point.{Point}
-use Rattle.pass_edges.specs.EdgeBlocks.{with_edge_blocks}
-use Rattle.pass_kept_proof.specs.Handed.{HasPlainNames}
-use Rattle.pass_kept_proof.specs.SuspendRules.{KeepsSuspendRules}
-use Rattle.pass_proofs.proofs.edges.paths.Slots.{same_allocas, same_ramp_slots}
-use Rattle.pass_proofs.proofs.kept.sources.Whole.{edges_kept, split_keeps, split_named}
-use Rattle.pass_proofs.specs.edges.states.MovedState.{KeepsEdges, edge_function}
-use Rattle.pass_renewed_proof.specs.SlotRules.{KeepsAllSlots, KeepsSlots}
+use Rattle.compiler.specs.frame_classes.Classes.{suspends}
+use Rattle.compiler.specs.frame_classes.declared.class.SlotClass.{SlotClass}
+use Rattle.compiler.specs.ir_model.Names.{function_at, no_function}
+use Rattle.compiler.specs.ir_model.declared.module.Function.{Function}
+use Rattle.compiler.specs.ir_paths.Paths.{has_point}
+use Rattle.compiler.proofs.ir_paths.Right.{facts_of_right}
+use Rattle.compiler.specs.ir_paths.Slots.{IsRampSlot, allocas_of, has_name}
+use Rattle.compiler.specs.ir_paths.declared.point.Point.{Point}
+use Rattle.compiler.specs.pass_edges.EdgeBlocks.{with_edge_blocks}
+use Rattle.compiler.specs.pass_kept_proof.Handed.{HasPlainNames}
+use Rattle.compiler.specs.pass_kept_proof.SuspendRules.{KeepsSuspendRules}
+use Rattle.compiler.proofs.pass_proofs.edges.paths.Slots.{same_allocas, same_ramp_slots}
+use Rattle.compiler.proofs.pass_proofs.kept.sources.Whole.{edges_kept, split_keeps, split_named}
+use Rattle.compiler.specs.pass_proofs.edges.states.MovedState.{KeepsEdges, edge_function}
+use Rattle.pass_frames_meaning.specs.pass_renewed_proof.SlotRules.{KeepsAllSlots, KeepsSlots}
 use Rattle.run_accepted.proofs.Accepted.{edged_slots}
 use Rattle.run_accepted.proofs.EdgeFrames.{needs_home}
 use Rattle.run_accepted.proofs.Slots.{HasSlotTables, no_slots}

@@ -1,25 +1,25 @@
 -- A plain run that is never undefined gives no stack block to a deallocator.
 use Rattle.std.proofs.Common.{◌≡◌, ℕ, ◌+◌, Bool, true, false, Some, Result, Ok, Err, List, refl, ap, ◌∙◌, subst}
 use Rattle.std.specs.Prelude.{not, slice_get, if◌then◌else◌, ◌&&◌, ◌==◌}
-use Rattle.run_agreement.proofs.Runs.{iterate-add}
-use Rattle.run_agreement.specs.Agreements.{NeverUndefined}
-use Rattle.run_agreement.specs.Machines.{IsFine, at, iterate, state_at}
-use Rattle.run_memory.specs.Memory.{is_killed, is_unkilled, same_kind}
-use Rattle.run_memory.specs.declared.block.Kind.{Kind}
-use Rattle.run_memory.specs.declared.block.MemoryBlock.{MemoryBlock}
-use Rattle.run_memory.specs.declared.pointer.Offset.{Offset}
-use Rattle.run_memory.specs.declared.pointer.Pointer.{Pointer}
-use Rattle.run_memory.specs.declared.pointer.Value.{Value}
-use Rattle.ir_base.specs.declared.cause.Cause.{Cause}
-use Rattle.ir_base.specs.declared.outcome.Outcome.{Outcome}
+use Rattle.compiler.proofs.run_agreement.Runs.{iterate-add}
+use Rattle.compiler.specs.run_agreement.Agreements.{NeverUndefined}
+use Rattle.compiler.specs.run_agreement.Machines.{IsFine, at, iterate, state_at}
+use Rattle.compiler.specs.run_memory.Memory.{is_killed, is_unkilled, same_kind}
+use Rattle.compiler.specs.run_memory.declared.block.Kind.{Kind}
+use Rattle.compiler.specs.run_memory.declared.block.MemoryBlock.{MemoryBlock}
+use Rattle.compiler.specs.run_memory.declared.pointer.Offset.{Offset}
+use Rattle.compiler.specs.run_memory.declared.pointer.Pointer.{Pointer}
+use Rattle.compiler.specs.run_memory.declared.pointer.Value.{Value}
+use Rattle.compiler.specs.ir_base.declared.cause.Cause.{Cause}
+use Rattle.compiler.specs.ir_base.declared.outcome.Outcome.{Outcome}
 use Rattle.compiler_theorem.specs.theorem.Elision.{GivesNoStackBack, next_action, plain_given}
 use Rattle.compiler_theorem.specs.theorem.Entries.{Run}
 use Rattle.compiler_theorem.specs.theorem.Lowered.{plain_run}
-use Rattle.ir_model.specs.declared.module.Module.{Module}
-use Rattle.run_step.specs.Results.{and_then}
-use Rattle.run_step.specs.Step.{Action, Deallocate, deallocated, set_memory}
-use Rattle.run_plain.specs.Plain.{PlainGiven, plain_act, plain_advance, plain_or_undefined, plain_settled, plain_step, plain_work}
-use Rattle.run_plain.specs.declared.state.PlainState.{PlainState}
+use Rattle.compiler.specs.ir_model.declared.module.Module.{Module}
+use Rattle.compiler.specs.run_step.Results.{and_then}
+use Rattle.compiler.specs.run_step.Step.{Action, Deallocate, deallocated, set_memory}
+use Rattle.compiler.specs.run_plain.Plain.{PlainGiven, plain_act, plain_advance, plain_or_undefined, plain_settled, plain_step, plain_work}
+use Rattle.compiler.specs.run_plain.declared.state.PlainState.{PlainState}
 
 refused_by : {A : Type 0} (c d : Bool) (cause : Cause) (rest : Result A Cause) → d ≡ false
     → (if not (c && d) then Err cause else rest) ≡ Err cause

@@ -2,33 +2,33 @@
 -- Where a step leads that neither jumps nor resumes, nothing is left of what was paid before.
 use Rattle.std.proofs.Common.{◌≡◌, ◌⊎◌, inl, inr, ℕ, ◌+◌, Bool, true, false, List, [], ◌∷◌, length, Option, Some, None, Result, Ok, Err, refl, sym, ap, ◌∙◌, subst, arith, if◌then◌else◌}
 use Rattle.std.specs.Prelude.{is_none, not, ◌==◌, ◌&&◌}
-use Rattle.ir_base.specs.declared.cause.Cause.{Cause}
-use Rattle.ir_base.specs.declared.outcome.Outcome.{Outcome}
-use Rattle.ir_model.specs.declared.instr.Terminator.{Terminator}
-use Rattle.ir_model.specs.declared.operand.Arg.{Arg}
-use Rattle.ir_model.specs.declared.operand.Intrinsic.{Intrinsic}
-use Rattle.ir_model.specs.declared.operand.Operand.{Operand}
-use Rattle.ir_paths.specs.Windows.{operand_at, suspend_of}
-use Rattle.ir_paths.specs.declared.point.Point.{Point}
+use Rattle.compiler.specs.ir_base.declared.cause.Cause.{Cause}
+use Rattle.compiler.specs.ir_base.declared.outcome.Outcome.{Outcome}
+use Rattle.compiler.specs.ir_model.declared.instr.Terminator.{Terminator}
+use Rattle.compiler.specs.ir_model.declared.operand.Arg.{Arg}
+use Rattle.compiler.specs.ir_model.declared.operand.Intrinsic.{Intrinsic}
+use Rattle.compiler.specs.ir_model.declared.operand.Operand.{Operand}
+use Rattle.compiler.specs.ir_paths.Windows.{operand_at, suspend_of}
+use Rattle.compiler.specs.ir_paths.declared.point.Point.{Point}
 use Rattle.pass_frames_prices.specs.FramePrices.{credit, left_at}
-use Rattle.pass_frames_proof.specs.Places.{is_return}
-use Rattle.pass_frames_proof.specs.Related.{Building, is_coroutine}
-use Rattle.run_memory.specs.Memory.{killed, own}
-use Rattle.run_memory.specs.declared.block.Kind.{Kind}
-use Rattle.run_memory.specs.declared.block.MemoryBlock.{MemoryBlock}
-use Rattle.run_memory.specs.declared.pointer.Value.{Value}
-use Rattle.run_source.specs.Source.{Continues, Sleeper, after_end, begin, begin_at, begun, change_own, coro, deallocate, end_of, finish, given_back, if_let_go, is_among, is_over, kill_late, let_go, may_be_freed, new_slot, pop, promise, release, return, returned, save_for, sleeper_at, suspend, with_new_slots}
-use Rattle.run_source.specs.State.{function_of, gives, instance_at, next, own_facts, own_frame, own_instance, point_of, settled, with_instance, with_left, with_memory}
-use Rattle.run_source.specs.declared.state.Activation.{Activation}
-use Rattle.run_source.specs.declared.state.Instance.{Instance}
-use Rattle.run_source.specs.declared.state.Mode.{Mode}
-use Rattle.run_source.specs.declared.state.State.{State}
-use Rattle.run_source.specs.declared.state.Status.{Status}
-use Rattle.run_source_tables.specs.Given.{Given}
-use Rattle.run_step.specs.Results.{and_then, found, ok_if}
-use Rattle.run_step.specs.Step.{AtTerm, Work, block_of, deallocated, fetch, outcome_of}
-use Rattle.run_step.specs.Values.{nth}
-use Rattle.run_step.specs.declared.world.Slot.{Slot}
+use Rattle.pass_frames_meaning.specs.pass_frames_proof.Places.{is_return}
+use Rattle.pass_frames_meaning.specs.pass_frames_proof.Related.{Building, is_coroutine}
+use Rattle.compiler.specs.run_memory.Memory.{killed, own}
+use Rattle.compiler.specs.run_memory.declared.block.Kind.{Kind}
+use Rattle.compiler.specs.run_memory.declared.block.MemoryBlock.{MemoryBlock}
+use Rattle.compiler.specs.run_memory.declared.pointer.Value.{Value}
+use Rattle.compiler.specs.run_source.Source.{Continues, Sleeper, after_end, begin, begin_at, begun, change_own, coro, deallocate, end_of, finish, given_back, if_let_go, is_among, is_over, kill_late, let_go, may_be_freed, new_slot, pop, promise, release, return, returned, save_for, sleeper_at, suspend, with_new_slots}
+use Rattle.compiler.specs.run_source.State.{function_of, gives, instance_at, next, own_facts, own_frame, own_instance, point_of, settled, with_instance, with_left, with_memory}
+use Rattle.compiler.specs.run_source.declared.state.Activation.{Activation}
+use Rattle.compiler.specs.run_source.declared.state.Instance.{Instance}
+use Rattle.compiler.specs.run_source.declared.state.Mode.{Mode}
+use Rattle.compiler.specs.run_source.declared.state.State.{State}
+use Rattle.compiler.specs.run_source.declared.state.Status.{Status}
+use Rattle.compiler.specs.run_source_tables.Given.{Given}
+use Rattle.compiler.specs.run_step.Results.{and_then, found, ok_if}
+use Rattle.compiler.specs.run_step.Step.{AtTerm, Work, block_of, deallocated, fetch, outcome_of}
+use Rattle.compiler.specs.run_step.Values.{nth}
+use Rattle.compiler.specs.run_step.declared.world.Slot.{Slot}
 
 -- ---- what holds in each state
 

@@ -10,53 +10,53 @@ use Rattle.compiler_theorem.specs.theorem.Built.{building}
 use Rattle.compiler_theorem.specs.theorem.Entries.{IsEntryCall, Run}
 use Rattle.compiler_theorem.specs.theorem.Lowered.{HasFewBytes, IsLowered, Lowered, early, edged, sizes_of}
 use Rattle.compiler_theorem.specs.theorem.Between.{renewing}
-use Rattle.ir_base.specs.declared.name.Name.{Name}
-use Rattle.ir_laws.proofs.facts.Truth.{and_first, and_second}
-use Rattle.ir_laws.proofs.facts.same_names.Lists.{what_is_found}
-use Rattle.ir_model.specs.Names.{function_at, no_function, noalloc_of, same_name}
-use Rattle.ir_model.specs.Ty.{Ty}
-use Rattle.ir_model.specs.declared.instr.Instr.{Instr}
-use Rattle.ir_model.specs.declared.module.Block.{Block}
-use Rattle.ir_model.specs.declared.module.Function.{Function}
-use Rattle.ir_model.specs.declared.operand.Arg.{Arg}
-use Rattle.ir_model.specs.declared.operand.Callee.{Callee}
-use Rattle.ir_paths.specs.Facts.{IsWindow}
-use Rattle.ir_paths.specs.Windows.{instr_at, instr_in}
-use Rattle.ir_paths.specs.declared.point.Window.{Window}
-use Rattle.ir_paths.specs.declared.point.Point.{Point}
-use Rattle.ir_tables.proofs.Tables.{same_name-same}
-use Rattle.pass_exits.specs.ExitBlocks.{with_exit_blocks}
+use Rattle.compiler.specs.ir_base.declared.name.Name.{Name}
+use Rattle.compiler.proofs.ir_laws.facts.Truth.{and_first, and_second}
+use Rattle.compiler.proofs.ir_laws.facts.same_names.Lists.{what_is_found}
+use Rattle.compiler.specs.ir_model.Names.{function_at, no_function, noalloc_of, same_name}
+use Rattle.compiler.specs.ir_model.Ty.{Ty}
+use Rattle.compiler.specs.ir_model.declared.instr.Instr.{Instr}
+use Rattle.compiler.specs.ir_model.declared.module.Block.{Block}
+use Rattle.compiler.specs.ir_model.declared.module.Function.{Function}
+use Rattle.compiler.specs.ir_model.declared.operand.Arg.{Arg}
+use Rattle.compiler.specs.ir_model.declared.operand.Callee.{Callee}
+use Rattle.compiler.specs.ir_paths.Facts.{IsWindow}
+use Rattle.compiler.specs.ir_paths.Windows.{instr_at, instr_in}
+use Rattle.compiler.specs.ir_paths.declared.point.Window.{Window}
+use Rattle.compiler.specs.ir_paths.declared.point.Point.{Point}
+use Rattle.compiler.proofs.ir_tables.Tables.{same_name-same}
+use Rattle.compiler.specs.pass_exits.ExitBlocks.{with_exit_blocks}
 use Rattle.pass_frames_meaning.proofs.called.CalledHooks.{renewed_keeps_called, states_called}
 use Rattle.pass_frames_meaning.proofs.led.SoundRuns.{runs_sound}
 use Rattle.pass_frames_meaning.specs.Called.{IsCalledState}
-use Rattle.pass_proofs.proofs.exits.states.Points.{instr_moved, moved}
-use Rattle.pass_renewed_meaning.proofs.Tables.{same_windows}
-use Rattle.pass_renewed_proof.specs.Renewed.{RenewedGiven, renewed_step}
+use Rattle.compiler.proofs.pass_proofs.exits.states.Points.{instr_moved, moved}
+use Rattle.pass_frames_meaning.proofs.pass_renewed_meaning.Tables.{same_windows}
+use Rattle.pass_frames_meaning.specs.pass_renewed_proof.Renewed.{RenewedGiven, renewed_step}
 use Rattle.pass_split_proof.proofs.ready.Callees.{callee_known}
 use Rattle.pass_split_proof.proofs.ready.Gives.{unknown_ramp}
-use Rattle.rule_laws.proofs.rules.sources.Places.{instr_there, point}
-use Rattle.rule_names.specs.Known.{knows_name}
+use Rattle.compiler.proofs.rule_laws.rules.sources.Places.{instr_there, point}
+use Rattle.compiler.specs.rule_names.Known.{knows_name}
 use Rattle.run_accepted.proofs.Accepted.{edged_places, edged_switches}
-use Rattle.run_framed.specs.Framed.{FramedGiven, framed_state_at, framed_step, given_ramp}
-use Rattle.run_hooks.proofs.Keeping.{renewed_keeps}
-use Rattle.run_hooks.proofs.PlacedKeeping.{renewed_keeps_placed}
-use Rattle.run_hooks.proofs.PlacedSteps.{states_placed}
-use Rattle.run_hooks.proofs.Steps.{framed_steps, renewed_steps, same_runs}
-use Rattle.run_hooks.specs.Away.{KeepsAllPlaceRules}
-use Rattle.run_hooks.specs.Hooks.{hooked_state_at, step_of}
-use Rattle.run_hooks.specs.Meanings.{framed_hooks, renewed_hooks}
-use Rattle.run_hooks.specs.Reached.{AllHaveSwitches}
-use Rattle.run_slots.proofs.Meanings.{framed_keeps_slots, renewed_keeps_slots}
-use Rattle.run_slots.proofs.Steps.{states_slotted}
-use Rattle.run_slots.specs.Slots.{GivesNoFrames, IsSlottedState}
-use Rattle.run_source.specs.Source.{first_state}
-use Rattle.run_source.specs.declared.state.State.{State}
-use Rattle.run_states.specs.sound_states.Sound.{IsSound}
-use Rattle.run_step.specs.Runs.{iterate}
-use Rattle.run_step.specs.Step.{AtInstr, fetch, fetch_in, fetch_or}
-use Rattle.run_types.proofs.Meanings.{renewed_keeps_fitting}
-use Rattle.run_types.proofs.Runs.{states_fit}
-use Rattle.run_types.specs.States.{IsFittingState}
+use Rattle.compiler.specs.run_framed.Framed.{FramedGiven, framed_state_at, framed_step, given_ramp}
+use Rattle.pass_frames_meaning.proofs.run_hooks.Keeping.{renewed_keeps}
+use Rattle.pass_frames_meaning.proofs.run_hooks.PlacedKeeping.{renewed_keeps_placed}
+use Rattle.pass_frames_meaning.proofs.run_hooks.PlacedSteps.{states_placed}
+use Rattle.pass_frames_meaning.proofs.run_hooks.Steps.{framed_steps, renewed_steps, same_runs}
+use Rattle.pass_frames_meaning.specs.run_hooks.Away.{KeepsAllPlaceRules}
+use Rattle.pass_frames_meaning.specs.run_hooks.Hooks.{hooked_state_at, step_of}
+use Rattle.pass_frames_meaning.specs.run_hooks.Meanings.{framed_hooks, renewed_hooks}
+use Rattle.pass_frames_meaning.specs.run_hooks.Reached.{AllHaveSwitches}
+use Rattle.pass_frames_meaning.proofs.run_slots.Meanings.{framed_keeps_slots, renewed_keeps_slots}
+use Rattle.pass_frames_meaning.proofs.run_slots.Steps.{states_slotted}
+use Rattle.pass_frames_meaning.specs.run_slots.Slots.{GivesNoFrames, IsSlottedState}
+use Rattle.compiler.specs.run_source.Source.{first_state}
+use Rattle.compiler.specs.run_source.declared.state.State.{State}
+use Rattle.compiler.specs.run_states.sound_states.Sound.{IsSound}
+use Rattle.compiler.specs.run_step.Runs.{iterate}
+use Rattle.compiler.specs.run_step.Step.{AtInstr, fetch, fetch_in, fetch_or}
+use Rattle.pass_frames_meaning.proofs.run_types.Meanings.{renewed_keeps_fitting}
+use Rattle.pass_frames_meaning.proofs.run_types.Runs.{states_fit}
+use Rattle.pass_frames_meaning.specs.run_types.States.{IsFittingState}
 
 -- ---- no call of a framed form gives a frame
 

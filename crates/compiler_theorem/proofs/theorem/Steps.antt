@@ -34,21 +34,21 @@ use Rattle.compiler_theorem.specs.theorem.Between.{renewing, setting}
 use Rattle.compiler_theorem.specs.theorem.Built.{building}
 use Rattle.compiler_theorem.specs.theorem.Entries.{IsEntryCall, Run}
 use Rattle.compiler_theorem.specs.theorem.Lowered.{HasFewBytes, IsLowered, Lowered, early, edged, sizes_of}
-use Rattle.flow_solver.specs.Paths.{IsListed}
-use Rattle.ir_base.specs.declared.outcome.Outcome.{Outcome}
-use Rattle.ir_model.specs.Names.{function_at}
-use Rattle.ir_model.specs.Ty.{Ty}
-use Rattle.ir_model.specs.declared.instr.Instr.{Instr}
-use Rattle.ir_model.specs.declared.module.Function.{Function}
-use Rattle.ir_model.specs.declared.module.Module.{Module}
-use Rattle.ir_model.specs.declared.operand.Arg.{Arg}
-use Rattle.ir_model.specs.declared.operand.Callee.{Callee}
-use Rattle.ir_model.specs.declared.operand.Intrinsic.{Intrinsic}
-use Rattle.ir_model.specs.declared.operand.Operand.{Operand}
-use Rattle.pass_copies.specs.Slots.{fetches_of}
-use Rattle.pass_copies.specs.declared.slot.EarlySlot.{EarlySlot}
-use Rattle.pass_fetch.specs.Fetching.{fetch_of}
-use Rattle.pass_fetch.specs.declared.fetch.Fetch.{Fetch}
+use Rattle.compiler.specs.flow_solver.Paths.{IsListed}
+use Rattle.compiler.specs.ir_base.declared.outcome.Outcome.{Outcome}
+use Rattle.compiler.specs.ir_model.Names.{function_at}
+use Rattle.compiler.specs.ir_model.Ty.{Ty}
+use Rattle.compiler.specs.ir_model.declared.instr.Instr.{Instr}
+use Rattle.compiler.specs.ir_model.declared.module.Function.{Function}
+use Rattle.compiler.specs.ir_model.declared.module.Module.{Module}
+use Rattle.compiler.specs.ir_model.declared.operand.Arg.{Arg}
+use Rattle.compiler.specs.ir_model.declared.operand.Callee.{Callee}
+use Rattle.compiler.specs.ir_model.declared.operand.Intrinsic.{Intrinsic}
+use Rattle.compiler.specs.ir_model.declared.operand.Operand.{Operand}
+use Rattle.compiler.specs.pass_copies.Slots.{fetches_of}
+use Rattle.compiler.specs.pass_copies.declared.slot.EarlySlot.{EarlySlot}
+use Rattle.compiler.specs.pass_fetch.Fetching.{fetch_of}
+use Rattle.compiler.specs.pass_fetch.declared.fetch.Fetch.{Fetch}
 use Rattle.pass_frames_meaning.proofs.coroutines.Functions.{all_followed}
 use Rattle.pass_frames_meaning.proofs.ends.All.{ends_followed}
 use Rattle.pass_frames_meaning.proofs.ends.Coming.{end_known}
@@ -58,7 +58,7 @@ use Rattle.pass_frames_meaning.proofs.others.Names.{point_there}
 use Rattle.pass_frames_meaning.proofs.others.Returns.{instr_in}
 use Rattle.pass_frames_meaning.proofs.pointers.Storables.{storables}
 use Rattle.pass_frames_meaning.specs.Coroutines.{AreCoroutinesReady, AreOthersFollowed, MayFollow}
-use Rattle.pass_frames_proof.proofs.followed.Assembly.{other_instance}
+use Rattle.pass_frames_meaning.proofs.pass_frames_proof.followed.Assembly.{other_instance}
 use Rattle.pass_frames_meaning.specs.Covered.{AreCoveredStepsFollowed, IsCovered, Makes, Stands}
 use Rattle.pass_frames_meaning.specs.Ends.{KeepsEnds, MayGoOn}
 use Rattle.pass_frames_meaning.specs.Based.{IsOwnMode}
@@ -66,31 +66,31 @@ use Rattle.pass_frames_meaning.specs.Kinds.{AreOtherBeginsFollowed, KeepsKinds, 
 use Rattle.pass_frames_meaning.specs.Executed.{IsFirstMode}
 use Rattle.pass_frames_meaning.specs.Setting.{AreOfRuns, KeepsAll, Setting}
 use Rattle.pass_frames_meaning.specs.Spared.{AreFieldsApart}
-use Rattle.pass_frames_proof.proofs.lines.Cells.{contained}
-use Rattle.pass_frames_proof.specs.Followed.{IsFollowed}
-use Rattle.pass_frames_proof.specs.Marking.{marking}
-use Rattle.pass_frames_proof.specs.Places.{Framing, copies, written}
-use Rattle.pass_frames_proof.specs.Related.{AreBuiltOf, is_coroutine}
-use Rattle.pass_frames_proof.specs.Stepping.{IsNotEntering}
-use Rattle.pass_proofs.specs.fetch.rules.Fetches.{AreUnfetched}
-use Rattle.pass_renewed_meaning.specs.Followed.{IsEntering}
-use Rattle.pass_renewed_meaning.specs.Offsets.{first_at}
-use Rattle.pass_renewed_meaning.specs.Runs.{first_step}
-use Rattle.pass_renewed_proof.specs.Beside.{IsBeside}
-use Rattle.pass_renewed_proof.specs.Way.{IsResumedAt}
-use Rattle.pass_renewed_proof.specs.Renewed.{Flags, Roots, renewed_step}
-use Rattle.pass_renewed_proof.specs.Steps.{given_at}
+use Rattle.pass_frames_meaning.proofs.pass_frames_proof.lines.Cells.{contained}
+use Rattle.pass_frames_meaning.specs.pass_frames_proof.Followed.{IsFollowed}
+use Rattle.pass_frames_meaning.specs.pass_frames_proof.Marking.{marking}
+use Rattle.pass_frames_meaning.specs.pass_frames_proof.Places.{Framing, copies, written}
+use Rattle.pass_frames_meaning.specs.pass_frames_proof.Related.{AreBuiltOf, is_coroutine}
+use Rattle.pass_frames_meaning.specs.pass_frames_proof.Stepping.{IsNotEntering}
+use Rattle.compiler.specs.pass_proofs.fetch.rules.Fetches.{AreUnfetched}
+use Rattle.pass_frames_meaning.specs.pass_renewed_meaning.Followed.{IsEntering}
+use Rattle.pass_frames_meaning.specs.pass_renewed_meaning.Offsets.{first_at}
+use Rattle.pass_frames_meaning.specs.pass_renewed_meaning.Runs.{first_step}
+use Rattle.pass_frames_meaning.specs.pass_renewed_proof.Beside.{IsBeside}
+use Rattle.pass_frames_meaning.specs.pass_renewed_proof.Way.{IsResumedAt}
+use Rattle.pass_frames_meaning.specs.pass_renewed_proof.Renewed.{Flags, Roots, renewed_step}
+use Rattle.pass_frames_meaning.specs.pass_renewed_proof.Steps.{given_at}
 use Rattle.run_accepted.proofs.Accepted.{edged_alive}
-use Rattle.run_agreement.specs.Machines.{IsFine}
-use Rattle.run_framed.specs.Framed.{framed_state_at}
-use Rattle.run_source.specs.Source.{first_state, is_over}
-use Rattle.run_source.specs.State.{function_of, is_finished}
-use Rattle.run_source.specs.declared.state.Activation.{Activation}
-use Rattle.run_source.specs.declared.state.Instance.{Instance}
-use Rattle.run_source.specs.declared.state.Mode.{Mode}
-use Rattle.run_source.specs.declared.state.State.{State}
-use Rattle.run_step.specs.Runs.{iterate}
-use Rattle.run_step.specs.Step.{AtInstr, fetch}
+use Rattle.compiler.specs.run_agreement.Machines.{IsFine}
+use Rattle.compiler.specs.run_framed.Framed.{framed_state_at}
+use Rattle.compiler.specs.run_source.Source.{first_state, is_over}
+use Rattle.compiler.specs.run_source.State.{function_of, is_finished}
+use Rattle.compiler.specs.run_source.declared.state.Activation.{Activation}
+use Rattle.compiler.specs.run_source.declared.state.Instance.{Instance}
+use Rattle.compiler.specs.run_source.declared.state.Mode.{Mode}
+use Rattle.compiler.specs.run_source.declared.state.State.{State}
+use Rattle.compiler.specs.run_step.Runs.{iterate}
+use Rattle.compiler.specs.run_step.Step.{AtInstr, fetch}
 
 -- ---- nothing is fetched for slots before begin where there are none
 

@@ -7,41 +7,41 @@ use Rattle.compiler_theorem.proofs.theorem.Needed.{named_in, some_class, stands_
 use Rattle.compiler_theorem.proofs.theorem.Roots.{one_root}
 use Rattle.compiler_theorem.specs.theorem.Anew.{Anew, IsAnewIn, IsAnewOf, IsMemorySlot, IsSlotOf}
 use Rattle.compiler_theorem.specs.theorem.Lowered.{IsLowered, Lowered, early}
-use Rattle.flow_solver.specs.Paths.{IsListed}
-use Rattle.frame_classes.specs.Classes.{AreClasses, IsOf, suspends}
-use Rattle.frame_classes.specs.declared.class.SlotClass.{SlotClass}
-use Rattle.frame_contents.specs.Frames.{AreContents}
-use Rattle.frame_contents.specs.declared.contents.Contents.{Contents}
-use Rattle.frame_crossing.specs.Crossing.{AreCrossed, AreCrossing, CrossedBy, Crosses, LeftOut, More, NoMore, Nothing, Taken}
-use Rattle.frame_crossing.specs.Crossing.{suspends_of}
-use Rattle.frame_crossing.specs.Values.{values_of}
-use Rattle.frame_good.proofs.Frames.{layouts_found}
-use Rattle.frame_slots.proofs.Points.{PassesAt, where_sound}
-use Rattle.ir_laws.proofs.facts.Lists.{below}
-use Rattle.ir_laws.proofs.facts.Truth.{equal_numbers, itself}
-use Rattle.ir_model.specs.Names.{function_at, no_function}
-use Rattle.ir_model.specs.declared.instr.Instr.{Instr}
-use Rattle.ir_model.specs.declared.module.Function.{Function}
-use Rattle.ir_model.specs.declared.module.Module.{Module}
-use Rattle.ir_model.specs.declared.operand.Intrinsic.{Intrinsic}
-use Rattle.ir_paths.proofs.Search.{or_left, same_point-itself, same_point-same}
-use Rattle.ir_paths.specs.Paths.{has_point, same_point}
-use Rattle.ir_paths.specs.Slots.{addresses_of, allocas_of, has_name, is_gep}
-use Rattle.ir_paths.specs.Windows.{instr_at, is_call_of, points_where}
-use Rattle.ir_paths.specs.declared.point.Point.{Point}
-use Rattle.pass_edges.specs.EdgeBlocks.{with_edge_blocks}
-use Rattle.pass_kept_proof.proofs.Read.{listed_by_name}
-use Rattle.pass_proofs.proofs.early.save_simulation.Suspending.{fetch_at}
-use Rattle.pass_proofs.proofs.edges.paths.Points.{points_moved}
-use Rattle.pass_proofs.proofs.edges.paths.Slots.{same_allocas}
-use Rattle.pass_proofs.proofs.edges.rules.Kept.{crossing_kept, rules_kept}
-use Rattle.pass_proofs.proofs.kept.sources.Modules.{at_function, early_has_shape, early_rules}
-use Rattle.pass_proofs.proofs.kept.sources.Names.{none_outside, suspend_inside}
-use Rattle.pass_proofs.specs.edges.paths.Spots.{moved}
-use Rattle.rule_laws.specs.rules.function_rules.Kept.{KeepsFunctionRules}
-use Rattle.rule_laws.proofs.rules.source_rules.Slots.{alloca_of}
-use Rattle.rule_shape.specs.Switches.{wrong_switch}
-use Rattle.run_framed.specs.Framed.{begin_name}
+use Rattle.compiler.specs.flow_solver.Paths.{IsListed}
+use Rattle.compiler.specs.frame_classes.Classes.{AreClasses, IsOf, suspends}
+use Rattle.compiler.specs.frame_classes.declared.class.SlotClass.{SlotClass}
+use Rattle.compiler.specs.frame_contents.Frames.{AreContents}
+use Rattle.compiler.specs.frame_contents.declared.contents.Contents.{Contents}
+use Rattle.compiler.specs.frame_crossing.Crossing.{AreCrossed, AreCrossing, CrossedBy, Crosses, LeftOut, More, NoMore, Nothing, Taken}
+use Rattle.compiler.specs.frame_crossing.Crossing.{suspends_of}
+use Rattle.compiler.specs.frame_crossing.Values.{values_of}
+use Rattle.compiler.proofs.frame_good.Frames.{layouts_found}
+use Rattle.compiler.proofs.frame_slots.Points.{PassesAt, where_sound}
+use Rattle.compiler.proofs.ir_laws.facts.Lists.{below}
+use Rattle.compiler.proofs.ir_laws.facts.Truth.{equal_numbers, itself}
+use Rattle.compiler.specs.ir_model.Names.{function_at, no_function}
+use Rattle.compiler.specs.ir_model.declared.instr.Instr.{Instr}
+use Rattle.compiler.specs.ir_model.declared.module.Function.{Function}
+use Rattle.compiler.specs.ir_model.declared.module.Module.{Module}
+use Rattle.compiler.specs.ir_model.declared.operand.Intrinsic.{Intrinsic}
+use Rattle.compiler.proofs.ir_paths.Search.{or_left, same_point-itself, same_point-same}
+use Rattle.compiler.specs.ir_paths.Paths.{has_point, same_point}
+use Rattle.compiler.specs.ir_paths.Slots.{addresses_of, allocas_of, has_name, is_gep}
+use Rattle.compiler.specs.ir_paths.Windows.{instr_at, is_call_of, points_where}
+use Rattle.compiler.specs.ir_paths.declared.point.Point.{Point}
+use Rattle.compiler.specs.pass_edges.EdgeBlocks.{with_edge_blocks}
+use Rattle.compiler.proofs.pass_kept_proof.Read.{listed_by_name}
+use Rattle.compiler.proofs.pass_proofs.early.save_simulation.Suspending.{fetch_at}
+use Rattle.compiler.proofs.pass_proofs.edges.paths.Points.{points_moved}
+use Rattle.compiler.proofs.pass_proofs.edges.paths.Slots.{same_allocas}
+use Rattle.compiler.proofs.pass_proofs.edges.rules.Kept.{crossing_kept, rules_kept}
+use Rattle.compiler.proofs.pass_proofs.kept.sources.Modules.{at_function, early_has_shape, early_rules}
+use Rattle.compiler.proofs.pass_proofs.kept.sources.Names.{none_outside, suspend_inside}
+use Rattle.compiler.specs.pass_proofs.edges.paths.Spots.{moved}
+use Rattle.compiler.specs.rule_laws.rules.function_rules.Kept.{KeepsFunctionRules}
+use Rattle.compiler.proofs.rule_laws.rules.source_rules.Slots.{alloca_of}
+use Rattle.compiler.specs.rule_shape.Switches.{wrong_switch}
+use Rattle.compiler.specs.run_framed.Framed.{begin_name}
 
 -- ---- what is decided
 

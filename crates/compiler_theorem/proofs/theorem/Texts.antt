@@ -10,13 +10,13 @@ use Rattle.compiler.specs.declared.lowered.Lowering.{Lowering}
 use Rattle.compiler.specs.whole.Passed.{AreFew}
 use Rattle.compiler_theorem.proofs.theorem.Whole.{keeps_runs}
 use Rattle.compiler_theorem.specs.theorem.Texts.{KeepsTexts, lowering_of}
-use Rattle.frame_layout.specs.declared.layout.Layouts.{Layouts}
-use Rattle.ir_base.specs.declared.status.Options.{Options}
-use Rattle.ir_model.specs.declared.module.Function.{Function}
-use Rattle.ir_model.specs.declared.module.Module.{Module}
-use Rattle.text_canonical.specs.grammar.Bytes.{AreBytes}
-use Rattle.text_canonical.specs.order.Order.{module_order}
-use Rattle.text_grammar.specs.Text.{StandsFor}
+use Rattle.compiler.specs.frame_layout.declared.layout.Layouts.{Layouts}
+use Rattle.compiler.specs.ir_base.declared.status.Options.{Options}
+use Rattle.compiler.specs.ir_model.declared.module.Function.{Function}
+use Rattle.compiler.specs.ir_model.declared.module.Module.{Module}
+use Rattle.compiler.specs.text_canonical.grammar.Bytes.{AreBytes}
+use Rattle.compiler.specs.text_canonical.order.Order.{module_order}
+use Rattle.compiler.specs.text_grammar.Text.{StandsFor}
 use Rattle.std.specs.Prelude.{length}
 
 few_in : (fs : List Function) → AllFew fs → (k : ℕ) (f : Function) → slice_get fs k ≡ Some f → AreFew f.names

@@ -1,10 +1,10 @@
 -- All rows in turn.
 use Rattle.std.proofs.Common.{◌≡◌, ℕ, ◌+◌, ◌*◌, refl, subst, arith}
-use Rattle.run_agreement.proofs.Compose.{compose_within, weaken}
-use Rattle.run_agreement.specs.Agreements.{AgreesWithin}
-use Rattle.run_agreement.specs.Factor.{size_factor, step_factor}
-use Rattle.run_agreement.specs.Machines.{at}
-use Rattle.pass_cleanup.specs.Cleanup.{clean_function}
+use Rattle.compiler.proofs.run_agreement.Compose.{compose_within, weaken}
+use Rattle.compiler.specs.run_agreement.Agreements.{AgreesWithin}
+use Rattle.compiler.specs.run_agreement.Factor.{size_factor, step_factor}
+use Rattle.compiler.specs.run_agreement.Machines.{at}
+use Rattle.compiler.specs.pass_cleanup.Cleanup.{clean_function}
 use Rattle.compiler_theorem.proofs.parts.Agree.{framed_agrees}
 use Rattle.compiler_theorem.proofs.theorem.Entries.{entry_before}
 use Rattle.compiler_theorem.proofs.theorem.Facts.{good_layouts, live_apart}
@@ -13,11 +13,11 @@ use Rattle.compiler_theorem.specs.theorem.Anew.{Anew}
 use Rattle.compiler_theorem.specs.theorem.Entries.{IsEntry, IsEntryCall, Run}
 use Rattle.compiler_theorem.specs.theorem.Lowered.{HasFewBytes, IsLowered, Lowered, framed_run, lowered_from, plain_run, printed_from, source_run, split_from}
 use Rattle.compiler_theorem.specs.theorem.Theorem.{AreFramesShown, KeepsMeaning, KeepsRuns, Steps}
-use Rattle.ir_model.specs.declared.module.Module.{Module}
-use Rattle.run_types.specs.States.{AreArguments}
+use Rattle.compiler.specs.ir_model.declared.module.Module.{Module}
+use Rattle.pass_frames_meaning.specs.run_types.States.{AreArguments}
 use Rattle.compiler.proofs.whole.lowered_sources.Row.{is_ready}
 use Rattle.compiler.specs.cleanup.accepted.Ready.{IsReady}
-use Rattle.text_canonical.specs.order.Order.{function_order}
+use Rattle.compiler.specs.text_canonical.order.Order.{function_order}
 use Rattle.compiler.proofs.whole.cleaned_sources.Sources.{cleaned_agrees}
 use Rattle.compiler.proofs.whole.printed_order.Printed.{printed_agrees}
 

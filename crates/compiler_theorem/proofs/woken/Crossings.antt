@@ -1,11 +1,11 @@
 -- Pairs of values and numbers of suspends are of those that cross, by their numbers.
 use Rattle.std.proofs.Common.{◌≡◌, inl, inr, ⊎_elim, ℕ, zero, suc, ◌+◌, List, ◌∷◌, Some, refl, sym, ap, ◌∙◌, subst, arith}
 use Rattle.std.specs.Prelude.{slice_get}
-use Rattle.flow_solver.specs.Paths.{IsListed}
-use Rattle.frame_crossing.specs.Crossing.{AreCrossed, CrossedBy, Crosses, LeftOut, More, NoMore, Nothing, Taken, suspends_of}
-use Rattle.ir_laws.proofs.paths.source_rules.Locals.{listed_either, listed_left, listed_right}
-use Rattle.ir_model.specs.declared.module.Function.{Function}
-use Rattle.ir_paths.specs.declared.point.Point.{Point}
+use Rattle.compiler.specs.flow_solver.Paths.{IsListed}
+use Rattle.compiler.specs.frame_crossing.Crossing.{AreCrossed, CrossedBy, Crosses, LeftOut, More, NoMore, Nothing, Taken, suspends_of}
+use Rattle.compiler.proofs.ir_laws.paths.source_rules.Locals.{listed_either, listed_left, listed_right}
+use Rattle.compiler.specs.ir_model.declared.module.Function.{Function}
+use Rattle.compiler.specs.ir_paths.declared.point.Point.{Point}
 
 module _ (f : Function) where
   -- ---- a value that crosses is paired

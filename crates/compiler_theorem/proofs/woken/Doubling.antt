@@ -2,20 +2,20 @@
 use Rattle.std.proofs.Common.{◌≡◌, ◌⊎◌, inl, inr, ⊎_elim, ℕ, zero, suc, ◌+◌, ◌<◌, ◌≤◌, ◌^◌, List, [], ◌∷◌, Option, Some, None, length, refl, sym, ap, ◌∙◌, subst, arith}
 use Rattle.std.proofs.lemmas.Option.{slice_get-map}
 use Rattle.std.specs.Prelude.{map, option_map, replicate, slice_get, slice_set}
-use Rattle.flow_facts.proofs.Chained.{IsAddress}
-use Rattle.flow_facts.specs.Chains.{bases_by, bases_in}
-use Rattle.flow_solver.proofs.Lists.{set_cases}
-use Rattle.flow_solver.specs.Paths.{IsListed}
-use Rattle.ir_laws.proofs.facts.Lists.{blank_length, set_here, set_length, set_other}
-use Rattle.ir_laws.proofs.facts.Truth.{either}
-use Rattle.ir_laws.proofs.paths.source_rules.Locals.{listed_either, listed_left, listed_right}
-use Rattle.ir_model.specs.Calls.{or_else}
-use Rattle.ir_model.specs.declared.instr.Instr.{Instr}
-use Rattle.ir_model.specs.declared.module.Block.{Block}
-use Rattle.ir_model.specs.declared.module.Function.{Function}
-use Rattle.ir_model.specs.declared.operand.Operand.{Operand}
-use Rattle.pass_cells.specs.Kept.{entry, joined}
-use Rattle.pass_cells.specs.Links.{bases_of, further, jumped, roots_after, roots_of, with_base, with_bases_by, with_bases_in}
+use Rattle.compiler.proofs.flow_facts.Chained.{IsAddress}
+use Rattle.compiler.specs.flow_facts.Chains.{bases_by, bases_in}
+use Rattle.compiler.proofs.flow_solver.Lists.{set_cases}
+use Rattle.compiler.specs.flow_solver.Paths.{IsListed}
+use Rattle.compiler.proofs.ir_laws.facts.Lists.{blank_length, set_here, set_length, set_other}
+use Rattle.compiler.proofs.ir_laws.facts.Truth.{either}
+use Rattle.compiler.proofs.ir_laws.paths.source_rules.Locals.{listed_either, listed_left, listed_right}
+use Rattle.compiler.specs.ir_model.Calls.{or_else}
+use Rattle.compiler.specs.ir_model.declared.instr.Instr.{Instr}
+use Rattle.compiler.specs.ir_model.declared.module.Block.{Block}
+use Rattle.compiler.specs.ir_model.declared.module.Function.{Function}
+use Rattle.compiler.specs.ir_model.declared.operand.Operand.{Operand}
+use Rattle.compiler.specs.pass_cells.Kept.{entry, joined}
+use Rattle.compiler.specs.pass_cells.Links.{bases_of, further, jumped, roots_after, roots_of, with_base, with_bases_by, with_bases_in}
 
 -- ---- entries
 

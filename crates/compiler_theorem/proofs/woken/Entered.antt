@@ -9,21 +9,21 @@ use Rattle.compiler_theorem.specs.theorem.Asked.{asking}
 use Rattle.compiler_theorem.specs.theorem.Built.{building}
 use Rattle.compiler_theorem.specs.theorem.Entries.{IsEntryCall, Run}
 use Rattle.compiler_theorem.specs.theorem.Lowered.{HasFewBytes, IsLowered, Lowered, early}
-use Rattle.ir_base.specs.declared.outcome.Outcome.{Outcome}
+use Rattle.compiler.specs.ir_base.declared.outcome.Outcome.{Outcome}
 use Rattle.pass_frames_meaning.proofs.woken.Entered.{enters_all}
 use Rattle.pass_frames_meaning.proofs.woken.Entering.{entering_followed}
 use Rattle.pass_frames_meaning.specs.Coroutines.{HasStorables, MayFollow}
 use Rattle.pass_frames_meaning.specs.Others.{EntersCoroutines}
 use Rattle.pass_frames_meaning.specs.Setting.{AreOfRuns, Setting}
 use Rattle.pass_frames_meaning.specs.Woken.{KeepsWaking}
-use Rattle.pass_frames_proof.specs.Followed.{IsFollowed}
-use Rattle.pass_frames_proof.specs.Related.{AreBuiltOf, is_coroutine}
-use Rattle.pass_frames_proof.specs.Stepping.{IsNotEntering}
-use Rattle.pass_renewed_proof.specs.Renewed.{renewed_step}
-use Rattle.run_agreement.specs.Machines.{IsFine}
-use Rattle.run_framed.specs.Framed.{framed_state_at}
-use Rattle.run_source.specs.declared.state.Mode.{Mode}
-use Rattle.run_source.specs.declared.state.State.{State}
+use Rattle.pass_frames_meaning.specs.pass_frames_proof.Followed.{IsFollowed}
+use Rattle.pass_frames_meaning.specs.pass_frames_proof.Related.{AreBuiltOf, is_coroutine}
+use Rattle.pass_frames_meaning.specs.pass_frames_proof.Stepping.{IsNotEntering}
+use Rattle.pass_frames_meaning.specs.pass_renewed_proof.Renewed.{renewed_step}
+use Rattle.compiler.specs.run_agreement.Machines.{IsFine}
+use Rattle.compiler.specs.run_framed.Framed.{framed_state_at}
+use Rattle.compiler.specs.run_source.declared.state.Mode.{Mode}
+use Rattle.compiler.specs.run_source.declared.state.State.{State}
 
 module _ (l : Lowered) (low : IsLowered l) (few : HasFewBytes l) (a : Anew) (anew : IsAnewOf (early l) a) (r : Run)
     (entered : IsEntryCall l.source r) (n m : ℕ) where

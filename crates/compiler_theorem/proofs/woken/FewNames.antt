@@ -7,30 +7,30 @@ use Rattle.compiler_theorem.proofs.theorem.Built.{framed_there, sources_built}
 use Rattle.compiler_theorem.proofs.woken.Doubling.{Path, entry_within}
 use Rattle.compiler_theorem.specs.theorem.Built.{building}
 use Rattle.compiler_theorem.specs.theorem.Lowered.{IsLowered, Lowered, early, split_from}
-use Rattle.flow_solver.specs.Paths.{IsListed}
-use Rattle.frame_layout.specs.declared.layout.Layout.{Layout}
-use Rattle.ir_base.specs.declared.name.Name.{Name}
-use Rattle.ir_laws.proofs.facts.Lists.{get_behind, set_length}
-use Rattle.ir_laws.proofs.facts.Truth.{either}
-use Rattle.ir_laws.specs.paths.woven_rules.Pairs.{AreDifferent}
-use Rattle.ir_model.specs.Names.{function_at}
-use Rattle.ir_model.specs.declared.module.Function.{Function}
-use Rattle.ir_model.specs.declared.module.Module.{Module}
-use Rattle.pass_cells.specs.Kept.{entry}
-use Rattle.pass_cleanup.specs.Cleanup.{clean_function}
-use Rattle.pass_exits.specs.ExitBlocks.{with_exit_blocks}
+use Rattle.compiler.specs.flow_solver.Paths.{IsListed}
+use Rattle.compiler.specs.frame_layout.declared.layout.Layout.{Layout}
+use Rattle.compiler.specs.ir_base.declared.name.Name.{Name}
+use Rattle.compiler.proofs.ir_laws.facts.Lists.{get_behind, set_length}
+use Rattle.compiler.proofs.ir_laws.facts.Truth.{either}
+use Rattle.compiler.specs.ir_laws.paths.woven_rules.Pairs.{AreDifferent}
+use Rattle.compiler.specs.ir_model.Names.{function_at}
+use Rattle.compiler.specs.ir_model.declared.module.Function.{Function}
+use Rattle.compiler.specs.ir_model.declared.module.Module.{Module}
+use Rattle.compiler.specs.pass_cells.Kept.{entry}
+use Rattle.compiler.specs.pass_cleanup.Cleanup.{clean_function}
+use Rattle.compiler.specs.pass_exits.ExitBlocks.{with_exit_blocks}
 use Rattle.pass_frames_prices.proofs.bounds.Once.{few_of}
-use Rattle.pass_frames_proof.proofs.code.Left.{longer}
-use Rattle.pass_frames_proof.proofs.ramps.Behind.{framed_coroutine}
-use Rattle.pass_frames_proof.proofs.suspending.Given.{edged_framed}
-use Rattle.pass_frames_proof.specs.Places.{Framing, edged, framed}
-use Rattle.pass_intrinsics.specs.Shapes.{first_name, shape_of}
-use Rattle.pass_intrinsics.specs.declared.shape.Part.{Part}
-use Rattle.pass_intrinsics.specs.declared.shape.Shape.{Shape}
-use Rattle.pass_split.specs.Given.{has_given_call}
-use Rattle.pass_split.specs.Parts.{first_layout, frame_mark, instr_names, layouts_after, mark_names, names_of, origins_for, plain_of, plain_shape, marked_parts, ramp_of, split_function, split_functions, suspend_names}
-use Rattle.pass_split.specs.Pieces.{next_after}
-use Rattle.pass_split.specs.Reached.{pruned}
+use Rattle.pass_frames_meaning.proofs.pass_frames_proof.code.Left.{longer}
+use Rattle.pass_frames_meaning.proofs.pass_frames_proof.ramps.Behind.{framed_coroutine}
+use Rattle.pass_frames_meaning.proofs.pass_frames_proof.suspending.Given.{edged_framed}
+use Rattle.pass_frames_meaning.specs.pass_frames_proof.Places.{Framing, edged, framed}
+use Rattle.compiler.specs.pass_intrinsics.Shapes.{first_name, shape_of}
+use Rattle.compiler.specs.pass_intrinsics.declared.shape.Part.{Part}
+use Rattle.compiler.specs.pass_intrinsics.declared.shape.Shape.{Shape}
+use Rattle.compiler.specs.pass_split.Given.{has_given_call}
+use Rattle.compiler.specs.pass_split.Parts.{first_layout, frame_mark, instr_names, layouts_after, mark_names, names_of, origins_for, plain_of, plain_shape, marked_parts, ramp_of, split_function, split_functions, suspend_names}
+use Rattle.compiler.specs.pass_split.Pieces.{next_after}
+use Rattle.compiler.specs.pass_split.Reached.{pruned}
 
 -- ---- the ramp of a coroutine
 

@@ -7,31 +7,31 @@ use Rattle.compiler_theorem.proofs.parts.Returned.{buildable, named}
 use Rattle.compiler_theorem.proofs.theorem.Built.{coroutine_there, framed_there, framings, sources_built}
 use Rattle.compiler_theorem.specs.theorem.Built.{building}
 use Rattle.compiler_theorem.specs.theorem.Lowered.{IsLowered, Lowered, early}
-use Rattle.frame_layout.specs.declared.layout.Layout.{Layout}
-use Rattle.ir_laws.specs.facts.spelled.Filled.{HasFilledPhis, HasNoEntryPhis}
-use Rattle.ir_model.specs.Calls.{first_result}
-use Rattle.ir_model.specs.Names.{function_at}
-use Rattle.ir_model.specs.declared.module.Function.{Function}
-use Rattle.ir_model.specs.declared.module.Module.{Module}
-use Rattle.ir_model.specs.declared.operand.Intrinsic.{Intrinsic}
-use Rattle.pass_frames.specs.Framed.{begin_of, celled, copied, layout_at, placed}
+use Rattle.compiler.specs.frame_layout.declared.layout.Layout.{Layout}
+use Rattle.compiler.specs.ir_laws.facts.spelled.Filled.{HasFilledPhis, HasNoEntryPhis}
+use Rattle.compiler.specs.ir_model.Calls.{first_result}
+use Rattle.compiler.specs.ir_model.Names.{function_at}
+use Rattle.compiler.specs.ir_model.declared.module.Function.{Function}
+use Rattle.compiler.specs.ir_model.declared.module.Module.{Module}
+use Rattle.compiler.specs.ir_model.declared.operand.Intrinsic.{Intrinsic}
+use Rattle.compiler.specs.pass_frames.Framed.{begin_of, celled, copied, layout_at, placed}
 use Rattle.pass_frames_meaning.proofs.begun.Begun.{first}
-use Rattle.pass_frames_proof.specs.Framings.{IsFraming}
-use Rattle.pass_frames_proof.specs.Places.{Framing, edged, framed}
-use Rattle.pass_frames_proof.specs.Ramps.{HasEntryAllocas, IsPlainEntry}
-use Rattle.pass_proofs.proofs.early.spelled.Entry.{early_filled}
-use Rattle.pass_proofs.proofs.edges.front_rules.Whole.{all_kept}
-use Rattle.pass_proofs.proofs.frames.headings.Headings.{framed_signatures}
-use Rattle.pass_proofs.proofs.frames.numbers.Numbers.{number_given}
-use Rattle.pass_proofs.proofs.frames.rules.Built.{form_kept}
+use Rattle.pass_frames_meaning.specs.pass_frames_proof.Framings.{IsFraming}
+use Rattle.pass_frames_meaning.specs.pass_frames_proof.Places.{Framing, edged, framed}
+use Rattle.pass_frames_meaning.specs.pass_frames_proof.Ramps.{HasEntryAllocas, IsPlainEntry}
+use Rattle.compiler.proofs.pass_proofs.early.spelled.Entry.{early_filled}
+use Rattle.compiler.proofs.pass_proofs.edges.front_rules.Whole.{all_kept}
+use Rattle.compiler.proofs.pass_proofs.frames.headings.Headings.{framed_signatures}
+use Rattle.compiler.proofs.pass_proofs.frames.numbers.Numbers.{number_given}
+use Rattle.compiler.proofs.pass_proofs.frames.rules.Built.{form_kept}
 use Rattle.pass_split_proof.proofs.ready.Begins.{begin_name_is}
-use Rattle.rule_laws.proofs.rules.function_rules.Signatures.{go_by_signatures}
-use Rattle.rule_laws.proofs.rules.source_rules.Shaped.{function_shaped}
-use Rattle.rule_laws.proofs.rules.spelled.Entry.{shape_filled, unled_entry}
-use Rattle.rule_laws.specs.frames.shape.Passes.{IsKept}
-use Rattle.rule_laws.specs.rules.function_rules.Kept.{KeepsFunctionRules}
-use Rattle.run_framed.specs.Framed.{begin_name}
-use Rattle.text_canonical.proofs.order.Shaped.{text_is_shaped}
+use Rattle.compiler.proofs.rule_laws.rules.function_rules.Signatures.{go_by_signatures}
+use Rattle.compiler.proofs.rule_laws.rules.source_rules.Shaped.{function_shaped}
+use Rattle.compiler.proofs.rule_laws.rules.spelled.Entry.{shape_filled, unled_entry}
+use Rattle.compiler.specs.rule_laws.frames.shape.Passes.{IsKept}
+use Rattle.compiler.specs.rule_laws.rules.function_rules.Kept.{KeepsFunctionRules}
+use Rattle.compiler.specs.run_framed.Framed.{begin_name}
+use Rattle.compiler.proofs.text_canonical.order.Shaped.{text_is_shaped}
 
 module _ (l : Lowered) (low : IsLowered l) (answers : List ℤ) (func : ℕ)
     (is : (function_at (early l) func).coroutine ≡ true) where

@@ -3,27 +3,27 @@ use Rattle.std.proofs.Common.{◌≡◌, inl, inr, ⊎_elim, ℕ, zero, suc, ◌
 use Rattle.std.specs.Prelude.{flat_map, if◌then◌else◌, not, option_to_list, slice_get, unwrap_or}
 use Rattle.compiler_theorem.proofs.theorem.Needed.{named_in, some_class, stands_at}
 use Rattle.compiler_theorem.proofs.theorem.shown.Contents.{class_once}
-use Rattle.flow_solver.specs.Paths.{IsListed}
-use Rattle.frame_classes.specs.Classes.{IsOf}
-use Rattle.frame_classes.specs.declared.class.SlotClass.{SlotClass}
-use Rattle.frame_contents.specs.Held.{crossing_values, frame_slots, frame_slots_from, held_blocks, held_instr, held_instrs, held_params, held_phis, is_frame, slot_held}
-use Rattle.frame_contents.specs.declared.held.Holding.{Holding}
-use Rattle.frame_layout.specs.declared.layout.FieldKind.{FieldKind}
-use Rattle.ir_laws.proofs.facts.Lists.{below}
-use Rattle.ir_laws.proofs.paths.source_rules.Locals.{listed_either, listed_left, listed_right}
-use Rattle.ir_laws.proofs.paths.uses.Paths.{place_of}
-use Rattle.ir_model.specs.declared.instr.Instr.{Instr}
-use Rattle.ir_model.specs.declared.module.Block.{Block}
-use Rattle.ir_model.specs.declared.module.Module.{Module}
-use Rattle.ir_paths.specs.Slots.{allocas_in, allocas_of, has_name, promise_of}
-use Rattle.pass_addresses.specs.Placing.{is_none}
-use Rattle.pass_frames.specs.Tables.{is_slot_kind, offset_at}
+use Rattle.compiler.specs.flow_solver.Paths.{IsListed}
+use Rattle.compiler.specs.frame_classes.Classes.{IsOf}
+use Rattle.compiler.specs.frame_classes.declared.class.SlotClass.{SlotClass}
+use Rattle.compiler.specs.frame_contents.Held.{crossing_values, frame_slots, frame_slots_from, held_blocks, held_instr, held_instrs, held_params, held_phis, is_frame, slot_held}
+use Rattle.compiler.specs.frame_contents.declared.held.Holding.{Holding}
+use Rattle.compiler.specs.frame_layout.declared.layout.FieldKind.{FieldKind}
+use Rattle.compiler.proofs.ir_laws.facts.Lists.{below}
+use Rattle.compiler.proofs.ir_laws.paths.source_rules.Locals.{listed_either, listed_left, listed_right}
+use Rattle.compiler.proofs.ir_laws.paths.uses.Paths.{place_of}
+use Rattle.compiler.specs.ir_model.declared.instr.Instr.{Instr}
+use Rattle.compiler.specs.ir_model.declared.module.Block.{Block}
+use Rattle.compiler.specs.ir_model.declared.module.Module.{Module}
+use Rattle.compiler.specs.ir_paths.Slots.{allocas_in, allocas_of, has_name, promise_of}
+use Rattle.compiler.specs.pass_addresses.Placing.{is_none}
+use Rattle.compiler.specs.pass_frames.Tables.{is_slot_kind, offset_at}
 use Rattle.pass_frames_meaning.proofs.placed.Placed.{held_once}
-use Rattle.pass_frames_proof.proofs.offsets.Tables.{slots_told}
-use Rattle.pass_frames_proof.specs.Framings.{IsFraming}
-use Rattle.pass_frames_proof.specs.Places.{Framing, edged, offsets, with_copies}
-use Rattle.pass_proofs.specs.addresses.rules.Addresses.{lies_in_frame}
-use Rattle.rule_laws.specs.rules.function_rules.Kept.{KeepsFunctionRules}
+use Rattle.pass_frames_meaning.proofs.pass_frames_proof.offsets.Tables.{slots_told}
+use Rattle.pass_frames_meaning.specs.pass_frames_proof.Framings.{IsFraming}
+use Rattle.pass_frames_meaning.specs.pass_frames_proof.Places.{Framing, edged, offsets, with_copies}
+use Rattle.compiler.specs.pass_proofs.addresses.rules.Addresses.{lies_in_frame}
+use Rattle.compiler.specs.rule_laws.rules.function_rules.Kept.{KeepsFunctionRules}
 
 -- ---- its class
 

@@ -14,11 +14,11 @@ use Rattle.compiler_theorem.specs.theorem.Asked.{asking}
 use Rattle.compiler_theorem.specs.theorem.Built.{building}
 use Rattle.compiler_theorem.specs.theorem.Entries.{IsEntryCall, Run}
 use Rattle.compiler_theorem.specs.theorem.Lowered.{IsLowered, Lowered, early}
-use Rattle.ir_model.specs.Names.{function_at, no_function}
-use Rattle.ir_model.specs.declared.instr.Instr.{Instr}
-use Rattle.ir_model.specs.declared.module.Function.{Function}
-use Rattle.ir_model.specs.declared.operand.Callee.{Callee}
-use Rattle.ir_model.specs.declared.operand.Intrinsic.{Intrinsic}
+use Rattle.compiler.specs.ir_model.Names.{function_at, no_function}
+use Rattle.compiler.specs.ir_model.declared.instr.Instr.{Instr}
+use Rattle.compiler.specs.ir_model.declared.module.Function.{Function}
+use Rattle.compiler.specs.ir_model.declared.operand.Callee.{Callee}
+use Rattle.compiler.specs.ir_model.declared.operand.Intrinsic.{Intrinsic}
 use Rattle.pass_frames_meaning.specs.Woken.{IsFramedFit}
 use Rattle.pass_split_proof.proofs.held.Runs.{runs_kept}
 use Rattle.pass_split_proof.proofs.own_blocks.Runs.{runs_mark_none, runs_own}
@@ -27,11 +27,11 @@ use Rattle.pass_split_proof.proofs.ready.Intrinsics.{in_coroutine}
 use Rattle.pass_split_proof.proofs.ready.Rules.{function_of_instr}
 use Rattle.pass_split_proof.specs.own_blocks.Own.{FitsMode, HasOwnBlocks, IsOwnState}
 use Rattle.pass_split_proof.specs.simulation.Premises.{is_of_coroutines}
-use Rattle.rule_laws.specs.rules.function_rules.Kept.{KeepsFunctionRules}
-use Rattle.rule_locals.specs.Intrinsics.{is_inner}
-use Rattle.run_framed.specs.Framed.{FramedGiven, framed_state_at}
-use Rattle.run_source.specs.State.{is_suspended}
-use Rattle.run_source.specs.declared.state.Instance.{Instance}
+use Rattle.compiler.specs.rule_laws.rules.function_rules.Kept.{KeepsFunctionRules}
+use Rattle.compiler.specs.rule_locals.Intrinsics.{is_inner}
+use Rattle.compiler.specs.run_framed.Framed.{FramedGiven, framed_state_at}
+use Rattle.compiler.specs.run_source.State.{is_suspended}
+use Rattle.compiler.specs.run_source.declared.state.Instance.{Instance}
 
 inner_of : (x : Intrinsic) → is_of_coroutines x ≡ true → is_inner x ≡ true
 inner_of Intrinsic.CoroResume e = absurd (false≢true e)

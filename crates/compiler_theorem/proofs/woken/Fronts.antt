@@ -2,39 +2,39 @@
 -- frame.
 use Rattle.std.proofs.Common.{◌≡◌, inl, inr, ℕ, zero, suc, ◌+◌, ◌<◌, ◌≤◌, Bool, true, false, List, [], ◌∷◌, ◌++◌, Option, Some, None, length, refl, sym, ap, ◌∙◌, subst, arith}
 use Rattle.std.specs.Prelude.{if◌then◌else◌, not, option_to_list, slice_get, unwrap_or, ◌==◌}
-use Rattle.flow_solver.specs.Paths.{IsListed}
-use Rattle.ir_laws.proofs.facts.Members.{each_joined}
-use Rattle.ir_laws.proofs.facts.Truth.{equal_numbers, itself}
-use Rattle.ir_laws.proofs.paths.edges.Lists.{from_filtered}
-use Rattle.ir_laws.proofs.paths.woven_rules.Unbroken.{of_listed}
-use Rattle.ir_model.specs.Ty.{Ty, int}
-use Rattle.ir_model.specs.declared.instr.Instr.{Instr}
-use Rattle.ir_paths.specs.Slots.{allocas_in}
-use Rattle.pass_addresses.specs.Placing.{is_none, lies_outside}
-use Rattle.pass_cells.specs.Links.{link_name}
-use Rattle.pass_cells.specs.Moves.{cell_alloca}
-use Rattle.ir_laws.proofs.paths.uses.Paths.{place_of}
-use Rattle.pass_addresses.specs.Placing.{slot_fetches}
-use Rattle.pass_frames.specs.Framed.{begin_of}
+use Rattle.compiler.specs.flow_solver.Paths.{IsListed}
+use Rattle.compiler.proofs.ir_laws.facts.Members.{each_joined}
+use Rattle.compiler.proofs.ir_laws.facts.Truth.{equal_numbers, itself}
+use Rattle.compiler.proofs.ir_laws.paths.edges.Lists.{from_filtered}
+use Rattle.compiler.proofs.ir_laws.paths.woven_rules.Unbroken.{of_listed}
+use Rattle.compiler.specs.ir_model.Ty.{Ty, int}
+use Rattle.compiler.specs.ir_model.declared.instr.Instr.{Instr}
+use Rattle.compiler.specs.ir_paths.Slots.{allocas_in}
+use Rattle.compiler.specs.pass_addresses.Placing.{is_none, lies_outside}
+use Rattle.compiler.specs.pass_cells.Links.{link_name}
+use Rattle.compiler.specs.pass_cells.Moves.{cell_alloca}
+use Rattle.compiler.proofs.ir_laws.paths.uses.Paths.{place_of}
+use Rattle.compiler.specs.pass_addresses.Placing.{slot_fetches}
+use Rattle.compiler.specs.pass_frames.Framed.{begin_of}
 use Rattle.pass_frames_prices.proofs.bounds.Weights.{woven_least}
-use Rattle.pass_frames_proof.proofs.from_edges.Front.{listed_contains}
-use Rattle.pass_frames_proof.proofs.stepping.Names.{edged_named, named_written, slots_new}
-use Rattle.pass_frames_proof.specs.Passes.{fetching_at}
-use Rattle.pass_proofs.proofs.cells.rules.Fronts.{HasCells}
-use Rattle.pass_cells.specs.Written.{distance_alloca, distance_allocas, kept_allocas, link_allocas}
-use Rattle.pass_cells.specs.declared.plan.KeptValue.{KeptValue}
-use Rattle.pass_copies.specs.BeginCopies.{slot_allocas}
-use Rattle.pass_copies.specs.declared.slot.EarlySlot.{EarlySlot}
+use Rattle.pass_frames_meaning.proofs.pass_frames_proof.from_edges.Front.{listed_contains}
+use Rattle.pass_frames_meaning.proofs.pass_frames_proof.stepping.Names.{edged_named, named_written, slots_new}
+use Rattle.pass_frames_meaning.specs.pass_frames_proof.Passes.{fetching_at}
+use Rattle.compiler.proofs.pass_proofs.cells.rules.Fronts.{HasCells}
+use Rattle.compiler.specs.pass_cells.Written.{distance_alloca, distance_allocas, kept_allocas, link_allocas}
+use Rattle.compiler.specs.pass_cells.declared.plan.KeptValue.{KeptValue}
+use Rattle.compiler.specs.pass_copies.BeginCopies.{slot_allocas}
+use Rattle.compiler.specs.pass_copies.declared.slot.EarlySlot.{EarlySlot}
 use Rattle.pass_frames_prices.proofs.bounds.Allocas.{many, many_append}
-use Rattle.pass_frames_proof.proofs.code.Names.{has_cells}
-use Rattle.pass_frames_proof.proofs.layers.Grown.{both_becomes}
-use Rattle.pass_frames_proof.specs.Entering.{front_allocas}
-use Rattle.pass_frames_proof.specs.Framings.{IsFraming}
-use Rattle.pass_frames_proof.specs.Layers.{Layer, becomes, both, grown, only, passed, woven}
-use Rattle.pass_frames_proof.specs.Places.{Framing, addressing_layer, copies, edged, instrs_at, named, offsets, placed_layer, plan, unmarked, unmarked_layer, written}
-use Rattle.pass_front.specs.Front.{is_alloca}
-use Rattle.pass_proofs.specs.addresses.rules.Addresses.{lies_in_frame}
-use Rattle.run_laws.specs.changed.Changed.{Each}
+use Rattle.pass_frames_meaning.proofs.pass_frames_proof.code.Names.{has_cells}
+use Rattle.pass_frames_meaning.proofs.pass_frames_proof.layers.Grown.{both_becomes}
+use Rattle.pass_frames_meaning.specs.pass_frames_proof.Entering.{front_allocas}
+use Rattle.pass_frames_meaning.specs.pass_frames_proof.Framings.{IsFraming}
+use Rattle.pass_frames_meaning.specs.pass_frames_proof.Layers.{Layer, becomes, both, grown, only, passed, woven}
+use Rattle.pass_frames_meaning.specs.pass_frames_proof.Places.{Framing, addressing_layer, copies, edged, instrs_at, named, offsets, placed_layer, plan, unmarked, unmarked_layer, written}
+use Rattle.compiler.specs.pass_front.Front.{is_alloca}
+use Rattle.compiler.specs.pass_proofs.addresses.rules.Addresses.{lies_in_frame}
+use Rattle.compiler.specs.run_laws.changed.Changed.{Each}
 
 -- ---- what lies in the frame goes
 

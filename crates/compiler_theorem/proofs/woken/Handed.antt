@@ -14,48 +14,48 @@ use Rattle.compiler_theorem.specs.theorem.Entries.{Run}
 use Rattle.compiler_theorem.specs.theorem.Lowered.{IsLowered, Lowered, early}
 use Rattle.compiler_theorem.proofs.theorem.Framing.{sources_given}
 use Rattle.compiler_theorem.proofs.woken.FrameSlots.{frame_lies}
-use Rattle.ir_laws.specs.facts.sound_states.Named.{HasNamedLocals}
-use Rattle.pass_proofs.proofs.edges.simulation.Names.{locals_named}
-use Rattle.pass_proofs.proofs.edges.sources.Accepted.{locals_now}
-use Rattle.rule_laws.proofs.frames.alike_crossing.Counted.{values_named}
-use Rattle.rule_laws.specs.rules.function_rules.Kept.{KeepsFunctionRules}
-use Rattle.flow_solver.specs.Paths.{IsListed}
-use Rattle.frame_classes.specs.Classes.{IsOf}
-use Rattle.frame_classes.specs.declared.class.SlotClass.{SlotClass}
-use Rattle.frame_contents.specs.Frames.{AreContents}
-use Rattle.frame_crossing.specs.Crossing.{AreCrossing, Crosses, suspends_of}
-use Rattle.frame_crossing.specs.Values.{values_of}
-use Rattle.ir_laws.proofs.paths.path_rules.Windows.{got_has}
-use Rattle.ir_model.specs.Names.{function_at}
-use Rattle.ir_model.specs.declared.module.Function.{Function}
-use Rattle.ir_model.specs.declared.module.Module.{Module}
-use Rattle.ir_paths.specs.Slots.{allocas_of}
-use Rattle.ir_paths.specs.declared.point.Point.{Point}
-use Rattle.pass_copies.specs.Uses.{flag_at}
-use Rattle.pass_edges.specs.EdgeBlocks.{with_edge_blocks}
-use Rattle.pass_frames.specs.Framed.{begin_of}
-use Rattle.pass_frames.specs.Tables.{is_of}
-use Rattle.run_framed.specs.Framed.{begin_name}
-use Rattle.pass_proofs.specs.frames.begin_order.Frames.{slot_offsets}
-use Rattle.pass_proofs.proofs.kept.sources.Modules.{early_has_shape, early_rules}
+use Rattle.compiler.specs.ir_laws.facts.sound_states.Named.{HasNamedLocals}
+use Rattle.compiler.proofs.pass_proofs.edges.simulation.Names.{locals_named}
+use Rattle.compiler.proofs.pass_proofs.edges.sources.Accepted.{locals_now}
+use Rattle.compiler.proofs.rule_laws.frames.alike_crossing.Counted.{values_named}
+use Rattle.compiler.specs.rule_laws.rules.function_rules.Kept.{KeepsFunctionRules}
+use Rattle.compiler.specs.flow_solver.Paths.{IsListed}
+use Rattle.compiler.specs.frame_classes.Classes.{IsOf}
+use Rattle.compiler.specs.frame_classes.declared.class.SlotClass.{SlotClass}
+use Rattle.compiler.specs.frame_contents.Frames.{AreContents}
+use Rattle.compiler.specs.frame_crossing.Crossing.{AreCrossing, Crosses, suspends_of}
+use Rattle.compiler.specs.frame_crossing.Values.{values_of}
+use Rattle.compiler.proofs.ir_laws.paths.path_rules.Windows.{got_has}
+use Rattle.compiler.specs.ir_model.Names.{function_at}
+use Rattle.compiler.specs.ir_model.declared.module.Function.{Function}
+use Rattle.compiler.specs.ir_model.declared.module.Module.{Module}
+use Rattle.compiler.specs.ir_paths.Slots.{allocas_of}
+use Rattle.compiler.specs.ir_paths.declared.point.Point.{Point}
+use Rattle.compiler.specs.pass_copies.Uses.{flag_at}
+use Rattle.compiler.specs.pass_edges.EdgeBlocks.{with_edge_blocks}
+use Rattle.compiler.specs.pass_frames.Framed.{begin_of}
+use Rattle.compiler.specs.pass_frames.Tables.{is_of}
+use Rattle.compiler.specs.run_framed.Framed.{begin_name}
+use Rattle.compiler.specs.pass_proofs.frames.begin_order.Frames.{slot_offsets}
+use Rattle.compiler.proofs.pass_proofs.kept.sources.Modules.{early_has_shape, early_rules}
 use Rattle.pass_frames_meaning.specs.Woken.{IsHandedOn}
-use Rattle.pass_frames_proof.proofs.from_edges.Front.{kept_there, listed_contains}
-use Rattle.pass_frames_proof.proofs.lines.Cells.{contained}
-use Rattle.pass_copies.specs.Slots.{slot_names}
-use Rattle.pass_frames_proof.proofs.code.Left.{longer}
-use Rattle.pass_frames_proof.proofs.stepping.Names.{edged_named, named_written}
-use Rattle.pass_frames_proof.specs.Framings.{IsFraming}
-use Rattle.pass_frames_proof.specs.Places.{Framing, copies, edged, marked, named, offsets, with_copies, written}
-use Rattle.pass_frames_proof.specs.Related.{IsSuspendNumber}
-use Rattle.pass_kept_proof.proofs.Read.{listed_by_name}
-use Rattle.pass_proofs.proofs.cells.crossing.Complete.{pair_placed}
-use Rattle.pass_proofs.proofs.edges.paths.Slots.{same_allocas}
-use Rattle.pass_proofs.proofs.edges.rules.Kept.{crossing_kept}
-use Rattle.pass_proofs.proofs.frames.begin_order.Framed.{alloca_pointer, in_either, old_slot, pointer_low}
-use Rattle.pass_proofs.proofs.frames.begin_order.Tables.{IsOfClass, slot_flagged}
-use Rattle.pass_proofs.proofs.copies.begin_order.Marks.{none_flagged}
-use Rattle.pass_proofs.specs.addresses.rules.Addresses.{lies_in_frame}
-use Rattle.pass_proofs.specs.frames.begin_order.Fields.{IsField, values_kept}
+use Rattle.pass_frames_meaning.proofs.pass_frames_proof.from_edges.Front.{kept_there, listed_contains}
+use Rattle.pass_frames_meaning.proofs.pass_frames_proof.lines.Cells.{contained}
+use Rattle.compiler.specs.pass_copies.Slots.{slot_names}
+use Rattle.pass_frames_meaning.proofs.pass_frames_proof.code.Left.{longer}
+use Rattle.pass_frames_meaning.proofs.pass_frames_proof.stepping.Names.{edged_named, named_written}
+use Rattle.pass_frames_meaning.specs.pass_frames_proof.Framings.{IsFraming}
+use Rattle.pass_frames_meaning.specs.pass_frames_proof.Places.{Framing, copies, edged, marked, named, offsets, with_copies, written}
+use Rattle.pass_frames_meaning.specs.pass_frames_proof.Related.{IsSuspendNumber}
+use Rattle.compiler.proofs.pass_kept_proof.Read.{listed_by_name}
+use Rattle.compiler.proofs.pass_proofs.cells.crossing.Complete.{pair_placed}
+use Rattle.compiler.proofs.pass_proofs.edges.paths.Slots.{same_allocas}
+use Rattle.compiler.proofs.pass_proofs.edges.rules.Kept.{crossing_kept}
+use Rattle.compiler.proofs.pass_proofs.frames.begin_order.Framed.{alloca_pointer, in_either, old_slot, pointer_low}
+use Rattle.compiler.proofs.pass_proofs.frames.begin_order.Tables.{IsOfClass, slot_flagged}
+use Rattle.compiler.proofs.pass_proofs.copies.begin_order.Marks.{none_flagged}
+use Rattle.compiler.specs.pass_proofs.addresses.rules.Addresses.{lies_in_frame}
+use Rattle.compiler.specs.pass_proofs.frames.begin_order.Fields.{IsField, values_kept}
 
 one_class : (class : SlotClass) (o : Option SlotClass) → is_of class o ≡ true → o ≡ Some class
 one_class class None e = absurd (cc)

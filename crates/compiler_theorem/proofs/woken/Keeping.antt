@@ -11,7 +11,7 @@ use Rattle.compiler_theorem.specs.theorem.Anew.{Anew, IsAnewOf}
 use Rattle.compiler_theorem.specs.theorem.Asked.{asking}
 use Rattle.compiler_theorem.specs.theorem.Entries.{Run}
 use Rattle.compiler_theorem.specs.theorem.Lowered.{HasFewBytes, IsLowered, Lowered, early}
-use Rattle.ir_model.specs.Names.{function_at}
+use Rattle.compiler.specs.ir_model.Names.{function_at}
 use Rattle.pass_frames_meaning.specs.Woken.{IsWakeable, KeepsWaking}
 
 module _ (l : Lowered) (low : IsLowered l) (few : HasFewBytes l) (a : Anew) (anew : IsAnewOf (early l) a)

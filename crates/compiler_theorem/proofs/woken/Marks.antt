@@ -1,11 +1,11 @@
 -- A kept value with a slot has a cell for its distance.
 use Rattle.std.proofs.Common.{◌≡◌, inl, inr, ⊎_elim, ℕ, zero, suc, ◌+◌, ◌<◌, ◌≤◌, Bool, true, false, List, [], ◌∷◌, Option, Some, None, length, replicate, refl, sym, ap, ◌∙◌, subst, arith}
 use Rattle.std.specs.Prelude.{slice_set}
-use Rattle.flow_solver.specs.Paths.{IsListed}
-use Rattle.ir_laws.proofs.facts.Lists.{flags_length, set_here, set_length, set_other}
-use Rattle.ir_laws.proofs.facts.Truth.{either}
-use Rattle.pass_cells.specs.Kept.{entry, flag_or_false, is_flagged}
-use Rattle.pass_cells.specs.Links.{cells_from, climbed, distance_cell, distance_name, link_name, links_after, marks_of, unmarked, unmarked_by, with_climbs}
+use Rattle.compiler.specs.flow_solver.Paths.{IsListed}
+use Rattle.compiler.proofs.ir_laws.facts.Lists.{flags_length, set_here, set_length, set_other}
+use Rattle.compiler.proofs.ir_laws.facts.Truth.{either}
+use Rattle.compiler.specs.pass_cells.Kept.{entry, flag_or_false, is_flagged}
+use Rattle.compiler.specs.pass_cells.Links.{cells_from, climbed, distance_cell, distance_name, link_name, links_after, marks_of, unmarked, unmarked_by, with_climbs}
 
 -- ---- flags
 

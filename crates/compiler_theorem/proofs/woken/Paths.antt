@@ -3,26 +3,26 @@ use Rattle.std.proofs.Common.{◌≡◌, inl, inr, ⊎_elim, ℕ, zero, suc, Boo
 use Rattle.std.specs.Prelude.{slice_get, ◌==◌}
 use Rattle.compiler_theorem.proofs.theorem.Roots.{IsGepOf, gep_of, no_gep, same_base}
 use Rattle.compiler_theorem.proofs.woken.Doubling.{Path, base_listed, base_told}
-use Rattle.flow_facts.specs.Chains.{bases_by, bases_in}
-use Rattle.flow_solver.specs.Paths.{IsListed}
-use Rattle.ir_laws.proofs.facts.Truth.{itself}
-use Rattle.ir_laws.proofs.paths.source_rules.Locals.{listed_either, listed_left, listed_right}
-use Rattle.ir_model.specs.Ty.{Ty}
-use Rattle.ir_model.specs.declared.instr.Instr.{Instr}
-use Rattle.ir_model.specs.declared.module.Block.{Block}
-use Rattle.ir_model.specs.declared.module.Function.{Function}
-use Rattle.ir_model.specs.declared.module.Module.{Module}
-use Rattle.ir_model.specs.declared.operand.Arg.{Arg}
-use Rattle.ir_model.specs.declared.operand.Operand.{Operand}
-use Rattle.ir_paths.specs.Slots.{addresses_within, has_name}
-use Rattle.ir_paths.specs.Windows.{instr_in}
-use Rattle.pass_cells.specs.Kept.{entry}
-use Rattle.pass_cells.specs.Links.{bases_of}
-use Rattle.pass_kept_proof.proofs.Read.{listed_by_name}
-use Rattle.rule_laws.proofs.rules.source_rules.Locals.{result_below}
-use Rattle.rule_laws.proofs.rules.source_rules.Slots.{HasAlloca}
-use Rattle.rule_laws.proofs.rules.sources.Places.{point}
-use Rattle.rule_laws.specs.rules.function_rules.Kept.{KeepsFunctionRules}
+use Rattle.compiler.specs.flow_facts.Chains.{bases_by, bases_in}
+use Rattle.compiler.specs.flow_solver.Paths.{IsListed}
+use Rattle.compiler.proofs.ir_laws.facts.Truth.{itself}
+use Rattle.compiler.proofs.ir_laws.paths.source_rules.Locals.{listed_either, listed_left, listed_right}
+use Rattle.compiler.specs.ir_model.Ty.{Ty}
+use Rattle.compiler.specs.ir_model.declared.instr.Instr.{Instr}
+use Rattle.compiler.specs.ir_model.declared.module.Block.{Block}
+use Rattle.compiler.specs.ir_model.declared.module.Function.{Function}
+use Rattle.compiler.specs.ir_model.declared.module.Module.{Module}
+use Rattle.compiler.specs.ir_model.declared.operand.Arg.{Arg}
+use Rattle.compiler.specs.ir_model.declared.operand.Operand.{Operand}
+use Rattle.compiler.specs.ir_paths.Slots.{addresses_within, has_name}
+use Rattle.compiler.specs.ir_paths.Windows.{instr_in}
+use Rattle.compiler.specs.pass_cells.Kept.{entry}
+use Rattle.compiler.specs.pass_cells.Links.{bases_of}
+use Rattle.compiler.proofs.pass_kept_proof.Read.{listed_by_name}
+use Rattle.compiler.proofs.rule_laws.rules.source_rules.Locals.{result_below}
+use Rattle.compiler.proofs.rule_laws.rules.source_rules.Slots.{HasAlloca}
+use Rattle.compiler.proofs.rule_laws.rules.sources.Places.{point}
+use Rattle.compiler.specs.rule_laws.rules.function_rules.Kept.{KeepsFunctionRules}
 
 -- ---- pairs of names and bases are of getelementptrs
 

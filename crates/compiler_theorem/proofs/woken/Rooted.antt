@@ -14,38 +14,38 @@ use Rattle.compiler_theorem.specs.theorem.Built.{building}
 use Rattle.compiler_theorem.specs.theorem.Entries.{Run}
 use Rattle.compiler_theorem.specs.theorem.Lowered.{IsLowered, Lowered, early}
 use Rattle.compiler_theorem.specs.woken.Roots.{AreRootsTold}
-use Rattle.flow_facts.proofs.Chained.{address-complete}
-use Rattle.flow_solver.specs.Paths.{IsListed}
-use Rattle.frame_classes.specs.Classes.{IsOf}
-use Rattle.frame_classes.specs.declared.class.SlotClass.{SlotClass}
-use Rattle.ir_laws.proofs.facts.Lists.{below, blank_length, flags_length}
-use Rattle.ir_laws.proofs.paths.begin_order.Framed.{get_listed}
-use Rattle.ir_model.specs.Names.{function_at}
-use Rattle.ir_model.specs.Ty.{Ty}
-use Rattle.ir_model.specs.declared.instr.Instr.{Instr}
-use Rattle.ir_model.specs.declared.module.Function.{Function}
-use Rattle.ir_paths.specs.Slots.{addresses_of, allocas_of, has_name, is_gep}
-use Rattle.ir_paths.specs.Windows.{points_where}
-use Rattle.pass_cells.specs.Kept.{entry, flag_or_false, is_flagged, value_types}
-use Rattle.pass_cells.specs.Links.{bases_of, cell_name, field_name, roots_of, slot_by, slots_of}
-use Rattle.pass_cells.specs.Plan.{kept_value, type_at}
-use Rattle.pass_cells.specs.declared.plan.KeptValue.{KeptValue}
-use Rattle.pass_copies.specs.Uses.{flag_at}
-use Rattle.pass_edges.specs.EdgeBlocks.{with_edge_blocks}
-use Rattle.pass_frames.specs.Tables.{is_of}
+use Rattle.compiler.proofs.flow_facts.Chained.{address-complete}
+use Rattle.compiler.specs.flow_solver.Paths.{IsListed}
+use Rattle.compiler.specs.frame_classes.Classes.{IsOf}
+use Rattle.compiler.specs.frame_classes.declared.class.SlotClass.{SlotClass}
+use Rattle.compiler.proofs.ir_laws.facts.Lists.{below, blank_length, flags_length}
+use Rattle.compiler.proofs.ir_laws.paths.begin_order.Framed.{get_listed}
+use Rattle.compiler.specs.ir_model.Names.{function_at}
+use Rattle.compiler.specs.ir_model.Ty.{Ty}
+use Rattle.compiler.specs.ir_model.declared.instr.Instr.{Instr}
+use Rattle.compiler.specs.ir_model.declared.module.Function.{Function}
+use Rattle.compiler.specs.ir_paths.Slots.{addresses_of, allocas_of, has_name, is_gep}
+use Rattle.compiler.specs.ir_paths.Windows.{points_where}
+use Rattle.compiler.specs.pass_cells.Kept.{entry, flag_or_false, is_flagged, value_types}
+use Rattle.compiler.specs.pass_cells.Links.{bases_of, cell_name, field_name, roots_of, slot_by, slots_of}
+use Rattle.compiler.specs.pass_cells.Plan.{kept_value, type_at}
+use Rattle.compiler.specs.pass_cells.declared.plan.KeptValue.{KeptValue}
+use Rattle.compiler.specs.pass_copies.Uses.{flag_at}
+use Rattle.compiler.specs.pass_edges.EdgeBlocks.{with_edge_blocks}
+use Rattle.compiler.specs.pass_frames.Tables.{is_of}
 use Rattle.pass_frames_meaning.proofs.woken.Unkept.{alloca_unkept}
-use Rattle.pass_frames_proof.proofs.code.Names.{Count, First, Kept, keeping, local}
-use Rattle.pass_frames_proof.specs.Framings.{IsFraming}
-use Rattle.pass_frames_proof.specs.Places.{Framing, edged, plan}
-use Rattle.pass_frames_proof.specs.Related.{IsKeptValue}
-use Rattle.pass_kept_proof.proofs.Read.{listed_by_name}
-use Rattle.pass_proofs.proofs.cells.rules.Keepable.{IsKeepable}
-use Rattle.pass_proofs.proofs.cells.rules.Keeping.{place_within}
-use Rattle.pass_proofs.proofs.cells.rules.Plans.{kept_of}
-use Rattle.pass_proofs.proofs.copies.begin_order.Marks.{none_flagged}
-use Rattle.pass_proofs.proofs.frames.begin_order.Tables.{IsOfClass, flagged_slot, slot_flagged}
-use Rattle.rule_laws.proofs.rules.source_rules.Locals.{result_below}
-use Rattle.rule_laws.proofs.rules.source_rules.Slots.{alloca_of}
+use Rattle.pass_frames_meaning.proofs.pass_frames_proof.code.Names.{Count, First, Kept, keeping, local}
+use Rattle.pass_frames_meaning.specs.pass_frames_proof.Framings.{IsFraming}
+use Rattle.pass_frames_meaning.specs.pass_frames_proof.Places.{Framing, edged, plan}
+use Rattle.pass_frames_meaning.specs.pass_frames_proof.Related.{IsKeptValue}
+use Rattle.compiler.proofs.pass_kept_proof.Read.{listed_by_name}
+use Rattle.compiler.proofs.pass_proofs.cells.rules.Keepable.{IsKeepable}
+use Rattle.compiler.proofs.pass_proofs.cells.rules.Keeping.{place_within}
+use Rattle.compiler.proofs.pass_proofs.cells.rules.Plans.{kept_of}
+use Rattle.compiler.proofs.pass_proofs.copies.begin_order.Marks.{none_flagged}
+use Rattle.compiler.proofs.pass_proofs.frames.begin_order.Tables.{IsOfClass, flagged_slot, slot_flagged}
+use Rattle.compiler.proofs.rule_laws.rules.source_rules.Locals.{result_below}
+use Rattle.compiler.proofs.rule_laws.rules.source_rules.Slots.{alloca_of}
 
 -- ---- tables
 

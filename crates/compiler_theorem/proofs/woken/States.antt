@@ -14,21 +14,21 @@ use Rattle.compiler_theorem.specs.theorem.Between.{renewing}
 use Rattle.compiler_theorem.specs.theorem.Built.{building}
 use Rattle.compiler_theorem.specs.theorem.Entries.{IsEntryCall, Run}
 use Rattle.compiler_theorem.specs.theorem.Lowered.{HasFewBytes, IsLowered, Lowered, early, edged as edged_module}
-use Rattle.frame_classes.specs.Classes.{suspends}
-use Rattle.ir_base.specs.declared.outcome.Outcome.{Outcome}
-use Rattle.ir_laws.proofs.paths.path_rules.Where.{where_has}
-use Rattle.ir_laws.specs.facts.sound_states.Named.{HasNamedLocals}
-use Rattle.ir_model.specs.Names.{function_at}
-use Rattle.ir_model.specs.Ty.{Ty}
-use Rattle.ir_model.specs.declared.instr.Instr.{Instr}
-use Rattle.ir_model.specs.declared.module.Function.{Function}
-use Rattle.ir_model.specs.declared.operand.Arg.{Arg}
-use Rattle.ir_model.specs.declared.operand.Callee.{Callee}
-use Rattle.ir_model.specs.declared.operand.Intrinsic.{Intrinsic}
-use Rattle.ir_paths.specs.Paths.{has_point}
-use Rattle.ir_paths.specs.Windows.{is_call_of}
-use Rattle.ir_paths.specs.declared.point.Point.{Point}
-use Rattle.pass_edges.specs.EdgeBlocks.{with_edge_blocks}
+use Rattle.compiler.specs.frame_classes.Classes.{suspends}
+use Rattle.compiler.specs.ir_base.declared.outcome.Outcome.{Outcome}
+use Rattle.compiler.proofs.ir_laws.paths.path_rules.Where.{where_has}
+use Rattle.compiler.specs.ir_laws.facts.sound_states.Named.{HasNamedLocals}
+use Rattle.compiler.specs.ir_model.Names.{function_at}
+use Rattle.compiler.specs.ir_model.Ty.{Ty}
+use Rattle.compiler.specs.ir_model.declared.instr.Instr.{Instr}
+use Rattle.compiler.specs.ir_model.declared.module.Function.{Function}
+use Rattle.compiler.specs.ir_model.declared.operand.Arg.{Arg}
+use Rattle.compiler.specs.ir_model.declared.operand.Callee.{Callee}
+use Rattle.compiler.specs.ir_model.declared.operand.Intrinsic.{Intrinsic}
+use Rattle.compiler.specs.ir_paths.Paths.{has_point}
+use Rattle.compiler.specs.ir_paths.Windows.{is_call_of}
+use Rattle.compiler.specs.ir_paths.declared.point.Point.{Point}
+use Rattle.compiler.specs.pass_edges.EdgeBlocks.{with_edge_blocks}
 use Rattle.pass_frames_meaning.proofs.begun.Begun.{first}
 use Rattle.pass_frames_meaning.proofs.led.Begins.{has_begin}
 use Rattle.pass_frames_meaning.proofs.led.LedHooks.{renewed_keeps_led, states_led}
@@ -39,32 +39,32 @@ use Rattle.pass_frames_meaning.proofs.woken.Way.{way_states}
 use Rattle.pass_frames_meaning.specs.Called.{IsCalledState}
 use Rattle.pass_frames_meaning.specs.Led.{IsBegin, IsBegunOnce, IsLedState, KeepAllNames, KeepsLedTables}
 use Rattle.pass_frames_meaning.specs.Woken.{KeepsWaking, MayEnter, MayWake, none_counts}
-use Rattle.pass_frames_proof.proofs.followed.Assembly.{other_instance}
-use Rattle.pass_frames_proof.specs.Framings.{IsFraming}
-use Rattle.pass_frames_proof.specs.Places.{Framing, edged}
-use Rattle.pass_frames_proof.specs.Related.{AreBuiltOf, IsStatus}
-use Rattle.pass_kept_proof.specs.SuspendRules.{IsCallAt}
-use Rattle.pass_proofs.proofs.edges.simulation.Names.{locals_named}
-use Rattle.pass_proofs.proofs.edges.sources.Accepted.{locals_now}
-use Rattle.pass_proofs.proofs.kept.sources.Whole.{split_rules}
-use Rattle.pass_renewed_proof.specs.Renewed.{RenewedGiven}
+use Rattle.pass_frames_meaning.proofs.pass_frames_proof.followed.Assembly.{other_instance}
+use Rattle.pass_frames_meaning.specs.pass_frames_proof.Framings.{IsFraming}
+use Rattle.pass_frames_meaning.specs.pass_frames_proof.Places.{Framing, edged}
+use Rattle.pass_frames_meaning.specs.pass_frames_proof.Related.{AreBuiltOf, IsStatus}
+use Rattle.compiler.specs.pass_kept_proof.SuspendRules.{IsCallAt}
+use Rattle.compiler.proofs.pass_proofs.edges.simulation.Names.{locals_named}
+use Rattle.compiler.proofs.pass_proofs.edges.sources.Accepted.{locals_now}
+use Rattle.compiler.proofs.pass_proofs.kept.sources.Whole.{split_rules}
+use Rattle.pass_frames_meaning.specs.pass_renewed_proof.Renewed.{RenewedGiven}
 use Rattle.pass_split_proof.proofs.ready.Begins.{begin_makes, begin_name_is}
 use Rattle.pass_split_proof.proofs.ready.Intrinsics.{in_coroutine}
-use Rattle.rule_laws.proofs.rules.sources.Places.{instr_there}
-use Rattle.rule_locals.specs.Intrinsics.{is_inner}
-use Rattle.rule_laws.specs.rules.function_rules.Kept.{KeepsFunctionRules}
-use Rattle.run_framed.specs.Framed.{FramedGiven, begin_name, enter_given, framed_state_at, given_call}
-use Rattle.run_hooks.proofs.Keeping.{renewed_keeps}
-use Rattle.run_hooks.proofs.Reaching.{states_reached}
-use Rattle.run_hooks.specs.Meanings.{renewed_hooks}
-use Rattle.run_slots.specs.Slots.{GivesNoFrames}
-use Rattle.run_source.specs.State.{function_of, is_suspended}
-use Rattle.run_source.specs.declared.state.Instance.{Instance}
-use Rattle.run_source.specs.declared.state.State.{State}
-use Rattle.run_source.specs.declared.state.Status.{Status}
-use Rattle.run_states.specs.sound_states.Sound.{HasValues}
-use Rattle.run_step.specs.Step.{AtInstr, Fetched, fetch}
-use Rattle.run_step.specs.Values.{arg_values}
+use Rattle.compiler.proofs.rule_laws.rules.sources.Places.{instr_there}
+use Rattle.compiler.specs.rule_locals.Intrinsics.{is_inner}
+use Rattle.compiler.specs.rule_laws.rules.function_rules.Kept.{KeepsFunctionRules}
+use Rattle.compiler.specs.run_framed.Framed.{FramedGiven, begin_name, enter_given, framed_state_at, given_call}
+use Rattle.pass_frames_meaning.proofs.run_hooks.Keeping.{renewed_keeps}
+use Rattle.pass_frames_meaning.proofs.run_hooks.Reaching.{states_reached}
+use Rattle.pass_frames_meaning.specs.run_hooks.Meanings.{renewed_hooks}
+use Rattle.pass_frames_meaning.specs.run_slots.Slots.{GivesNoFrames}
+use Rattle.compiler.specs.run_source.State.{function_of, is_suspended}
+use Rattle.compiler.specs.run_source.declared.state.Instance.{Instance}
+use Rattle.compiler.specs.run_source.declared.state.State.{State}
+use Rattle.compiler.specs.run_source.declared.state.Status.{Status}
+use Rattle.compiler.specs.run_states.sound_states.Sound.{HasValues}
+use Rattle.compiler.specs.run_step.Step.{AtInstr, Fetched, fetch}
+use Rattle.compiler.specs.run_step.Values.{arg_values}
 
 -- no call gives a frame
 none_given : (g : FramedGiven) → GivesNoFrames g.given.code → (s : State) (block at : ℕ)

@@ -1,9 +1,9 @@
 -- What holds a value that is kept in a cell.
 use Rattle.std.specs.Prelude.{◌≡◌, ℕ, slice_get, Some}
-use Rattle.frame_contents.specs.Held.{position_of, value_held}
-use Rattle.pass_cells.specs.declared.plan.KeptValue.{KeptValue}
-use Rattle.pass_fetch.specs.Fetching.{value_bytes}
-use Rattle.pass_frames_proof.specs.Places.{Framing}
+use Rattle.compiler.specs.frame_contents.Held.{position_of, value_held}
+use Rattle.compiler.specs.pass_cells.declared.plan.KeptValue.{KeptValue}
+use Rattle.compiler.specs.pass_fetch.Fetching.{value_bytes}
+use Rattle.pass_frames_meaning.specs.pass_frames_proof.Places.{Framing}
 
 -- what is kept in a cell is held as a value of as many bytes as its field has
 pub record IsHeldAsValue (x : Framing) (v : ℕ) (k : KeptValue) : Type 0 where

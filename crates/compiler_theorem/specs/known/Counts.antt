@@ -6,9 +6,9 @@ use Rattle.compiler_theorem.specs.theorem.Anew.{Anew}
 use Rattle.compiler_theorem.specs.theorem.Between.{renewing}
 use Rattle.compiler_theorem.specs.theorem.Entries.{Run}
 use Rattle.compiler_theorem.specs.theorem.Lowered.{Lowered, early, edged}
-use Rattle.ir_model.specs.Names.{function_at}
-use Rattle.ir_paths.specs.Slots.{allocas_of, has_name}
-use Rattle.run_source_tables.specs.Given.{facts_at}
+use Rattle.compiler.specs.ir_model.Names.{function_at}
+use Rattle.compiler.specs.ir_paths.Slots.{allocas_of, has_name}
+use Rattle.compiler.specs.run_source_tables.Given.{facts_at}
 
 -- a ramp slot, or one that is made anew: none of an instance's
 abbrev pub stays_own : Lowered → Anew → Run → (func v : ℕ) → Bool

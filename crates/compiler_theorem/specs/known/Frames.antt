@@ -6,19 +6,19 @@ use Rattle.compiler_theorem.specs.theorem.Anew.{Anew}
 use Rattle.compiler_theorem.specs.theorem.Asked.{asking}
 use Rattle.compiler_theorem.specs.theorem.Entries.{Run}
 use Rattle.compiler_theorem.specs.theorem.Lowered.{IsLowered, Lowered}
-use Rattle.frame_contents.specs.Held.{position_of}
-use Rattle.pass_copies.specs.declared.slot.EarlySlot.{EarlySlot}
-use Rattle.pass_frames.specs.Tables.{offset_at}
+use Rattle.compiler.specs.frame_contents.Held.{position_of}
+use Rattle.compiler.specs.pass_copies.declared.slot.EarlySlot.{EarlySlot}
+use Rattle.compiler.specs.pass_frames.Tables.{offset_at}
 use Rattle.pass_frames_meaning.specs.Executed.{IsFirstMode}
-use Rattle.pass_frames_proof.specs.Marking.{IsTemporaryThere}
-use Rattle.pass_frames_proof.specs.Places.{copies}
-use Rattle.pass_frames_proof.specs.Related.{AreBuiltOf, Building}
-use Rattle.pass_frames_proof.specs.Slotted.{AreRangesApart, HasFrameThere}
-use Rattle.run_memory.specs.Memory.{is_live}
-use Rattle.run_memory.specs.declared.block.MemoryBlock.{MemoryBlock}
-use Rattle.run_source.specs.declared.state.Instance.{Instance}
-use Rattle.run_source.specs.declared.state.State.{State}
-use Rattle.run_step.specs.declared.world.Slot.{Slot}
+use Rattle.pass_frames_meaning.specs.pass_frames_proof.Marking.{IsTemporaryThere}
+use Rattle.pass_frames_meaning.specs.pass_frames_proof.Places.{copies}
+use Rattle.pass_frames_meaning.specs.pass_frames_proof.Related.{AreBuiltOf, Building}
+use Rattle.pass_frames_meaning.specs.pass_frames_proof.Slotted.{AreRangesApart, HasFrameThere}
+use Rattle.compiler.specs.run_memory.Memory.{is_live}
+use Rattle.compiler.specs.run_memory.declared.block.MemoryBlock.{MemoryBlock}
+use Rattle.compiler.specs.run_source.declared.state.Instance.{Instance}
+use Rattle.compiler.specs.run_source.declared.state.State.{State}
+use Rattle.compiler.specs.run_step.declared.world.Slot.{Slot}
 
 -- the fields of the instance's other slots that live lie apart from its field
 pub record AreSlotsApart (b : Building) (s : State) (x : Instance) (slot : Slot) : Type 0 where

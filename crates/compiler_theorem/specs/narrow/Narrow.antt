@@ -1,12 +1,12 @@
 -- Structures of a bounded number of fields.
 use Rattle.std.specs.Prelude.{ℕ, ◌+◌, ◌≤◌}
-use Rattle.ir_model.specs.Ty.{Ty, Tys, array, field, none, structure}
-use Rattle.ir_model.specs.declared.instr.Instr.{Instr}
-use Rattle.ir_model.specs.declared.module.Block.{Block}
-use Rattle.ir_model.specs.declared.module.Function.{Function}
-use Rattle.ir_model.specs.declared.module.Module.{Module}
-use Rattle.ir_model.specs.declared.module.TypeItem.{TypeItem}
-use Rattle.run_laws.specs.changed.Changed.{Each}
+use Rattle.compiler.specs.ir_model.Ty.{Ty, Tys, array, field, none, structure}
+use Rattle.compiler.specs.ir_model.declared.instr.Instr.{Instr}
+use Rattle.compiler.specs.ir_model.declared.module.Block.{Block}
+use Rattle.compiler.specs.ir_model.declared.module.Function.{Function}
+use Rattle.compiler.specs.ir_model.declared.module.Module.{Module}
+use Rattle.compiler.specs.ir_model.declared.module.TypeItem.{TypeItem}
+use Rattle.compiler.specs.run_laws.changed.Changed.{Each}
 
 abbrev pub field_count : Tys → ℕ
 field_count none = 0

@@ -1,35 +1,35 @@
 -- What is asked of a framed form, with blocks on edges that leave windows, besides the rules that splitting asks.
 use Rattle.std.specs.Prelude.{◌≡◌, ◌<◌, ◌^◌, ℕ, Bool, true, false, [], ◌∷◌, pos, List, None, Some, find, is_some, slice_get}
-use Rattle.flow_solver.specs.Paths.{IsListed}
-use Rattle.frame_contents.specs.Frames.{AreContents as AreContentsOf}
-use Rattle.frame_contents.specs.Held.{fields_of}
-use Rattle.frame_contents.specs.declared.contents.Contents.{Contents}
-use Rattle.frame_layout.specs.declared.layout.Field.{Field}
-use Rattle.frame_layout.specs.declared.layout.Layouts.{Layouts}
-use Rattle.frame_layout.specs.declared.layout.PlacedField.{PlacedField}
-use Rattle.ir_model.specs.Names.{position_of}
-use Rattle.ir_model.specs.Layout.{unnamed}
-use Rattle.ir_model.specs.Ty.{Ty, structure}
-use Rattle.ir_model.specs.declared.instr.Instr.{Instr}
-use Rattle.ir_model.specs.declared.module.Block.{Block}
-use Rattle.ir_model.specs.declared.module.Function.{Function}
-use Rattle.ir_model.specs.declared.module.Module.{Module}
-use Rattle.ir_model.specs.declared.operand.Arg.{Arg}
-use Rattle.ir_model.specs.declared.operand.Intrinsic.{Intrinsic}
-use Rattle.ir_model.specs.declared.operand.Operand.{Operand}
-use Rattle.ir_paths.specs.Paths.{Leads}
-use Rattle.ir_paths.specs.Windows.{call_result, is_call_of, suspend_of}
-use Rattle.ir_paths.specs.declared.point.Point.{Point}
-use Rattle.pass_intrinsics.specs.Shapes.{is_end, shape_of, suspends_of}
-use Rattle.pass_intrinsics.specs.declared.shape.SuspendPoint.{SuspendPoint}
-use Rattle.pass_kept_proof.specs.SuspendRules.{IsCallAt}
+use Rattle.compiler.specs.flow_solver.Paths.{IsListed}
+use Rattle.compiler.specs.frame_contents.Frames.{AreContents as AreContentsOf}
+use Rattle.compiler.specs.frame_contents.Held.{fields_of}
+use Rattle.compiler.specs.frame_contents.declared.contents.Contents.{Contents}
+use Rattle.compiler.specs.frame_layout.declared.layout.Field.{Field}
+use Rattle.compiler.specs.frame_layout.declared.layout.Layouts.{Layouts}
+use Rattle.compiler.specs.frame_layout.declared.layout.PlacedField.{PlacedField}
+use Rattle.compiler.specs.ir_model.Names.{position_of}
+use Rattle.compiler.specs.ir_model.Layout.{unnamed}
+use Rattle.compiler.specs.ir_model.Ty.{Ty, structure}
+use Rattle.compiler.specs.ir_model.declared.instr.Instr.{Instr}
+use Rattle.compiler.specs.ir_model.declared.module.Block.{Block}
+use Rattle.compiler.specs.ir_model.declared.module.Function.{Function}
+use Rattle.compiler.specs.ir_model.declared.module.Module.{Module}
+use Rattle.compiler.specs.ir_model.declared.operand.Arg.{Arg}
+use Rattle.compiler.specs.ir_model.declared.operand.Intrinsic.{Intrinsic}
+use Rattle.compiler.specs.ir_model.declared.operand.Operand.{Operand}
+use Rattle.compiler.specs.ir_paths.Paths.{Leads}
+use Rattle.compiler.specs.ir_paths.Windows.{call_result, is_call_of, suspend_of}
+use Rattle.compiler.specs.ir_paths.declared.point.Point.{Point}
+use Rattle.compiler.specs.pass_intrinsics.Shapes.{is_end, shape_of, suspends_of}
+use Rattle.compiler.specs.pass_intrinsics.declared.shape.SuspendPoint.{SuspendPoint}
+use Rattle.compiler.specs.pass_kept_proof.SuspendRules.{IsCallAt}
 use Rattle.pass_split_proof.specs.ready.Fields.{type_inside}
 use Rattle.pass_split_proof.specs.states.Instances.{IsLaidOut}
 use Rattle.pass_split_proof.specs.states.Related.{weight}
-use Rattle.rule_laws.specs.rules.counted.Widths.{first_other_width}
-use Rattle.rule_shape.specs.Suspends.{is_suspend}
-use Rattle.run_framed.specs.Framed.{framed_given, is_open_kind, is_promise_kind, layout_of}
-use Rattle.run_step.specs.Step.{AtInstr, fetch}
+use Rattle.compiler.specs.rule_laws.rules.counted.Widths.{first_other_width}
+use Rattle.compiler.specs.rule_shape.Suspends.{is_suspend}
+use Rattle.compiler.specs.run_framed.Framed.{framed_given, is_open_kind, is_promise_kind, layout_of}
+use Rattle.compiler.specs.run_step.Step.{AtInstr, fetch}
 
 -- the block of a label begins with what is one step of a part, and isn't the end
 pub record IsLightBlock (f : Function) (label : ℕ) : Type 0 where

@@ -6,8 +6,8 @@ use Rattle.compiler_theorem.specs.theorem.Entries.{Run}
 use Rattle.compiler_theorem.specs.theorem.Lowered.{IsLowered, Lowered}
 use Rattle.compiler_theorem.specs.theorem.Between.{renewing}
 use Rattle.pass_frames_meaning.specs.Setting.{Setting}
-use Rattle.pass_frames_proof.specs.Asking.{IsPromiseLaid}
-use Rattle.pass_frames_proof.specs.Related.{is_coroutine}
+use Rattle.pass_frames_meaning.specs.pass_frames_proof.Asking.{IsPromiseLaid}
+use Rattle.pass_frames_meaning.specs.pass_frames_proof.Related.{is_coroutine}
 
 abbrev pub asking : (l : Lowered) → IsLowered l → Anew → Run → Setting
 asking l low a r = record { b = building l low.is_framed r.answers; g = renewing l a r }

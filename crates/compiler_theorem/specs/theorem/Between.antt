@@ -2,8 +2,8 @@
 use Rattle.compiler_theorem.specs.theorem.Anew.{Anew}
 use Rattle.compiler_theorem.specs.theorem.Entries.{Run}
 use Rattle.compiler_theorem.specs.theorem.Lowered.{Lowered, edged, sizes_of}
-use Rattle.pass_renewed_meaning.specs.Rules.{Setting}
-use Rattle.pass_renewed_proof.specs.Renewed.{RenewedGiven, renewed_given}
+use Rattle.pass_frames_meaning.specs.pass_renewed_meaning.Rules.{Setting}
+use Rattle.pass_frames_meaning.specs.pass_renewed_proof.Renewed.{RenewedGiven, renewed_given}
 
 -- what is asked of a run in which slots are made anew
 abbrev pub setting : Lowered → Anew → Run → Setting

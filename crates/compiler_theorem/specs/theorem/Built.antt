@@ -1,15 +1,15 @@
 -- What the coroutines of a framed form were framed by.
 use Rattle.std.specs.Prelude.{ℕ, ℤ, List, [], length, if◌then◌else◌, ◌==◌}
 use Rattle.compiler_theorem.specs.theorem.Lowered.{Lowered, early}
-use Rattle.frame_contents.specs.declared.contents.Contents.{Contents}
-use Rattle.frame_layout.specs.declared.layout.Layout.{Layout}
-use Rattle.ir_model.specs.Names.{no_function}
-use Rattle.ir_model.specs.declared.module.Function.{Function}
-use Rattle.ir_model.specs.declared.module.Module.{Module}
-use Rattle.pass_frames.specs.Framed.{AreFramed, Coroutine, IsFramedForm, NoneYet, Other, layout_at}
-use Rattle.pass_frames_proof.specs.Places.{Framing, framing_of}
-use Rattle.pass_frames_proof.specs.Related.{Building}
-use Rattle.run_framed.specs.Framed.{framed_given, no_layout}
+use Rattle.compiler.specs.frame_contents.declared.contents.Contents.{Contents}
+use Rattle.compiler.specs.frame_layout.declared.layout.Layout.{Layout}
+use Rattle.compiler.specs.ir_model.Names.{no_function}
+use Rattle.compiler.specs.ir_model.declared.module.Function.{Function}
+use Rattle.compiler.specs.ir_model.declared.module.Module.{Module}
+use Rattle.compiler.specs.pass_frames.Framed.{AreFramed, Coroutine, IsFramedForm, NoneYet, Other, layout_at}
+use Rattle.pass_frames_meaning.specs.pass_frames_proof.Places.{Framing, framing_of}
+use Rattle.pass_frames_meaning.specs.pass_frames_proof.Related.{Building}
+use Rattle.compiler.specs.run_framed.Framed.{framed_given, no_layout}
 
 -- of no coroutine
 abbrev pub no_contents : Contents

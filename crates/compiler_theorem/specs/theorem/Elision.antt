@@ -1,30 +1,30 @@
 -- What is lowered with calls elided: the step that elides them, and what it claims of allocator calls.
 use Rattle.std.specs.Prelude.{◌≡◌, ℕ, ℤ, ◌+◌, false, List, Some, filter, length, slice_get}
-use Rattle.run_agreement.specs.Agreements.{Agrees, AgreesWithin, NeverUndefined}
-use Rattle.run_agreement.specs.Costs.{AgreesBy}
-use Rattle.run_agreement.specs.Factor.{step_factor}
-use Rattle.run_agreement.specs.Machines.{IsReturned, Machine, at, state_at}
-use Rattle.run_memory.specs.declared.block.Kind.{Kind}
-use Rattle.run_memory.specs.declared.block.MemoryBlock.{MemoryBlock}
-use Rattle.run_memory.specs.declared.pointer.Offset.{Offset}
-use Rattle.run_memory.specs.declared.pointer.Pointer.{Pointer}
-use Rattle.run_memory.specs.declared.pointer.Value.{Value}
-use Rattle.text_canonical.specs.canonical.Items.{module_text}
-use Rattle.ir_base.specs.declared.outcome.Outcome.{Outcome}
-use Rattle.pass_cleanup.specs.Cleanable.{IsCleanable}
-use Rattle.run_source.specs.declared.state.State.{State}
+use Rattle.compiler.specs.run_agreement.Agreements.{Agrees, AgreesWithin, NeverUndefined}
+use Rattle.compiler.specs.run_agreement.Costs.{AgreesBy}
+use Rattle.compiler.specs.run_agreement.Factor.{step_factor}
+use Rattle.compiler.specs.run_agreement.Machines.{IsReturned, Machine, at, state_at}
+use Rattle.compiler.specs.run_memory.declared.block.Kind.{Kind}
+use Rattle.compiler.specs.run_memory.declared.block.MemoryBlock.{MemoryBlock}
+use Rattle.compiler.specs.run_memory.declared.pointer.Offset.{Offset}
+use Rattle.compiler.specs.run_memory.declared.pointer.Pointer.{Pointer}
+use Rattle.compiler.specs.run_memory.declared.pointer.Value.{Value}
+use Rattle.compiler.specs.text_canonical.canonical.Items.{module_text}
+use Rattle.compiler.specs.ir_base.declared.outcome.Outcome.{Outcome}
+use Rattle.compiler.specs.pass_cleanup.Cleanable.{IsCleanable}
+use Rattle.compiler.specs.run_source.declared.state.State.{State}
 use Rattle.compiler_theorem.specs.theorem.Entries.{IsEntry, IsEntryCall, Run}
 use Rattle.compiler_theorem.specs.theorem.Lowered.{AreAllocasFirst, Lowered, framed_run, lowered_from, plain_run, printed_from, source_run, split_from}
-use Rattle.run_framed.specs.Framed.{is_given}
-use Rattle.text_grammar.specs.Text.{StandsFor}
-use Rattle.ir_model.specs.Names.{is_noalloc}
-use Rattle.ir_model.specs.declared.module.Function.{Function}
-use Rattle.ir_model.specs.declared.module.Module.{Module}
-use Rattle.text_canonical.specs.order.Shape.{IsShaped}
-use Rattle.run_step.specs.Step.{Action, Deallocate, action_of, fetch}
-use Rattle.run_plain.specs.Plain.{PlainGiven, plain_context, plain_function, plain_work}
-use Rattle.run_plain.specs.declared.state.PlainState.{PlainState}
-use Rattle.ir_laws.specs.facts.names_apart.Apart.{AreNamesApart}
+use Rattle.compiler.specs.run_framed.Framed.{is_given}
+use Rattle.compiler.specs.text_grammar.Text.{StandsFor}
+use Rattle.compiler.specs.ir_model.Names.{is_noalloc}
+use Rattle.compiler.specs.ir_model.declared.module.Function.{Function}
+use Rattle.compiler.specs.ir_model.declared.module.Module.{Module}
+use Rattle.compiler.specs.text_canonical.order.Shape.{IsShaped}
+use Rattle.compiler.specs.run_step.Step.{Action, Deallocate, action_of, fetch}
+use Rattle.compiler.specs.run_plain.Plain.{PlainGiven, plain_context, plain_function, plain_work}
+use Rattle.compiler.specs.run_plain.declared.state.PlainState.{PlainState}
+use Rattle.compiler.specs.ir_laws.facts.names_apart.Apart.{AreNamesApart}
 
 -- a run without its count of allocator calls, which elision lowers
 abbrev pub uncounted : {S : Type 0} → Machine S → Machine S

@@ -1,12 +1,12 @@
 -- Calls that a run begins with, in a source and in what is lowered of it.
 use Rattle.std.specs.List.{AllByRecursion}
 use Rattle.std.specs.Prelude.{◌≡◌, ℕ, ℤ, false, List, Some, slice_get}
-use Rattle.ir_base.specs.declared.outcome.Word.{Word}
-use Rattle.ir_model.specs.Ty.{int}
-use Rattle.ir_model.specs.declared.module.Function.{Function}
-use Rattle.ir_model.specs.declared.module.Module.{Module}
-use Rattle.ir_model.specs.declared.module.Param.{Param}
-use Rattle.run_types.specs.States.{AreArguments}
+use Rattle.compiler.specs.ir_base.declared.outcome.Word.{Word}
+use Rattle.compiler.specs.ir_model.Ty.{int}
+use Rattle.compiler.specs.ir_model.declared.module.Function.{Function}
+use Rattle.compiler.specs.ir_model.declared.module.Module.{Module}
+use Rattle.compiler.specs.ir_model.declared.module.Param.{Param}
+use Rattle.pass_frames_meaning.specs.run_types.States.{AreArguments}
 
 -- the function at a position, its arguments, and the answers to the calls that the run observes
 pub record Run : Type 0 where

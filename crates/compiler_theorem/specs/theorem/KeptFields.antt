@@ -5,20 +5,20 @@ use Rattle.compiler_theorem.specs.theorem.Built.{building}
 use Rattle.compiler_theorem.specs.theorem.Lowered.{IsLowered, Lowered}
 use Rattle.compiler_theorem.specs.theorem.SharedBytes.{HasField, IsInLocalSlot}
 use Rattle.compiler_theorem.specs.theorem.Suspended.{IsDistanceKept, IsFieldKept, IsValueKept, kept_place}
-use Rattle.frame_crossing.specs.Crossing.{Crosses}
-use Rattle.ir_model.specs.Names.{function_at}
-use Rattle.ir_paths.specs.declared.point.Point.{Point}
-use Rattle.pass_cells.specs.declared.plan.KeptValue.{KeptValue}
-use Rattle.pass_frames_proof.specs.Places.{Framing}
-use Rattle.pass_frames_proof.specs.Related.{IsSuspendNumber}
-use Rattle.run_framed.specs.Framed.{layout_of}
-use Rattle.run_memory.specs.declared.pointer.Offset.{Offset}
-use Rattle.run_memory.specs.declared.pointer.Pointer.{Pointer}
-use Rattle.run_memory.specs.declared.pointer.Value.{Value}
-use Rattle.run_source.specs.declared.state.Instance.{Instance}
-use Rattle.run_source.specs.declared.state.State.{State}
-use Rattle.run_source.specs.declared.state.Status.{Status}
-use Rattle.run_step.specs.Values.{Env, value_in}
+use Rattle.compiler.specs.frame_crossing.Crossing.{Crosses}
+use Rattle.compiler.specs.ir_model.Names.{function_at}
+use Rattle.compiler.specs.ir_paths.declared.point.Point.{Point}
+use Rattle.compiler.specs.pass_cells.declared.plan.KeptValue.{KeptValue}
+use Rattle.pass_frames_meaning.specs.pass_frames_proof.Places.{Framing}
+use Rattle.pass_frames_meaning.specs.pass_frames_proof.Related.{IsSuspendNumber}
+use Rattle.compiler.specs.run_framed.Framed.{layout_of}
+use Rattle.compiler.specs.run_memory.declared.pointer.Offset.{Offset}
+use Rattle.compiler.specs.run_memory.declared.pointer.Pointer.{Pointer}
+use Rattle.compiler.specs.run_memory.declared.pointer.Value.{Value}
+use Rattle.compiler.specs.run_source.declared.state.Instance.{Instance}
+use Rattle.compiler.specs.run_source.declared.state.State.{State}
+use Rattle.compiler.specs.run_source.declared.state.Status.{Status}
+use Rattle.compiler.specs.run_step.Values.{Env, value_in}
 
 -- a value that crosses a suspend has a field: of itself, or of its distance where it is an address in a local slot
 pub record HasKeptField (a : Anew) (l : Lowered) (x : Framing) (func : ℕ) (p : Point) (v size : ℕ) : Type 0 where

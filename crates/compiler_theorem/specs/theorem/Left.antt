@@ -6,40 +6,40 @@ use Rattle.compiler_theorem.specs.theorem.Built.{building}
 use Rattle.compiler_theorem.specs.theorem.Entries.{Run}
 use Rattle.compiler_theorem.specs.theorem.Lowered.{IsLowered, Lowered, edged}
 use Rattle.compiler_theorem.specs.theorem.Started.{HasSlotsOnce}
-use Rattle.frame_contents.specs.Held.{position_of}
-use Rattle.ir_base.specs.declared.outcome.Outcome.{Outcome}
-use Rattle.ir_model.specs.Ty.{Ty}
-use Rattle.ir_model.specs.declared.instr.Instr.{Instr}
-use Rattle.ir_model.specs.declared.operand.Arg.{Arg}
-use Rattle.ir_model.specs.declared.operand.Callee.{Callee}
-use Rattle.ir_model.specs.declared.operand.Intrinsic.{Intrinsic}
-use Rattle.ir_paths.specs.Windows.{instr_at}
-use Rattle.ir_paths.specs.declared.point.Point.{Point}
-use Rattle.pass_frames.specs.Tables.{offset_at}
+use Rattle.compiler.specs.frame_contents.Held.{position_of}
+use Rattle.compiler.specs.ir_base.declared.outcome.Outcome.{Outcome}
+use Rattle.compiler.specs.ir_model.Ty.{Ty}
+use Rattle.compiler.specs.ir_model.declared.instr.Instr.{Instr}
+use Rattle.compiler.specs.ir_model.declared.operand.Arg.{Arg}
+use Rattle.compiler.specs.ir_model.declared.operand.Callee.{Callee}
+use Rattle.compiler.specs.ir_model.declared.operand.Intrinsic.{Intrinsic}
+use Rattle.compiler.specs.ir_paths.Windows.{instr_at}
+use Rattle.compiler.specs.ir_paths.declared.point.Point.{Point}
+use Rattle.compiler.specs.pass_frames.Tables.{offset_at}
 use Rattle.pass_frames_meaning.specs.Covered.{IsCovered}
 use Rattle.pass_frames_meaning.specs.Kinds.{IsPlainBegin, IsPlainMemory}
 use Rattle.pass_frames_meaning.specs.Setting.{Setting}
-use Rattle.pass_frames_proof.specs.Beginning.{is_in_frame}
-use Rattle.pass_frames_proof.specs.Marking.{marking}
-use Rattle.pass_frames_proof.specs.Places.{Framing, copies, offsets}
-use Rattle.pass_frames_proof.specs.Places.{edged as edged_of}
-use Rattle.pass_frames_proof.specs.Related.{AreBuiltOf, is_coroutine}
-use Rattle.pass_frames_proof.specs.Slotted.{AreRangesApart}
-use Rattle.pass_frames_proof.specs.Stepping.{IsNotEntering}
-use Rattle.pass_proofs.specs.addresses.rules.Addresses.{lies_in_frame}
-use Rattle.pass_renewed_proof.specs.Renewed.{renewed_step}
-use Rattle.run_agreement.specs.Machines.{IsFine}
-use Rattle.run_framed.specs.Framed.{framed_state_at}
-use Rattle.run_laws.specs.transfer.Places.{IsBlank}
-use Rattle.run_memory.specs.Memory.{is_live}
-use Rattle.run_memory.specs.declared.block.MemoryBlock.{MemoryBlock}
-use Rattle.run_source.specs.Source.{first_state}
-use Rattle.run_source.specs.State.{function_of}
-use Rattle.run_source.specs.declared.state.Instance.{Instance}
-use Rattle.run_source.specs.declared.state.State.{State}
-use Rattle.run_step.specs.Runs.{iterate}
-use Rattle.run_step.specs.Step.{AtInstr, fetch}
-use Rattle.run_step.specs.declared.world.Slot.{Slot}
+use Rattle.pass_frames_meaning.specs.pass_frames_proof.Beginning.{is_in_frame}
+use Rattle.pass_frames_meaning.specs.pass_frames_proof.Marking.{marking}
+use Rattle.pass_frames_meaning.specs.pass_frames_proof.Places.{Framing, copies, offsets}
+use Rattle.pass_frames_meaning.specs.pass_frames_proof.Places.{edged as edged_of}
+use Rattle.pass_frames_meaning.specs.pass_frames_proof.Related.{AreBuiltOf, is_coroutine}
+use Rattle.pass_frames_meaning.specs.pass_frames_proof.Slotted.{AreRangesApart}
+use Rattle.pass_frames_meaning.specs.pass_frames_proof.Stepping.{IsNotEntering}
+use Rattle.compiler.specs.pass_proofs.addresses.rules.Addresses.{lies_in_frame}
+use Rattle.pass_frames_meaning.specs.pass_renewed_proof.Renewed.{renewed_step}
+use Rattle.compiler.specs.run_agreement.Machines.{IsFine}
+use Rattle.compiler.specs.run_framed.Framed.{framed_state_at}
+use Rattle.compiler.specs.run_laws.transfer.Places.{IsBlank}
+use Rattle.compiler.specs.run_memory.Memory.{is_live}
+use Rattle.compiler.specs.run_memory.declared.block.MemoryBlock.{MemoryBlock}
+use Rattle.compiler.specs.run_source.Source.{first_state}
+use Rattle.compiler.specs.run_source.State.{function_of}
+use Rattle.compiler.specs.run_source.declared.state.Instance.{Instance}
+use Rattle.compiler.specs.run_source.declared.state.State.{State}
+use Rattle.compiler.specs.run_step.Runs.{iterate}
+use Rattle.compiler.specs.run_step.Step.{AtInstr, fetch}
+use Rattle.compiler.specs.run_step.declared.world.Slot.{Slot}
 use Rattle.std.specs.List.{Contains}
 use Rattle.std.specs.Prelude.{◌≡◌, ◌≢◌, ℕ, Bool, true, List, [], Option, Some, slice_get}
 

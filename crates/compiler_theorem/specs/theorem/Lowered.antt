@@ -1,36 +1,36 @@
 -- What is lowered, and the modules and machines of its passes in a row.
 use Rattle.std.specs.Prelude.{◌≡◌, ◌<◌, ◌^◌, ℕ, Bool, true, List, None, Ok, Some, length, map, slice_get}
-use Rattle.run_agreement.specs.Machines.{Machine}
-use Rattle.pass_cleanup.specs.Cleaned.{plain_machine}
-use Rattle.pass_cleanup.specs.Cleanup.{clean_module}
-use Rattle.run_source.specs.Source.{given}
-use Rattle.run_source.specs.declared.state.State.{State}
-use Rattle.pass_split.specs.Parts.{split_module}
-use Rattle.frame_contents.specs.Frames.{AreLayouts}
+use Rattle.compiler.specs.run_agreement.Machines.{Machine}
+use Rattle.compiler.specs.pass_cleanup.Cleaned.{plain_machine}
+use Rattle.compiler.specs.pass_cleanup.Cleanup.{clean_module}
+use Rattle.compiler.specs.run_source.Source.{given}
+use Rattle.compiler.specs.run_source.declared.state.State.{State}
+use Rattle.compiler.specs.pass_split.Parts.{split_module}
+use Rattle.compiler.specs.frame_contents.Frames.{AreLayouts}
 use Rattle.compiler_theorem.specs.theorem.Anew.{Anew}
 use Rattle.compiler_theorem.specs.theorem.Entries.{Run}
-use Rattle.pass_renewed_proof.specs.Prices.{Prices, kept_price, renewed_price}
-use Rattle.pass_early.specs.Early.{early_module}
-use Rattle.frame_layout.specs.declared.layout.Layouts.{Layouts}
-use Rattle.pass_proofs.specs.edges.states.MovedState.{edges_split}
-use Rattle.run_framed.specs.Framed.{frame_of_layout}
-use Rattle.rule_all.specs.Refused.{IsRefused}
-use Rattle.text_grammar.specs.Text.{StandsFor}
-use Rattle.ir_model.specs.declared.instr.Instr.{Instr}
-use Rattle.ir_model.specs.declared.module.Block.{Block}
-use Rattle.ir_model.specs.declared.module.Frame.{Frame}
-use Rattle.ir_model.specs.declared.module.Function.{Function}
-use Rattle.ir_model.specs.declared.module.Module.{Module}
-use Rattle.pass_kept_proof.specs.Machines.{kept_machine, source_machine}
-use Rattle.text_canonical.specs.order.Order.{module_order}
-use Rattle.rule_names.specs.declared.stage.Stage.{Stage}
-use Rattle.run_step.specs.Effects.{is_alloca}
-use Rattle.run_plain.specs.declared.state.PlainState.{PlainState}
-use Rattle.text_canonical.specs.grammar.Bytes.{AreBytes}
-use Rattle.rule_laws.specs.rules.names_apart.Words.{AreNamesFew}
-use Rattle.pass_renewed_proof.specs.Renewed.{renewed_given}
-use Rattle.pass_frames.specs.Framed.{IsFramedForm}
-use Rattle.run_states.specs.moved_states.Beside.{framed_machine}
+use Rattle.pass_frames_meaning.specs.pass_renewed_proof.Prices.{Prices, kept_price, renewed_price}
+use Rattle.compiler.specs.pass_early.Early.{early_module}
+use Rattle.compiler.specs.frame_layout.declared.layout.Layouts.{Layouts}
+use Rattle.compiler.specs.pass_proofs.edges.states.MovedState.{edges_split}
+use Rattle.compiler.specs.run_framed.Framed.{frame_of_layout}
+use Rattle.compiler.specs.rule_all.Refused.{IsRefused}
+use Rattle.compiler.specs.text_grammar.Text.{StandsFor}
+use Rattle.compiler.specs.ir_model.declared.instr.Instr.{Instr}
+use Rattle.compiler.specs.ir_model.declared.module.Block.{Block}
+use Rattle.compiler.specs.ir_model.declared.module.Frame.{Frame}
+use Rattle.compiler.specs.ir_model.declared.module.Function.{Function}
+use Rattle.compiler.specs.ir_model.declared.module.Module.{Module}
+use Rattle.compiler.specs.pass_kept_proof.Machines.{kept_machine, source_machine}
+use Rattle.compiler.specs.text_canonical.order.Order.{module_order}
+use Rattle.compiler.specs.rule_names.declared.stage.Stage.{Stage}
+use Rattle.compiler.specs.run_step.Effects.{is_alloca}
+use Rattle.compiler.specs.run_plain.declared.state.PlainState.{PlainState}
+use Rattle.compiler.specs.text_canonical.grammar.Bytes.{AreBytes}
+use Rattle.compiler.specs.rule_laws.rules.names_apart.Words.{AreNamesFew}
+use Rattle.pass_frames_meaning.specs.pass_renewed_proof.Renewed.{renewed_given}
+use Rattle.compiler.specs.pass_frames.Framed.{IsFramedForm}
+use Rattle.compiler.specs.run_states.moved_states.Beside.{framed_machine}
 
 -- a text, its module, whether frames share bytes, the layouts of its frames, and its framed form
 pub record Lowered : Type 0 where

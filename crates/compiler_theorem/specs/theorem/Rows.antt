@@ -1,6 +1,6 @@
 -- Homes in a row: where blocks of a memory stand in a third one, by where they stand in a second one.
 use Rattle.std.specs.Prelude.{◌+◌, true, List, map}
-use Rattle.run_laws.specs.memory.Pointers.{Home, home_of}
+use Rattle.compiler.specs.run_laws.memory.Pointers.{Home, home_of}
 
 -- the home of what stands at a home of the second memory
 abbrev pub joined_home : List Home → Home → Home

@@ -1,33 +1,33 @@
 -- Where the slots and values of suspended coroutines stand in frames.
 use Rattle.std.specs.Prelude.{◌≡◌, ℕ, ◌+◌, false, true, List, Some, drop, take, length, slice_get, slice_index_or, IsTrue}
-use Rattle.run_memory.specs.Memory.{digits, encode, is_live}
-use Rattle.run_memory.specs.declared.block.Byte.{Byte}
-use Rattle.run_memory.specs.declared.block.MemoryBlock.{MemoryBlock}
-use Rattle.run_memory.specs.declared.pointer.Offset.{Offset}
-use Rattle.run_memory.specs.declared.pointer.Pointer.{Pointer}
-use Rattle.run_memory.specs.declared.pointer.Value.{Value}
-use Rattle.run_source.specs.declared.state.Instance.{Instance}
-use Rattle.run_source.specs.declared.state.State.{State}
-use Rattle.run_source.specs.declared.state.Status.{Status}
-use Rattle.frame_contents.specs.Frames.{AreContents}
-use Rattle.frame_contents.specs.Held.{position_of}
-use Rattle.frame_contents.specs.declared.contents.Contents.{Contents}
-use Rattle.frame_contents.specs.declared.held.Holding.{Holding}
+use Rattle.compiler.specs.run_memory.Memory.{digits, encode, is_live}
+use Rattle.compiler.specs.run_memory.declared.block.Byte.{Byte}
+use Rattle.compiler.specs.run_memory.declared.block.MemoryBlock.{MemoryBlock}
+use Rattle.compiler.specs.run_memory.declared.pointer.Offset.{Offset}
+use Rattle.compiler.specs.run_memory.declared.pointer.Pointer.{Pointer}
+use Rattle.compiler.specs.run_memory.declared.pointer.Value.{Value}
+use Rattle.compiler.specs.run_source.declared.state.Instance.{Instance}
+use Rattle.compiler.specs.run_source.declared.state.State.{State}
+use Rattle.compiler.specs.run_source.declared.state.Status.{Status}
+use Rattle.compiler.specs.frame_contents.Frames.{AreContents}
+use Rattle.compiler.specs.frame_contents.Held.{position_of}
+use Rattle.compiler.specs.frame_contents.declared.contents.Contents.{Contents}
+use Rattle.compiler.specs.frame_contents.declared.held.Holding.{Holding}
 use Rattle.compiler_theorem.specs.theorem.Anew.{IsSlotOf}
-use Rattle.frame_layout.specs.declared.layout.Layout.{Layout}
-use Rattle.run_framed.specs.Framed.{layout_of}
-use Rattle.ir_model.specs.Names.{function_at}
-use Rattle.ir_model.specs.declared.module.Function.{Function}
-use Rattle.ir_model.specs.declared.module.Module.{Module}
-use Rattle.ir_paths.specs.Slots.{addresses_of, has_name}
-use Rattle.ir_paths.specs.declared.point.Point.{Point}
-use Rattle.run_laws.specs.memory.Pointers.{AreBytes, Home}
-use Rattle.run_step.specs.Values.{Env, value_in}
-use Rattle.run_step.specs.declared.world.Slot.{Slot}
-use Rattle.frame_classes.specs.Classes.{IsOf}
-use Rattle.frame_classes.specs.declared.class.SlotClass.{SlotClass}
+use Rattle.compiler.specs.frame_layout.declared.layout.Layout.{Layout}
+use Rattle.compiler.specs.run_framed.Framed.{layout_of}
+use Rattle.compiler.specs.ir_model.Names.{function_at}
+use Rattle.compiler.specs.ir_model.declared.module.Function.{Function}
+use Rattle.compiler.specs.ir_model.declared.module.Module.{Module}
+use Rattle.compiler.specs.ir_paths.Slots.{addresses_of, has_name}
+use Rattle.compiler.specs.ir_paths.declared.point.Point.{Point}
+use Rattle.compiler.specs.run_laws.memory.Pointers.{AreBytes, Home}
+use Rattle.compiler.specs.run_step.Values.{Env, value_in}
+use Rattle.compiler.specs.run_step.declared.world.Slot.{Slot}
+use Rattle.compiler.specs.frame_classes.Classes.{IsOf}
+use Rattle.compiler.specs.frame_classes.declared.class.SlotClass.{SlotClass}
 use Rattle.std.specs.List.{Contains}
-use Rattle.frame_crossing.specs.Crossing.{Crosses}
+use Rattle.compiler.specs.frame_crossing.Crossing.{Crosses}
 
 -- a value or a slot of a coroutine has a field of so many bytes at an offset of the frame
 pub record HasField (m : Module) (f : Function) (l : Layout) (v offset size : ℕ) : Type 0 where

@@ -1,14 +1,14 @@
 -- Which parts of states in a row stand in frames.
 use Rattle.std.specs.Prelude.{◌≡◌, ℕ, false, List, Some, slice_get}
 use Rattle.compiler_theorem.specs.theorem.SharedBytes.{AreDistancesIn, AreSlotsIn, AreValuesIn, Frame}
-use Rattle.frame_layout.specs.declared.layout.Layout.{Layout}
-use Rattle.ir_model.specs.declared.module.Module.{Module}
-use Rattle.pass_renewed_meaning.specs.Followed.{AreInStep, Ended, Goes}
-use Rattle.pass_renewed_proof.specs.Renewed.{Flags, Roots}
-use Rattle.run_framed.specs.Framed.{layout_of}
-use Rattle.run_laws.specs.memory.Pointers.{Home}
-use Rattle.run_source.specs.declared.state.Instance.{Instance}
-use Rattle.run_source.specs.declared.state.State.{State}
+use Rattle.compiler.specs.frame_layout.declared.layout.Layout.{Layout}
+use Rattle.compiler.specs.ir_model.declared.module.Module.{Module}
+use Rattle.pass_frames_meaning.specs.pass_renewed_meaning.Followed.{AreInStep, Ended, Goes}
+use Rattle.pass_frames_meaning.specs.pass_renewed_proof.Renewed.{Flags, Roots}
+use Rattle.compiler.specs.run_framed.Framed.{layout_of}
+use Rattle.compiler.specs.run_laws.memory.Pointers.{Home}
+use Rattle.compiler.specs.run_source.declared.state.Instance.{Instance}
+use Rattle.compiler.specs.run_source.declared.state.State.{State}
 
 -- the homes of a state's memory in that of the run that makes slots anew
 abbrev pub step_homes : (m : Module) (flags : Flags) (roots : Roots) (s t : State) → AreInStep m flags roots s t

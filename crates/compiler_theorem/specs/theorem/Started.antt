@@ -1,6 +1,6 @@
 -- What is asked of an instance of which a marker starts a slot, whose field is to lie apart from others.
-use Rattle.run_source.specs.declared.state.Instance.{Instance}
-use Rattle.run_step.specs.declared.world.Slot.{Slot}
+use Rattle.compiler.specs.run_source.declared.state.Instance.{Instance}
+use Rattle.compiler.specs.run_step.declared.world.Slot.{Slot}
 use Rattle.std.specs.List.{Contains}
 use Rattle.std.specs.Prelude.{◌≡◌}
 

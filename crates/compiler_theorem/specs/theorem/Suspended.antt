@@ -1,23 +1,23 @@
 -- Suspended instances in a row of states.
 use Rattle.std.specs.Prelude.{◌≡◌, ◌⊎◌, ℕ, false, List, None, Option, Some, slice_get}
 use Rattle.std.specs.List.{Contains}
-use Rattle.ir_model.specs.Names.{function_at}
-use Rattle.ir_model.specs.Ty.{int}
-use Rattle.ir_model.specs.declared.module.Module.{Module}
-use Rattle.ir_paths.specs.declared.point.Point.{Point}
-use Rattle.pass_cells.specs.declared.plan.KeptValue.{KeptValue}
-use Rattle.pass_early.specs.Early.{early_module}
-use Rattle.pass_fetch.specs.Fetching.{value_bytes}
-use Rattle.pass_frames_proof.specs.Places.{Framing}
-use Rattle.pass_frames_proof.specs.Related.{IsKeptValue, IsSuspendNumber}
-use Rattle.pass_kept_proof.specs.Needed.{IsNeededBehind}
-use Rattle.pass_proofs.specs.early.early_states.Beside.{unsaved_module}
-use Rattle.pass_proofs.specs.early.saves.Spots.{back_of}
-use Rattle.pass_proofs.specs.edges.states.MovedState.{edges_split, placed}
-use Rattle.run_memory.specs.declared.pointer.Value.{Value}
-use Rattle.run_source.specs.declared.state.Instance.{Instance}
-use Rattle.run_source.specs.declared.state.Status.{Status}
-use Rattle.run_step.specs.Values.{Env, value_in}
+use Rattle.compiler.specs.ir_model.Names.{function_at}
+use Rattle.compiler.specs.ir_model.Ty.{int}
+use Rattle.compiler.specs.ir_model.declared.module.Module.{Module}
+use Rattle.compiler.specs.ir_paths.declared.point.Point.{Point}
+use Rattle.compiler.specs.pass_cells.declared.plan.KeptValue.{KeptValue}
+use Rattle.compiler.specs.pass_early.Early.{early_module}
+use Rattle.compiler.specs.pass_fetch.Fetching.{value_bytes}
+use Rattle.pass_frames_meaning.specs.pass_frames_proof.Places.{Framing}
+use Rattle.pass_frames_meaning.specs.pass_frames_proof.Related.{IsKeptValue, IsSuspendNumber}
+use Rattle.compiler.specs.pass_kept_proof.Needed.{IsNeededBehind}
+use Rattle.compiler.specs.pass_proofs.early.early_states.Beside.{unsaved_module}
+use Rattle.compiler.specs.pass_proofs.early.saves.Spots.{back_of}
+use Rattle.compiler.specs.pass_proofs.edges.states.MovedState.{edges_split, placed}
+use Rattle.compiler.specs.run_memory.declared.pointer.Value.{Value}
+use Rattle.compiler.specs.run_source.declared.state.Instance.{Instance}
+use Rattle.compiler.specs.run_source.declared.state.Status.{Status}
+use Rattle.compiler.specs.run_step.Values.{Env, value_in}
 
 -- the instance of a number is of a coroutine, and suspended there with these values; its block isn't freed
 pub record IsSuspendedAs (xs : List Instance) (i func : ℕ) (suspend : Point) (values : Env) : Type 0 where

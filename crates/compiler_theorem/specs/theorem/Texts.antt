@@ -6,16 +6,16 @@ use Rattle.compiler_theorem.specs.theorem.Anew.{Anew}
 use Rattle.compiler_theorem.specs.theorem.Entries.{IsEntry, Run}
 use Rattle.compiler_theorem.specs.theorem.Lowered.{IsLowered, Lowered}
 use Rattle.compiler_theorem.specs.theorem.Theorem.{Steps}
-use Rattle.ir_model.specs.declared.module.Module.{Module}
-use Rattle.pass_cleanup.specs.Cleaned.{plain_machine}
-use Rattle.pass_kept_proof.specs.Machines.{source_machine}
-use Rattle.run_agreement.specs.Agreements.{AgreesWithin}
-use Rattle.run_agreement.specs.Factor.{step_factor}
-use Rattle.run_agreement.specs.Machines.{at}
-use Rattle.run_framed.specs.Framed.{frame_of_layout}
-use Rattle.run_types.specs.States.{AreArguments}
-use Rattle.text_canonical.specs.order.Order.{module_order}
-use Rattle.text_grammar.specs.Text.{StandsFor}
+use Rattle.compiler.specs.ir_model.declared.module.Module.{Module}
+use Rattle.compiler.specs.pass_cleanup.Cleaned.{plain_machine}
+use Rattle.compiler.specs.pass_kept_proof.Machines.{source_machine}
+use Rattle.compiler.specs.run_agreement.Agreements.{AgreesWithin}
+use Rattle.compiler.specs.run_agreement.Factor.{step_factor}
+use Rattle.compiler.specs.run_agreement.Machines.{at}
+use Rattle.compiler.specs.run_framed.Framed.{frame_of_layout}
+use Rattle.pass_frames_meaning.specs.run_types.States.{AreArguments}
+use Rattle.compiler.specs.text_canonical.order.Order.{module_order}
+use Rattle.compiler.specs.text_grammar.Text.{StandsFor}
 
 -- what the text that is given stands for
 abbrev pub printed_of : Given → Module

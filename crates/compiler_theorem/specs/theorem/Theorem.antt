@@ -1,13 +1,13 @@
 -- What is lowered of a source agrees with it: one row for each pass. Those that stand are cited in the proof, the
 -- others are premises here.
 use Rattle.std.specs.Prelude.{ℕ, ◌+◌, []}
-use Rattle.run_hooks.specs.alive.Apart.{LiveAreApart}
-use Rattle.run_agreement.specs.Agreements.{Agrees, AgreesWithin}
-use Rattle.run_agreement.specs.Factor.{most_operands_of_functions, most_phis_of_functions, names_of_functions}
-use Rattle.run_agreement.specs.Factor.{step_factor}
-use Rattle.run_agreement.specs.Machines.{IsFine, at, state_at}
-use Rattle.text_canonical.specs.canonical.Items.{module_text}
-use Rattle.run_source.specs.declared.state.State.{State}
+use Rattle.pass_frames_meaning.specs.run_hooks.alive.Apart.{LiveAreApart}
+use Rattle.compiler.specs.run_agreement.Agreements.{Agrees, AgreesWithin}
+use Rattle.compiler.specs.run_agreement.Factor.{most_operands_of_functions, most_phis_of_functions, names_of_functions}
+use Rattle.compiler.specs.run_agreement.Factor.{step_factor}
+use Rattle.compiler.specs.run_agreement.Machines.{IsFine, at, state_at}
+use Rattle.compiler.specs.text_canonical.canonical.Items.{module_text}
+use Rattle.compiler.specs.run_source.declared.state.State.{State}
 use Rattle.compiler_theorem.specs.theorem.Anew.{Anew, IsAnewOf}
 use Rattle.compiler_theorem.specs.theorem.Left.{AreAllStepsLeft}
 use Rattle.compiler_theorem.specs.theorem.Entries.{IsEntryCall, Run}
@@ -16,14 +16,14 @@ use Rattle.compiler_theorem.specs.theorem.Lowered.{IsLowered, Lowered, early, ed
 use Rattle.compiler_theorem.specs.theorem.Lowered.{plain_run, printed_from, sizes_of}
 use Rattle.compiler_theorem.specs.theorem.Lowered.{source_run}
 use Rattle.pass_frames_prices.specs.FramePrices.{frame_prices}
-use Rattle.pass_frames_proof.specs.Related.{AreBuiltOf}
-use Rattle.pass_renewed_proof.specs.Prices.{Prices}
+use Rattle.pass_frames_meaning.specs.pass_frames_proof.Related.{AreBuiltOf}
+use Rattle.pass_frames_meaning.specs.pass_renewed_proof.Prices.{Prices}
 use Rattle.compiler_theorem.specs.theorem.Rows.{joined}
 use Rattle.compiler_theorem.specs.theorem.SharedBytes.{AreShown}
 use Rattle.compiler_theorem.specs.theorem.ShownSlots.{AreFieldsShown, step_homes}
-use Rattle.text_grammar.specs.Text.{StandsFor}
-use Rattle.pass_proofs.specs.kept.sources.Beside.{IsKeptOf}
-use Rattle.pass_renewed_meaning.specs.Followed.{AreInStep}
+use Rattle.compiler.specs.text_grammar.Text.{StandsFor}
+use Rattle.compiler.specs.pass_proofs.kept.sources.Beside.{IsKeptOf}
+use Rattle.pass_frames_meaning.specs.pass_renewed_meaning.Followed.{AreInStep}
 
 -- states of the run that hands values on and of that which makes slots anew, at corresponding steps
 abbrev pub AreMadeAnew : Lowered → Anew → State → State → Type 0

@@ -4,8 +4,8 @@ use Rattle.compiler_theorem.specs.theorem.Anew.{Anew}
 use Rattle.compiler_theorem.specs.theorem.Asked.{asking}
 use Rattle.compiler_theorem.specs.theorem.Entries.{Run}
 use Rattle.compiler_theorem.specs.theorem.Lowered.{IsLowered, Lowered}
-use Rattle.pass_cells.specs.declared.plan.KeptValue.{KeptValue}
-use Rattle.pass_frames_proof.specs.Related.{IsKeptValue, is_coroutine}
+use Rattle.compiler.specs.pass_cells.declared.plan.KeptValue.{KeptValue}
+use Rattle.pass_frames_meaning.specs.pass_frames_proof.Related.{IsKeptValue, is_coroutine}
 
 abbrev pub AreRootsTold : (l : Lowered) → IsLowered l → Anew → Run → Type 0
 AreRootsTold l low a r =

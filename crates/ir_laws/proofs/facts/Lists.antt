@@ -3,26 +3,26 @@ use Rattle.std.proofs.Common.{List, [], ◌∷◌, ◌≡◌, Bool, refl, ℕ, z
 use Rattle.run_laws.specs.changed.Changed.{Each as EachOf, Each}
 use Rattle.std.specs.List.{list_any, list_all}
 use Rattle.std.specs.Prelude.{map, ◌||◌, Some, slice_get, slice_set, option_map, if◌then◌else◌, None, count_by, flat_map, find, ◌&&◌, replicate, Option, filter, unwrap_or, ◌==◌, not, Bool, false, decimal}
-use Rattle.ir_model.specs.Names.{first_where, position_of, same_name, numbered, spelling}
+use Rattle.run_laws.specs.ir_model.Names.{first_where, position_of, same_name, numbered, spelling}
 use Rattle.std.proofs.lemmas.Bool.{cases_lt, and_parts, and_from}
 use Rattle.ir_laws.specs.facts.expanded.Expansion.{expanded, number_at, place_of}
-use Rattle.ir_model.specs.declared.instr.Instr.{Instr}
+use Rattle.run_laws.specs.ir_model.declared.instr.Instr.{Instr}
 use Rattle.std.proofs.lemmas.List.Sums.{sum_by-cons, sum_by-append}
 use Rattle.ir_laws.specs.facts.renamed.Regular.{passes}
 use Rattle.ir_laws.proofs.facts.Numbers.{phi_name, First, IsSource, Same}
-use Rattle.ir_model.specs.declared.instr.Phi.{Phi}
-use Rattle.ir_model.specs.declared.module.Param.{Param}
-use Rattle.ir_model.specs.declared.instr.Incoming.{Incoming}
-use Rattle.ir_model.specs.declared.operand.Operand.{Operand}
+use Rattle.run_laws.specs.ir_model.declared.instr.Phi.{Phi}
+use Rattle.run_laws.specs.ir_model.declared.module.Param.{Param}
+use Rattle.run_laws.specs.ir_model.declared.instr.Incoming.{Incoming}
+use Rattle.run_laws.specs.ir_model.declared.operand.Operand.{Operand}
 use Rattle.ir_laws.proofs.facts.Options.{not_first}
-use Rattle.ir_base.specs.declared.name.Name.{Name}
+use Rattle.run_laws.specs.ir_base.declared.name.Name.{Name}
 use Rattle.ir_laws.specs.facts.woven_rules.Pairs.{times}
 use Rattle.pass_front.specs.Front.{is_alloca, is_no_alloca, allocas_first, with_allocas_first}
-use Rattle.ir_model.specs.declared.module.Block.{Block}
+use Rattle.run_laws.specs.ir_model.declared.module.Block.{Block}
 use Rattle.ir_laws.proofs.facts.Truth.{equal_numbers, same_name-itself as itself, glyph_byte, nothing_no_name}
-use Rattle.ir_model.specs.declared.module.Function.{Function}
+use Rattle.run_laws.specs.ir_model.declared.module.Function.{Function}
 use Rattle.ir_laws.specs.facts.counted.Widths.{has_width}
-use Rattle.ir_model.specs.Ty.{Ty}
+use Rattle.run_laws.specs.ir_model.Ty.{Ty}
 use Rattle.std.proofs.lemmas.List.{length-append}
 use Rattle.std.specs.Fmt.{digit_glyph, digits_onto, digits}
 use Rattle.text_names.specs.Spelling.{is_name_byte, is_name_text, IsName}

@@ -2,15 +2,15 @@
 use Rattle.std.proofs.Common.{◌≡◌, ℕ, suc, List, [], ◌∷◌, refl, zero, subst, ◌++◌, Bool, true, false, ◌+◌, sym, ap, ◌∙◌, arith}
 use Rattle.run_laws.specs.changed.Changed.{Each}
 use Rattle.std.specs.Prelude.{Some, slice_get, map, if◌then◌else◌, ◌||◌, filter, slice_set}
-use Rattle.ir_model.specs.declared.instr.Instr.{Instr}
+use Rattle.run_laws.specs.ir_model.declared.instr.Instr.{Instr}
 use Rattle.ir_laws.proofs.facts.Options.{IsPassing}
 use Rattle.ir_laws.proofs.facts.Lists.{places, AreDifferent}
 use Rattle.std.specs.List.{list_any, list_all}
 use Rattle.ir_laws.proofs.facts.Truth.{both_true, and_first, and_second, and_both, same_name-itself as itself}
-use Rattle.ir_base.specs.declared.name.Name.{Name}
+use Rattle.run_laws.specs.ir_base.declared.name.Name.{Name}
 use Rattle.ir_tables.proofs.Tables.{same_name-same}
 use Rattle.ir_laws.specs.facts.names_apart.Apart.{AreApart}
-use Rattle.ir_model.specs.Names.{same_name}
+use Rattle.run_laws.specs.ir_model.Names.{same_name}
 use Rattle.text_names.specs.Spelling.{IsName}
 
 -- P holds of each element where it holds of what stands at each position

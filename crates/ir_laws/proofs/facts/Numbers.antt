@@ -1,17 +1,17 @@
 -- Numbers, and tests of them.
 use Rattle.std.proofs.Common.{◌≡◌, ℕ, ◌+◌, ◌-◌, ◌<◌, min, arith, Some, refl, Bool, List, sym, ap, ◌∙◌, subst}
 use Rattle.std.specs.Prelude.{Ok, Result, slice_get, None, Some, Option, option_map, map}
-use Rattle.ir_base.specs.declared.cause.Cause.{Cause}
-use Rattle.ir_model.specs.declared.instr.Phi.{Phi}
-use Rattle.ir_model.specs.Names.{position_of}
-use Rattle.ir_model.specs.declared.instr.Incoming.{Incoming}
-use Rattle.ir_model.specs.declared.module.Block.{Block}
-use Rattle.ir_model.specs.declared.module.Function.{Function}
-use Rattle.ir_model.specs.declared.operand.Operand.{Operand}
+use Rattle.run_laws.specs.ir_base.declared.cause.Cause.{Cause}
+use Rattle.run_laws.specs.ir_model.declared.instr.Phi.{Phi}
+use Rattle.run_laws.specs.ir_model.Names.{position_of}
+use Rattle.run_laws.specs.ir_model.declared.instr.Incoming.{Incoming}
+use Rattle.run_laws.specs.ir_model.declared.module.Block.{Block}
+use Rattle.run_laws.specs.ir_model.declared.module.Function.{Function}
+use Rattle.run_laws.specs.ir_model.declared.operand.Operand.{Operand}
 use Rattle.pass_front.specs.Front.{allocas_first}
 use Rattle.std.proofs.lemmas.Option.{slice_get-map}
-use Rattle.ir_base.specs.declared.name.Name.{Name}
-use Rattle.ir_model.specs.declared.module.Module.{Module}
+use Rattle.run_laws.specs.ir_base.declared.name.Name.{Name}
+use Rattle.run_laws.specs.ir_model.declared.module.Module.{Module}
 use Rattle.ir_laws.specs.facts.same_names.Same.{HaveSameNames, naming}
 use Rattle.ir_laws.specs.facts.same_names.Short.{HaveShortNames, IsShort}
 use Rattle.ir_laws.specs.facts.function_rules.Signatures.{heading}

@@ -1,8 +1,8 @@
 -- What may be there.
 use Rattle.std.proofs.Common.{◌≡◌, Bool, true, ℕ, refl, suc, Option, Some, None, false}
 use Rattle.std.specs.Prelude.{Some, Option, None, option_map, if◌then◌else◌}
-use Rattle.ir_model.specs.declared.instr.Instr.{Instr}
-use Rattle.ir_model.specs.Calls.{or_else}
+use Rattle.run_laws.specs.ir_model.declared.instr.Instr.{Instr}
+use Rattle.run_laws.specs.ir_model.Calls.{or_else}
 use Rattle.ir_locals.specs.Tables.{or_first}
 use Rattle.ir_laws.specs.facts.renamed.Regular.{passes as passes_at}
 

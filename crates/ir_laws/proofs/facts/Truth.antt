@@ -2,13 +2,13 @@
 use Rattle.std.proofs.Common.{◌≡◌, Bool, true, false, refl, ℕ, ◌<◌, arith, ap, ◌∙◌, ◌⊎◌, inl, inr, sym, ◌+◌, []}
 use Rattle.std.specs.Prelude.{◌&&◌, nat_lt, ◌==◌, IsTrue, ◌||◌, ◌-◌, not, is_none, if◌then◌else◌}
 use Rattle.std.proofs.lemmas.Bool.{ltb-true, eqb-true, eqb-false, true_from_ne_false, eq-eqb, and_from, lt-ltb}
-use Rattle.ir_paths.proofs.Search.{eq_from}
-use Rattle.ir_base.specs.declared.name.Name.{Name}
-use Rattle.ir_model.specs.Names.{same_name}
+use Rattle.run_laws.proofs.ir_paths.Search.{eq_from}
+use Rattle.run_laws.specs.ir_base.declared.name.Name.{Name}
+use Rattle.run_laws.specs.ir_model.Names.{same_name}
 use Rattle.ir_tables.proofs.Tables.{same_text-refl, same_name-same}
-use Rattle.ir_model.specs.declared.instr.Instr.{Instr}
-use Rattle.ir_model.specs.declared.operand.Callee.{Callee}
-use Rattle.ir_model.specs.declared.operand.Intrinsic.{Intrinsic}
+use Rattle.run_laws.specs.ir_model.declared.instr.Instr.{Instr}
+use Rattle.run_laws.specs.ir_model.declared.operand.Callee.{Callee}
+use Rattle.run_laws.specs.ir_model.declared.operand.Intrinsic.{Intrinsic}
 use Rattle.std.specs.Fmt.{digit_glyph}
 use Rattle.text_names.specs.Spelling.{is_name_byte, is_name_text}
 

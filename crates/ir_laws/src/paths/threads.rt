@@ -2,9 +2,9 @@
 
 ghost use Rattle.std.specs.Prelude.{◌↔◌, List};
 ghost use Rattle.ir_laws.specs.paths.threads.Threads.{AreAvoidedToo, AreThreads};
-ghost use Rattle.ir_model.specs.declared.module.Function.{Function};
-ghost use Rattle.ir_paths.specs.Paths.{Leads};
-ghost use Rattle.ir_paths.specs.declared.point.Point.{Point};
+ghost use Rattle.run_laws.specs.ir_model.declared.module.Function.{Function};
+ghost use Rattle.run_laws.specs.ir_paths.Paths.{Leads};
+ghost use Rattle.run_laws.specs.ir_paths.declared.point.Point.{Point};
 
 /// Where edges lead over at most one further point, paths lead where they led.
 #[tactic(auto, using(crate::proofs::paths::threads::Threads::paths_kept))]

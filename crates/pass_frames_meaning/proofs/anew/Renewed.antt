@@ -3,32 +3,32 @@ use Rattle.std.proofs.Common.{◌≡◌, ◌⊎◌, inl, inr, ℕ, ◌+◌, ◌<
 use Rattle.std.proofs.Common.{length, drop, Option, Some, None, refl, sym, ap, ◌∙◌, subst, arith}
 use Rattle.std.proofs.lemmas.Bool.{cases_lt, false≢true}
 use Rattle.std.specs.Prelude.{option_map, slice_get}
-use Rattle.ir_model.specs.Names.{first_where, function_at, position_of}
-use Rattle.ir_model.specs.declared.instr.Instr.{Instr}
-use Rattle.ir_model.specs.declared.module.Block.{Block}
-use Rattle.ir_model.specs.declared.module.Function.{Function}
-use Rattle.ir_paths.specs.declared.point.Point.{Point}
+use Rattle.pass_frames_proof.specs.ir_model.Names.{first_where, function_at, position_of}
+use Rattle.pass_frames_proof.specs.ir_model.declared.instr.Instr.{Instr}
+use Rattle.pass_frames_proof.specs.ir_model.declared.module.Block.{Block}
+use Rattle.pass_frames_proof.specs.ir_model.declared.module.Function.{Function}
+use Rattle.pass_frames_proof.specs.ir_paths.declared.point.Point.{Point}
 use Rattle.pass_frames_meaning.proofs.executed.Renewed.{life_top, new_slot_own, renewed_keeps_executed}
 use Rattle.pass_frames_meaning.proofs.woken.Flagged.{next_found, none_flagged}
 use Rattle.pass_frames_meaning.specs.Anew.{HaveAddresses, IsAddressed, KeepsAnew}
 use Rattle.pass_frames_meaning.specs.Executed.{HasOwnSlot}
 use Rattle.pass_frames_proof.proofs.anew.Lists.{rooted_value, unrooted_value}
-use Rattle.pass_kept_proof.specs.Kept.{kept}
-use Rattle.pass_renewed_proof.specs.Renewed.{RenewedGiven, in_new_slot, is_renewed, renew_after, renewed_from}
-use Rattle.pass_renewed_proof.specs.Renewed.{renewed_in, renewed_slot, renewed_values, with_life}
-use Rattle.pass_renewed_proof.specs.SlotRules.{IsMadeOnce}
-use Rattle.run_hooks.proofs.alive.Changes.{phis_other}
-use Rattle.run_hooks.specs.Meanings.{renewed_hooks}
-use Rattle.run_memory.specs.declared.pointer.Pointer.{Pointer}
-use Rattle.run_memory.specs.declared.pointer.Value.{Value}
-use Rattle.run_source.specs.Source.{new_slot, push, resumed}
-use Rattle.run_source.specs.State.{function_of, with_slots, with_status}
-use Rattle.run_source.specs.declared.state.Mode.{Mode}
-use Rattle.run_source.specs.declared.state.State.{State}
-use Rattle.run_source.specs.declared.state.Status.{Status}
-use Rattle.run_step.specs.Step.{AtInstr, fetch_in, fetch_or, label_of, phis_of}
-use Rattle.run_step.specs.Values.{Env, pointer_to, value_in}
-use Rattle.run_step.specs.declared.world.Slot.{Slot}
+use Rattle.pass_frames_proof.specs.pass_kept_proof.Kept.{kept}
+use Rattle.pass_frames_proof.specs.pass_renewed_proof.Renewed.{RenewedGiven, in_new_slot, is_renewed, renew_after, renewed_from}
+use Rattle.pass_frames_proof.specs.pass_renewed_proof.Renewed.{renewed_in, renewed_slot, renewed_values, with_life}
+use Rattle.pass_frames_proof.specs.pass_renewed_proof.SlotRules.{IsMadeOnce}
+use Rattle.pass_renewed_meaning.proofs.run_hooks.alive.Changes.{phis_other}
+use Rattle.pass_renewed_meaning.specs.run_hooks.Meanings.{renewed_hooks}
+use Rattle.pass_frames_proof.specs.run_memory.declared.pointer.Pointer.{Pointer}
+use Rattle.pass_frames_proof.specs.run_memory.declared.pointer.Value.{Value}
+use Rattle.pass_frames_proof.specs.run_source.Source.{new_slot, push, resumed}
+use Rattle.pass_frames_proof.specs.run_source.State.{function_of, with_slots, with_status}
+use Rattle.pass_frames_proof.specs.run_source.declared.state.Mode.{Mode}
+use Rattle.pass_frames_proof.specs.run_source.declared.state.State.{State}
+use Rattle.pass_frames_proof.specs.run_source.declared.state.Status.{Status}
+use Rattle.pass_frames_proof.specs.run_step.Step.{AtInstr, fetch_in, fetch_or, label_of, phis_of}
+use Rattle.pass_frames_proof.specs.run_step.Values.{Env, pointer_to, value_in}
+use Rattle.pass_frames_proof.specs.run_step.declared.world.Slot.{Slot}
 
 -- ---- places
 

@@ -2,34 +2,34 @@
 use Rattle.std.proofs.Common.{◌≡◌, ⊎_elim, ℕ, ◌+◌, ◌<◌, ◌≤◌, Bool, true, false, List, [], ◌∷◌, ◌++◌, length, map, Option, Some, None, refl, sym, ap, ◌∙◌, subst, arith}
 use Rattle.std.specs.Prelude.{slice_get, unwrap_or}
 use Rattle.std.proofs.lemmas.Bool.{false≢true}
-use Rattle.flow_solver.specs.Paths.{IsListed}
-use Rattle.frame_classes.specs.declared.class.SlotClass.{SlotClass}
-use Rattle.ir_model.specs.Calls.{first_result, first_result_by, first_result_in, or_else}
-use Rattle.ir_model.specs.Ty.{Ty}
-use Rattle.ir_model.specs.declared.instr.Instr.{Instr}
-use Rattle.ir_model.specs.declared.module.Block.{Block}
-use Rattle.ir_model.specs.declared.module.Function.{Function}
-use Rattle.ir_model.specs.declared.operand.Intrinsic.{Intrinsic}
-use Rattle.ir_parts.specs.Contents.{result_of}
-use Rattle.ir_paths.specs.Slots.{allocas_of}
-use Rattle.ir_paths.specs.Windows.{instr_at, instr_in, is_call_of}
-use Rattle.pass_cells.specs.Kept.{entry}
-use Rattle.pass_edges.specs.EdgeBlocks.{edge_block, split_blocks, with_edge_blocks}
-use Rattle.pass_edges.specs.Edges.{block_edges, edge_table, edges_of, phi_flags}
-use Rattle.pass_edges.specs.declared.edge.Edge.{Edge}
-use Rattle.pass_frames.specs.Framed.{begin_of}
+use Rattle.pass_frames_proof.specs.flow_solver.Paths.{IsListed}
+use Rattle.pass_frames_proof.specs.frame_classes.declared.class.SlotClass.{SlotClass}
+use Rattle.pass_frames_proof.specs.ir_model.Calls.{first_result, first_result_by, first_result_in, or_else}
+use Rattle.pass_frames_proof.specs.ir_model.Ty.{Ty}
+use Rattle.pass_frames_proof.specs.ir_model.declared.instr.Instr.{Instr}
+use Rattle.pass_frames_proof.specs.ir_model.declared.module.Block.{Block}
+use Rattle.pass_frames_proof.specs.ir_model.declared.module.Function.{Function}
+use Rattle.pass_frames_proof.specs.ir_model.declared.operand.Intrinsic.{Intrinsic}
+use Rattle.pass_frames_proof.specs.ir_parts.Contents.{result_of}
+use Rattle.pass_frames_proof.specs.ir_paths.Slots.{allocas_of}
+use Rattle.pass_frames_proof.specs.ir_paths.Windows.{instr_at, instr_in, is_call_of}
+use Rattle.pass_frames_proof.specs.pass_cells.Kept.{entry}
+use Rattle.pass_frames_proof.specs.pass_edges.EdgeBlocks.{edge_block, split_blocks, with_edge_blocks}
+use Rattle.pass_frames_proof.specs.pass_edges.Edges.{block_edges, edge_table, edges_of, phi_flags}
+use Rattle.pass_frames_proof.specs.pass_edges.declared.edge.Edge.{Edge}
+use Rattle.pass_frames_proof.specs.pass_frames.Framed.{begin_of}
 use Rattle.pass_frames_meaning.proofs.others.Names.{once, result_low}
 use Rattle.pass_frames_proof.specs.Framings.{IsFraming}
 use Rattle.pass_frames_proof.specs.Passes.{no_block}
 use Rattle.pass_frames_proof.specs.Places.{Framing, edged, instrs_at, offsets, plan, with_copies}
 use Rattle.pass_frames_proof.specs.Stepping.{IsBeginPlain}
-use Rattle.pass_proofs.proofs.cells.shape.Begin.{begin_unplaced}
-use Rattle.pass_proofs.proofs.frames.begin_order.Framed.{in_either, old_slot, slot_alloca}
-use Rattle.pass_proofs.specs.addresses.rules.Addresses.{lies_in_frame}
-use Rattle.pass_proofs.specs.frames.begin_order.Fields.{IsField, values_kept}
-use Rattle.rule_laws.proofs.rules.shape.Begin.{begin_result}
-use Rattle.rule_laws.proofs.rules.shape.Stands.{StandsAt, begin_stands}
-use Rattle.rule_laws.proofs.rules.source_rules.Slots.{alloca_of}
+use Rattle.pass_frames_proof.proofs.pass_proofs.cells.shape.Begin.{begin_unplaced}
+use Rattle.pass_frames_proof.proofs.pass_proofs.frames.begin_order.Framed.{in_either, old_slot, slot_alloca}
+use Rattle.pass_frames_proof.specs.pass_proofs.addresses.rules.Addresses.{lies_in_frame}
+use Rattle.pass_frames_proof.specs.pass_proofs.frames.begin_order.Fields.{IsField, values_kept}
+use Rattle.pass_frames_proof.proofs.rule_laws.rules.shape.Begin.{begin_result}
+use Rattle.pass_frames_proof.proofs.rule_laws.rules.shape.Stands.{StandsAt, begin_stands}
+use Rattle.pass_frames_proof.proofs.rule_laws.rules.source_rules.Slots.{alloca_of}
 
 -- ---- begin where edges have blocks
 

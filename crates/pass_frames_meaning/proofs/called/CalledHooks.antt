@@ -1,36 +1,36 @@
 -- The hooks of the two meanings between which frames are built leave activations below behind their calls.
 use Rattle.std.proofs.Common.{◌≡◌, ℕ, zero, suc, Bool, true, false, List, [], ◌∷◌, length, Option, Some, None, Result, Ok, Err, refl, sym, ◌∙◌, subst, if◌then◌else◌, ◌&&◌, ◌==◌}
 use Rattle.std.specs.Prelude.{is_none, not}
-use Rattle.ir_base.specs.declared.cause.Cause.{Cause}
-use Rattle.ir_base.specs.declared.outcome.Word.{Word}
-use Rattle.ir_model.specs.Names.{function_at}
-use Rattle.ir_paths.specs.declared.point.Point.{Point}
+use Rattle.pass_frames_proof.specs.ir_base.declared.cause.Cause.{Cause}
+use Rattle.pass_frames_proof.specs.ir_base.declared.outcome.Word.{Word}
+use Rattle.pass_frames_proof.specs.ir_model.Names.{function_at}
+use Rattle.pass_frames_proof.specs.ir_paths.declared.point.Point.{Point}
 use Rattle.pass_frames_meaning.proofs.called.Called.{step_called}
 use Rattle.pass_frames_meaning.specs.Called.{FitsMode, IsCalledState, IsOnSame, IsResumedOn, KeepsCalled}
-use Rattle.pass_kept_proof.specs.Kept.{kept}
-use Rattle.pass_renewed_proof.specs.Renewed.{RenewedGiven, renew_after, renewed_from, renewed_slot, with_life}
-use Rattle.run_framed.specs.Framed.{FramedGiven, alloca_from, are_finished_at, begin_given_at, begin_in_block, begin_in_frame, disown_given, enter_after, framed_begin, framed_slot, frame_around, given_call, has_room, has_size, is_stack_block, reentry_values}
-use Rattle.run_hooks.specs.Away.{IsPlacedState}
-use Rattle.run_hooks.specs.Hooks.{Hooks, hooked_state_at, step_of}
-use Rattle.run_hooks.specs.Meanings.{framed_hooks, renewed_hooks}
-use Rattle.run_memory.specs.Memory.{disown, killed, own, start}
-use Rattle.run_memory.specs.declared.block.Kind.{Kind}
-use Rattle.run_memory.specs.declared.block.MemoryBlock.{MemoryBlock}
-use Rattle.run_memory.specs.declared.pointer.Pointer.{Pointer}
-use Rattle.run_memory.specs.declared.pointer.Value.{Value}
-use Rattle.run_source.specs.Source.{begin, begin_at, begun, change_own, finish, first_state, is_among, is_live_at, is_over, kill_late, new_slot, push, resumed, slots_of, with_new_slots}
-use Rattle.run_source.specs.State.{frame_address_of, function_of, gives, own_facts, own_frame, own_instance, with_memory, with_slots, with_status}
-use Rattle.run_source.specs.declared.state.Instance.{Instance}
-use Rattle.run_source.specs.declared.state.Mode.{Mode}
-use Rattle.run_source.specs.declared.state.State.{State}
-use Rattle.run_source.specs.declared.state.Status.{Status}
-use Rattle.run_source_tables.specs.Given.{Given}
-use Rattle.run_step.specs.Results.{and_then, found, ok_if}
-use Rattle.run_step.specs.Runs.{iterate}
-use Rattle.run_step.specs.Step.{block_of, fetch}
-use Rattle.run_step.specs.Values.{Env}
-use Rattle.run_step.specs.declared.world.Slot.{Slot}
-use Rattle.run_types.specs.Rules.{KeepsAllTypes}
+use Rattle.pass_frames_proof.specs.pass_kept_proof.Kept.{kept}
+use Rattle.pass_frames_proof.specs.pass_renewed_proof.Renewed.{RenewedGiven, renew_after, renewed_from, renewed_slot, with_life}
+use Rattle.pass_frames_proof.specs.run_framed.Framed.{FramedGiven, alloca_from, are_finished_at, begin_given_at, begin_in_block, begin_in_frame, disown_given, enter_after, framed_begin, framed_slot, frame_around, given_call, has_room, has_size, is_stack_block, reentry_values}
+use Rattle.pass_renewed_meaning.specs.run_hooks.Away.{IsPlacedState}
+use Rattle.pass_renewed_meaning.specs.run_hooks.Hooks.{Hooks, hooked_state_at, step_of}
+use Rattle.pass_renewed_meaning.specs.run_hooks.Meanings.{framed_hooks, renewed_hooks}
+use Rattle.pass_frames_proof.specs.run_memory.Memory.{disown, killed, own, start}
+use Rattle.pass_frames_proof.specs.run_memory.declared.block.Kind.{Kind}
+use Rattle.pass_frames_proof.specs.run_memory.declared.block.MemoryBlock.{MemoryBlock}
+use Rattle.pass_frames_proof.specs.run_memory.declared.pointer.Pointer.{Pointer}
+use Rattle.pass_frames_proof.specs.run_memory.declared.pointer.Value.{Value}
+use Rattle.pass_frames_proof.specs.run_source.Source.{begin, begin_at, begun, change_own, finish, first_state, is_among, is_live_at, is_over, kill_late, new_slot, push, resumed, slots_of, with_new_slots}
+use Rattle.pass_frames_proof.specs.run_source.State.{frame_address_of, function_of, gives, own_facts, own_frame, own_instance, with_memory, with_slots, with_status}
+use Rattle.pass_frames_proof.specs.run_source.declared.state.Instance.{Instance}
+use Rattle.pass_frames_proof.specs.run_source.declared.state.Mode.{Mode}
+use Rattle.pass_frames_proof.specs.run_source.declared.state.State.{State}
+use Rattle.pass_frames_proof.specs.run_source.declared.state.Status.{Status}
+use Rattle.pass_frames_proof.specs.run_source_tables.Given.{Given}
+use Rattle.pass_frames_proof.specs.run_step.Results.{and_then, found, ok_if}
+use Rattle.pass_frames_proof.specs.run_step.Runs.{iterate}
+use Rattle.pass_frames_proof.specs.run_step.Step.{block_of, fetch}
+use Rattle.pass_frames_proof.specs.run_step.Values.{Env}
+use Rattle.pass_frames_proof.specs.run_step.declared.world.Slot.{Slot}
+use Rattle.pass_renewed_meaning.specs.run_types.Rules.{KeepsAllTypes}
 
 fits_some : (o : Option ℕ) (i : ℕ) (mode : Mode) → FitsMode o mode → FitsMode (Some i) mode
 fits_some o i Mode.Plain h = tt
@@ -113,7 +113,7 @@ changed_same s f memory (Some p) = record { below = refl; result = refl; mode = 
 
 finish_same : (s : State) → IsOnSame s (finish s)
 finish_same s = changed_same s (λ x. record x { status = Status.Finished })
-    (Rattle.run_step.specs.Step.without_slots s.world.memory (slots_of (own_instance s))) (own_instance s)
+    (Rattle.pass_frames_proof.specs.run_step.Step.without_slots s.world.memory (slots_of (own_instance s))) (own_instance s)
 
 -- ---- entry of a label, after allocas
 

@@ -1,20 +1,20 @@
 -- A call that gives nothing has no result, by its types.
 use Rattle.std.proofs.Common.{◌≡◌, ℕ, Bool, true, List, Option, Some, None, refl, sym, ap, ◌∙◌, ◌&&◌}
 use Rattle.std.proofs.lemmas.Bool.{and_parts, false≢true}
-use Rattle.ir_model.specs.Ty.{Ty}
-use Rattle.ir_model.specs.declared.instr.Instr.{Instr}
-use Rattle.ir_model.specs.declared.module.Function.{Function}
-use Rattle.ir_model.specs.declared.module.Module.{Module}
-use Rattle.ir_model.specs.declared.operand.Allocator.{Allocator}
-use Rattle.ir_model.specs.declared.operand.Arg.{Arg}
-use Rattle.ir_model.specs.declared.operand.Callee.{Callee}
-use Rattle.ir_model.specs.declared.operand.Intrinsic.{Intrinsic}
-use Rattle.rule_types.specs.Signatures.{are_wanted, is_result}
-use Rattle.rule_types.specs.Wants.{allocator_params, allocator_result, intrinsic_params, intrinsic_result}
-use Rattle.rule_types.specs.declared.wants.Basic.{Basic}
-use Rattle.rule_values.specs.Instrs.{fits_result}
-use Rattle.run_step.specs.Step.{AtInstr, fetch}
-use Rattle.run_types.specs.Rules.{KeepsTypes}
+use Rattle.pass_frames_proof.specs.ir_model.Ty.{Ty}
+use Rattle.pass_frames_proof.specs.ir_model.declared.instr.Instr.{Instr}
+use Rattle.pass_frames_proof.specs.ir_model.declared.module.Function.{Function}
+use Rattle.pass_frames_proof.specs.ir_model.declared.module.Module.{Module}
+use Rattle.pass_frames_proof.specs.ir_model.declared.operand.Allocator.{Allocator}
+use Rattle.pass_frames_proof.specs.ir_model.declared.operand.Arg.{Arg}
+use Rattle.pass_frames_proof.specs.ir_model.declared.operand.Callee.{Callee}
+use Rattle.pass_frames_proof.specs.ir_model.declared.operand.Intrinsic.{Intrinsic}
+use Rattle.pass_frames_proof.specs.rule_types.Signatures.{are_wanted, is_result}
+use Rattle.pass_frames_proof.specs.rule_types.Wants.{allocator_params, allocator_result, intrinsic_params, intrinsic_result}
+use Rattle.pass_frames_proof.specs.rule_types.declared.wants.Basic.{Basic}
+use Rattle.pass_frames_proof.specs.rule_values.Instrs.{fits_result}
+use Rattle.pass_frames_proof.specs.run_step.Step.{AtInstr, fetch}
+use Rattle.pass_renewed_meaning.specs.run_types.Rules.{KeepsTypes}
 
 no_type : (ty : Option Ty) → is_result None ty ≡ true → ty ≡ None
 no_type None e = refl

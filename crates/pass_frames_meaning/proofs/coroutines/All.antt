@@ -1,20 +1,20 @@
 -- Each step of a coroutine is followed, where the steps that are other cases are.
 use Rattle.std.proofs.Common.{◌≡◌, ◌⊎◌, inl, inr, ℕ, Bool, true, false, List, [], ◌∷◌, Option, Some, None, refl, sym, ap, ◌∙◌, subst}
-use Rattle.ir_base.specs.declared.cause.Cause.{Cause}
-use Rattle.ir_base.specs.declared.outcome.Outcome.{Outcome}
-use Rattle.ir_model.specs.Names.{function_at}
-use Rattle.ir_model.specs.Ty.{Ty}
-use Rattle.ir_model.specs.declared.instr.Instr.{Instr}
-use Rattle.ir_model.specs.declared.instr.Terminator.{Terminator}
-use Rattle.ir_model.specs.declared.operand.Arg.{Arg}
-use Rattle.ir_model.specs.declared.operand.Callee.{Callee}
-use Rattle.ir_model.specs.declared.operand.Intrinsic.{Intrinsic}
-use Rattle.ir_model.specs.declared.operand.Operand.{Operand}
-use Rattle.ir_parts.specs.Contents.{instr_operands, result_of}
-use Rattle.pass_cells.specs.Kept.{entry}
-use Rattle.pass_copies.specs.Uses.{is_access}
-use Rattle.pass_fetch.specs.Fetching.{fetch_of}
-use Rattle.pass_fetch.specs.declared.fetch.Fetch.{Fetch}
+use Rattle.pass_frames_proof.specs.ir_base.declared.cause.Cause.{Cause}
+use Rattle.pass_frames_proof.specs.ir_base.declared.outcome.Outcome.{Outcome}
+use Rattle.pass_frames_proof.specs.ir_model.Names.{function_at}
+use Rattle.pass_frames_proof.specs.ir_model.Ty.{Ty}
+use Rattle.pass_frames_proof.specs.ir_model.declared.instr.Instr.{Instr}
+use Rattle.pass_frames_proof.specs.ir_model.declared.instr.Terminator.{Terminator}
+use Rattle.pass_frames_proof.specs.ir_model.declared.operand.Arg.{Arg}
+use Rattle.pass_frames_proof.specs.ir_model.declared.operand.Callee.{Callee}
+use Rattle.pass_frames_proof.specs.ir_model.declared.operand.Intrinsic.{Intrinsic}
+use Rattle.pass_frames_proof.specs.ir_model.declared.operand.Operand.{Operand}
+use Rattle.pass_frames_proof.specs.ir_parts.Contents.{instr_operands, result_of}
+use Rattle.pass_frames_proof.specs.pass_cells.Kept.{entry}
+use Rattle.pass_frames_proof.specs.pass_copies.Uses.{is_access}
+use Rattle.pass_frames_proof.specs.pass_fetch.Fetching.{fetch_of}
+use Rattle.pass_frames_proof.specs.pass_fetch.declared.fetch.Fetch.{Fetch}
 use Rattle.pass_frames_meaning.proofs.coroutines.Calls.{allocator_followed, asking_followed, copying_followed, free_followed, named_followed}
 use Rattle.pass_frames_meaning.proofs.coroutines.Ends.{end_followed}
 use Rattle.pass_frames_meaning.proofs.coroutines.Marks.{marker_at}
@@ -39,13 +39,13 @@ use Rattle.pass_frames_proof.specs.Led.{LeavesMemory}
 use Rattle.pass_frames_proof.specs.Places.{Framing, copies, plan}
 use Rattle.pass_frames_proof.specs.Related.{AreBuiltOf, is_coroutine}
 use Rattle.pass_frames_proof.specs.Stepping.{IsCommon, IsNotEntering, state_in}
-use Rattle.pass_proofs.specs.fetch.rules.Fetches.{AreUnfetched}
-use Rattle.pass_renewed_proof.specs.Renewed.{is_idle, renewed_act, renewed_step}
-use Rattle.run_agreement.specs.Machines.{IsFine}
-use Rattle.run_source.specs.Source.{context_of}
-use Rattle.run_source.specs.State.{work_of}
-use Rattle.run_source.specs.declared.state.State.{State}
-use Rattle.run_step.specs.Step.{AtInstr, AtTerm, Fetched, Nowhere, Stuck, action_of, fetch}
+use Rattle.pass_frames_proof.specs.pass_proofs.fetch.rules.Fetches.{AreUnfetched}
+use Rattle.pass_frames_proof.specs.pass_renewed_proof.Renewed.{is_idle, renewed_act, renewed_step}
+use Rattle.pass_frames_proof.specs.run_agreement.Machines.{IsFine}
+use Rattle.pass_frames_proof.specs.run_source.Source.{context_of}
+use Rattle.pass_frames_proof.specs.run_source.State.{work_of}
+use Rattle.pass_frames_proof.specs.run_source.declared.state.State.{State}
+use Rattle.pass_frames_proof.specs.run_step.Step.{AtInstr, AtTerm, Fetched, Nowhere, Stuck, action_of, fetch}
 
 same_name : (p q : ℕ) → Some p ≡ Some q → p ≡ q
 same_name p q e = cc

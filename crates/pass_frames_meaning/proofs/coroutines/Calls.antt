@@ -1,20 +1,20 @@
 -- Calls of a coroutine are followed: of functions, of allocators and deallocators, and of some intrinsics.
 use Rattle.std.proofs.Common.{◌≡◌, inl, inr, ℕ, ◌<◌, Bool, true, false, List, ◌∷◌, length, Option, Some, None, Result, Ok, Err, refl, sym, ap, ◌∙◌, subst, ◌&&◌}
 use Rattle.std.specs.Prelude.{slice_get}
-use Rattle.flow_solver.specs.Paths.{IsListed}
-use Rattle.ir_base.specs.declared.cause.Cause.{Cause}
-use Rattle.ir_base.specs.declared.outcome.Outcome.{Outcome}
-use Rattle.ir_base.specs.declared.name.Name.{Name}
-use Rattle.ir_model.specs.Names.{declaration_named, function_at, function_named}
-use Rattle.ir_model.specs.Ty.{Ty}
-use Rattle.ir_model.specs.declared.instr.Instr.{Instr}
-use Rattle.ir_model.specs.declared.operand.Allocator.{Allocator}
-use Rattle.ir_model.specs.declared.operand.Arg.{Arg}
-use Rattle.ir_model.specs.declared.operand.Callee.{Callee}
-use Rattle.ir_model.specs.declared.operand.Intrinsic.{Intrinsic}
-use Rattle.ir_paths.specs.Windows.{operand_at}
-use Rattle.pass_cells.specs.declared.plan.KeptValue.{KeptValue}
-use Rattle.pass_copies.specs.Uses.{is_access}
+use Rattle.pass_frames_proof.specs.flow_solver.Paths.{IsListed}
+use Rattle.pass_frames_proof.specs.ir_base.declared.cause.Cause.{Cause}
+use Rattle.pass_frames_proof.specs.ir_base.declared.outcome.Outcome.{Outcome}
+use Rattle.pass_frames_proof.specs.ir_base.declared.name.Name.{Name}
+use Rattle.pass_frames_proof.specs.ir_model.Names.{declaration_named, function_at, function_named}
+use Rattle.pass_frames_proof.specs.ir_model.Ty.{Ty}
+use Rattle.pass_frames_proof.specs.ir_model.declared.instr.Instr.{Instr}
+use Rattle.pass_frames_proof.specs.ir_model.declared.operand.Allocator.{Allocator}
+use Rattle.pass_frames_proof.specs.ir_model.declared.operand.Arg.{Arg}
+use Rattle.pass_frames_proof.specs.ir_model.declared.operand.Callee.{Callee}
+use Rattle.pass_frames_proof.specs.ir_model.declared.operand.Intrinsic.{Intrinsic}
+use Rattle.pass_frames_proof.specs.ir_paths.Windows.{operand_at}
+use Rattle.pass_frames_proof.specs.pass_cells.declared.plan.KeptValue.{KeptValue}
+use Rattle.pass_frames_proof.specs.pass_copies.Uses.{is_access}
 use Rattle.pass_frames_meaning.proofs.called.Voids.{void_allocator, void_intrinsic}
 use Rattle.pass_frames_meaning.proofs.coroutines.Steps.{acts_as, done_by, may_stand, not_stuck, quiet_followed, same_ok, spared, storable}
 use Rattle.pass_frames_meaning.proofs.giving.Giving.{given_back}
@@ -49,24 +49,24 @@ use Rattle.pass_frames_proof.specs.Lines.{IsStorable}
 use Rattle.pass_frames_proof.specs.Places.{Framing, instrs_at}
 use Rattle.pass_frames_proof.specs.Related.{AreBuiltOf, IsKeptValue, all_slots, is_coroutine, returned_from}
 use Rattle.pass_frames_proof.specs.Stepping.{IsNotEntering, state_in}
-use Rattle.pass_renewed_proof.specs.Renewed.{continue_renewed, is_flagged, is_idle, renewed_step}
-use Rattle.rule_types.specs.Wants.{allocator_result, intrinsic_result}
-use Rattle.run_agreement.specs.Machines.{IsFine}
-use Rattle.run_framed.specs.Framed.{allocates}
-use Rattle.run_memory.specs.declared.pointer.Value.{Value}
+use Rattle.pass_frames_proof.specs.pass_renewed_proof.Renewed.{continue_renewed, is_flagged, is_idle, renewed_step}
+use Rattle.pass_frames_proof.specs.rule_types.Wants.{allocator_result, intrinsic_result}
+use Rattle.pass_frames_proof.specs.run_agreement.Machines.{IsFine}
+use Rattle.pass_frames_proof.specs.run_framed.Framed.{allocates}
+use Rattle.pass_frames_proof.specs.run_memory.declared.pointer.Value.{Value}
 use Rattle.run_slots.specs.Slots.{IsSlottedState}
-use Rattle.run_source.specs.Source.{Continues, Sleeper, change_own, context_of, coro, frame_address, release, sleeper_at}
-use Rattle.run_source.specs.State.{function_of, gives, own_instance, work_of}
-use Rattle.run_source.specs.declared.state.Activation.{Activation}
-use Rattle.run_source.specs.declared.state.Instance.{Instance}
-use Rattle.run_source.specs.declared.state.Mode.{Mode}
-use Rattle.run_source.specs.declared.state.State.{State}
-use Rattle.run_source_tables.specs.Given.{Given, has_final, is_final}
-use Rattle.run_step.specs.Results.{and_then, ok_if}
-use Rattle.run_step.specs.Step.{AtInstr, Coro, Deallocate, Done, Enter, allocated, fetch, instr_action, is_lifetime, named_call, with_length}
-use Rattle.run_step.specs.Values.{address, arg_values, nth, truth_value, value_in, with_result}
-use Rattle.run_types.proofs.Runs.{sizes_small}
-use Rattle.run_types.specs.States.{IsMalloc, IsNew, TakesSize}
+use Rattle.pass_frames_proof.specs.run_source.Source.{Continues, Sleeper, change_own, context_of, coro, frame_address, release, sleeper_at}
+use Rattle.pass_frames_proof.specs.run_source.State.{function_of, gives, own_instance, work_of}
+use Rattle.pass_frames_proof.specs.run_source.declared.state.Activation.{Activation}
+use Rattle.pass_frames_proof.specs.run_source.declared.state.Instance.{Instance}
+use Rattle.pass_frames_proof.specs.run_source.declared.state.Mode.{Mode}
+use Rattle.pass_frames_proof.specs.run_source.declared.state.State.{State}
+use Rattle.pass_frames_proof.specs.run_source_tables.Given.{Given, has_final, is_final}
+use Rattle.pass_frames_proof.specs.run_step.Results.{and_then, ok_if}
+use Rattle.pass_frames_proof.specs.run_step.Step.{AtInstr, Coro, Deallocate, Done, Enter, allocated, fetch, instr_action, is_lifetime, named_call, with_length}
+use Rattle.pass_frames_proof.specs.run_step.Values.{address, arg_values, nth, truth_value, value_in, with_result}
+use Rattle.pass_renewed_meaning.proofs.run_types.Runs.{sizes_small}
+use Rattle.pass_renewed_meaning.specs.run_types.States.{IsMalloc, IsNew, TakesSize}
 
 -- ---- what is asked leaves the activation on top
 

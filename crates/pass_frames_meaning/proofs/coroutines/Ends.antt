@@ -1,16 +1,16 @@
 -- coro.end of a coroutine is followed, in a ramp and in an activation that was resumed.
 use Rattle.std.proofs.Common.{◌≡◌, ◌⊎◌, inl, inr, ℕ, ◌+◌, ◌<◌, Bool, true, false, List, ◌∷◌, length, Option, Some, None, Ok, refl, sym, ap, ◌∙◌, subst, if◌then◌else◌, ◌||◌}
 use Rattle.std.specs.Prelude.{option_map, slice_get}
-use Rattle.ir_base.specs.declared.outcome.Outcome.{Outcome}
-use Rattle.ir_laws.proofs.facts.Lists.{set_here}
-use Rattle.ir_model.specs.Names.{function_at}
-use Rattle.ir_model.specs.Ty.{Ty}
-use Rattle.ir_model.specs.declared.instr.Instr.{Instr}
-use Rattle.ir_model.specs.declared.module.Function.{Function}
-use Rattle.ir_model.specs.declared.operand.Arg.{Arg}
-use Rattle.ir_model.specs.declared.operand.Callee.{Callee}
-use Rattle.ir_model.specs.declared.operand.Intrinsic.{Intrinsic}
-use Rattle.pass_cells.specs.declared.plan.KeptValue.{KeptValue}
+use Rattle.pass_frames_proof.specs.ir_base.declared.outcome.Outcome.{Outcome}
+use Rattle.pass_frames_proof.proofs.ir_laws.facts.Lists.{set_here}
+use Rattle.pass_frames_proof.specs.ir_model.Names.{function_at}
+use Rattle.pass_frames_proof.specs.ir_model.Ty.{Ty}
+use Rattle.pass_frames_proof.specs.ir_model.declared.instr.Instr.{Instr}
+use Rattle.pass_frames_proof.specs.ir_model.declared.module.Function.{Function}
+use Rattle.pass_frames_proof.specs.ir_model.declared.operand.Arg.{Arg}
+use Rattle.pass_frames_proof.specs.ir_model.declared.operand.Callee.{Callee}
+use Rattle.pass_frames_proof.specs.ir_model.declared.operand.Intrinsic.{Intrinsic}
+use Rattle.pass_frames_proof.specs.pass_cells.declared.plan.KeptValue.{KeptValue}
 use Rattle.pass_frames_meaning.proofs.coroutines.Calls.{released_top}
 use Rattle.pass_frames_meaning.proofs.coroutines.Steps.{acts_as, may_stand, same_ok}
 use Rattle.pass_frames_meaning.proofs.ordinary.Standing.{fetch_ready}
@@ -32,24 +32,24 @@ use Rattle.pass_frames_proof.specs.Places.{Framing, edged, instrs_at}
 use Rattle.pass_frames_proof.specs.Related.{AreBuiltOf, IsKeptValue, is_coroutine, is_first}
 use Rattle.pass_frames_proof.specs.Returning.{FitsResult, IsAmong, IsBehindCall, is_own_kind}
 use Rattle.pass_frames_proof.specs.Stepping.{IsNotEntering, state_in}
-use Rattle.pass_renewed_proof.specs.Renewed.{renewed_step}
-use Rattle.run_agreement.specs.Machines.{IsFine}
-use Rattle.run_memory.specs.Memory.{same_kind}
-use Rattle.run_memory.specs.declared.block.Kind.{Kind}
-use Rattle.run_memory.specs.declared.block.MemoryBlock.{MemoryBlock}
-use Rattle.run_memory.specs.declared.pointer.Value.{Value}
+use Rattle.pass_frames_proof.specs.pass_renewed_proof.Renewed.{renewed_step}
+use Rattle.pass_frames_proof.specs.run_agreement.Machines.{IsFine}
+use Rattle.pass_frames_proof.specs.run_memory.Memory.{same_kind}
+use Rattle.pass_frames_proof.specs.run_memory.declared.block.Kind.{Kind}
+use Rattle.pass_frames_proof.specs.run_memory.declared.block.MemoryBlock.{MemoryBlock}
+use Rattle.pass_frames_proof.specs.run_memory.declared.pointer.Value.{Value}
 use Rattle.run_slots.proofs.Keeping.{frame_apart, in_instance}
 use Rattle.run_slots.specs.Slots.{IsSlottedState, times_on}
-use Rattle.run_source.specs.Source.{after_end, finish}
-use Rattle.run_source.specs.State.{function_of, gives, own_instance}
-use Rattle.run_source.specs.declared.state.Activation.{Activation}
-use Rattle.run_source.specs.declared.state.Instance.{Instance}
-use Rattle.run_source.specs.declared.state.Mode.{Mode}
-use Rattle.run_source.specs.declared.state.State.{State}
-use Rattle.run_source.specs.declared.state.Status.{Status}
-use Rattle.run_states.specs.sound_states.Sound.{AreSoundBelow, IsInstanceOf, IsModeOf}
-use Rattle.run_step.specs.Step.{AtInstr, Coro, fetch}
-use Rattle.run_step.specs.Values.{Env, truth_value, value_in, value_or_poison, with_result}
+use Rattle.pass_frames_proof.specs.run_source.Source.{after_end, finish}
+use Rattle.pass_frames_proof.specs.run_source.State.{function_of, gives, own_instance}
+use Rattle.pass_frames_proof.specs.run_source.declared.state.Activation.{Activation}
+use Rattle.pass_frames_proof.specs.run_source.declared.state.Instance.{Instance}
+use Rattle.pass_frames_proof.specs.run_source.declared.state.Mode.{Mode}
+use Rattle.pass_frames_proof.specs.run_source.declared.state.State.{State}
+use Rattle.pass_frames_proof.specs.run_source.declared.state.Status.{Status}
+use Rattle.pass_frames_proof.specs.run_states.sound_states.Sound.{AreSoundBelow, IsInstanceOf, IsModeOf}
+use Rattle.pass_frames_proof.specs.run_step.Step.{AtInstr, Coro, fetch}
+use Rattle.pass_frames_proof.specs.run_step.Values.{Env, truth_value, value_in, value_or_poison, with_result}
 
 -- ---- the instance
 

@@ -1,6 +1,6 @@
 -- Each step of a function is followed, whether it is a coroutine or not.
 use Rattle.std.proofs.Common.{◌≡◌, Bool, true, false, refl}
-use Rattle.ir_base.specs.declared.outcome.Outcome.{Outcome}
+use Rattle.pass_frames_proof.specs.ir_base.declared.outcome.Outcome.{Outcome}
 use Rattle.pass_frames_meaning.proofs.coroutines.All.{coroutines_followed}
 use Rattle.pass_frames_meaning.proofs.others.Others.{others_followed}
 use Rattle.pass_frames_meaning.specs.Coroutines.{AreCoroutinesReady}
@@ -9,10 +9,10 @@ use Rattle.pass_frames_meaning.specs.Setting.{AreOfRuns, KeepsAll, Setting}
 use Rattle.pass_frames_proof.specs.Followed.{IsFollowed}
 use Rattle.pass_frames_proof.specs.Related.{AreBuiltOf, is_coroutine}
 use Rattle.pass_frames_proof.specs.Stepping.{IsNotEntering}
-use Rattle.pass_renewed_proof.specs.Renewed.{renewed_step}
-use Rattle.run_agreement.specs.Machines.{IsFine}
-use Rattle.run_source.specs.declared.state.Mode.{Mode}
-use Rattle.run_source.specs.declared.state.State.{State}
+use Rattle.pass_frames_proof.specs.pass_renewed_proof.Renewed.{renewed_step}
+use Rattle.pass_frames_proof.specs.run_agreement.Machines.{IsFine}
+use Rattle.pass_frames_proof.specs.run_source.declared.state.Mode.{Mode}
+use Rattle.pass_frames_proof.specs.run_source.declared.state.State.{State}
 
 module _ (c : Setting) (all : KeepsAll c) (s t : State) (r : AreBuiltOf c.b s t) (k : AreOfRuns c s t r)
     (runs : s.outcome ≡ Outcome.Running) (fine : IsFine (renewed_step c.g s).outcome)

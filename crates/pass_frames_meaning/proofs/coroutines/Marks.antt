@@ -1,16 +1,16 @@
 -- A marker of a coroutine is followed, by how its slot stands.
 use Rattle.std.proofs.Common.{◌≡◌, ◌⊎◌, inl, inr, ℕ, Bool, true, false, List, [], ◌∷◌, Option, None, refl, sym, ap, ◌∙◌}
 use Rattle.std.proofs.lemmas.Bool.{and_parts, false≢true}
-use Rattle.ir_base.specs.declared.outcome.Outcome.{Outcome}
-use Rattle.ir_model.specs.Names.{function_at}
-use Rattle.ir_model.specs.Ty.{Ty}
-use Rattle.ir_model.specs.declared.instr.Instr.{Instr}
-use Rattle.ir_model.specs.declared.module.Function.{Function}
-use Rattle.ir_model.specs.declared.operand.Arg.{Arg}
-use Rattle.ir_model.specs.declared.operand.Callee.{Callee}
-use Rattle.ir_model.specs.declared.operand.Intrinsic.{Intrinsic}
-use Rattle.ir_model.specs.declared.operand.Operand.{Operand}
-use Rattle.ir_paths.specs.Windows.{operand_at}
+use Rattle.pass_frames_proof.specs.ir_base.declared.outcome.Outcome.{Outcome}
+use Rattle.pass_frames_proof.specs.ir_model.Names.{function_at}
+use Rattle.pass_frames_proof.specs.ir_model.Ty.{Ty}
+use Rattle.pass_frames_proof.specs.ir_model.declared.instr.Instr.{Instr}
+use Rattle.pass_frames_proof.specs.ir_model.declared.module.Function.{Function}
+use Rattle.pass_frames_proof.specs.ir_model.declared.operand.Arg.{Arg}
+use Rattle.pass_frames_proof.specs.ir_model.declared.operand.Callee.{Callee}
+use Rattle.pass_frames_proof.specs.ir_model.declared.operand.Intrinsic.{Intrinsic}
+use Rattle.pass_frames_proof.specs.ir_model.declared.operand.Operand.{Operand}
+use Rattle.pass_frames_proof.specs.ir_paths.Windows.{operand_at}
 use Rattle.pass_frames_meaning.proofs.called.Voids.{void_intrinsic}
 use Rattle.pass_frames_meaning.proofs.others.AtPlace.{AreTwo, args_wanted, two_wanted}
 use Rattle.pass_frames_meaning.proofs.others.Returns.{instr_in, no_return}
@@ -24,13 +24,13 @@ use Rattle.pass_frames_proof.specs.Followed.{IsFollowed}
 use Rattle.pass_frames_proof.specs.Marking.{IsAtMarker, IsNoLocal, marker, marking}
 use Rattle.pass_frames_proof.specs.Related.{AreBuiltOf, is_coroutine}
 use Rattle.pass_frames_proof.specs.Stepping.{IsNotEntering}
-use Rattle.rule_types.specs.Signatures.{are_wanted}
-use Rattle.rule_types.specs.Wants.{any, intrinsic_result, is_basic, meets, want}
-use Rattle.rule_types.specs.declared.wants.Basic.{Basic}
-use Rattle.rule_types.specs.declared.wants.Demand.{Demand}
-use Rattle.run_source.specs.State.{function_of}
-use Rattle.run_source.specs.declared.state.State.{State}
-use Rattle.run_step.specs.Step.{AtInstr, fetch}
+use Rattle.pass_frames_proof.specs.rule_types.Signatures.{are_wanted}
+use Rattle.pass_frames_proof.specs.rule_types.Wants.{any, intrinsic_result, is_basic, meets, want}
+use Rattle.pass_frames_proof.specs.rule_types.declared.wants.Basic.{Basic}
+use Rattle.pass_frames_proof.specs.rule_types.declared.wants.Demand.{Demand}
+use Rattle.pass_frames_proof.specs.run_source.State.{function_of}
+use Rattle.pass_frames_proof.specs.run_source.declared.state.State.{State}
+use Rattle.pass_frames_proof.specs.run_step.Step.{AtInstr, fetch}
 
 number_literal : (a : Operand) → meets Demand.Number a ≡ true → IsNoLocal a
 number_literal (Operand.Local v) e = absurd (false≢true e)

@@ -1,15 +1,15 @@
 -- Steps of a coroutine are followed, by what stands at the place.
 use Rattle.std.proofs.Common.{◌≡◌, ℕ, Bool, true, false, Option, Some, None, Result, Ok, Err, refl, sym, ap, ◌∙◌, subst, if◌then◌else◌}
-use Rattle.ir_base.specs.declared.cause.Cause.{Cause}
-use Rattle.ir_base.specs.declared.outcome.Outcome.{Outcome}
-use Rattle.ir_model.specs.Names.{declaration_named, function_at}
-use Rattle.ir_model.specs.declared.instr.Instr.{Instr}
-use Rattle.ir_model.specs.declared.operand.Arg.{Arg}
-use Rattle.ir_model.specs.declared.operand.Callee.{Callee}
-use Rattle.ir_model.specs.declared.operand.Operand.{Operand}
-use Rattle.ir_parts.specs.Contents.{result_of}
-use Rattle.pass_cells.specs.Kept.{entry}
-use Rattle.pass_cells.specs.declared.plan.KeptValue.{KeptValue}
+use Rattle.pass_frames_proof.specs.ir_base.declared.cause.Cause.{Cause}
+use Rattle.pass_frames_proof.specs.ir_base.declared.outcome.Outcome.{Outcome}
+use Rattle.pass_frames_proof.specs.ir_model.Names.{declaration_named, function_at}
+use Rattle.pass_frames_proof.specs.ir_model.declared.instr.Instr.{Instr}
+use Rattle.pass_frames_proof.specs.ir_model.declared.operand.Arg.{Arg}
+use Rattle.pass_frames_proof.specs.ir_model.declared.operand.Callee.{Callee}
+use Rattle.pass_frames_proof.specs.ir_model.declared.operand.Operand.{Operand}
+use Rattle.pass_frames_proof.specs.ir_parts.Contents.{result_of}
+use Rattle.pass_frames_proof.specs.pass_cells.Kept.{entry}
+use Rattle.pass_frames_proof.specs.pass_cells.declared.plan.KeptValue.{KeptValue}
 use Rattle.pass_frames_meaning.proofs.ordinary.Ready.{ordinary_ready, staying}
 use Rattle.pass_frames_meaning.proofs.others.Others.{IsQuietAction, no_ok, quiet_compared, quiet_done, quiet_if, quiet_observed}
 use Rattle.pass_frames_meaning.proofs.others.Returns.{no_returns_below}
@@ -26,13 +26,13 @@ use Rattle.pass_frames_proof.specs.Lines.{IsStorable}
 use Rattle.pass_frames_proof.specs.Places.{Framing, plan}
 use Rattle.pass_frames_proof.specs.Related.{AreBuiltOf, IsKeptValue, is_coroutine}
 use Rattle.pass_frames_proof.specs.Stepping.{AreFieldsSpared, IsAtOrdinary, IsCommon, IsNotEntering}
-use Rattle.pass_renewed_proof.specs.Renewed.{is_idle, renewed_act, renewed_advance, renewed_next, renewed_step}
-use Rattle.run_agreement.specs.Machines.{IsFine}
-use Rattle.run_source.specs.Source.{context_of}
-use Rattle.run_source.specs.State.{function_of, next, or_undefined, settled, work_of}
-use Rattle.run_source.specs.declared.state.State.{State}
-use Rattle.run_step.specs.Step.{Action, AtInstr, Coro, Deallocate, Done, Enter, Fetched, GoTo, NewSlot, Return, Stuck, Work, action_of, fetch, instr_action, named_call, words_of}
-use Rattle.run_step.specs.Values.{arg_values, value_in}
+use Rattle.pass_frames_proof.specs.pass_renewed_proof.Renewed.{is_idle, renewed_act, renewed_advance, renewed_next, renewed_step}
+use Rattle.pass_frames_proof.specs.run_agreement.Machines.{IsFine}
+use Rattle.pass_frames_proof.specs.run_source.Source.{context_of}
+use Rattle.pass_frames_proof.specs.run_source.State.{function_of, next, or_undefined, settled, work_of}
+use Rattle.pass_frames_proof.specs.run_source.declared.state.State.{State}
+use Rattle.pass_frames_proof.specs.run_step.Step.{Action, AtInstr, Coro, Deallocate, Done, Enter, Fetched, GoTo, NewSlot, Return, Stuck, Work, action_of, fetch, instr_action, named_call, words_of}
+use Rattle.pass_frames_proof.specs.run_step.Values.{arg_values, value_in}
 
 pub same_ok : (s t : State) → ◌≡◌ {A = Result State Cause} (Ok s) (Ok t) → s ≡ t
 same_ok s t e = cc

@@ -1,34 +1,34 @@
 -- Tokens are kept in no cell, and lie in no frame.
 use Rattle.std.proofs.Common.{◌≡◌, ⊎_elim, ℕ, ◌+◌, ◌<◌, ◌≤◌, Bool, true, false, List, [], ◌∷◌, length, Option, Some, None, refl, sym, ap, ◌∙◌, arith}
 use Rattle.std.specs.Prelude.{is_some, slice_get}
-use Rattle.flow_solver.specs.Paths.{IsListed}
-use Rattle.frame_classes.specs.declared.class.SlotClass.{SlotClass}
-use Rattle.ir_model.specs.Ty.{Ty, int, ptr, token}
-use Rattle.ir_model.specs.declared.module.Block.{Block}
-use Rattle.ir_model.specs.declared.module.Function.{Function}
-use Rattle.ir_paths.specs.Slots.{allocas_of}
-use Rattle.pass_cells.specs.Cells.{with_cells}
-use Rattle.pass_cells.specs.Kept.{entry}
-use Rattle.pass_frames.specs.Framed.{begin_of}
-use Rattle.pass_frames.specs.Tables.{class_flags}
+use Rattle.pass_frames_proof.specs.flow_solver.Paths.{IsListed}
+use Rattle.pass_frames_proof.specs.frame_classes.declared.class.SlotClass.{SlotClass}
+use Rattle.pass_frames_proof.specs.ir_model.Ty.{Ty, int, ptr, token}
+use Rattle.pass_frames_proof.specs.ir_model.declared.module.Block.{Block}
+use Rattle.pass_frames_proof.specs.ir_model.declared.module.Function.{Function}
+use Rattle.pass_frames_proof.specs.ir_paths.Slots.{allocas_of}
+use Rattle.pass_frames_proof.specs.pass_cells.Cells.{with_cells}
+use Rattle.pass_frames_proof.specs.pass_cells.Kept.{entry}
+use Rattle.pass_frames_proof.specs.pass_frames.Framed.{begin_of}
+use Rattle.pass_frames_proof.specs.pass_frames.Tables.{class_flags}
 use Rattle.pass_frames_meaning.proofs.begun.Begun.{first}
 use Rattle.pass_frames_meaning.specs.Coroutines.{IsNowhere}
 use Rattle.pass_frames_proof.specs.Framings.{IsFraming}
 use Rattle.pass_frames_proof.specs.Places.{Framing, edged, offsets, plan, with_copies}
-use Rattle.pass_proofs.proofs.addresses.rules.Placed.{outside_unfetched}
-use Rattle.pass_proofs.proofs.cells.rules.Planned.{unplaced_fetch}
-use Rattle.pass_proofs.proofs.cells.rules.Whole.{planned}
-use Rattle.pass_proofs.proofs.frames.begin_order.Framed.{alloca_pointer, in_either, old_slot, slot_alloca, woven}
-use Rattle.pass_proofs.specs.cells.rules.Weaving.{cells_weaving}
-use Rattle.pass_proofs.specs.addresses.rules.Addresses.{lies_in_frame}
-use Rattle.pass_proofs.specs.frames.begin_order.Fields.{IsField, values_kept}
-use Rattle.rule_laws.proofs.rules.counted.Types.{is_cell_type}
-use Rattle.rule_laws.proofs.rules.shape.Stands.{begin_stands}
-use Rattle.rule_laws.proofs.rules.woven_rules.Laid.{valued_old}
-use Rattle.rule_laws.proofs.rules.woven_rules.Once.{names_below}
-use Rattle.rule_values.specs.Fits.{fits_kind}
-use Rattle.rule_values.specs.Kinds.{kind_of, value_kind}
-use Rattle.rule_values.specs.declared.kinds.Kind.{Kind}
+use Rattle.pass_frames_proof.proofs.pass_proofs.addresses.rules.Placed.{outside_unfetched}
+use Rattle.pass_frames_proof.proofs.pass_proofs.cells.rules.Planned.{unplaced_fetch}
+use Rattle.pass_frames_proof.proofs.pass_proofs.cells.rules.Whole.{planned}
+use Rattle.pass_frames_proof.proofs.pass_proofs.frames.begin_order.Framed.{alloca_pointer, in_either, old_slot, slot_alloca, woven}
+use Rattle.pass_frames_proof.specs.pass_proofs.cells.rules.Weaving.{cells_weaving}
+use Rattle.pass_frames_proof.specs.pass_proofs.addresses.rules.Addresses.{lies_in_frame}
+use Rattle.pass_frames_proof.specs.pass_proofs.frames.begin_order.Fields.{IsField, values_kept}
+use Rattle.pass_frames_proof.proofs.rule_laws.rules.counted.Types.{is_cell_type}
+use Rattle.pass_frames_proof.proofs.rule_laws.rules.shape.Stands.{begin_stands}
+use Rattle.pass_frames_proof.proofs.rule_laws.rules.woven_rules.Laid.{valued_old}
+use Rattle.pass_frames_proof.proofs.rule_laws.rules.woven_rules.Once.{names_below}
+use Rattle.pass_frames_proof.specs.rule_values.Fits.{fits_kind}
+use Rattle.pass_frames_proof.specs.rule_values.Kinds.{kind_of, value_kind}
+use Rattle.pass_frames_proof.specs.rule_values.declared.kinds.Kind.{Kind}
 
 cell_no_token : (ty : Ty) → is_cell_type ty ≡ true → fits_kind (Some (kind_of ty)) token ≡ true → ⊥
 cell_no_token (int n) e h = absurd (cc)

@@ -3,9 +3,9 @@
 use Rattle.std.proofs.Common.{◌≡◌, ℕ, zero, suc, ◌+◌, ◌-◌, ◌<◌, ◌≤◌, ◌⊎◌, inl, inr, ⊎_elim, map, refl, sym, ap, ◌∙◌, subst, arith}
 use Rattle.std.proofs.lemmas.Bool.{cases_lt}
 use Rattle.std.specs.Prelude.{slice_get}
-use Rattle.frame_layout.specs.declared.layout.Layouts.{Layouts}
-use Rattle.ir_base.specs.declared.outcome.Outcome.{Outcome}
-use Rattle.ir_model.specs.Names.{function_at}
+use Rattle.pass_frames_proof.specs.frame_layout.declared.layout.Layouts.{Layouts}
+use Rattle.pass_frames_proof.specs.ir_base.declared.outcome.Outcome.{Outcome}
+use Rattle.pass_frames_proof.specs.ir_model.Names.{function_at}
 use Rattle.pass_frames_meaning.specs.Covered.{AgreesWithFrames, AreCoveredStepsFollowed, IsCovered, Makes, Stands}
 use Rattle.pass_frames_proof.proofs.followed.Assembly.{cost_ones, events_same, framed_stays, running_is, seen_same}
 use Rattle.pass_frames_proof.proofs.followed.Assembly.{shown_alike}
@@ -13,30 +13,30 @@ use Rattle.pass_frames_proof.specs.Followed.{IsFollowed as FrameFollowed, IsGive
 use Rattle.pass_frames_proof.specs.Followed.{renewed_state_at}
 use Rattle.pass_frames_proof.specs.Meaning.{PaysForFrames, step_cost}
 use Rattle.pass_frames_proof.specs.Related.{AreBuiltOf, AreShownAlike, Building}
-use Rattle.pass_kept_proof.specs.Kept.{continue_keeping}
-use Rattle.pass_kept_proof.specs.Machines.{kept_machine}
+use Rattle.pass_frames_proof.specs.pass_kept_proof.Kept.{continue_keeping}
+use Rattle.pass_frames_proof.specs.pass_kept_proof.Machines.{kept_machine}
 use Rattle.pass_renewed_meaning.proofs.Assembly.{alike, counts, kept_stays, shows}
 use Rattle.pass_renewed_meaning.proofs.Dispatch.{each_step}
 use Rattle.pass_renewed_meaning.specs.Followed.{AreAlike, AreInStep, Ended, Goes, IsFollowed, IsOnItsWay}
 use Rattle.pass_renewed_meaning.specs.Offsets.{first_at}
 use Rattle.pass_renewed_meaning.specs.Rules.{KeepsAll, Setting}
 use Rattle.pass_renewed_meaning.specs.Runs.{first_given, first_step, second_given}
-use Rattle.pass_renewed_proof.proofs.Start.{first_beside}
-use Rattle.pass_renewed_proof.specs.Beside.{IsBeside}
-use Rattle.pass_renewed_proof.specs.Prices.{Prices, kept_price, renewed_machine, renewed_price}
-use Rattle.pass_renewed_proof.specs.Renewed.{RenewedGiven, renewed_step}
-use Rattle.run_agreement.proofs.Costs.{weaken_by}
-use Rattle.run_agreement.proofs.PricedLockstep.{AdvanceBy, IsPassed, SimulatesBy, lockstep_by}
-use Rattle.run_agreement.proofs.Runs.{iterate-add}
-use Rattle.run_agreement.proofs.Shows.{ShowsSame}
-use Rattle.run_agreement.specs.Costs.{Through, cost_from}
-use Rattle.run_agreement.specs.Machines.{IsFine, IsRunning, Machine, iterate}
-use Rattle.run_framed.specs.Framed.{FramedGiven, framed_given, framed_state_at, framed_step}
-use Rattle.run_source.specs.Source.{first_state}
-use Rattle.run_source.specs.declared.state.Activation.{Activation}
-use Rattle.run_source.specs.declared.state.State.{State}
-use Rattle.run_states.specs.moved_states.Beside.{framed_machine}
-use Rattle.run_step.specs.Runs.{seen_event}
+use Rattle.pass_frames_proof.proofs.pass_renewed_proof.Start.{first_beside}
+use Rattle.pass_frames_proof.specs.pass_renewed_proof.Beside.{IsBeside}
+use Rattle.pass_frames_proof.specs.pass_renewed_proof.Prices.{Prices, kept_price, renewed_machine, renewed_price}
+use Rattle.pass_frames_proof.specs.pass_renewed_proof.Renewed.{RenewedGiven, renewed_step}
+use Rattle.pass_frames_proof.proofs.run_agreement.Costs.{weaken_by}
+use Rattle.pass_frames_proof.proofs.run_agreement.PricedLockstep.{AdvanceBy, IsPassed, SimulatesBy, lockstep_by}
+use Rattle.pass_frames_proof.proofs.run_agreement.Runs.{iterate-add}
+use Rattle.pass_frames_proof.proofs.run_agreement.Shows.{ShowsSame}
+use Rattle.pass_frames_proof.specs.run_agreement.Costs.{Through, cost_from}
+use Rattle.pass_frames_proof.specs.run_agreement.Machines.{IsFine, IsRunning, Machine, iterate}
+use Rattle.pass_frames_proof.specs.run_framed.Framed.{FramedGiven, framed_given, framed_state_at, framed_step}
+use Rattle.pass_frames_proof.specs.run_source.Source.{first_state}
+use Rattle.pass_frames_proof.specs.run_source.declared.state.Activation.{Activation}
+use Rattle.pass_frames_proof.specs.run_source.declared.state.State.{State}
+use Rattle.pass_frames_proof.specs.run_states.moved_states.Beside.{framed_machine}
+use Rattle.pass_frames_proof.specs.run_step.Runs.{seen_event}
 
 -- ---- steps in a row
 

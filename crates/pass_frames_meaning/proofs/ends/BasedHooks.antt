@@ -2,36 +2,36 @@
 use Rattle.std.proofs.Common.{◌≡◌, ℕ, zero, suc, Bool, true, false, List, [], ◌∷◌, length, Option, Some, None, Result, Ok, Err, refl, sym, ◌∙◌, subst, if◌then◌else◌, ◌&&◌}
 use Rattle.std.specs.Prelude.{is_none, not}
 use Rattle.std.proofs.lemmas.Bool.{false≢true}
-use Rattle.ir_base.specs.declared.cause.Cause.{Cause}
-use Rattle.ir_base.specs.declared.outcome.Word.{Word}
-use Rattle.ir_model.specs.Names.{function_at}
-use Rattle.ir_model.specs.declared.instr.Instr.{Instr}
-use Rattle.ir_model.specs.declared.operand.Callee.{Callee}
-use Rattle.ir_model.specs.declared.operand.Intrinsic.{Intrinsic}
-use Rattle.ir_paths.specs.declared.point.Point.{Point}
+use Rattle.pass_frames_proof.specs.ir_base.declared.cause.Cause.{Cause}
+use Rattle.pass_frames_proof.specs.ir_base.declared.outcome.Word.{Word}
+use Rattle.pass_frames_proof.specs.ir_model.Names.{function_at}
+use Rattle.pass_frames_proof.specs.ir_model.declared.instr.Instr.{Instr}
+use Rattle.pass_frames_proof.specs.ir_model.declared.operand.Callee.{Callee}
+use Rattle.pass_frames_proof.specs.ir_model.declared.operand.Intrinsic.{Intrinsic}
+use Rattle.pass_frames_proof.specs.ir_paths.declared.point.Point.{Point}
 use Rattle.pass_frames_meaning.proofs.ends.Based.{step_based}
 use Rattle.pass_frames_meaning.specs.Based.{AreBegunOnce, IsBasedState, IsNoBegin, IsOnPlace, IsOwnMode, KeepsBased}
 use Rattle.pass_frames_meaning.specs.Called.{FitsMode, IsCalledState}
 use Rattle.pass_frames_meaning.specs.Led.{IsBegin}
-use Rattle.pass_kept_proof.specs.Kept.{kept}
-use Rattle.pass_renewed_proof.specs.Renewed.{RenewedGiven, is_idle, renew_after, renewed_from, renewed_slot, with_life}
-use Rattle.run_hooks.specs.Hooks.{hooked_state_at, step_of}
-use Rattle.run_hooks.specs.Meanings.{renewed_hooks}
-use Rattle.run_memory.specs.Memory.{killed, own, start}
-use Rattle.run_memory.specs.declared.block.Kind.{Kind}
-use Rattle.run_memory.specs.declared.block.MemoryBlock.{MemoryBlock}
-use Rattle.run_memory.specs.declared.pointer.Value.{Value}
-use Rattle.run_source.specs.Source.{begin, begin_at, begun, change_own, finish, first_state, is_among, is_over, kill_late, new_slot, push, resumed, slots_of, with_new_slots}
-use Rattle.run_source.specs.State.{function_of, gives, own_facts, own_frame, own_instance, with_memory, with_slots, with_status}
-use Rattle.run_source.specs.declared.state.Instance.{Instance}
-use Rattle.run_source.specs.declared.state.Mode.{Mode}
-use Rattle.run_source.specs.declared.state.State.{State}
-use Rattle.run_source.specs.declared.state.Status.{Status}
-use Rattle.run_source_tables.specs.Given.{Given}
-use Rattle.run_step.specs.Results.{and_then, found, ok_if}
-use Rattle.run_step.specs.Runs.{iterate}
-use Rattle.run_step.specs.Step.{AtInstr, AtTerm, Fetched, Nowhere, block_of, without_slots}
-use Rattle.run_step.specs.declared.world.Slot.{Slot}
+use Rattle.pass_frames_proof.specs.pass_kept_proof.Kept.{kept}
+use Rattle.pass_frames_proof.specs.pass_renewed_proof.Renewed.{RenewedGiven, is_idle, renew_after, renewed_from, renewed_slot, with_life}
+use Rattle.pass_renewed_meaning.specs.run_hooks.Hooks.{hooked_state_at, step_of}
+use Rattle.pass_renewed_meaning.specs.run_hooks.Meanings.{renewed_hooks}
+use Rattle.pass_frames_proof.specs.run_memory.Memory.{killed, own, start}
+use Rattle.pass_frames_proof.specs.run_memory.declared.block.Kind.{Kind}
+use Rattle.pass_frames_proof.specs.run_memory.declared.block.MemoryBlock.{MemoryBlock}
+use Rattle.pass_frames_proof.specs.run_memory.declared.pointer.Value.{Value}
+use Rattle.pass_frames_proof.specs.run_source.Source.{begin, begin_at, begun, change_own, finish, first_state, is_among, is_over, kill_late, new_slot, push, resumed, slots_of, with_new_slots}
+use Rattle.pass_frames_proof.specs.run_source.State.{function_of, gives, own_facts, own_frame, own_instance, with_memory, with_slots, with_status}
+use Rattle.pass_frames_proof.specs.run_source.declared.state.Instance.{Instance}
+use Rattle.pass_frames_proof.specs.run_source.declared.state.Mode.{Mode}
+use Rattle.pass_frames_proof.specs.run_source.declared.state.State.{State}
+use Rattle.pass_frames_proof.specs.run_source.declared.state.Status.{Status}
+use Rattle.pass_frames_proof.specs.run_source_tables.Given.{Given}
+use Rattle.pass_frames_proof.specs.run_step.Results.{and_then, found, ok_if}
+use Rattle.pass_frames_proof.specs.run_step.Runs.{iterate}
+use Rattle.pass_frames_proof.specs.run_step.Step.{AtInstr, AtTerm, Fetched, Nowhere, block_of, without_slots}
+use Rattle.pass_frames_proof.specs.run_step.declared.world.Slot.{Slot}
 
 itself : (s : State) → IsOnPlace s s
 itself s = record { func = refl; below = refl; mode = λ h. h; place = λ none. (none, refl) }
@@ -192,7 +192,7 @@ renewed_keeps_based g = record {
       let l = life_on g s slot in
       then_on s (with_life g s slot) (renewed_slot g (with_life g s slot) slot s.top.mode) l.0
       (renewed_place g (with_life g s slot) slot
-      (subst (λ (a : Rattle.run_source.specs.declared.state.Activation.Activation). FitsMode a.instance a.mode)
+      (subst (λ (a : Rattle.pass_frames_proof.specs.run_source.declared.state.Activation.Activation). FitsMode a.instance a.mode)
       (sym l.1) fits) s.top.mode (λ i. (l.1 i).mode));
   start = λ s result memory t e. begins_by s (begin g.given s result memory) t (begin_on g.given s result memory) e;
   close = finish_on;
@@ -217,7 +217,7 @@ module _ (g : RenewedGiven) (once : AreBegunOnce g.given.code) (entry : ℕ) (ar
     top = record {
       mode = λ c. absurd (false≢true (sym plain ∙ c));
       ahead = λ none v named.
-          Rattle.pass_kept_proof.specs.Crossing.first_without (once entry v named).no_param
+          Rattle.pass_frames_proof.specs.pass_kept_proof.Crossing.first_without (once entry v named).no_param
           ((once entry v named).no_phi 0);
     };
     below = tt;

@@ -2,17 +2,17 @@
 use Rattle.std.proofs.Common.{◌≡◌, ◌⊎◌, inl, inr, ⊎_elim, ℕ, zero, suc, ◌+◌, ◌-◌, ◌<◌, ◌≤◌, Bool, true, false, List, [], ◌∷◌, length, Option, Some, None, refl, sym, ap, ◌∙◌, subst, arith, if◌then◌else◌, ◌==◌}
 use Rattle.std.proofs.lemmas.Bool.{cases_lt, le-ltb, lt-ltb, ltb-true}
 use Rattle.std.specs.Prelude.{map, nat_lt, slice_get, unwrap_or}
-use Rattle.flow_solver.specs.Paths.{IsListed}
-use Rattle.ir_laws.proofs.facts.Truth.{either as either_number, equal_numbers, itself}
-use Rattle.ir_laws.proofs.paths.alike_slots.Strands.{leads_at}
-use Rattle.ir_laws.proofs.paths.expanded.Strands.{leads_on}
-use Rattle.ir_laws.proofs.paths.threads.Edges.{one_there, only_one}
-use Rattle.ir_model.specs.Names.{position_of}
-use Rattle.ir_model.specs.declared.module.Block.{Block}
-use Rattle.ir_model.specs.declared.module.Function.{Function}
-use Rattle.ir_paths.proofs.Search.{either, or_left, or_right, same_point-itself, same_point-same}
-use Rattle.ir_paths.specs.Paths.{IsPath, Leads, entry_point, has_point, nexts, nexts_in, same_point, targets}
-use Rattle.ir_paths.specs.declared.point.Point.{Point}
+use Rattle.pass_frames_proof.specs.flow_solver.Paths.{IsListed}
+use Rattle.pass_frames_proof.proofs.ir_laws.facts.Truth.{either as either_number, equal_numbers, itself}
+use Rattle.pass_frames_proof.proofs.ir_laws.paths.alike_slots.Strands.{leads_at}
+use Rattle.pass_frames_proof.proofs.ir_laws.paths.expanded.Strands.{leads_on}
+use Rattle.pass_frames_proof.proofs.ir_laws.paths.threads.Edges.{one_there, only_one}
+use Rattle.pass_frames_proof.specs.ir_model.Names.{position_of}
+use Rattle.pass_frames_proof.specs.ir_model.declared.module.Block.{Block}
+use Rattle.pass_frames_proof.specs.ir_model.declared.module.Function.{Function}
+use Rattle.pass_frames_proof.proofs.ir_paths.Search.{either, or_left, or_right, same_point-itself, same_point-same}
+use Rattle.pass_frames_proof.specs.ir_paths.Paths.{IsPath, Leads, entry_point, has_point, nexts, nexts_in, same_point, targets}
+use Rattle.pass_frames_proof.specs.ir_paths.declared.point.Point.{Point}
 use Rattle.pass_frames_proof.specs.Passes.{block_at, no_block}
 
 abbrev pub pt : ℕ → ℕ → Point

@@ -2,22 +2,22 @@
 use Rattle.std.proofs.Common.{◌≡◌, ◌⊎◌, inl, inr, ℕ, ◌<◌, ◌^◌, Bool, true, List, [], ◌∷◌, length, Option, Some, None, refl, sym, ap, ◌∙◌, subst, arith}
 use Rattle.std.proofs.lemmas.Bool.{false≢true}
 use Rattle.std.specs.Prelude.{option_map, slice_get}
-use Rattle.ir_base.specs.declared.outcome.Outcome.{Outcome}
-use Rattle.ir_laws.proofs.facts.Members.{at_each, each_both, each_turns}
-use Rattle.ir_laws.specs.facts.expanded.Tokens.{IsNamed}
-use Rattle.ir_laws.specs.facts.sound_states.Named.{HasNamedUses}
-use Rattle.ir_model.specs.Names.{function_at}
-use Rattle.ir_model.specs.Ty.{Ty}
-use Rattle.ir_model.specs.declared.instr.Instr.{Instr}
-use Rattle.ir_model.specs.declared.instr.Terminator.{Terminator}
-use Rattle.ir_model.specs.declared.module.Function.{Function}
-use Rattle.ir_model.specs.declared.operand.Arg.{Arg}
-use Rattle.ir_model.specs.declared.operand.Callee.{Callee}
-use Rattle.ir_model.specs.declared.operand.Intrinsic.{Intrinsic}
-use Rattle.ir_model.specs.declared.operand.Operand.{Operand}
-use Rattle.pass_cells.specs.Kept.{entry, joined}
-use Rattle.pass_fetch.specs.Instrs.{term_operands}
-use Rattle.pass_frames.specs.Framed.{begin_of}
+use Rattle.pass_frames_proof.specs.ir_base.declared.outcome.Outcome.{Outcome}
+use Rattle.pass_frames_proof.proofs.ir_laws.facts.Members.{at_each, each_both, each_turns}
+use Rattle.pass_frames_proof.specs.ir_laws.facts.expanded.Tokens.{IsNamed}
+use Rattle.pass_frames_proof.specs.ir_laws.facts.sound_states.Named.{HasNamedUses}
+use Rattle.pass_frames_proof.specs.ir_model.Names.{function_at}
+use Rattle.pass_frames_proof.specs.ir_model.Ty.{Ty}
+use Rattle.pass_frames_proof.specs.ir_model.declared.instr.Instr.{Instr}
+use Rattle.pass_frames_proof.specs.ir_model.declared.instr.Terminator.{Terminator}
+use Rattle.pass_frames_proof.specs.ir_model.declared.module.Function.{Function}
+use Rattle.pass_frames_proof.specs.ir_model.declared.operand.Arg.{Arg}
+use Rattle.pass_frames_proof.specs.ir_model.declared.operand.Callee.{Callee}
+use Rattle.pass_frames_proof.specs.ir_model.declared.operand.Intrinsic.{Intrinsic}
+use Rattle.pass_frames_proof.specs.ir_model.declared.operand.Operand.{Operand}
+use Rattle.pass_frames_proof.specs.pass_cells.Kept.{entry, joined}
+use Rattle.pass_frames_proof.specs.pass_fetch.Instrs.{term_operands}
+use Rattle.pass_frames_proof.specs.pass_frames.Framed.{begin_of}
 use Rattle.pass_frames_meaning.proofs.ends.Incoming.{incoming_both, incoming_turns}
 use Rattle.pass_frames_meaning.proofs.ends.Line.{ends_named}
 use Rattle.pass_frames_meaning.proofs.ends.Targets.{IsTermAt, term_at}
@@ -33,20 +33,20 @@ use Rattle.pass_frames_proof.specs.Passes.{block_at}
 use Rattle.pass_frames_proof.specs.Places.{Framing, edged, offsets}
 use Rattle.pass_frames_proof.specs.Related.{is_coroutine, is_first}
 use Rattle.pass_frames_proof.specs.Stepping.{IsNotEntering, IsPlacedOperand, IsSlotOf}
-use Rattle.pass_kept_proof.specs.SuspendRules.{IsCallAt}
-use Rattle.pass_proofs.proofs.frames.begin_order.Framed.{celled_behind}
+use Rattle.pass_frames_proof.specs.pass_kept_proof.SuspendRules.{IsCallAt}
+use Rattle.pass_frames_proof.proofs.pass_proofs.frames.begin_order.Framed.{celled_behind}
 use Rattle.pass_frames_proof.specs.Places.{with_copies}
-use Rattle.run_hooks.specs.Away.{point_in}
-use Rattle.run_laws.specs.changed.Changed.{Each}
+use Rattle.pass_renewed_meaning.specs.run_hooks.Away.{point_in}
+use Rattle.pass_frames_proof.specs.run_laws.changed.Changed.{Each}
 use Rattle.run_slots.specs.Slots.{IsFrameBlock, IsSlottedState}
-use Rattle.run_source.specs.State.{frame_address_of, function_of}
-use Rattle.run_source.specs.declared.state.Activation.{Activation}
-use Rattle.run_source.specs.declared.state.Instance.{Instance}
-use Rattle.run_source.specs.declared.state.Mode.{Mode}
-use Rattle.run_source.specs.declared.state.State.{State}
-use Rattle.run_states.specs.sound_states.Sound.{IsInstanceOf, IsSound}
-use Rattle.run_step.specs.Step.{AtInstr, AtTerm, fetch}
-use Rattle.run_step.specs.Values.{value_in}
+use Rattle.pass_frames_proof.specs.run_source.State.{frame_address_of, function_of}
+use Rattle.pass_frames_proof.specs.run_source.declared.state.Activation.{Activation}
+use Rattle.pass_frames_proof.specs.run_source.declared.state.Instance.{Instance}
+use Rattle.pass_frames_proof.specs.run_source.declared.state.Mode.{Mode}
+use Rattle.pass_frames_proof.specs.run_source.declared.state.State.{State}
+use Rattle.pass_frames_proof.specs.run_states.sound_states.Sound.{IsInstanceOf, IsSound}
+use Rattle.pass_frames_proof.specs.run_step.Step.{AtInstr, AtTerm, fetch}
+use Rattle.pass_frames_proof.specs.run_step.Values.{value_in}
 
 told : (t : List (Option ℕ)) (v d : ℕ) → entry t v ≡ Some d → slice_get t v ≡ Some (Some d)
 told t v d e = on (slice_get t v) e

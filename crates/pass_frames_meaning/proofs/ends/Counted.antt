@@ -3,15 +3,15 @@ use Rattle.std.proofs.Common.{◌≡◌, ℕ, ◌<◌, ◌≤◌, List, [], ◌+
 use Rattle.std.proofs.lemmas.List.{take_all}
 use Rattle.std.specs.List.{Contains}
 use Rattle.std.specs.Prelude.{codes, slice_get, take, unwrap_or}
-use Rattle.ir_model.specs.declared.instr.Instr.{Instr}
-use Rattle.ir_model.specs.declared.module.Block.{Block}
-use Rattle.ir_model.specs.declared.module.Function.{Function}
-use Rattle.pass_cells.specs.Cells.{fetches_of}
-use Rattle.pass_copies.specs.declared.slot.EarlySlot.{EarlySlot}
-use Rattle.pass_fetch.specs.Blocks.{next_after_block, next_after_blocks, next_after_phis_by, with_fetches}
-use Rattle.pass_fetch.specs.Fetching.{next_after_all}
-use Rattle.pass_fetch.specs.Instrs.{next_after_instrs, term_operands}
-use Rattle.pass_fetch.specs.declared.fetch.Fetch.{Fetch}
+use Rattle.pass_frames_proof.specs.ir_model.declared.instr.Instr.{Instr}
+use Rattle.pass_frames_proof.specs.ir_model.declared.module.Block.{Block}
+use Rattle.pass_frames_proof.specs.ir_model.declared.module.Function.{Function}
+use Rattle.pass_frames_proof.specs.pass_cells.Cells.{fetches_of}
+use Rattle.pass_frames_proof.specs.pass_copies.declared.slot.EarlySlot.{EarlySlot}
+use Rattle.pass_frames_proof.specs.pass_fetch.Blocks.{next_after_block, next_after_blocks, next_after_phis_by, with_fetches}
+use Rattle.pass_frames_proof.specs.pass_fetch.Fetching.{next_after_all}
+use Rattle.pass_frames_proof.specs.pass_fetch.Instrs.{next_after_instrs, term_operands}
+use Rattle.pass_frames_proof.specs.pass_fetch.declared.fetch.Fetch.{Fetch}
 use Rattle.pass_frames_meaning.proofs.order.Counts.{blocks_to, further, instrs_up, joined, names_count, up_to_second}
 use Rattle.pass_frames_meaning.proofs.order.Order.{A0, address_is, addresses_up, before, copied_names, early_below, fetched_names, loads_passed, unmarked_are}
 use Rattle.pass_frames_proof.proofs.code.Framed.{framed_is}
@@ -23,7 +23,7 @@ use Rattle.pass_frames_proof.specs.Layers.{grown, passed, woven}
 use Rattle.pass_frames_proof.specs.Passes.{block_at, fetched_first, no_block}
 use Rattle.pass_frames_proof.specs.Places.{Framing, Placed, copies, edged, fetched, framed, instrs_at, named, placed_layer, plan, unmarked, unmarked_layer, written}
 use Rattle.pass_frames_proof.specs.Stepping.{state_in}
-use Rattle.pass_proofs.proofs.cells.rules.Totals.{blocks_rise}
+use Rattle.pass_frames_proof.proofs.pass_proofs.cells.rules.Totals.{blocks_rise}
 
 module _ (x : Framing) (is : IsFraming x) (k : ℕ)
     (here : slice_get (edged x).blocks k ≡ Some (block_at (edged x) k)) where

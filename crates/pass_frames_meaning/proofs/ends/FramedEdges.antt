@@ -1,19 +1,19 @@
 -- The framed form of a coroutine has the edges of the edged one, and so its jumps leave the same windows.
 use Rattle.std.proofs.Common.{◌≡◌, inl, inr, ⊎_elim, ℕ, zero, suc, ◌<◌, List, [], ◌∷◌, Option, Some, refl, sym, ap, ◌∙◌, subst}
 use Rattle.std.specs.Prelude.{slice_get}
-use Rattle.flow_solver.specs.Paths.{IsListed}
-use Rattle.ir_laws.proofs.facts.Truth.{same_truth}
-use Rattle.ir_model.specs.Names.{position_of}
-use Rattle.ir_model.specs.declared.instr.Instr.{Instr}
-use Rattle.ir_model.specs.declared.instr.Terminator.{Terminator}
-use Rattle.ir_model.specs.declared.module.Block.{Block}
-use Rattle.ir_paths.specs.Facts.{IsWindow}
-use Rattle.ir_paths.specs.Paths.{targets}
-use Rattle.ir_paths.specs.Windows.{leaves}
-use Rattle.ir_paths.specs.declared.point.Window.{Window}
-use Rattle.pass_cells.specs.Cells.{fetches_of}
-use Rattle.pass_fetch.specs.Instrs.{fetched_term}
-use Rattle.pass_fetch.specs.declared.fetch.Fetch.{Fetch}
+use Rattle.pass_frames_proof.specs.flow_solver.Paths.{IsListed}
+use Rattle.pass_frames_proof.proofs.ir_laws.facts.Truth.{same_truth}
+use Rattle.pass_frames_proof.specs.ir_model.Names.{position_of}
+use Rattle.pass_frames_proof.specs.ir_model.declared.instr.Instr.{Instr}
+use Rattle.pass_frames_proof.specs.ir_model.declared.instr.Terminator.{Terminator}
+use Rattle.pass_frames_proof.specs.ir_model.declared.module.Block.{Block}
+use Rattle.pass_frames_proof.specs.ir_paths.Facts.{IsWindow}
+use Rattle.pass_frames_proof.specs.ir_paths.Paths.{targets}
+use Rattle.pass_frames_proof.specs.ir_paths.Windows.{leaves}
+use Rattle.pass_frames_proof.specs.ir_paths.declared.point.Window.{Window}
+use Rattle.pass_frames_proof.specs.pass_cells.Cells.{fetches_of}
+use Rattle.pass_frames_proof.specs.pass_fetch.Instrs.{fetched_term}
+use Rattle.pass_frames_proof.specs.pass_fetch.declared.fetch.Fetch.{Fetch}
 use Rattle.pass_frames_meaning.proofs.ends.Chains.{AreEdges, HasEdge, IsChain, len, pt}
 use Rattle.pass_frames_meaning.proofs.ends.Left.{IsOut, leaves_if}
 use Rattle.pass_frames_meaning.proofs.ends.Targets.{is_target}

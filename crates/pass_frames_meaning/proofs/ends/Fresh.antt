@@ -2,38 +2,38 @@
 use Rattle.std.proofs.Common.{◌≡◌, inl, inr, ⊎_elim, ℕ, zero, suc, Bool, true, false, List, [], ◌∷◌, ◌++◌, length, Option, Some, None, Result, Ok, Err, refl, sym, ap, ◌∙◌, subst, if◌then◌else◌, ◌&&◌}
 use Rattle.std.specs.Prelude.{not, slice_get, slice_set, unwrap_or}
 use Rattle.std.proofs.lemmas.Bool.{false≢true}
-use Rattle.ir_base.specs.declared.cause.Cause.{Cause}
-use Rattle.ir_base.specs.declared.outcome.Outcome.{Outcome}
-use Rattle.ir_model.specs.Layout.{size_of}
-use Rattle.ir_model.specs.Names.{function_at, position_of}
-use Rattle.ir_model.specs.declared.instr.Instr.{Instr}
-use Rattle.ir_model.specs.declared.instr.Terminator.{Terminator}
-use Rattle.ir_model.specs.declared.operand.Arg.{Arg}
-use Rattle.ir_model.specs.declared.operand.Intrinsic.{Intrinsic}
-use Rattle.ir_model.specs.declared.operand.Operand.{Operand}
-use Rattle.ir_paths.specs.Windows.{operand_at, suspend_of}
-use Rattle.ir_paths.specs.declared.point.Point.{Point}
-use Rattle.ir_paths.specs.declared.point.Window.{Window}
+use Rattle.pass_frames_proof.specs.ir_base.declared.cause.Cause.{Cause}
+use Rattle.pass_frames_proof.specs.ir_base.declared.outcome.Outcome.{Outcome}
+use Rattle.pass_frames_proof.specs.ir_model.Layout.{size_of}
+use Rattle.pass_frames_proof.specs.ir_model.Names.{function_at, position_of}
+use Rattle.pass_frames_proof.specs.ir_model.declared.instr.Instr.{Instr}
+use Rattle.pass_frames_proof.specs.ir_model.declared.instr.Terminator.{Terminator}
+use Rattle.pass_frames_proof.specs.ir_model.declared.operand.Arg.{Arg}
+use Rattle.pass_frames_proof.specs.ir_model.declared.operand.Intrinsic.{Intrinsic}
+use Rattle.pass_frames_proof.specs.ir_model.declared.operand.Operand.{Operand}
+use Rattle.pass_frames_proof.specs.ir_paths.Windows.{operand_at, suspend_of}
+use Rattle.pass_frames_proof.specs.ir_paths.declared.point.Point.{Point}
+use Rattle.pass_frames_proof.specs.ir_paths.declared.point.Window.{Window}
 use Rattle.pass_frames_meaning.proofs.called.Comes.{Comes, comes}
 use Rattle.pass_frames_meaning.specs.Called.{AreBehindCalls, IsCalledState, IsCalm}
 use Rattle.pass_frames_meaning.specs.Fresh.{AreBareBlocks, AreUnfreed, IsFresh, IsFreshState, IsSameTop, IsWaking, IsWoken, KeepsFresh, LeadsToNone, StaysFresh, is_entering}
 use Rattle.pass_frames_proof.specs.Related.{is_first}
-use Rattle.run_hooks.proofs.Reached.{at_is, own_is}
-use Rattle.run_hooks.specs.Away.{IsPlacedState}
-use Rattle.run_hooks.specs.Hooks.{Hooks, hooked_act, hooked_advance, hooked_context, hooked_coro, hooked_next, step_of}
-use Rattle.run_memory.specs.declared.pointer.Value.{Value}
-use Rattle.run_source.specs.Source.{Sleeper, after_end, branch_leaving, change_own, deallocate, enter, if_let_go, left_windows, let_go, may_be_freed, pop, release, return, returned, save_for, sleeper_at, sleeper_of, suspend}
-use Rattle.run_source.specs.State.{function_of, instance_at, is_suspended, next, or_undefined, own_instance, point_of, settled, with_instance, with_left, with_memory, work_of}
-use Rattle.run_source.specs.declared.state.Activation.{Activation}
-use Rattle.run_source.specs.declared.state.Instance.{Instance}
-use Rattle.run_source.specs.declared.state.Mode.{Mode}
-use Rattle.run_source.specs.declared.state.State.{State}
-use Rattle.run_source.specs.declared.state.Status.{Status}
-use Rattle.run_states.proofs.renamed.Fits.{Ends, ends}
-use Rattle.run_step.specs.Effects.{is_alloca}
-use Rattle.run_step.specs.Results.{and_then, found, ok_if}
-use Rattle.run_step.specs.Step.{Action, AtInstr, AtTerm, Context, Coro, Deallocate, Done, Enter, Fetched, GoTo, NewSlot, Nowhere, Return, Stuck, Work, action_of, alloca, deallocated, fetch, instr_action, is_alignment, outcome_of, term_action}
-use Rattle.run_step.specs.Values.{arg_values, nth}
+use Rattle.pass_renewed_meaning.proofs.run_hooks.Reached.{at_is, own_is}
+use Rattle.pass_renewed_meaning.specs.run_hooks.Away.{IsPlacedState}
+use Rattle.pass_renewed_meaning.specs.run_hooks.Hooks.{Hooks, hooked_act, hooked_advance, hooked_context, hooked_coro, hooked_next, step_of}
+use Rattle.pass_frames_proof.specs.run_memory.declared.pointer.Value.{Value}
+use Rattle.pass_frames_proof.specs.run_source.Source.{Sleeper, after_end, branch_leaving, change_own, deallocate, enter, if_let_go, left_windows, let_go, may_be_freed, pop, release, return, returned, save_for, sleeper_at, sleeper_of, suspend}
+use Rattle.pass_frames_proof.specs.run_source.State.{function_of, instance_at, is_suspended, next, or_undefined, own_instance, point_of, settled, with_instance, with_left, with_memory, work_of}
+use Rattle.pass_frames_proof.specs.run_source.declared.state.Activation.{Activation}
+use Rattle.pass_frames_proof.specs.run_source.declared.state.Instance.{Instance}
+use Rattle.pass_frames_proof.specs.run_source.declared.state.Mode.{Mode}
+use Rattle.pass_frames_proof.specs.run_source.declared.state.State.{State}
+use Rattle.pass_frames_proof.specs.run_source.declared.state.Status.{Status}
+use Rattle.pass_frames_proof.proofs.run_states.renamed.Fits.{Ends, ends}
+use Rattle.pass_frames_proof.specs.run_step.Effects.{is_alloca}
+use Rattle.pass_frames_proof.specs.run_step.Results.{and_then, found, ok_if}
+use Rattle.pass_frames_proof.specs.run_step.Step.{Action, AtInstr, AtTerm, Context, Coro, Deallocate, Done, Enter, Fetched, GoTo, NewSlot, Nowhere, Return, Stuck, Work, action_of, alloca, deallocated, fetch, instr_action, is_alignment, outcome_of, term_action}
+use Rattle.pass_frames_proof.specs.run_step.Values.{arg_values, nth}
 
 -- ---- instances
 

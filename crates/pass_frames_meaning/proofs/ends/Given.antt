@@ -2,20 +2,20 @@
 use Rattle.std.proofs.Common.{◌≡◌, ℕ, ◌<◌, Bool, true, false, List, [], ◌∷◌, length, Option, Some, None, Result, Ok, refl, sym, ap, ◌∙◌, subst, arith}
 use Rattle.std.specs.List.{list_all}
 use Rattle.std.specs.Prelude.{map, option_map, slice_get}
-use Rattle.flow_solver.specs.Paths.{IsListed}
-use Rattle.ir_base.specs.declared.cause.Cause.{Cause}
-use Rattle.ir_base.specs.declared.outcome.Outcome.{Outcome}
-use Rattle.ir_model.specs.Names.{function_at, position_of}
-use Rattle.ir_model.specs.declared.instr.Instr.{Instr}
-use Rattle.ir_model.specs.declared.instr.Phi.{Phi}
-use Rattle.ir_model.specs.declared.instr.Terminator.{Terminator}
-use Rattle.ir_model.specs.declared.module.Block.{Block}
-use Rattle.ir_model.specs.declared.module.Function.{Function}
-use Rattle.ir_paths.specs.Windows.{windows_of}
-use Rattle.ir_paths.specs.declared.point.Window.{Window}
-use Rattle.pass_cells.specs.Cells.{fetches_of}
-use Rattle.pass_cells.specs.declared.plan.KeptValue.{KeptValue}
-use Rattle.pass_fetch.specs.Blocks.{fetched_phis}
+use Rattle.pass_frames_proof.specs.flow_solver.Paths.{IsListed}
+use Rattle.pass_frames_proof.specs.ir_base.declared.cause.Cause.{Cause}
+use Rattle.pass_frames_proof.specs.ir_base.declared.outcome.Outcome.{Outcome}
+use Rattle.pass_frames_proof.specs.ir_model.Names.{function_at, position_of}
+use Rattle.pass_frames_proof.specs.ir_model.declared.instr.Instr.{Instr}
+use Rattle.pass_frames_proof.specs.ir_model.declared.instr.Phi.{Phi}
+use Rattle.pass_frames_proof.specs.ir_model.declared.instr.Terminator.{Terminator}
+use Rattle.pass_frames_proof.specs.ir_model.declared.module.Block.{Block}
+use Rattle.pass_frames_proof.specs.ir_model.declared.module.Function.{Function}
+use Rattle.pass_frames_proof.specs.ir_paths.Windows.{windows_of}
+use Rattle.pass_frames_proof.specs.ir_paths.declared.point.Window.{Window}
+use Rattle.pass_frames_proof.specs.pass_cells.Cells.{fetches_of}
+use Rattle.pass_frames_proof.specs.pass_cells.declared.plan.KeptValue.{KeptValue}
+use Rattle.pass_frames_proof.specs.pass_fetch.Blocks.{fetched_phis}
 use Rattle.pass_frames_meaning.proofs.coroutines.Steps.{next_is, same_ok}
 use Rattle.pass_frames_meaning.proofs.ends.Phis.{each_told, last_stands, phi_no_distance, phi_no_root, phi_told, phis_apart, phis_fetched_there, phis_low, phis_told}
 use Rattle.pass_frames_meaning.proofs.ends.Targets.{IsTarget}
@@ -34,20 +34,20 @@ use Rattle.pass_frames_proof.specs.Related.{AreBuiltOf, IsKeptValue, is_coroutin
 use Rattle.pass_frames_proof.specs.Phis.{given_phis}
 use Rattle.pass_frames_proof.specs.Stepping.{IsNotEntering}
 use Rattle.pass_frames_proof.specs.Stores.{IsNameGiven}
-use Rattle.pass_renewed_proof.specs.Renewed.{renewed_act, renewed_step}
-use Rattle.run_agreement.specs.Machines.{IsFine}
-use Rattle.run_laws.specs.changed.Changed.{Each}
-use Rattle.run_memory.specs.declared.pointer.Value.{Value}
-use Rattle.run_source.specs.Source.{branch_leaving, context_of, enter_block, go_to, left_windows, may_leave}
-use Rattle.run_source.specs.State.{function_of, own_instance, with_left, with_status, work_of}
-use Rattle.run_source.specs.declared.state.Instance.{Instance}
-use Rattle.run_source.specs.declared.state.State.{State}
-use Rattle.run_source.specs.declared.state.Status.{Status}
-use Rattle.run_source_tables.specs.Given.{Given}
-use Rattle.run_states.specs.sound_states.Sound.{IsInstanceOf}
-use Rattle.run_step.specs.Results.{and_then, found, ok_if}
-use Rattle.run_step.specs.Step.{AtTerm, GoTo, fetch, label_of, phi_values, phis_of, term_action, with_all}
-use Rattle.run_step.specs.Values.{Env, value_in}
+use Rattle.pass_frames_proof.specs.pass_renewed_proof.Renewed.{renewed_act, renewed_step}
+use Rattle.pass_frames_proof.specs.run_agreement.Machines.{IsFine}
+use Rattle.pass_frames_proof.specs.run_laws.changed.Changed.{Each}
+use Rattle.pass_frames_proof.specs.run_memory.declared.pointer.Value.{Value}
+use Rattle.pass_frames_proof.specs.run_source.Source.{branch_leaving, context_of, enter_block, go_to, left_windows, may_leave}
+use Rattle.pass_frames_proof.specs.run_source.State.{function_of, own_instance, with_left, with_status, work_of}
+use Rattle.pass_frames_proof.specs.run_source.declared.state.Instance.{Instance}
+use Rattle.pass_frames_proof.specs.run_source.declared.state.State.{State}
+use Rattle.pass_frames_proof.specs.run_source.declared.state.Status.{Status}
+use Rattle.pass_frames_proof.specs.run_source_tables.Given.{Given}
+use Rattle.pass_frames_proof.specs.run_states.sound_states.Sound.{IsInstanceOf}
+use Rattle.pass_frames_proof.specs.run_step.Results.{and_then, found, ok_if}
+use Rattle.pass_frames_proof.specs.run_step.Step.{AtTerm, GoTo, fetch, label_of, phi_values, phis_of, term_action, with_all}
+use Rattle.pass_frames_proof.specs.run_step.Values.{Env, value_in}
 
 -- ---- where a branch leads
 

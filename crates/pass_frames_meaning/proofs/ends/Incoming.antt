@@ -1,25 +1,25 @@
 -- What holds of operands that come to phis, through the passes that build frames.
 use Rattle.std.proofs.Common.{ℕ, ◌≤◌, Bool, List, [], ◌∷◌, length, Option, arith}
 use Rattle.std.specs.Prelude.{filter, map}
-use Rattle.ir_laws.proofs.facts.Members.{each_both, each_map, each_turns}
-use Rattle.ir_model.specs.declared.instr.Incoming.{Incoming}
-use Rattle.ir_model.specs.declared.instr.Instr.{Instr}
-use Rattle.ir_model.specs.declared.instr.Phi.{Phi}
-use Rattle.ir_model.specs.declared.module.Block.{Block}
-use Rattle.ir_model.specs.declared.module.Module.{Module}
-use Rattle.pass_addresses.specs.Placing.{stays, turned_block, without_promise_of}
-use Rattle.pass_cells.specs.Cells.{fetched_function, fetches_of}
-use Rattle.pass_cells.specs.Written.{after_block as after_written_block, entry_blocks, written_blocks}
-use Rattle.pass_cells.specs.declared.plan.Plan.{Plan}
-use Rattle.pass_copies.specs.BeginCopies.{after_block as after_copied_block, copied_blocks}
-use Rattle.pass_copies.specs.declared.copying.Copying.{Copying}
-use Rattle.pass_fetch.specs.Blocks.{fetched_blocks, fetched_incoming, fetched_phis, next_after_block, next_after_phi, next_after_phis, next_after_phis_by}
-use Rattle.pass_fetch.specs.Fetching.{fetched_operand, next_after, next_after_all}
-use Rattle.pass_fetch.specs.declared.fetch.Fetch.{Fetch}
+use Rattle.pass_frames_proof.proofs.ir_laws.facts.Members.{each_both, each_map, each_turns}
+use Rattle.pass_frames_proof.specs.ir_model.declared.instr.Incoming.{Incoming}
+use Rattle.pass_frames_proof.specs.ir_model.declared.instr.Instr.{Instr}
+use Rattle.pass_frames_proof.specs.ir_model.declared.instr.Phi.{Phi}
+use Rattle.pass_frames_proof.specs.ir_model.declared.module.Block.{Block}
+use Rattle.pass_frames_proof.specs.ir_model.declared.module.Module.{Module}
+use Rattle.pass_frames_proof.specs.pass_addresses.Placing.{stays, turned_block, without_promise_of}
+use Rattle.pass_frames_proof.specs.pass_cells.Cells.{fetched_function, fetches_of}
+use Rattle.pass_frames_proof.specs.pass_cells.Written.{after_block as after_written_block, entry_blocks, written_blocks}
+use Rattle.pass_frames_proof.specs.pass_cells.declared.plan.Plan.{Plan}
+use Rattle.pass_frames_proof.specs.pass_copies.BeginCopies.{after_block as after_copied_block, copied_blocks}
+use Rattle.pass_frames_proof.specs.pass_copies.declared.copying.Copying.{Copying}
+use Rattle.pass_frames_proof.specs.pass_fetch.Blocks.{fetched_blocks, fetched_incoming, fetched_phis, next_after_block, next_after_phi, next_after_phis, next_after_phis_by}
+use Rattle.pass_frames_proof.specs.pass_fetch.Fetching.{fetched_operand, next_after, next_after_all}
+use Rattle.pass_frames_proof.specs.pass_fetch.declared.fetch.Fetch.{Fetch}
 use Rattle.pass_frames_proof.specs.Places.{Framing, before_labels, copies, edged, fetched, marked, named, plan, unmarked, written}
-use Rattle.pass_proofs.proofs.fetch.rules.Ends.{blocks_rise, phis_rise}
-use Rattle.pass_proofs.proofs.fetch.rules.Puts.{fetch_rises}
-use Rattle.run_laws.specs.changed.Changed.{Each}
+use Rattle.pass_frames_proof.proofs.pass_proofs.fetch.rules.Ends.{blocks_rise, phis_rise}
+use Rattle.pass_frames_proof.proofs.pass_proofs.fetch.rules.Puts.{fetch_rises}
+use Rattle.pass_frames_proof.specs.run_laws.changed.Changed.{Each}
 
 -- P holds of each operand that comes to a phi of these blocks, with its label
 abbrev pub EachPhi : (Incoming → Type 0) → List Phi → Type 0

@@ -1,16 +1,16 @@
 -- A terminator of a coroutine that goes to a label is followed, from a block that is on no resume or destroy edge.
 use Rattle.std.proofs.Common.{◌≡◌, ℕ, ◌<◌, true, false, length, Option, Ok, refl, sym, ap, ◌∙◌, subst, arith}
-use Rattle.flow_solver.specs.Paths.{IsListed}
-use Rattle.ir_base.specs.declared.outcome.Outcome.{Outcome}
-use Rattle.ir_laws.proofs.facts.Members.{each_all}
-use Rattle.ir_laws.specs.facts.sound_states.Named.{HasNamedUses}
-use Rattle.ir_model.specs.Names.{function_at}
-use Rattle.ir_model.specs.declared.instr.Terminator.{Terminator}
-use Rattle.ir_model.specs.declared.module.Function.{Function}
-use Rattle.ir_paths.specs.Paths.{targets}
-use Rattle.pass_cells.specs.Cells.{fetches_of}
-use Rattle.pass_fetch.specs.Fetching.{next_after_all}
-use Rattle.pass_fetch.specs.Instrs.{fetched_term, term_operands}
+use Rattle.pass_frames_proof.specs.flow_solver.Paths.{IsListed}
+use Rattle.pass_frames_proof.specs.ir_base.declared.outcome.Outcome.{Outcome}
+use Rattle.pass_frames_proof.proofs.ir_laws.facts.Members.{each_all}
+use Rattle.pass_frames_proof.specs.ir_laws.facts.sound_states.Named.{HasNamedUses}
+use Rattle.pass_frames_proof.specs.ir_model.Names.{function_at}
+use Rattle.pass_frames_proof.specs.ir_model.declared.instr.Terminator.{Terminator}
+use Rattle.pass_frames_proof.specs.ir_model.declared.module.Function.{Function}
+use Rattle.pass_frames_proof.specs.ir_paths.Paths.{targets}
+use Rattle.pass_frames_proof.specs.pass_cells.Cells.{fetches_of}
+use Rattle.pass_frames_proof.specs.pass_fetch.Fetching.{next_after_all}
+use Rattle.pass_frames_proof.specs.pass_fetch.Instrs.{fetched_term, term_operands}
 use Rattle.pass_frames_meaning.proofs.begun.Begun.{begin_plain}
 use Rattle.pass_frames_meaning.proofs.ends.Counted.{fetched_written, loads_fit, named_low, slots_below, written_unmarked}
 use Rattle.pass_frames_meaning.proofs.ends.Given.{branches, next_state, phis_given}
@@ -45,17 +45,17 @@ use Rattle.pass_frames_proof.specs.Passes.{block_at}
 use Rattle.pass_frames_proof.specs.Places.{Framing, edged, framed, is_return, named, plan}
 use Rattle.pass_frames_proof.specs.Related.{AreBuiltOf, AreCellsRight, AreCoroutines, AreWheresRight, HasCells, instance_in, is_coroutine}
 use Rattle.pass_frames_proof.specs.Stepping.{AreOffsetsPlaced, IsBeginPlain, IsNotEntering}
-use Rattle.pass_renewed_proof.specs.Renewed.{renewed_step}
-use Rattle.run_agreement.specs.Machines.{IsFine}
-use Rattle.run_framed.specs.Framed.{frame_rights, framed_context}
-use Rattle.run_laws.specs.changed.Changed.{Each}
-use Rattle.run_laws.specs.transfer.Transfer.{IsSameCase, cases_at}
-use Rattle.run_memory.specs.declared.pointer.Value.{Value}
-use Rattle.run_source.specs.Source.{context_of, go_to}
-use Rattle.run_source.specs.State.{function_of, work_of}
-use Rattle.run_source.specs.declared.state.State.{State}
-use Rattle.run_step.specs.Step.{AtTerm, Context, GoTo, fetch, term_action}
-use Rattle.run_step.specs.Values.{value_in}
+use Rattle.pass_frames_proof.specs.pass_renewed_proof.Renewed.{renewed_step}
+use Rattle.pass_frames_proof.specs.run_agreement.Machines.{IsFine}
+use Rattle.pass_frames_proof.specs.run_framed.Framed.{frame_rights, framed_context}
+use Rattle.pass_frames_proof.specs.run_laws.changed.Changed.{Each}
+use Rattle.pass_frames_proof.specs.run_laws.transfer.Transfer.{IsSameCase, cases_at}
+use Rattle.pass_frames_proof.specs.run_memory.declared.pointer.Value.{Value}
+use Rattle.pass_frames_proof.specs.run_source.Source.{context_of, go_to}
+use Rattle.pass_frames_proof.specs.run_source.State.{function_of, work_of}
+use Rattle.pass_frames_proof.specs.run_source.declared.state.State.{State}
+use Rattle.pass_frames_proof.specs.run_step.Step.{AtTerm, Context, GoTo, fetch, term_action}
+use Rattle.pass_frames_proof.specs.run_step.Values.{value_in}
 
 module _ (c : Setting) (all : KeepsAll c) (keeps : KeepsEnds c) (s t : State) (r : AreBuiltOf c.b s t)
     (k : AreOfRuns c s t r) (runs : s.outcome ≡ Outcome.Running) (fine : IsFine (renewed_step c.g s).outcome)

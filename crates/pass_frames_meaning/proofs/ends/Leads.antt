@@ -1,15 +1,15 @@
 -- No terminator of a coroutine leads to a block on a resume or destroy edge in a step.
 use Rattle.std.proofs.Common.{◌≡◌, ℕ, ◌+◌, Bool, true, false, List, Some, refl, sym, ap, ◌∙◌, subst}
 use Rattle.std.specs.Prelude.{slice_get}
-use Rattle.flow_solver.specs.Paths.{IsListed}
-use Rattle.ir_model.specs.Names.{function_at, position_of}
-use Rattle.ir_model.specs.declared.instr.Instr.{Instr}
-use Rattle.ir_model.specs.declared.instr.Terminator.{Terminator}
-use Rattle.ir_model.specs.declared.module.Function.{Function}
-use Rattle.ir_model.specs.declared.operand.Intrinsic.{Intrinsic}
-use Rattle.ir_paths.specs.Paths.{entry_point, targets}
-use Rattle.ir_paths.specs.Windows.{end_block}
-use Rattle.ir_paths.specs.declared.point.Point.{Point}
+use Rattle.pass_frames_proof.specs.flow_solver.Paths.{IsListed}
+use Rattle.pass_frames_proof.specs.ir_model.Names.{function_at, position_of}
+use Rattle.pass_frames_proof.specs.ir_model.declared.instr.Instr.{Instr}
+use Rattle.pass_frames_proof.specs.ir_model.declared.instr.Terminator.{Terminator}
+use Rattle.pass_frames_proof.specs.ir_model.declared.module.Function.{Function}
+use Rattle.pass_frames_proof.specs.ir_model.declared.operand.Intrinsic.{Intrinsic}
+use Rattle.pass_frames_proof.specs.ir_paths.Paths.{entry_point, targets}
+use Rattle.pass_frames_proof.specs.ir_paths.Windows.{end_block}
+use Rattle.pass_frames_proof.specs.ir_paths.declared.point.Point.{Point}
 use Rattle.pass_frames_meaning.proofs.ends.Targets.{IsSuspending, IsTermAt, from_suspend, goes_listed, term_at}
 use Rattle.pass_frames_meaning.proofs.others.Returns.{instr_in, returns_empty}
 use Rattle.pass_frames_meaning.specs.Ends.{KeepsEnds}
@@ -20,13 +20,13 @@ use Rattle.pass_frames_proof.specs.Framings.{IsFraming}
 use Rattle.pass_frames_proof.specs.Passes.{block_at}
 use Rattle.pass_frames_proof.specs.Places.{Framing, edged, instrs_at, is_return}
 use Rattle.pass_frames_proof.specs.Related.{is_coroutine}
-use Rattle.pass_kept_proof.specs.SuspendRules.{IsCallAt}
-use Rattle.run_hooks.specs.Away.{HasStop, IsBehind, IsPlacedState, point_in}
-use Rattle.run_hooks.specs.Meanings.{renewed_hooks}
-use Rattle.run_source.specs.Source.{context_of}
-use Rattle.run_source.specs.State.{function_of, work_of}
-use Rattle.run_source.specs.declared.state.State.{State}
-use Rattle.run_step.specs.Step.{AtInstr, AtTerm, GoTo, fetch, term_action}
+use Rattle.pass_frames_proof.specs.pass_kept_proof.SuspendRules.{IsCallAt}
+use Rattle.pass_renewed_meaning.specs.run_hooks.Away.{HasStop, IsBehind, IsPlacedState, point_in}
+use Rattle.pass_renewed_meaning.specs.run_hooks.Meanings.{renewed_hooks}
+use Rattle.pass_frames_proof.specs.run_source.Source.{context_of}
+use Rattle.pass_frames_proof.specs.run_source.State.{function_of, work_of}
+use Rattle.pass_frames_proof.specs.run_source.declared.state.State.{State}
+use Rattle.pass_frames_proof.specs.run_step.Step.{AtInstr, AtTerm, GoTo, fetch, term_action}
 
 -- coro.end stands first in the block of a label, and another place is that one
 record IsEndThere (f : Function) (to label : ℕ) : Type 0 where

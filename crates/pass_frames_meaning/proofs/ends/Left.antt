@@ -2,14 +2,14 @@
 use Rattle.std.proofs.Common.{◌≡◌, ◌⊎◌, inl, inr, ⊎_elim, ℕ, ◌<◌, ◌≤◌, Bool, true, false, Some, refl, sym, ap, ◌∙◌, subst, arith, ◌&&◌}
 use Rattle.std.proofs.lemmas.Bool.{and_parts}
 use Rattle.std.specs.Prelude.{not, slice_get}
-use Rattle.ir_laws.proofs.facts.Truth.{and_both, either}
-use Rattle.ir_model.specs.declared.module.Function.{Function}
-use Rattle.ir_paths.proofs.Search.{same_point-itself, same_point-same}
-use Rattle.ir_paths.specs.Facts.{IsWindow}
-use Rattle.ir_paths.specs.Paths.{has_point, same_point}
-use Rattle.ir_paths.specs.Windows.{IsInWindow, leaves}
-use Rattle.ir_paths.specs.declared.point.Point.{Point}
-use Rattle.ir_paths.specs.declared.point.Window.{Window}
+use Rattle.pass_frames_proof.proofs.ir_laws.facts.Truth.{and_both, either}
+use Rattle.pass_frames_proof.specs.ir_model.declared.module.Function.{Function}
+use Rattle.pass_frames_proof.proofs.ir_paths.Search.{same_point-itself, same_point-same}
+use Rattle.pass_frames_proof.specs.ir_paths.Facts.{IsWindow}
+use Rattle.pass_frames_proof.specs.ir_paths.Paths.{has_point, same_point}
+use Rattle.pass_frames_proof.specs.ir_paths.Windows.{IsInWindow, leaves}
+use Rattle.pass_frames_proof.specs.ir_paths.declared.point.Point.{Point}
+use Rattle.pass_frames_proof.specs.ir_paths.declared.point.Window.{Window}
 use Rattle.pass_frames_meaning.proofs.ends.Chains.{Crossing, IsChain, IsOff, IsWay, Straight, chain_join, leads_of, len, pt, way_of}
 use Rattle.pass_frames_proof.specs.Passes.{block_at}
 

@@ -1,19 +1,19 @@
 -- At the end of a block what is fetched there may be.
 use Rattle.std.proofs.Common.{◌≡◌, ℕ, ◌<◌, ◌≤◌, Bool, true, false, List, [], ◌∷◌, length, Option, Some, None, refl, sym, ◌∙◌, subst, arith, if◌then◌else◌, ◌==◌}
 use Rattle.std.specs.Prelude.{slice_get}
-use Rattle.ir_laws.proofs.facts.Truth.{equal_numbers}
-use Rattle.ir_laws.proofs.facts.Members.{at_each, each_all, each_both, each_turns}
-use Rattle.ir_laws.specs.facts.expanded.Tokens.{IsNamed}
-use Rattle.ir_laws.specs.facts.sound_states.Named.{HasNamedUses}
-use Rattle.ir_laws.specs.paths.threads.Labels.{HasLabelsBelow}
-use Rattle.ir_model.specs.declared.instr.Incoming.{Incoming}
-use Rattle.ir_model.specs.declared.instr.Phi.{Phi}
-use Rattle.ir_model.specs.declared.instr.Terminator.{Terminator}
-use Rattle.ir_model.specs.declared.operand.Operand.{Operand}
-use Rattle.pass_cells.specs.Cells.{fetches_of}
-use Rattle.pass_fetch.specs.Fetching.{fetch_of, fetched_operand, next_after, next_after_all, next_by, operand_by}
-use Rattle.pass_fetch.specs.Instrs.{fetched_term, term_operands}
-use Rattle.pass_fetch.specs.declared.fetch.Fetch.{Fetch}
+use Rattle.pass_frames_proof.proofs.ir_laws.facts.Truth.{equal_numbers}
+use Rattle.pass_frames_proof.proofs.ir_laws.facts.Members.{at_each, each_all, each_both, each_turns}
+use Rattle.pass_frames_proof.specs.ir_laws.facts.expanded.Tokens.{IsNamed}
+use Rattle.pass_frames_proof.specs.ir_laws.facts.sound_states.Named.{HasNamedUses}
+use Rattle.pass_frames_proof.specs.ir_laws.paths.threads.Labels.{HasLabelsBelow}
+use Rattle.pass_frames_proof.specs.ir_model.declared.instr.Incoming.{Incoming}
+use Rattle.pass_frames_proof.specs.ir_model.declared.instr.Phi.{Phi}
+use Rattle.pass_frames_proof.specs.ir_model.declared.instr.Terminator.{Terminator}
+use Rattle.pass_frames_proof.specs.ir_model.declared.operand.Operand.{Operand}
+use Rattle.pass_frames_proof.specs.pass_cells.Cells.{fetches_of}
+use Rattle.pass_frames_proof.specs.pass_fetch.Fetching.{fetch_of, fetched_operand, next_after, next_after_all, next_by, operand_by}
+use Rattle.pass_frames_proof.specs.pass_fetch.Instrs.{fetched_term, term_operands}
+use Rattle.pass_frames_proof.specs.pass_fetch.declared.fetch.Fetch.{Fetch}
 use Rattle.pass_frames_meaning.proofs.ends.Counted.{addresses_before, addresses_fit, edged_named, fetched_written, loads_before, loads_fit, named_low, named_unmarked, phis_fetched, unmarked_framed, unmarked_low, written_unmarked}
 use Rattle.pass_frames_meaning.proofs.ends.Incoming.{EachIncoming, incoming_both, incoming_loaded, incoming_turns}
 use Rattle.pass_frames_meaning.proofs.ends.Seen.{addresses, can_be_loaded, can_be_reached, loads, seen}
@@ -36,18 +36,18 @@ use Rattle.pass_frames_proof.specs.Phis.{CanComeFrom}
 use Rattle.pass_frames_proof.specs.Places.{Framing, edged, fetched, framed, named, plan, unmarked}
 use Rattle.pass_frames_proof.specs.Related.{AreBuiltOf, AreCellsRight, Building, is_coroutine}
 use Rattle.pass_frames_proof.specs.Stepping.{AreGiven, AreOffsetsPlaced, IsBeginPlain, IsNotEntering, IsPlacedOperand}
-use Rattle.pass_proofs.specs.fetch.rules.Fetches.{base_of}
-use Rattle.pass_renewed_proof.specs.Renewed.{RenewedGiven}
-use Rattle.rule_laws.proofs.rules.named_results.Named.{locals_tabled}
-use Rattle.rule_laws.proofs.rules.known_labels.Known.{labels_known}
-use Rattle.run_framed.specs.Framed.{frame_rights, framed_context}
-use Rattle.run_laws.specs.changed.Changed.{Each, operands_of_term}
-use Rattle.run_memory.specs.declared.pointer.Value.{Value}
-use Rattle.run_source.specs.Source.{context_of}
-use Rattle.run_source.specs.State.{work_of}
-use Rattle.run_source.specs.declared.state.State.{State}
-use Rattle.run_step.specs.Step.{Context, Work, incoming_from}
-use Rattle.run_step.specs.Values.{value_in}
+use Rattle.pass_frames_proof.specs.pass_proofs.fetch.rules.Fetches.{base_of}
+use Rattle.pass_frames_proof.specs.pass_renewed_proof.Renewed.{RenewedGiven}
+use Rattle.pass_frames_proof.proofs.rule_laws.rules.named_results.Named.{locals_tabled}
+use Rattle.pass_frames_proof.proofs.rule_laws.rules.known_labels.Known.{labels_known}
+use Rattle.pass_frames_proof.specs.run_framed.Framed.{frame_rights, framed_context}
+use Rattle.pass_frames_proof.specs.run_laws.changed.Changed.{Each, operands_of_term}
+use Rattle.pass_frames_proof.specs.run_memory.declared.pointer.Value.{Value}
+use Rattle.pass_frames_proof.specs.run_source.Source.{context_of}
+use Rattle.pass_frames_proof.specs.run_source.State.{work_of}
+use Rattle.pass_frames_proof.specs.run_source.declared.state.State.{State}
+use Rattle.pass_frames_proof.specs.run_step.Step.{Context, Work, incoming_from}
+use Rattle.pass_frames_proof.specs.run_step.Values.{value_in}
 
 -- ---- operands
 

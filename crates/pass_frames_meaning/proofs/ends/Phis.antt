@@ -2,22 +2,22 @@
 use Rattle.std.proofs.Common.{◌≡◌, inl, inr, ⊎_elim, ℕ, ◌<◌, ◌≤◌, Bool, true, false, List, [], ◌∷◌, ◌++◌, length, Option, Some, None, refl, sym, ap, ◌∙◌, subst, arith, ◌||◌}
 use Rattle.std.specs.Prelude.{map, slice_get, ◌==◌}
 use Rattle.std.specs.List.{list_any}
-use Rattle.flow_solver.specs.Paths.{IsListed}
-use Rattle.frame_classes.specs.declared.class.SlotClass.{SlotClass}
-use Rattle.ir_laws.proofs.facts.Lists.{phi_names, row_of, set_here, set_length}
-use Rattle.ir_laws.proofs.facts.Truth.{equal_numbers}
-use Rattle.ir_laws.proofs.paths.source_rules.Locals.{Apart, listed_left}
-use Rattle.ir_model.specs.declared.instr.Phi.{Phi}
-use Rattle.ir_model.specs.declared.module.Block.{Block}
-use Rattle.ir_model.specs.declared.module.Param.{Param}
-use Rattle.ir_model.specs.declared.module.Module.{Module}
-use Rattle.ir_paths.specs.Windows.{instr_in}
-use Rattle.pass_cells.specs.Cells.{fetched_function, fetches_of}
-use Rattle.pass_cells.specs.Kept.{entry}
-use Rattle.pass_cells.specs.Links.{bases_of}
-use Rattle.pass_fetch.specs.Blocks.{fetched_phis, next_after_phi}
-use Rattle.pass_fetch.specs.declared.fetch.Fetch.{Fetch}
-use Rattle.pass_frames.specs.Tables.{class_flags}
+use Rattle.pass_frames_proof.specs.flow_solver.Paths.{IsListed}
+use Rattle.pass_frames_proof.specs.frame_classes.declared.class.SlotClass.{SlotClass}
+use Rattle.pass_frames_proof.proofs.ir_laws.facts.Lists.{phi_names, row_of, set_here, set_length}
+use Rattle.pass_frames_proof.proofs.ir_laws.facts.Truth.{equal_numbers}
+use Rattle.pass_frames_proof.proofs.ir_laws.paths.source_rules.Locals.{Apart, listed_left}
+use Rattle.pass_frames_proof.specs.ir_model.declared.instr.Phi.{Phi}
+use Rattle.pass_frames_proof.specs.ir_model.declared.module.Block.{Block}
+use Rattle.pass_frames_proof.specs.ir_model.declared.module.Param.{Param}
+use Rattle.pass_frames_proof.specs.ir_model.declared.module.Module.{Module}
+use Rattle.pass_frames_proof.specs.ir_paths.Windows.{instr_in}
+use Rattle.pass_frames_proof.specs.pass_cells.Cells.{fetched_function, fetches_of}
+use Rattle.pass_frames_proof.specs.pass_cells.Kept.{entry}
+use Rattle.pass_frames_proof.specs.pass_cells.Links.{bases_of}
+use Rattle.pass_frames_proof.specs.pass_fetch.Blocks.{fetched_phis, next_after_phi}
+use Rattle.pass_frames_proof.specs.pass_fetch.declared.fetch.Fetch.{Fetch}
+use Rattle.pass_frames_proof.specs.pass_frames.Tables.{class_flags}
 use Rattle.pass_frames_meaning.proofs.others.Names.{base_made, root_alloca, slot_based}
 use Rattle.pass_frames_proof.proofs.code.Passes.{block_is, fetched_there}
 use Rattle.pass_frames_proof.proofs.distances.Apart.{has_root}
@@ -28,17 +28,17 @@ use Rattle.pass_frames_proof.specs.Lines.{IsNoRoot}
 use Rattle.pass_frames_proof.specs.Passes.{block_at, phi_ends}
 use Rattle.pass_frames_proof.specs.Phis.{given_phis}
 use Rattle.pass_frames_proof.specs.Places.{Framing, edged, fetched, named, plan}
-use Rattle.pass_fetch.specs.Blocks.{next_after_phis_by}
-use Rattle.rule_laws.proofs.rules.local_rules.Rows.{apart_at, apart_right}
-use Rattle.rule_laws.proofs.rules.local_rules.Woven.{apart_names}
-use Rattle.rule_laws.proofs.rules.source_rules.Locals.{block_names, names_are, no_phi, phi_below}
-use Rattle.ir_parts.specs.Locals.{locals_of}
-use Rattle.run_hooks.proofs.alive.Changes.{phis_other}
-use Rattle.run_laws.specs.changed.Changed.{Each, result_of}
-use Rattle.run_laws.specs.memory.Pointers.{Home, IsValue}
-use Rattle.run_memory.specs.declared.pointer.Value.{Value}
-use Rattle.run_step.specs.Step.{incoming_from, phi_values, with_all}
-use Rattle.run_step.specs.Values.{Env, operand_value, value_in, value_or_poison, with_value}
+use Rattle.pass_frames_proof.specs.pass_fetch.Blocks.{next_after_phis_by}
+use Rattle.pass_frames_proof.proofs.rule_laws.rules.local_rules.Rows.{apart_at, apart_right}
+use Rattle.pass_frames_proof.proofs.rule_laws.rules.local_rules.Woven.{apart_names}
+use Rattle.pass_frames_proof.proofs.rule_laws.rules.source_rules.Locals.{block_names, names_are, no_phi, phi_below}
+use Rattle.pass_frames_proof.specs.ir_parts.Locals.{locals_of}
+use Rattle.pass_renewed_meaning.proofs.run_hooks.alive.Changes.{phis_other}
+use Rattle.pass_frames_proof.specs.run_laws.changed.Changed.{Each, result_of}
+use Rattle.pass_frames_proof.specs.run_laws.memory.Pointers.{Home, IsValue}
+use Rattle.pass_frames_proof.specs.run_memory.declared.pointer.Value.{Value}
+use Rattle.pass_frames_proof.specs.run_step.Step.{incoming_from, phi_values, with_all}
+use Rattle.pass_frames_proof.specs.run_step.Values.{Env, operand_value, value_in, value_or_poison, with_value}
 
 -- ---- names that get values
 

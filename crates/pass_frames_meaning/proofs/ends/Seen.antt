@@ -2,19 +2,19 @@
 use Rattle.std.proofs.Common.{◌≡◌, ⊎_elim, ℕ, ◌+◌, ◌%◌, ◌^◌, ◌<◌, ◌≤◌, true, List, length, Option, Some, None, refl, sym, ap, ◌∙◌, subst, arith}
 use Rattle.std.specs.List.{Contains}
 use Rattle.std.specs.Prelude.{option_map, slice_get}
-use Rattle.frame_contents.specs.Held.{position_of}
-use Rattle.ir_model.specs.Names.{declaration_named, function_named}
-use Rattle.ir_model.specs.Ty.{Ty}
-use Rattle.ir_model.specs.declared.module.Module.{Module}
-use Rattle.ir_model.specs.declared.operand.Operand.{Operand}
-use Rattle.pass_cells.specs.Cells.{fetch_by, fetch_for, fetches_of}
-use Rattle.pass_cells.specs.Kept.{entry, value_types}
-use Rattle.pass_cells.specs.Links.{bases_of, slots_of}
-use Rattle.pass_cells.specs.declared.plan.KeptValue.{KeptValue}
-use Rattle.pass_fetch.specs.Fetching.{fetch_of}
-use Rattle.pass_fetch.specs.declared.fetch.Fetch.{Fetch}
-use Rattle.pass_frames.specs.Framed.{begin_of}
-use Rattle.pass_frames.specs.Tables.{offset_at}
+use Rattle.pass_frames_proof.specs.frame_contents.Held.{position_of}
+use Rattle.pass_frames_proof.specs.ir_model.Names.{declaration_named, function_named}
+use Rattle.pass_frames_proof.specs.ir_model.Ty.{Ty}
+use Rattle.pass_frames_proof.specs.ir_model.declared.module.Module.{Module}
+use Rattle.pass_frames_proof.specs.ir_model.declared.operand.Operand.{Operand}
+use Rattle.pass_frames_proof.specs.pass_cells.Cells.{fetch_by, fetch_for, fetches_of}
+use Rattle.pass_frames_proof.specs.pass_cells.Kept.{entry, value_types}
+use Rattle.pass_frames_proof.specs.pass_cells.Links.{bases_of, slots_of}
+use Rattle.pass_frames_proof.specs.pass_cells.declared.plan.KeptValue.{KeptValue}
+use Rattle.pass_frames_proof.specs.pass_fetch.Fetching.{fetch_of}
+use Rattle.pass_frames_proof.specs.pass_fetch.declared.fetch.Fetch.{Fetch}
+use Rattle.pass_frames_proof.specs.pass_frames.Framed.{begin_of}
+use Rattle.pass_frames_proof.specs.pass_frames.Tables.{offset_at}
 use Rattle.pass_frames_proof.proofs.code.Left.{Far, far_named, fetch_found}
 use Rattle.pass_frames_proof.proofs.code.Names.{Count, F, First, Kept, keeping, local}
 use Rattle.pass_frames_proof.proofs.followed.Assembly.{other_instance}
@@ -33,22 +33,22 @@ use Rattle.pass_frames_proof.specs.Places.{Framing, edged, named, offsets, plan}
 use Rattle.pass_frames_proof.specs.Reached.{address_in_frame}
 use Rattle.pass_frames_proof.specs.Related.{AreBuiltOf, AreCellsRight, AreCoroutines, AreInstances, AreNamed, Building, instance_in, is_coroutine}
 use Rattle.pass_frames_proof.specs.Stepping.{AreGiven, AreOffsetsPlaced, IsBeginPlain, IsNotEntering, IsPlacedOperand, IsSlotOf}
-use Rattle.pass_renewed_proof.specs.Renewed.{RenewedGiven}
-use Rattle.pass_proofs.proofs.cells.rules.Planned.{fetch_there}
-use Rattle.pass_proofs.proofs.cells.rules.Plans.{kept_as, kept_at}
-use Rattle.run_framed.specs.Framed.{frame_rights, framed_context}
-use Rattle.run_laws.specs.access.Lines.{pointer_at}
-use Rattle.run_laws.specs.memory.Pointers.{Home, IsValue, home_of}
-use Rattle.run_memory.specs.Pointers.{moved, offset_of}
-use Rattle.run_memory.specs.declared.pointer.Pointer.{Pointer}
-use Rattle.run_memory.specs.declared.pointer.Value.{Value}
-use Rattle.run_source.specs.Source.{context_of}
-use Rattle.run_source.specs.State.{address_in, work_of}
-use Rattle.run_source.specs.declared.state.Instance.{Instance}
-use Rattle.run_source.specs.declared.state.State.{State}
-use Rattle.run_step.specs.Step.{Context, Work}
-use Rattle.run_step.specs.Values.{operand_value, pointer_to, value_in}
-use Rattle.run_step.specs.declared.world.Slot.{Slot}
+use Rattle.pass_frames_proof.specs.pass_renewed_proof.Renewed.{RenewedGiven}
+use Rattle.pass_frames_proof.proofs.pass_proofs.cells.rules.Planned.{fetch_there}
+use Rattle.pass_frames_proof.proofs.pass_proofs.cells.rules.Plans.{kept_as, kept_at}
+use Rattle.pass_frames_proof.specs.run_framed.Framed.{frame_rights, framed_context}
+use Rattle.pass_frames_proof.specs.run_laws.access.Lines.{pointer_at}
+use Rattle.pass_frames_proof.specs.run_laws.memory.Pointers.{Home, IsValue, home_of}
+use Rattle.pass_frames_proof.specs.run_memory.Pointers.{moved, offset_of}
+use Rattle.pass_frames_proof.specs.run_memory.declared.pointer.Pointer.{Pointer}
+use Rattle.pass_frames_proof.specs.run_memory.declared.pointer.Value.{Value}
+use Rattle.pass_frames_proof.specs.run_source.Source.{context_of}
+use Rattle.pass_frames_proof.specs.run_source.State.{address_in, work_of}
+use Rattle.pass_frames_proof.specs.run_source.declared.state.Instance.{Instance}
+use Rattle.pass_frames_proof.specs.run_source.declared.state.State.{State}
+use Rattle.pass_frames_proof.specs.run_step.Step.{Context, Work}
+use Rattle.pass_frames_proof.specs.run_step.Values.{operand_value, pointer_to, value_in}
+use Rattle.pass_frames_proof.specs.run_step.declared.world.Slot.{Slot}
 
 pub same_names : (b : Building) (g : RenewedGiven) → AreGiven b g → AreSameNames g.given.code b.given.given.code
 same_names b g given = record {

@@ -1,20 +1,20 @@
 -- What is told of a suspend: the token that it takes, and its result.
 use Rattle.std.proofs.Common.{◌≡◌, ℕ, Bool, true, List, Option, refl}
-use Rattle.ir_model.specs.Names.{function_at}
-use Rattle.ir_model.specs.Ty.{Ty}
-use Rattle.ir_model.specs.declared.instr.Instr.{Instr}
-use Rattle.ir_model.specs.declared.operand.Arg.{Arg}
-use Rattle.ir_model.specs.declared.operand.Callee.{Callee}
-use Rattle.ir_model.specs.declared.operand.Intrinsic.{Intrinsic}
+use Rattle.pass_frames_proof.specs.ir_model.Names.{function_at}
+use Rattle.pass_frames_proof.specs.ir_model.Ty.{Ty}
+use Rattle.pass_frames_proof.specs.ir_model.declared.instr.Instr.{Instr}
+use Rattle.pass_frames_proof.specs.ir_model.declared.operand.Arg.{Arg}
+use Rattle.pass_frames_proof.specs.ir_model.declared.operand.Callee.{Callee}
+use Rattle.pass_frames_proof.specs.ir_model.declared.operand.Intrinsic.{Intrinsic}
 use Rattle.pass_frames_meaning.specs.Coroutines.{MaySuspend}
 use Rattle.pass_frames_meaning.specs.Ends.{IsToldSuspend, KeepsEnds}
 use Rattle.pass_frames_meaning.specs.Setting.{Setting}
 use Rattle.pass_frames_proof.specs.Related.{is_coroutine}
-use Rattle.pass_kept_proof.specs.SuspendRules.{IsCallAt}
-use Rattle.run_hooks.specs.Away.{HasStop, point_in}
-use Rattle.run_source.specs.State.{function_of}
-use Rattle.run_source.specs.declared.state.State.{State}
-use Rattle.run_step.specs.Step.{AtInstr, fetch}
+use Rattle.pass_frames_proof.specs.pass_kept_proof.SuspendRules.{IsCallAt}
+use Rattle.pass_renewed_meaning.specs.run_hooks.Away.{HasStop, point_in}
+use Rattle.pass_frames_proof.specs.run_source.State.{function_of}
+use Rattle.pass_frames_proof.specs.run_source.declared.state.State.{State}
+use Rattle.pass_frames_proof.specs.run_step.Step.{AtInstr, fetch}
 
 module _ (c : Setting) (keeps : KeepsEnds c) (s : State) (coroutine : is_coroutine c.b s.top.func ≡ true)
     (result : Option ℕ) (must_tail : Bool) (ty : Option Ty) (args : List Arg)

@@ -2,35 +2,35 @@
 use Rattle.std.proofs.Common.{◌≡◌, inl, inr, ⊎_elim, ℕ, Bool, true, false, List, [], ◌∷◌, length, Option, Some, None, refl, sym, ap, ◌∙◌, subst, arith, ◌==◌}
 use Rattle.std.specs.List.{list_any}
 use Rattle.std.specs.Prelude.{option_map, slice_get, unwrap_or}
-use Rattle.flow_solver.specs.Paths.{IsListed}
-use Rattle.ir_laws.proofs.facts.Truth.{equal_numbers}
-use Rattle.ir_laws.proofs.paths.edges.Lists.{listed_at}
-use Rattle.ir_laws.proofs.paths.woven_rules.Unbroken.{of_listed}
-use Rattle.ir_laws.specs.paths.rows.Returns.{IsOwnBlock}
-use Rattle.ir_model.specs.Names.{block_labelled, position_of}
-use Rattle.ir_model.specs.declared.instr.Instr.{Instr}
-use Rattle.ir_model.specs.declared.instr.Terminator.{Terminator}
-use Rattle.ir_model.specs.declared.module.Block.{Block}
-use Rattle.ir_model.specs.declared.module.Function.{Function}
-use Rattle.ir_model.specs.declared.operand.Intrinsic.{Intrinsic}
-use Rattle.ir_paths.specs.Paths.{targets}
-use Rattle.ir_paths.specs.Windows.{is_call_of}
+use Rattle.pass_frames_proof.specs.flow_solver.Paths.{IsListed}
+use Rattle.pass_frames_proof.proofs.ir_laws.facts.Truth.{equal_numbers}
+use Rattle.pass_frames_proof.proofs.ir_laws.paths.edges.Lists.{listed_at}
+use Rattle.pass_frames_proof.proofs.ir_laws.paths.woven_rules.Unbroken.{of_listed}
+use Rattle.pass_frames_proof.specs.ir_laws.paths.rows.Returns.{IsOwnBlock}
+use Rattle.pass_frames_proof.specs.ir_model.Names.{block_labelled, position_of}
+use Rattle.pass_frames_proof.specs.ir_model.declared.instr.Instr.{Instr}
+use Rattle.pass_frames_proof.specs.ir_model.declared.instr.Terminator.{Terminator}
+use Rattle.pass_frames_proof.specs.ir_model.declared.module.Block.{Block}
+use Rattle.pass_frames_proof.specs.ir_model.declared.module.Function.{Function}
+use Rattle.pass_frames_proof.specs.ir_model.declared.operand.Intrinsic.{Intrinsic}
+use Rattle.pass_frames_proof.specs.ir_paths.Paths.{targets}
+use Rattle.pass_frames_proof.specs.ir_paths.Windows.{is_call_of}
 use Rattle.pass_frames_proof.proofs.code.Passes.{block_is}
 use Rattle.pass_frames_proof.specs.Framings.{IsFraming}
 use Rattle.pass_frames_proof.specs.Passes.{block_at}
 use Rattle.pass_frames_proof.specs.Places.{Framing, edged, instrs_at, is_return}
-use Rattle.pass_intrinsics.specs.Shapes.{suspends_of}
-use Rattle.pass_proofs.proofs.copies.begin_order.Early.{leads_again}
-use Rattle.pass_proofs.proofs.copies.shape.Returned.{resumed_listed}
-use Rattle.pass_proofs.proofs.split.edges.Entered.{to_predecessors}
-use Rattle.rule_laws.proofs.frames.crossing.Entries.{none_enters}
-use Rattle.rule_laws.proofs.frames.shape.Points.{point_from}
-use Rattle.rule_laws.proofs.rules.source_rules.Locals.{own_label}
-use Rattle.rule_laws.proofs.rules.threaded.Labels.{HasBlock, target_there}
-use Rattle.rule_laws.specs.frames.replaced.Splittable.{HasOwnEdges, IsLedToBy}
-use Rattle.rule_laws.specs.frames.rows.Returns.{HaveOwnReturns}
-use Rattle.run_states.proofs.renamed.Fits.{Ends, ends}
-use Rattle.run_step.specs.Step.{AtTerm, Context, GoTo, Nowhere, Work, fetch, fetch_in, fetch_or, term_action}
+use Rattle.pass_frames_proof.specs.pass_intrinsics.Shapes.{suspends_of}
+use Rattle.pass_frames_proof.proofs.pass_proofs.copies.begin_order.Early.{leads_again}
+use Rattle.pass_frames_proof.proofs.pass_proofs.copies.shape.Returned.{resumed_listed}
+use Rattle.pass_frames_proof.proofs.pass_proofs.split.edges.Entered.{to_predecessors}
+use Rattle.pass_frames_proof.proofs.rule_laws.frames.crossing.Entries.{none_enters}
+use Rattle.pass_frames_proof.proofs.rule_laws.frames.shape.Points.{point_from}
+use Rattle.pass_frames_proof.proofs.rule_laws.rules.source_rules.Locals.{own_label}
+use Rattle.pass_frames_proof.proofs.rule_laws.rules.threaded.Labels.{HasBlock, target_there}
+use Rattle.pass_frames_proof.specs.rule_laws.frames.replaced.Splittable.{HasOwnEdges, IsLedToBy}
+use Rattle.pass_frames_proof.specs.rule_laws.frames.rows.Returns.{HaveOwnReturns}
+use Rattle.pass_frames_proof.proofs.run_states.renamed.Fits.{Ends, ends}
+use Rattle.pass_frames_proof.specs.run_step.Step.{AtTerm, Context, GoTo, Nowhere, Work, fetch, fetch_in, fetch_or, term_action}
 
 -- ---- the end of a block
 
@@ -127,7 +127,7 @@ module _ (x : Framing) (is : IsFraming x) (k label : ℕ)
     where
       past : (bs : List Block) (n : ℕ) → n ≡ length bs → (c : Block) → slice_get bs n ≡ Some c → ⊥
       past bs n d c e =
-          let lt = Rattle.ir_laws.proofs.facts.Lists.get_within bs n c e in
+          let lt = Rattle.pass_frames_proof.proofs.ir_laws.facts.Lists.get_within bs n c e in
           omega (arith, d, lt)
 
   pub is_target : IsTarget x label

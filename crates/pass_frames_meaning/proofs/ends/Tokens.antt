@@ -3,22 +3,22 @@ use Rattle.std.proofs.Common.{◌≡◌, ℕ, zero, suc, ◌+◌, ◌-◌, ◌<�
 use Rattle.std.proofs.lemmas.Bool.{and_parts}
 use Rattle.std.specs.List.{list_all}
 use Rattle.std.specs.Prelude.{option_to_list, slice_get}
-use Rattle.ir_laws.proofs.facts.Truth.{equal_numbers}
-use Rattle.ir_model.specs.Names.{function_at}
-use Rattle.ir_model.specs.Ty.{Ty, token}
-use Rattle.ir_model.specs.declared.instr.Instr.{Instr}
-use Rattle.ir_model.specs.declared.module.Function.{Function}
-use Rattle.ir_model.specs.declared.operand.Arg.{Arg}
-use Rattle.ir_model.specs.declared.operand.Callee.{Callee}
-use Rattle.ir_model.specs.declared.operand.Intrinsic.{Intrinsic}
-use Rattle.ir_model.specs.declared.operand.Operand.{Operand}
-use Rattle.ir_paths.specs.Windows.{call_operand, call_result, instr_at, is_call_of, operand_at}
-use Rattle.pass_addresses.specs.Placing.{lies_outside, stays, without_promise_of}
-use Rattle.pass_cells.specs.Cells.{fetches_of}
-use Rattle.pass_copies.specs.BeginCopies.{is_fetched}
-use Rattle.pass_fetch.specs.Fetching.{fetch_of, fetched_args, fetched_operand, operand_by}
-use Rattle.pass_fetch.specs.Instrs.{with_fetched}
-use Rattle.pass_fetch.specs.declared.fetch.Fetch.{Fetch}
+use Rattle.pass_frames_proof.proofs.ir_laws.facts.Truth.{equal_numbers}
+use Rattle.pass_frames_proof.specs.ir_model.Names.{function_at}
+use Rattle.pass_frames_proof.specs.ir_model.Ty.{Ty, token}
+use Rattle.pass_frames_proof.specs.ir_model.declared.instr.Instr.{Instr}
+use Rattle.pass_frames_proof.specs.ir_model.declared.module.Function.{Function}
+use Rattle.pass_frames_proof.specs.ir_model.declared.operand.Arg.{Arg}
+use Rattle.pass_frames_proof.specs.ir_model.declared.operand.Callee.{Callee}
+use Rattle.pass_frames_proof.specs.ir_model.declared.operand.Intrinsic.{Intrinsic}
+use Rattle.pass_frames_proof.specs.ir_model.declared.operand.Operand.{Operand}
+use Rattle.pass_frames_proof.specs.ir_paths.Windows.{call_operand, call_result, instr_at, is_call_of, operand_at}
+use Rattle.pass_frames_proof.specs.pass_addresses.Placing.{lies_outside, stays, without_promise_of}
+use Rattle.pass_frames_proof.specs.pass_cells.Cells.{fetches_of}
+use Rattle.pass_frames_proof.specs.pass_copies.BeginCopies.{is_fetched}
+use Rattle.pass_frames_proof.specs.pass_fetch.Fetching.{fetch_of, fetched_args, fetched_operand, operand_by}
+use Rattle.pass_frames_proof.specs.pass_fetch.Instrs.{with_fetched}
+use Rattle.pass_frames_proof.specs.pass_fetch.declared.fetch.Fetch.{Fetch}
 use Rattle.pass_frames_meaning.proofs.coroutines.Suspends.{fits_there, token_is}
 use Rattle.pass_frames_meaning.proofs.coroutines.Tokens.{token_nowhere}
 use Rattle.pass_frames_meaning.proofs.others.AtPlace.{AreTwo, args_wanted, two_wanted}
@@ -32,15 +32,15 @@ use Rattle.pass_frames_proof.specs.Passes.{fetching_at, unmarked_at}
 use Rattle.pass_frames_proof.specs.Places.{Framing, addressing_layer, celled_layer, copied_layer, copies, copying_layer, edged, entry_layer, framed, instrs_at, loading_layer, marked, named, offsets, own_place, own_place_by, placed_layer, plan, unmarked, unmarked_layer, writing_layer}
 use Rattle.pass_frames_proof.specs.Related.{is_coroutine}
 use Rattle.pass_frames_proof.specs.Stepping.{state_in}
-use Rattle.rule_types.specs.Signatures.{are_wanted}
-use Rattle.rule_types.specs.Wants.{any, is_basic, meets, want}
-use Rattle.rule_types.specs.declared.wants.Basic.{Basic}
-use Rattle.rule_types.specs.declared.wants.Demand.{Demand}
-use Rattle.rule_values.specs.Fits.{fits_arg, fits_kind}
-use Rattle.rule_values.specs.Instrs.{fits_called, fits_result, is_passed, passes}
-use Rattle.rule_values.specs.Kinds.{value_kind}
-use Rattle.run_step.specs.Effects.{is_alloca}
-use Rattle.run_step.specs.Step.{AtInstr, fetch}
+use Rattle.pass_frames_proof.specs.rule_types.Signatures.{are_wanted}
+use Rattle.pass_frames_proof.specs.rule_types.Wants.{any, is_basic, meets, want}
+use Rattle.pass_frames_proof.specs.rule_types.declared.wants.Basic.{Basic}
+use Rattle.pass_frames_proof.specs.rule_types.declared.wants.Demand.{Demand}
+use Rattle.pass_frames_proof.specs.rule_values.Fits.{fits_arg, fits_kind}
+use Rattle.pass_frames_proof.specs.rule_values.Instrs.{fits_called, fits_result, is_passed, passes}
+use Rattle.pass_frames_proof.specs.rule_values.Kinds.{value_kind}
+use Rattle.pass_frames_proof.specs.run_step.Effects.{is_alloca}
+use Rattle.pass_frames_proof.specs.run_step.Step.{AtInstr, fetch}
 
 pub within_some : {A : Type 0} (xs : List A) (n : ℕ) → n < length xs → (x : A) × (slice_get xs n ≡ Some x)
 within_some [] n lt = absurd (omega (arith, lt))

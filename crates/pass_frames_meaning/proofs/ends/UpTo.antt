@@ -1,18 +1,18 @@
 -- What is fetched by a table sets names below a bound.
 use Rattle.std.proofs.Common.{◌≡◌, ℕ, ◌<◌, ◌≤◌, List, [], ◌∷◌, ◌++◌, length, Option, Some, None, arith}
 use Rattle.std.specs.Prelude.{map, replicate, slice_get}
-use Rattle.ir_laws.proofs.facts.Members.{each_joined}
-use Rattle.ir_model.specs.declared.instr.Incoming.{Incoming}
-use Rattle.ir_model.specs.declared.instr.Instr.{Instr}
-use Rattle.ir_model.specs.declared.instr.Phi.{Phi}
-use Rattle.ir_model.specs.declared.module.Block.{Block}
-use Rattle.ir_model.specs.declared.operand.Operand.{Operand}
-use Rattle.ir_parts.specs.Contents.{result_of}
-use Rattle.pass_cells.specs.Cells.{fetches_of}
-use Rattle.pass_fetch.specs.Blocks.{end_at, ends_of_blocks, ends_of_incoming, ends_of_phis, next_after_phi, next_after_phis, next_after_phis_by, with_end}
-use Rattle.pass_fetch.specs.Fetching.{fetch_into, fetch_of, fetches_by, fetches_of as fetches_of_one, fetches_of_all, next_after, next_after_all, next_by}
-use Rattle.pass_fetch.specs.Instrs.{term_operands}
-use Rattle.pass_fetch.specs.declared.fetch.Fetch.{Fetch}
+use Rattle.pass_frames_proof.proofs.ir_laws.facts.Members.{each_joined}
+use Rattle.pass_frames_proof.specs.ir_model.declared.instr.Incoming.{Incoming}
+use Rattle.pass_frames_proof.specs.ir_model.declared.instr.Instr.{Instr}
+use Rattle.pass_frames_proof.specs.ir_model.declared.instr.Phi.{Phi}
+use Rattle.pass_frames_proof.specs.ir_model.declared.module.Block.{Block}
+use Rattle.pass_frames_proof.specs.ir_model.declared.operand.Operand.{Operand}
+use Rattle.pass_frames_proof.specs.ir_parts.Contents.{result_of}
+use Rattle.pass_frames_proof.specs.pass_cells.Cells.{fetches_of}
+use Rattle.pass_frames_proof.specs.pass_fetch.Blocks.{end_at, ends_of_blocks, ends_of_incoming, ends_of_phis, next_after_phi, next_after_phis, next_after_phis_by, with_end}
+use Rattle.pass_frames_proof.specs.pass_fetch.Fetching.{fetch_into, fetch_of, fetches_by, fetches_of as fetches_of_one, fetches_of_all, next_after, next_after_all, next_by}
+use Rattle.pass_frames_proof.specs.pass_fetch.Instrs.{term_operands}
+use Rattle.pass_frames_proof.specs.pass_fetch.declared.fetch.Fetch.{Fetch}
 use Rattle.pass_frames_meaning.proofs.ends.Counted.{fetched_written, loads_fit, phis_fetched, unmarked_low}
 use Rattle.pass_frames_proof.proofs.code.Left.{all_by, blocks_by}
 use Rattle.pass_frames_proof.specs.Code.{address_state, end_addresses, end_code, end_loads, last_state, load_name, slot_table}
@@ -20,11 +20,11 @@ use Rattle.pass_frames_proof.specs.Framings.{IsFraming}
 use Rattle.pass_frames_proof.specs.Led.{IsNotSet}
 use Rattle.pass_frames_proof.specs.Passes.{block_at, phi_ends}
 use Rattle.pass_frames_proof.specs.Places.{Framing, edged, fetched, named, plan, unmarked, written}
-use Rattle.pass_proofs.proofs.fetch.begin_order.Rows.{row_set}
-use Rattle.pass_proofs.proofs.fetch.rules.Ends.{blocks_rise, phis_rise}
-use Rattle.pass_proofs.proofs.fetch.shape.Fetching.{no_rows}
-use Rattle.pass_proofs.proofs.fetch.rules.Puts.{fetch_rises}
-use Rattle.run_laws.specs.changed.Changed.{Each}
+use Rattle.pass_frames_proof.proofs.pass_proofs.fetch.begin_order.Rows.{row_set}
+use Rattle.pass_frames_proof.proofs.pass_proofs.fetch.rules.Ends.{blocks_rise, phis_rise}
+use Rattle.pass_frames_proof.proofs.pass_proofs.fetch.shape.Fetching.{no_rows}
+use Rattle.pass_frames_proof.proofs.pass_proofs.fetch.rules.Puts.{fetch_rises}
+use Rattle.pass_frames_proof.specs.run_laws.changed.Changed.{Each}
 
 module _ (t : List (Option Fetch)) (P : Instr → Type 0) (most : ℕ)
     (one : (n : ℕ) (f : Fetch) → n < most → P (fetch_into n f)) where

@@ -5,20 +5,20 @@ use Rattle.std.proofs.lemmas.List.Elements.{recursion_from_All}
 use Rattle.std.proofs.lemmas.Option.{slice_get-map}
 use Rattle.std.specs.List.{AllByRecursion, cons_option}
 use Rattle.std.specs.Prelude.{filter, filter_map, map, option_and_then, option_map, slice_get, unwrap_or}
-use Rattle.ir_laws.proofs.facts.Lists.{get_within}
-use Rattle.ir_laws.proofs.facts.Members.{at_each}
-use Rattle.ir_laws.proofs.facts.Truth.{either as either_number}
-use Rattle.ir_laws.proofs.paths.alike_functions.Lists.{each_where}
-use Rattle.ir_model.specs.Names.{block_labelled, first_where, function_at, is_local, position_of}
-use Rattle.ir_model.specs.declared.instr.Instr.{Instr}
-use Rattle.ir_model.specs.declared.module.Block.{Block}
-use Rattle.ir_model.specs.declared.module.Function.{Function}
-use Rattle.ir_model.specs.declared.operand.Intrinsic.{Intrinsic}
-use Rattle.ir_paths.proofs.Right.{facts_of_right}
-use Rattle.ir_paths.specs.Facts.{IsWindow}
-use Rattle.ir_paths.specs.Windows.{call_operand, call_result, instr_at, instr_in, is_call_of, is_suspend_of, leaves, points_from, points_in, points_where, suspend_of, window_of, windows_of}
-use Rattle.ir_paths.specs.declared.point.Point.{Point}
-use Rattle.ir_paths.specs.declared.point.Window.{Window}
+use Rattle.pass_frames_proof.proofs.ir_laws.facts.Lists.{get_within}
+use Rattle.pass_frames_proof.proofs.ir_laws.facts.Members.{at_each}
+use Rattle.pass_frames_proof.proofs.ir_laws.facts.Truth.{either as either_number}
+use Rattle.pass_frames_proof.proofs.ir_laws.paths.alike_functions.Lists.{each_where}
+use Rattle.pass_frames_proof.specs.ir_model.Names.{block_labelled, first_where, function_at, is_local, position_of}
+use Rattle.pass_frames_proof.specs.ir_model.declared.instr.Instr.{Instr}
+use Rattle.pass_frames_proof.specs.ir_model.declared.module.Block.{Block}
+use Rattle.pass_frames_proof.specs.ir_model.declared.module.Function.{Function}
+use Rattle.pass_frames_proof.specs.ir_model.declared.operand.Intrinsic.{Intrinsic}
+use Rattle.pass_frames_proof.proofs.ir_paths.Right.{facts_of_right}
+use Rattle.pass_frames_proof.specs.ir_paths.Facts.{IsWindow}
+use Rattle.pass_frames_proof.specs.ir_paths.Windows.{call_operand, call_result, instr_at, instr_in, is_call_of, is_suspend_of, leaves, points_from, points_in, points_where, suspend_of, window_of, windows_of}
+use Rattle.pass_frames_proof.specs.ir_paths.declared.point.Point.{Point}
+use Rattle.pass_frames_proof.specs.ir_paths.declared.point.Window.{Window}
 use Rattle.pass_frames_meaning.proofs.ends.Chains.{len, pt}
 use Rattle.pass_frames_meaning.proofs.ends.FramedEdges.{same_leaves}
 use Rattle.pass_frames_meaning.proofs.ends.Tokens.{IsAny, IsOperand, IsPairCall, IsUnfetchedIn, operand_loaded, operand_placed, own_below, own_call, save_call, suspend_call, token_unfetched}
@@ -32,8 +32,8 @@ use Rattle.pass_frames_proof.specs.Leaving.{AreWindowsPlaced, IsWindowPlaced}
 use Rattle.pass_frames_proof.specs.Passes.{block_at}
 use Rattle.pass_frames_proof.specs.Places.{Framing, edged, framed, own_place}
 use Rattle.pass_frames_proof.specs.Related.{is_coroutine}
-use Rattle.run_laws.specs.changed.Changed.{Each}
-use Rattle.run_step.specs.Step.{AtInstr, fetch}
+use Rattle.pass_frames_proof.specs.run_laws.changed.Changed.{Each}
+use Rattle.pass_frames_proof.specs.run_step.Step.{AtInstr, fetch}
 
 -- ---- points that pass two tests
 

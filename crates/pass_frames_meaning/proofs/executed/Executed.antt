@@ -4,26 +4,26 @@ use Rattle.std.proofs.Common.{length, Option, Some, None}
 use Rattle.std.proofs.Common.{Result, Ok, Err, refl, sym, ap, ◌∙◌, subst, arith, if◌then◌else◌, ◌==◌}
 use Rattle.std.proofs.lemmas.Bool.{eqb-true, false≢true}
 use Rattle.std.specs.Prelude.{negsuc, not, slice_get, unwrap_or}
-use Rattle.ir_base.specs.declared.cause.Cause.{Cause}
-use Rattle.ir_base.specs.declared.outcome.Outcome.{Outcome}
-use Rattle.ir_base.specs.declared.outcome.Word.{Word}
-use Rattle.ir_laws.proofs.facts.Lists.{get_within}
-use Rattle.ir_model.specs.Names.{function_at, position_of}
-use Rattle.ir_model.specs.Ty.{Ty}
-use Rattle.ir_model.specs.declared.instr.Instr.{Instr}
-use Rattle.ir_model.specs.declared.instr.Terminator.{Terminator}
-use Rattle.ir_model.specs.declared.module.Block.{Block}
-use Rattle.ir_model.specs.declared.module.Function.{Function}
-use Rattle.ir_model.specs.declared.module.Module.{Module}
-use Rattle.ir_model.specs.declared.operand.Arg.{Arg}
-use Rattle.ir_model.specs.declared.operand.Callee.{Callee}
-use Rattle.ir_model.specs.declared.operand.Intrinsic.{Intrinsic}
-use Rattle.ir_model.specs.declared.operand.Operand.{Operand}
-use Rattle.ir_parts.specs.Contents.{result_of}
-use Rattle.ir_paths.specs.Windows.{operand_at, suspend_of}
-use Rattle.ir_paths.specs.declared.point.Point.{Point}
-use Rattle.ir_paths.specs.declared.point.Window.{Window}
-use Rattle.flow_solver.specs.Paths.{IsListed}
+use Rattle.pass_frames_proof.specs.ir_base.declared.cause.Cause.{Cause}
+use Rattle.pass_frames_proof.specs.ir_base.declared.outcome.Outcome.{Outcome}
+use Rattle.pass_frames_proof.specs.ir_base.declared.outcome.Word.{Word}
+use Rattle.pass_frames_proof.proofs.ir_laws.facts.Lists.{get_within}
+use Rattle.pass_frames_proof.specs.ir_model.Names.{function_at, position_of}
+use Rattle.pass_frames_proof.specs.ir_model.Ty.{Ty}
+use Rattle.pass_frames_proof.specs.ir_model.declared.instr.Instr.{Instr}
+use Rattle.pass_frames_proof.specs.ir_model.declared.instr.Terminator.{Terminator}
+use Rattle.pass_frames_proof.specs.ir_model.declared.module.Block.{Block}
+use Rattle.pass_frames_proof.specs.ir_model.declared.module.Function.{Function}
+use Rattle.pass_frames_proof.specs.ir_model.declared.module.Module.{Module}
+use Rattle.pass_frames_proof.specs.ir_model.declared.operand.Arg.{Arg}
+use Rattle.pass_frames_proof.specs.ir_model.declared.operand.Callee.{Callee}
+use Rattle.pass_frames_proof.specs.ir_model.declared.operand.Intrinsic.{Intrinsic}
+use Rattle.pass_frames_proof.specs.ir_model.declared.operand.Operand.{Operand}
+use Rattle.pass_frames_proof.specs.ir_parts.Contents.{result_of}
+use Rattle.pass_frames_proof.specs.ir_paths.Windows.{operand_at, suspend_of}
+use Rattle.pass_frames_proof.specs.ir_paths.declared.point.Point.{Point}
+use Rattle.pass_frames_proof.specs.ir_paths.declared.point.Window.{Window}
+use Rattle.pass_frames_proof.specs.flow_solver.Paths.{IsListed}
 use Rattle.pass_frames_meaning.proofs.called.Comes.{Comes, comes}
 use Rattle.pass_frames_meaning.proofs.called.Voids.{void_intrinsic}
 use Rattle.pass_frames_meaning.proofs.led.Names.{IsOfAlloca, alloca_is, of_alloca}
@@ -32,40 +32,40 @@ use Rattle.pass_frames_meaning.specs.Executed.{AreExecuted, AreExecutedOn, HasEx
 use Rattle.pass_frames_meaning.specs.Executed.{HasSlotOf, IsExecutedIn, IsExecutedState, IsFirstMode, IsUnframed}
 use Rattle.pass_frames_meaning.specs.Executed.{KeepAllOwn, KeepsExecuted, KeepsOwn, StaysExecuted}
 use Rattle.pass_frames_meaning.specs.Led.{IsBegin}
-use Rattle.pass_kept_proof.specs.Needed.{given_by, given_by_intrinsic}
-use Rattle.pass_renewed_proof.proofs.Sets.{result_elsewhere, set_elsewhere, step_sets}
-use Rattle.pass_renewed_proof.specs.SlotRules.{IsMadeOnce}
-use Rattle.pass_renewed_proof.specs.Steps.{SetsOnly, given_at}
-use Rattle.run_hooks.proofs.Reached.{IsOfInstr, of_term}
-use Rattle.run_hooks.proofs.alive.Acts.{slots_by}
-use Rattle.run_hooks.proofs.alive.Changes.{phis_other}
-use Rattle.run_hooks.specs.Hooks.{Hooks, hooked_act, hooked_advance, hooked_context, hooked_coro, hooked_next}
-use Rattle.run_hooks.specs.Hooks.{hooked_state_at, step_of}
-use Rattle.run_hooks.specs.Left.{HasResumed, IsAlike, waiting}
-use Rattle.run_hooks.specs.Reached.{IsAnInstr}
-use Rattle.run_memory.specs.declared.pointer.Value.{Value}
-use Rattle.run_source.specs.Source.{Sleeper, after_end, branch_leaving, change_own, deallocate, end_of, enter_block}
-use Rattle.run_source.specs.Source.{first_state, if_let_go, is_among, left_windows, let_go, may_be_freed, pop}
-use Rattle.run_source.specs.Source.{release, return, returned, save_for, sleeper_at, sleeper_of, suspend}
-use Rattle.run_source.specs.State.{function_of, gives, instance_at, next, or_undefined, own_instance, point_of}
-use Rattle.run_source.specs.State.{settled, with_instance, with_left, with_memory, work_of}
-use Rattle.run_source.specs.declared.state.Activation.{Activation}
-use Rattle.run_source.specs.declared.state.Instance.{Instance}
-use Rattle.run_source.specs.declared.state.Mode.{Mode}
-use Rattle.run_source.specs.declared.state.State.{State}
-use Rattle.run_source.specs.declared.state.Status.{Status}
-use Rattle.run_source_tables.specs.Given.{Given, facts_at}
-use Rattle.run_states.specs.sound_states.Sound.{HasValues}
-use Rattle.run_step.specs.Effects.{is_alloca}
-use Rattle.run_step.specs.Results.{and_then, found, ok_if}
-use Rattle.run_step.specs.Runs.{iterate}
-use Rattle.run_step.specs.Step.{Action, AtInstr, AtTerm, Context, Coro, Deallocate, Done, Enter, Fetched, GoTo}
-use Rattle.run_step.specs.Step.{NewSlot, Nowhere, Return, Stuck, Work, action_of, deallocated, fetch, fetch_in}
-use Rattle.run_step.specs.Step.{fetch_or, instr_action, label_of, outcome_of, phis_of, term_action, values_in}
-use Rattle.run_step.specs.Values.{Env, arg_values, integer, nth, pointer_to, truth_value, value_in, with_result}
-use Rattle.run_step.specs.Values.{with_value}
-use Rattle.run_step.specs.declared.world.Slot.{Slot}
-use Rattle.run_types.specs.Rules.{KeepsAllTypes, KeepsTypes}
+use Rattle.pass_frames_proof.specs.pass_kept_proof.Needed.{given_by, given_by_intrinsic}
+use Rattle.pass_frames_proof.proofs.pass_renewed_proof.Sets.{result_elsewhere, set_elsewhere, step_sets}
+use Rattle.pass_frames_proof.specs.pass_renewed_proof.SlotRules.{IsMadeOnce}
+use Rattle.pass_frames_proof.specs.pass_renewed_proof.Steps.{SetsOnly, given_at}
+use Rattle.pass_renewed_meaning.proofs.run_hooks.Reached.{IsOfInstr, of_term}
+use Rattle.pass_renewed_meaning.proofs.run_hooks.alive.Acts.{slots_by}
+use Rattle.pass_renewed_meaning.proofs.run_hooks.alive.Changes.{phis_other}
+use Rattle.pass_renewed_meaning.specs.run_hooks.Hooks.{Hooks, hooked_act, hooked_advance, hooked_context, hooked_coro, hooked_next}
+use Rattle.pass_renewed_meaning.specs.run_hooks.Hooks.{hooked_state_at, step_of}
+use Rattle.pass_renewed_meaning.specs.run_hooks.Left.{HasResumed, IsAlike, waiting}
+use Rattle.pass_renewed_meaning.specs.run_hooks.Reached.{IsAnInstr}
+use Rattle.pass_frames_proof.specs.run_memory.declared.pointer.Value.{Value}
+use Rattle.pass_frames_proof.specs.run_source.Source.{Sleeper, after_end, branch_leaving, change_own, deallocate, end_of, enter_block}
+use Rattle.pass_frames_proof.specs.run_source.Source.{first_state, if_let_go, is_among, left_windows, let_go, may_be_freed, pop}
+use Rattle.pass_frames_proof.specs.run_source.Source.{release, return, returned, save_for, sleeper_at, sleeper_of, suspend}
+use Rattle.pass_frames_proof.specs.run_source.State.{function_of, gives, instance_at, next, or_undefined, own_instance, point_of}
+use Rattle.pass_frames_proof.specs.run_source.State.{settled, with_instance, with_left, with_memory, work_of}
+use Rattle.pass_frames_proof.specs.run_source.declared.state.Activation.{Activation}
+use Rattle.pass_frames_proof.specs.run_source.declared.state.Instance.{Instance}
+use Rattle.pass_frames_proof.specs.run_source.declared.state.Mode.{Mode}
+use Rattle.pass_frames_proof.specs.run_source.declared.state.State.{State}
+use Rattle.pass_frames_proof.specs.run_source.declared.state.Status.{Status}
+use Rattle.pass_frames_proof.specs.run_source_tables.Given.{Given, facts_at}
+use Rattle.pass_frames_proof.specs.run_states.sound_states.Sound.{HasValues}
+use Rattle.pass_frames_proof.specs.run_step.Effects.{is_alloca}
+use Rattle.pass_frames_proof.specs.run_step.Results.{and_then, found, ok_if}
+use Rattle.pass_frames_proof.specs.run_step.Runs.{iterate}
+use Rattle.pass_frames_proof.specs.run_step.Step.{Action, AtInstr, AtTerm, Context, Coro, Deallocate, Done, Enter, Fetched, GoTo}
+use Rattle.pass_frames_proof.specs.run_step.Step.{NewSlot, Nowhere, Return, Stuck, Work, action_of, deallocated, fetch, fetch_in}
+use Rattle.pass_frames_proof.specs.run_step.Step.{fetch_or, instr_action, label_of, outcome_of, phis_of, term_action, values_in}
+use Rattle.pass_frames_proof.specs.run_step.Values.{Env, arg_values, integer, nth, pointer_to, truth_value, value_in, with_result}
+use Rattle.pass_frames_proof.specs.run_step.Values.{with_value}
+use Rattle.pass_frames_proof.specs.run_step.declared.world.Slot.{Slot}
+use Rattle.pass_renewed_meaning.specs.run_types.Rules.{KeepsAllTypes, KeepsTypes}
 
 -- ---- a run is over behind its last return
 

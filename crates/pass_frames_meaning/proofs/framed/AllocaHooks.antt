@@ -2,16 +2,16 @@
 use Rattle.std.proofs.Common.{◌≡◌, inl, inr, ℕ, zero, suc, Bool, true, false, List, [], ◌∷◌, ◌++◌, length, Option}
 use Rattle.std.proofs.Common.{Some, None, Result, Ok, Err, refl, sym, ap, ◌∙◌, subst, ◌&&◌, ◌||◌, not}
 use Rattle.std.specs.Prelude.{if◌then◌else◌, is_none, slice_get}
-use Rattle.ir_base.specs.declared.cause.Cause.{Cause}
-use Rattle.ir_base.specs.declared.outcome.Word.{Word}
-use Rattle.ir_model.specs.Names.{function_at}
-use Rattle.ir_model.specs.declared.instr.Instr.{Instr}
-use Rattle.ir_model.specs.declared.module.Module.{Module}
-use Rattle.ir_model.specs.declared.operand.Arg.{Arg}
-use Rattle.ir_model.specs.declared.operand.Callee.{Callee}
-use Rattle.ir_model.specs.declared.operand.Operand.{Operand}
-use Rattle.ir_paths.specs.Windows.{operand_at}
-use Rattle.ir_paths.specs.declared.point.Point.{Point}
+use Rattle.pass_frames_proof.specs.ir_base.declared.cause.Cause.{Cause}
+use Rattle.pass_frames_proof.specs.ir_base.declared.outcome.Word.{Word}
+use Rattle.pass_frames_proof.specs.ir_model.Names.{function_at}
+use Rattle.pass_frames_proof.specs.ir_model.declared.instr.Instr.{Instr}
+use Rattle.pass_frames_proof.specs.ir_model.declared.module.Module.{Module}
+use Rattle.pass_frames_proof.specs.ir_model.declared.operand.Arg.{Arg}
+use Rattle.pass_frames_proof.specs.ir_model.declared.operand.Callee.{Callee}
+use Rattle.pass_frames_proof.specs.ir_model.declared.operand.Operand.{Operand}
+use Rattle.pass_frames_proof.specs.ir_paths.Windows.{operand_at}
+use Rattle.pass_frames_proof.specs.ir_paths.declared.point.Point.{Point}
 use Rattle.pass_frames_meaning.proofs.called.CalledHooks.{renewed_keeps_called, states_called}
 use Rattle.pass_frames_meaning.proofs.framed.AllocaSteps.{enter_allocas, gives_allocas, instance_allocas, step_allocas}
 use Rattle.pass_frames_meaning.proofs.framed.Allocas.{GivesStay, Stay, all_stay, entry_allocas, kept_allocas}
@@ -22,45 +22,45 @@ use Rattle.pass_frames_meaning.specs.Framed.{AreAllocasAsleep, AreAllocasIn, Has
 use Rattle.pass_frames_meaning.specs.Framed.{IsHeldState, IsNoAlloca, KeepsAllocas, MarksNoFrame, StaysAllocas}
 use Rattle.pass_frames_meaning.specs.Framed.{is_alloca_in}
 use Rattle.pass_frames_proof.specs.Marking.{marker}
-use Rattle.pass_kept_proof.specs.Kept.{kept}
+use Rattle.pass_frames_proof.specs.pass_kept_proof.Kept.{kept}
 use Rattle.pass_renewed_meaning.specs.Rules.{IsMarked, KeepsStepRules}
-use Rattle.pass_renewed_proof.specs.Renewed.{RenewedGiven, renew_after, renewed_from, renewed_slot, renewed_step}
-use Rattle.pass_renewed_proof.specs.Renewed.{with_life, with_renewed}
-use Rattle.pass_renewed_proof.specs.SlotRules.{KeepsAllSlots}
-use Rattle.run_framed.specs.Framed.{at_point, with_mode}
-use Rattle.run_hooks.proofs.Keeping.{renewed_keeps}
-use Rattle.run_hooks.proofs.PlacedKeeping.{renewed_keeps_placed}
-use Rattle.run_hooks.proofs.PlacedSteps.{states_placed}
-use Rattle.run_hooks.proofs.Reached.{own_is}
-use Rattle.run_hooks.proofs.Reaching.{states_reached}
-use Rattle.run_hooks.proofs.Steps.{renewed_steps, same_runs}
-use Rattle.run_hooks.specs.Away.{KeepsAllPlaceRules}
-use Rattle.run_hooks.specs.Hooks.{Hooks, hooked_state_at, step_of}
-use Rattle.run_hooks.specs.Meanings.{renewed_hooks}
-use Rattle.run_hooks.specs.Reached.{AllHaveSwitches}
-use Rattle.run_memory.specs.Memory.{killed, own, same_kind, start, started}
-use Rattle.run_memory.specs.declared.block.Kind.{Kind}
-use Rattle.run_memory.specs.declared.block.MemoryBlock.{MemoryBlock}
-use Rattle.run_memory.specs.declared.pointer.Value.{Value}
+use Rattle.pass_frames_proof.specs.pass_renewed_proof.Renewed.{RenewedGiven, renew_after, renewed_from, renewed_slot, renewed_step}
+use Rattle.pass_frames_proof.specs.pass_renewed_proof.Renewed.{with_life, with_renewed}
+use Rattle.pass_frames_proof.specs.pass_renewed_proof.SlotRules.{KeepsAllSlots}
+use Rattle.pass_frames_proof.specs.run_framed.Framed.{at_point, with_mode}
+use Rattle.pass_renewed_meaning.proofs.run_hooks.Keeping.{renewed_keeps}
+use Rattle.pass_renewed_meaning.proofs.run_hooks.PlacedKeeping.{renewed_keeps_placed}
+use Rattle.pass_renewed_meaning.proofs.run_hooks.PlacedSteps.{states_placed}
+use Rattle.pass_renewed_meaning.proofs.run_hooks.Reached.{own_is}
+use Rattle.pass_renewed_meaning.proofs.run_hooks.Reaching.{states_reached}
+use Rattle.pass_renewed_meaning.proofs.run_hooks.Steps.{renewed_steps, same_runs}
+use Rattle.pass_renewed_meaning.specs.run_hooks.Away.{KeepsAllPlaceRules}
+use Rattle.pass_renewed_meaning.specs.run_hooks.Hooks.{Hooks, hooked_state_at, step_of}
+use Rattle.pass_renewed_meaning.specs.run_hooks.Meanings.{renewed_hooks}
+use Rattle.pass_renewed_meaning.specs.run_hooks.Reached.{AllHaveSwitches}
+use Rattle.pass_frames_proof.specs.run_memory.Memory.{killed, own, same_kind, start, started}
+use Rattle.pass_frames_proof.specs.run_memory.declared.block.Kind.{Kind}
+use Rattle.pass_frames_proof.specs.run_memory.declared.block.MemoryBlock.{MemoryBlock}
+use Rattle.pass_frames_proof.specs.run_memory.declared.pointer.Value.{Value}
 use Rattle.run_slots.proofs.Blocks.{started_alike}
 use Rattle.run_slots.proofs.Meanings.{renewed_keeps_slots}
 use Rattle.run_slots.proofs.Steps.{states_slotted}
 use Rattle.run_slots.specs.Slots.{IsFrameBlock, IsSlottedState}
-use Rattle.run_source.specs.Source.{begin, begin_at, begun, change_own, finish, first_state, is_among, is_over}
-use Rattle.run_source.specs.Source.{kill_late, new_instance, new_slot, push, resumed, slots_of, with_new_slots}
-use Rattle.run_source.specs.State.{function_of, gives, own_facts, own_frame, own_instance, with_memory, with_slots}
-use Rattle.run_source.specs.State.{with_status}
-use Rattle.run_source.specs.declared.state.Instance.{Instance}
-use Rattle.run_source.specs.declared.state.Mode.{Mode}
-use Rattle.run_source.specs.declared.state.State.{State}
-use Rattle.run_source.specs.declared.state.Status.{Status}
-use Rattle.run_source_tables.specs.Given.{Given}
-use Rattle.run_step.specs.Results.{and_then, found, ok_if}
-use Rattle.run_step.specs.Runs.{iterate}
-use Rattle.run_step.specs.Step.{AtInstr, block_of, fetch, without_slots}
-use Rattle.run_step.specs.Values.{Env, arg_values, nth, operand_value, value_in}
-use Rattle.run_step.specs.declared.world.Slot.{Slot}
-use Rattle.run_types.specs.Rules.{KeepsAllTypes}
+use Rattle.pass_frames_proof.specs.run_source.Source.{begin, begin_at, begun, change_own, finish, first_state, is_among, is_over}
+use Rattle.pass_frames_proof.specs.run_source.Source.{kill_late, new_instance, new_slot, push, resumed, slots_of, with_new_slots}
+use Rattle.pass_frames_proof.specs.run_source.State.{function_of, gives, own_facts, own_frame, own_instance, with_memory, with_slots}
+use Rattle.pass_frames_proof.specs.run_source.State.{with_status}
+use Rattle.pass_frames_proof.specs.run_source.declared.state.Instance.{Instance}
+use Rattle.pass_frames_proof.specs.run_source.declared.state.Mode.{Mode}
+use Rattle.pass_frames_proof.specs.run_source.declared.state.State.{State}
+use Rattle.pass_frames_proof.specs.run_source.declared.state.Status.{Status}
+use Rattle.pass_frames_proof.specs.run_source_tables.Given.{Given}
+use Rattle.pass_frames_proof.specs.run_step.Results.{and_then, found, ok_if}
+use Rattle.pass_frames_proof.specs.run_step.Runs.{iterate}
+use Rattle.pass_frames_proof.specs.run_step.Step.{AtInstr, block_of, fetch, without_slots}
+use Rattle.pass_frames_proof.specs.run_step.Values.{Env, arg_values, nth, operand_value, value_in}
+use Rattle.pass_frames_proof.specs.run_step.declared.world.Slot.{Slot}
+use Rattle.pass_renewed_meaning.specs.run_types.Rules.{KeepsAllTypes}
 
 -- ---- new slots, begin and the end
 

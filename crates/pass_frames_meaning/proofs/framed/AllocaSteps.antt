@@ -3,21 +3,21 @@ use Rattle.std.proofs.Common.{◌≡◌, inl, inr, ℕ, Bool, true, false, List,
 use Rattle.std.proofs.Common.{Option, Some, None, Result, Ok, Err, refl, sym, ap, ◌∙◌, subst, if◌then◌else◌, ◌==◌}
 use Rattle.std.proofs.lemmas.Bool.{false≢true}
 use Rattle.std.specs.Prelude.{not, slice_get, slice_set, unwrap_or}
-use Rattle.ir_base.specs.declared.cause.Cause.{Cause}
-use Rattle.ir_base.specs.declared.outcome.Outcome.{Outcome}
-use Rattle.ir_model.specs.Names.{function_at, position_of}
-use Rattle.ir_model.specs.Ty.{Ty}
-use Rattle.ir_model.specs.declared.instr.Instr.{Instr}
-use Rattle.ir_model.specs.declared.module.Function.{Function}
-use Rattle.ir_model.specs.declared.module.Module.{Module}
-use Rattle.ir_model.specs.declared.operand.Arg.{Arg}
-use Rattle.ir_model.specs.declared.operand.Callee.{Callee}
-use Rattle.ir_model.specs.declared.operand.Intrinsic.{Intrinsic}
-use Rattle.ir_model.specs.declared.operand.Operand.{Operand}
-use Rattle.ir_parts.specs.Contents.{result_of}
-use Rattle.ir_paths.specs.Windows.{operand_at, suspend_of}
-use Rattle.ir_paths.specs.declared.point.Point.{Point}
-use Rattle.ir_paths.specs.declared.point.Window.{Window}
+use Rattle.pass_frames_proof.specs.ir_base.declared.cause.Cause.{Cause}
+use Rattle.pass_frames_proof.specs.ir_base.declared.outcome.Outcome.{Outcome}
+use Rattle.pass_frames_proof.specs.ir_model.Names.{function_at, position_of}
+use Rattle.pass_frames_proof.specs.ir_model.Ty.{Ty}
+use Rattle.pass_frames_proof.specs.ir_model.declared.instr.Instr.{Instr}
+use Rattle.pass_frames_proof.specs.ir_model.declared.module.Function.{Function}
+use Rattle.pass_frames_proof.specs.ir_model.declared.module.Module.{Module}
+use Rattle.pass_frames_proof.specs.ir_model.declared.operand.Arg.{Arg}
+use Rattle.pass_frames_proof.specs.ir_model.declared.operand.Callee.{Callee}
+use Rattle.pass_frames_proof.specs.ir_model.declared.operand.Intrinsic.{Intrinsic}
+use Rattle.pass_frames_proof.specs.ir_model.declared.operand.Operand.{Operand}
+use Rattle.pass_frames_proof.specs.ir_parts.Contents.{result_of}
+use Rattle.pass_frames_proof.specs.ir_paths.Windows.{operand_at, suspend_of}
+use Rattle.pass_frames_proof.specs.ir_paths.declared.point.Point.{Point}
+use Rattle.pass_frames_proof.specs.ir_paths.declared.point.Window.{Window}
 use Rattle.pass_frames_meaning.proofs.called.Comes.{Comes, comes}
 use Rattle.pass_frames_meaning.proofs.called.Voids.{void_intrinsic}
 use Rattle.pass_frames_meaning.proofs.framed.Allocas.{GivesStay, alike_stay, all_stay, alloca_given}
@@ -29,38 +29,38 @@ use Rattle.pass_frames_meaning.specs.Called.{AreBehindCalls, IsBehindCall, IsCal
 use Rattle.pass_frames_meaning.specs.Framed.{AreAllocas, AreAllocasAsleep, AreAllocasIn, AreAllocasOn, HasAllocas}
 use Rattle.pass_frames_meaning.specs.Framed.{IsNoAlloca, KeepsAllocas, StaysAllocas, is_alloca_in}
 use Rattle.pass_frames_meaning.specs.Led.{IsLedBy}
-use Rattle.pass_kept_proof.proofs.Same.{eq_from}
-use Rattle.pass_kept_proof.specs.Needed.{given_by, given_by_intrinsic}
-use Rattle.pass_renewed_proof.proofs.Sets.{step_sets}
-use Rattle.pass_renewed_proof.specs.SlotRules.{IsMadeOnce}
-use Rattle.pass_renewed_proof.specs.Steps.{SetsOnly}
-use Rattle.run_hooks.proofs.Reached.{IsOfInstr, at_is, of_term, own_function, own_is}
-use Rattle.run_hooks.proofs.alive.Acts.{slots_by}
-use Rattle.run_hooks.specs.Hooks.{Hooks, hooked_act, hooked_advance, hooked_context, hooked_coro, hooked_next, step_of}
-use Rattle.run_hooks.specs.Reached.{IsReachedState}
-use Rattle.run_memory.specs.Memory.{disown}
-use Rattle.run_memory.specs.declared.block.MemoryBlock.{MemoryBlock}
-use Rattle.run_memory.specs.declared.pointer.Value.{Value}
+use Rattle.pass_frames_proof.proofs.pass_kept_proof.Same.{eq_from}
+use Rattle.pass_frames_proof.specs.pass_kept_proof.Needed.{given_by, given_by_intrinsic}
+use Rattle.pass_frames_proof.proofs.pass_renewed_proof.Sets.{step_sets}
+use Rattle.pass_frames_proof.specs.pass_renewed_proof.SlotRules.{IsMadeOnce}
+use Rattle.pass_frames_proof.specs.pass_renewed_proof.Steps.{SetsOnly}
+use Rattle.pass_renewed_meaning.proofs.run_hooks.Reached.{IsOfInstr, at_is, of_term, own_function, own_is}
+use Rattle.pass_renewed_meaning.proofs.run_hooks.alive.Acts.{slots_by}
+use Rattle.pass_renewed_meaning.specs.run_hooks.Hooks.{Hooks, hooked_act, hooked_advance, hooked_context, hooked_coro, hooked_next, step_of}
+use Rattle.pass_renewed_meaning.specs.run_hooks.Reached.{IsReachedState}
+use Rattle.pass_frames_proof.specs.run_memory.Memory.{disown}
+use Rattle.pass_frames_proof.specs.run_memory.declared.block.MemoryBlock.{MemoryBlock}
+use Rattle.pass_frames_proof.specs.run_memory.declared.pointer.Value.{Value}
 use Rattle.run_slots.proofs.Blocks.{IsMadeSlot, StaysAlike, step_alike}
 use Rattle.run_slots.proofs.Times.{more_last}
-use Rattle.run_source.specs.Source.{Sleeper, after_end, branch_leaving, change_own, deallocate, end_of, enter_block}
-use Rattle.run_source.specs.Source.{if_let_go, left_windows, let_go, may_be_freed, pop, release, return, returned}
-use Rattle.run_source.specs.Source.{save_for, sleeper_at, sleeper_of, suspend}
-use Rattle.run_source.specs.State.{function_of, gives, instance_at, next, or_undefined, own_instance, point_of}
-use Rattle.run_source.specs.State.{settled, with_instance, with_left, with_memory, work_of}
-use Rattle.run_source.specs.declared.state.Activation.{Activation}
-use Rattle.run_source.specs.declared.state.Instance.{Instance}
-use Rattle.run_source.specs.declared.state.Mode.{Mode}
-use Rattle.run_source.specs.declared.state.State.{State}
-use Rattle.run_source.specs.declared.state.Status.{Status}
-use Rattle.run_source_tables.specs.Given.{Given}
-use Rattle.run_step.specs.Results.{and_then, found, ok_if}
-use Rattle.run_step.specs.Step.{Action, AtInstr, AtTerm, Coro, Deallocate, Done, Enter, Fetched, GoTo, NewSlot}
-use Rattle.run_step.specs.Step.{Nowhere, Return, Stuck, Work, action_of, block_of, deallocated, fetch, instr_action}
-use Rattle.run_step.specs.Step.{label_of, outcome_of, term_action, without_slots}
-use Rattle.run_step.specs.Values.{Env, arg_values, nth, pointer_to, value_in, with_value}
-use Rattle.run_step.specs.declared.world.Slot.{Slot}
-use Rattle.run_types.specs.Rules.{KeepsAllTypes, KeepsTypes}
+use Rattle.pass_frames_proof.specs.run_source.Source.{Sleeper, after_end, branch_leaving, change_own, deallocate, end_of, enter_block}
+use Rattle.pass_frames_proof.specs.run_source.Source.{if_let_go, left_windows, let_go, may_be_freed, pop, release, return, returned}
+use Rattle.pass_frames_proof.specs.run_source.Source.{save_for, sleeper_at, sleeper_of, suspend}
+use Rattle.pass_frames_proof.specs.run_source.State.{function_of, gives, instance_at, next, or_undefined, own_instance, point_of}
+use Rattle.pass_frames_proof.specs.run_source.State.{settled, with_instance, with_left, with_memory, work_of}
+use Rattle.pass_frames_proof.specs.run_source.declared.state.Activation.{Activation}
+use Rattle.pass_frames_proof.specs.run_source.declared.state.Instance.{Instance}
+use Rattle.pass_frames_proof.specs.run_source.declared.state.Mode.{Mode}
+use Rattle.pass_frames_proof.specs.run_source.declared.state.State.{State}
+use Rattle.pass_frames_proof.specs.run_source.declared.state.Status.{Status}
+use Rattle.pass_frames_proof.specs.run_source_tables.Given.{Given}
+use Rattle.pass_frames_proof.specs.run_step.Results.{and_then, found, ok_if}
+use Rattle.pass_frames_proof.specs.run_step.Step.{Action, AtInstr, AtTerm, Coro, Deallocate, Done, Enter, Fetched, GoTo, NewSlot}
+use Rattle.pass_frames_proof.specs.run_step.Step.{Nowhere, Return, Stuck, Work, action_of, block_of, deallocated, fetch, instr_action}
+use Rattle.pass_frames_proof.specs.run_step.Step.{label_of, outcome_of, term_action, without_slots}
+use Rattle.pass_frames_proof.specs.run_step.Values.{Env, arg_values, nth, pointer_to, value_in, with_value}
+use Rattle.pass_frames_proof.specs.run_step.declared.world.Slot.{Slot}
+use Rattle.pass_renewed_meaning.specs.run_types.Rules.{KeepsAllTypes, KeepsTypes}
 
 -- ---- names of results
 

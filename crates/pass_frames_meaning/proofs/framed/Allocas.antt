@@ -2,36 +2,36 @@
 use Rattle.std.proofs.Common.{◌≡◌, ◌⊎◌, inl, inr, ⊎_elim, ℕ, zero, suc, Bool, true, false, List, [], ◌∷◌, ◌++◌}
 use Rattle.std.proofs.Common.{Option, Some, None, Result, Ok, Err, refl, sym, ap, ◌∙◌, subst, not, ◌&&◌, ◌||◌, ◌==◌}
 use Rattle.std.specs.Prelude.{if◌then◌else◌, slice_get, slice_set}
-use Rattle.ir_base.specs.declared.cause.Cause.{Cause}
-use Rattle.ir_model.specs.Names.{function_at}
-use Rattle.ir_model.specs.Ty.{Ty}
-use Rattle.ir_model.specs.declared.instr.Instr.{Instr}
-use Rattle.ir_model.specs.declared.module.Function.{Function}
-use Rattle.ir_model.specs.declared.module.Module.{Module}
+use Rattle.pass_frames_proof.specs.ir_base.declared.cause.Cause.{Cause}
+use Rattle.pass_frames_proof.specs.ir_model.Names.{function_at}
+use Rattle.pass_frames_proof.specs.ir_model.Ty.{Ty}
+use Rattle.pass_frames_proof.specs.ir_model.declared.instr.Instr.{Instr}
+use Rattle.pass_frames_proof.specs.ir_model.declared.module.Function.{Function}
+use Rattle.pass_frames_proof.specs.ir_model.declared.module.Module.{Module}
 use Rattle.pass_frames_meaning.proofs.led.LedHooks.{kept_value}
 use Rattle.pass_frames_meaning.specs.Framed.{AreAllocas, AreAllocasAsleep, AreAllocasIn, AreAllocasOn}
 use Rattle.pass_frames_meaning.specs.Framed.{IsNoAlloca, is_alloca_in}
-use Rattle.pass_kept_proof.specs.Kept.{kept}
-use Rattle.pass_kept_proof.specs.Needed.{given_by}
-use Rattle.pass_renewed_proof.proofs.Sets.{result_elsewhere}
-use Rattle.pass_renewed_proof.specs.Renewed.{in_new_slot, renewed_value, renewed_values}
-use Rattle.pass_renewed_proof.specs.SlotRules.{IsMadeOnce, KeepsSlots}
-use Rattle.pass_renewed_proof.specs.Steps.{given_at}
-use Rattle.run_hooks.proofs.alive.Changes.{entry_unset, phis_other}
-use Rattle.run_hooks.proofs.alive.Parts.{Here, IsSet, Other, get_set}
-use Rattle.run_memory.specs.Memory.{check, disown, disowned, is_owned, is_unkilled, killed, killed_block, may_be_owned}
-use Rattle.run_memory.specs.Memory.{own, owned_to, same_kind, with_block}
-use Rattle.run_memory.specs.declared.block.Kind.{Kind}
-use Rattle.run_memory.specs.declared.block.MemoryBlock.{MemoryBlock}
-use Rattle.run_memory.specs.declared.pointer.Pointer.{Pointer}
-use Rattle.run_memory.specs.declared.pointer.Value.{Value}
+use Rattle.pass_frames_proof.specs.pass_kept_proof.Kept.{kept}
+use Rattle.pass_frames_proof.specs.pass_kept_proof.Needed.{given_by}
+use Rattle.pass_frames_proof.proofs.pass_renewed_proof.Sets.{result_elsewhere}
+use Rattle.pass_frames_proof.specs.pass_renewed_proof.Renewed.{in_new_slot, renewed_value, renewed_values}
+use Rattle.pass_frames_proof.specs.pass_renewed_proof.SlotRules.{IsMadeOnce, KeepsSlots}
+use Rattle.pass_frames_proof.specs.pass_renewed_proof.Steps.{given_at}
+use Rattle.pass_renewed_meaning.proofs.run_hooks.alive.Changes.{entry_unset, phis_other}
+use Rattle.pass_renewed_meaning.proofs.run_hooks.alive.Parts.{Here, IsSet, Other, get_set}
+use Rattle.pass_frames_proof.specs.run_memory.Memory.{check, disown, disowned, is_owned, is_unkilled, killed, killed_block, may_be_owned}
+use Rattle.pass_frames_proof.specs.run_memory.Memory.{own, owned_to, same_kind, with_block}
+use Rattle.pass_frames_proof.specs.run_memory.declared.block.Kind.{Kind}
+use Rattle.pass_frames_proof.specs.run_memory.declared.block.MemoryBlock.{MemoryBlock}
+use Rattle.pass_frames_proof.specs.run_memory.declared.pointer.Pointer.{Pointer}
+use Rattle.pass_frames_proof.specs.run_memory.declared.pointer.Value.{Value}
 use Rattle.run_slots.proofs.Blocks.{AreAlike, alloca_alike}
-use Rattle.run_source.specs.declared.state.Activation.{Activation}
-use Rattle.run_source.specs.declared.state.Instance.{Instance}
-use Rattle.run_source.specs.declared.state.Status.{Status}
-use Rattle.run_step.specs.Step.{AtInstr, block_of, deallocated, entry_values, fetch, phis_of, values_in, without_slots}
-use Rattle.run_step.specs.Values.{Env, value_in, value_or_poison, with_result}
-use Rattle.run_step.specs.declared.world.Slot.{Slot}
+use Rattle.pass_frames_proof.specs.run_source.declared.state.Activation.{Activation}
+use Rattle.pass_frames_proof.specs.run_source.declared.state.Instance.{Instance}
+use Rattle.pass_frames_proof.specs.run_source.declared.state.Status.{Status}
+use Rattle.pass_frames_proof.specs.run_step.Step.{AtInstr, block_of, deallocated, entry_values, fetch, phis_of, values_in, without_slots}
+use Rattle.pass_frames_proof.specs.run_step.Values.{Env, value_in, value_or_poison, with_result}
+use Rattle.pass_frames_proof.specs.run_step.declared.world.Slot.{Slot}
 
 -- ---- what gives the name
 

@@ -2,38 +2,38 @@
 use Rattle.std.proofs.Common.{◌≡◌, ◌+◌, ◌≤◌, ℕ, Bool, true, false, List, [], ◌∷◌, ◌++◌, length, Option, Some, None}
 use Rattle.std.proofs.Common.{Result, Ok, Err, refl, sym, ap, ◌∙◌, subst, not, ◌&&◌, ◌==◌, arith}
 use Rattle.std.specs.Prelude.{if◌then◌else◌, is_some, replicate, slice_get, slice_set}
-use Rattle.ir_base.specs.declared.cause.Cause.{Cause}
-use Rattle.ir_model.specs.Layout.{size_of}
-use Rattle.ir_model.specs.Ty.{Ty}
-use Rattle.ir_model.specs.declared.instr.Instr.{Instr}
-use Rattle.ir_model.specs.declared.module.Frame.{Frame}
-use Rattle.ir_model.specs.declared.operand.Allocator.{Allocator}
-use Rattle.ir_model.specs.declared.operand.Arg.{Arg}
-use Rattle.ir_model.specs.declared.operand.Callee.{Callee}
-use Rattle.ir_model.specs.declared.operand.Intrinsic.{Intrinsic}
+use Rattle.pass_frames_proof.specs.ir_base.declared.cause.Cause.{Cause}
+use Rattle.pass_frames_proof.specs.ir_model.Layout.{size_of}
+use Rattle.pass_frames_proof.specs.ir_model.Ty.{Ty}
+use Rattle.pass_frames_proof.specs.ir_model.declared.instr.Instr.{Instr}
+use Rattle.pass_frames_proof.specs.ir_model.declared.module.Frame.{Frame}
+use Rattle.pass_frames_proof.specs.ir_model.declared.operand.Allocator.{Allocator}
+use Rattle.pass_frames_proof.specs.ir_model.declared.operand.Arg.{Arg}
+use Rattle.pass_frames_proof.specs.ir_model.declared.operand.Callee.{Callee}
+use Rattle.pass_frames_proof.specs.ir_model.declared.operand.Intrinsic.{Intrinsic}
 use Rattle.pass_frames_meaning.specs.Framed.{AreFramesHeld, IsFrameHeld}
 use Rattle.pass_frames_proof.specs.Marking.{marker}
-use Rattle.run_hooks.proofs.alive.Parts.{Here, IsSet, Other, get_set}
-use Rattle.run_laws.proofs.embedded.Refills.{step_only}
-use Rattle.run_laws.specs.embedded.Refilled.{IsRefilled, OnlyRefills}
-use Rattle.run_memory.specs.Memory.{end, ended, is_live, is_owned, is_unkilled, killed, killed_block, started}
-use Rattle.run_memory.specs.Memory.{with_block}
-use Rattle.run_memory.specs.declared.block.Byte.{Byte}
-use Rattle.run_memory.specs.declared.block.Kind.{Kind}
-use Rattle.run_memory.specs.declared.block.Life.{Life}
-use Rattle.run_memory.specs.declared.block.MemoryBlock.{MemoryBlock}
-use Rattle.run_memory.specs.declared.pointer.Pointer.{Pointer}
-use Rattle.run_memory.specs.declared.pointer.Value.{Value}
+use Rattle.pass_renewed_meaning.proofs.run_hooks.alive.Parts.{Here, IsSet, Other, get_set}
+use Rattle.pass_frames_proof.proofs.run_laws.embedded.Refills.{step_only}
+use Rattle.pass_frames_proof.specs.run_laws.embedded.Refilled.{IsRefilled, OnlyRefills}
+use Rattle.pass_frames_proof.specs.run_memory.Memory.{end, ended, is_live, is_owned, is_unkilled, killed, killed_block, started}
+use Rattle.pass_frames_proof.specs.run_memory.Memory.{with_block}
+use Rattle.pass_frames_proof.specs.run_memory.declared.block.Byte.{Byte}
+use Rattle.pass_frames_proof.specs.run_memory.declared.block.Kind.{Kind}
+use Rattle.pass_frames_proof.specs.run_memory.declared.block.Life.{Life}
+use Rattle.pass_frames_proof.specs.run_memory.declared.block.MemoryBlock.{MemoryBlock}
+use Rattle.pass_frames_proof.specs.run_memory.declared.pointer.Pointer.{Pointer}
+use Rattle.pass_frames_proof.specs.run_memory.declared.pointer.Value.{Value}
 use Rattle.run_slots.proofs.Keeping.{frame_apart}
 use Rattle.run_slots.proofs.Times.{Dies, IsLeft, Stays, more_there, there_below, with_other, without_at}
 use Rattle.run_slots.specs.Slots.{AreSlotted, times, times_in}
-use Rattle.run_source.specs.declared.state.Instance.{Instance}
-use Rattle.run_source_tables.specs.Given.{frame_of}
-use Rattle.run_step.specs.Step.{Action, AtInstr, AtTerm, Context, Done, Fetched, NewSlot, Nowhere, Stuck, Work}
-use Rattle.run_step.specs.Step.{action_of, alloca_kind, block_of, deallocated, has_markers, is_alignment, on_block}
-use Rattle.run_step.specs.Step.{set_memory, set_value, with_length, without_slots}
-use Rattle.run_step.specs.Values.{arg_values, nth, pointer_to}
-use Rattle.run_step.specs.declared.world.Slot.{Slot}
+use Rattle.pass_frames_proof.specs.run_source.declared.state.Instance.{Instance}
+use Rattle.pass_frames_proof.specs.run_source_tables.Given.{frame_of}
+use Rattle.pass_frames_proof.specs.run_step.Step.{Action, AtInstr, AtTerm, Context, Done, Fetched, NewSlot, Nowhere, Stuck, Work}
+use Rattle.pass_frames_proof.specs.run_step.Step.{action_of, alloca_kind, block_of, deallocated, has_markers, is_alignment, on_block}
+use Rattle.pass_frames_proof.specs.run_step.Step.{set_memory, set_value, with_length, without_slots}
+use Rattle.pass_frames_proof.specs.run_step.Values.{arg_values, nth, pointer_to}
+use Rattle.pass_frames_proof.specs.run_step.declared.world.Slot.{Slot}
 
 -- ---- one block
 

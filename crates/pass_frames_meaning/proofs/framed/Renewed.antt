@@ -3,47 +3,47 @@ use Rattle.std.proofs.Common.{◌≡◌, ◌⊎◌, inl, inr, ◌+◌, ◌≤◌
 use Rattle.std.proofs.Common.{Option, Some, None, Ok, refl, sym, ap, ◌∙◌, subst, ◌&&◌, ◌==◌, arith}
 use Rattle.std.proofs.lemmas.Bool.{leb-true}
 use Rattle.std.specs.Prelude.{if◌then◌else◌, is_none, is_some, nat_le, slice_get}
-use Rattle.ir_base.specs.declared.cause.Cause.{Cause}
-use Rattle.ir_base.specs.declared.outcome.Word.{Word}
-use Rattle.ir_model.specs.Names.{function_at}
-use Rattle.ir_model.specs.declared.module.Frame.{Frame}
-use Rattle.ir_paths.specs.declared.point.Point.{Point}
+use Rattle.pass_frames_proof.specs.ir_base.declared.cause.Cause.{Cause}
+use Rattle.pass_frames_proof.specs.ir_base.declared.outcome.Word.{Word}
+use Rattle.pass_frames_proof.specs.ir_model.Names.{function_at}
+use Rattle.pass_frames_proof.specs.ir_model.declared.module.Frame.{Frame}
+use Rattle.pass_frames_proof.specs.ir_paths.declared.point.Point.{Point}
 use Rattle.pass_frames_meaning.proofs.framed.Memory.{changed_held, moved_held, other_still, still_held}
 use Rattle.pass_frames_meaning.proofs.framed.Steps.{instance_held, instance_still, steps_held}
 use Rattle.pass_frames_meaning.specs.Framed.{AreFramesHeld, IsFrameHeld, IsHeldState, KeepsHeld, MarksNoFrame}
 use Rattle.pass_frames_meaning.specs.Framed.{StaysHeld}
-use Rattle.pass_kept_proof.specs.Kept.{kept}
-use Rattle.pass_renewed_proof.specs.Renewed.{RenewedGiven, renew_after, renewed_from, renewed_slot, renewed_step}
-use Rattle.pass_renewed_proof.specs.Renewed.{with_life}
-use Rattle.run_hooks.proofs.Reached.{own_is}
-use Rattle.run_hooks.proofs.Steps.{renewed_steps, same_runs}
-use Rattle.run_hooks.specs.Hooks.{step_of}
-use Rattle.run_hooks.specs.Meanings.{renewed_hooks}
-use Rattle.run_memory.specs.Memory.{check, is_live, killed, killed_block, may_be_owned, own, owned_to, same_kind, start}
-use Rattle.run_memory.specs.Memory.{started, with_block}
-use Rattle.run_memory.specs.declared.block.Kind.{Kind}
-use Rattle.run_memory.specs.declared.block.MemoryBlock.{MemoryBlock}
-use Rattle.run_memory.specs.declared.pointer.Pointer.{Pointer}
-use Rattle.run_memory.specs.declared.pointer.Value.{Value}
+use Rattle.pass_frames_proof.specs.pass_kept_proof.Kept.{kept}
+use Rattle.pass_frames_proof.specs.pass_renewed_proof.Renewed.{RenewedGiven, renew_after, renewed_from, renewed_slot, renewed_step}
+use Rattle.pass_frames_proof.specs.pass_renewed_proof.Renewed.{with_life}
+use Rattle.pass_renewed_meaning.proofs.run_hooks.Reached.{own_is}
+use Rattle.pass_renewed_meaning.proofs.run_hooks.Steps.{renewed_steps, same_runs}
+use Rattle.pass_renewed_meaning.specs.run_hooks.Hooks.{step_of}
+use Rattle.pass_renewed_meaning.specs.run_hooks.Meanings.{renewed_hooks}
+use Rattle.pass_frames_proof.specs.run_memory.Memory.{check, is_live, killed, killed_block, may_be_owned, own, owned_to, same_kind, start}
+use Rattle.pass_frames_proof.specs.run_memory.Memory.{started, with_block}
+use Rattle.pass_frames_proof.specs.run_memory.declared.block.Kind.{Kind}
+use Rattle.pass_frames_proof.specs.run_memory.declared.block.MemoryBlock.{MemoryBlock}
+use Rattle.pass_frames_proof.specs.run_memory.declared.pointer.Pointer.{Pointer}
+use Rattle.pass_frames_proof.specs.run_memory.declared.pointer.Value.{Value}
 use Rattle.run_slots.proofs.Keeping.{frame_apart}
 use Rattle.run_slots.proofs.Meanings.{renewed_keeps_slots}
 use Rattle.run_slots.proofs.Steps.{first_slotted}
 use Rattle.run_slots.proofs.Times.{itself, more_back, more_last, same_there, with_there}
 use Rattle.run_slots.specs.Slots.{HasNewSlot, IsSlottedState, once_if, times_on}
-use Rattle.run_source.specs.Source.{begin, begin_at, begun, change_own, finish, first_state, is_among, is_over}
-use Rattle.run_source.specs.Source.{kill_late}
-use Rattle.run_source.specs.Source.{new_instance, new_slot, push, resumed, slots_of, with_new_slots}
-use Rattle.run_source.specs.State.{function_of, gives, own_facts, own_frame, own_instance, with_memory, with_slots}
-use Rattle.run_source.specs.State.{with_status}
-use Rattle.run_source.specs.declared.state.Instance.{Instance}
-use Rattle.run_source.specs.declared.state.Mode.{Mode}
-use Rattle.run_source.specs.declared.state.State.{State}
-use Rattle.run_source.specs.declared.state.Status.{Status}
-use Rattle.run_source_tables.specs.Given.{Given, frame_of}
-use Rattle.run_step.specs.Results.{and_then, found, ok_if}
-use Rattle.run_step.specs.Runs.{iterate}
-use Rattle.run_step.specs.Step.{block_of, without_slots}
-use Rattle.run_step.specs.declared.world.Slot.{Slot}
+use Rattle.pass_frames_proof.specs.run_source.Source.{begin, begin_at, begun, change_own, finish, first_state, is_among, is_over}
+use Rattle.pass_frames_proof.specs.run_source.Source.{kill_late}
+use Rattle.pass_frames_proof.specs.run_source.Source.{new_instance, new_slot, push, resumed, slots_of, with_new_slots}
+use Rattle.pass_frames_proof.specs.run_source.State.{function_of, gives, own_facts, own_frame, own_instance, with_memory, with_slots}
+use Rattle.pass_frames_proof.specs.run_source.State.{with_status}
+use Rattle.pass_frames_proof.specs.run_source.declared.state.Instance.{Instance}
+use Rattle.pass_frames_proof.specs.run_source.declared.state.Mode.{Mode}
+use Rattle.pass_frames_proof.specs.run_source.declared.state.State.{State}
+use Rattle.pass_frames_proof.specs.run_source.declared.state.Status.{Status}
+use Rattle.pass_frames_proof.specs.run_source_tables.Given.{Given, frame_of}
+use Rattle.pass_frames_proof.specs.run_step.Results.{and_then, found, ok_if}
+use Rattle.pass_frames_proof.specs.run_step.Runs.{iterate}
+use Rattle.pass_frames_proof.specs.run_step.Step.{block_of, without_slots}
+use Rattle.pass_frames_proof.specs.run_step.declared.world.Slot.{Slot}
 
 -- entry of a label, after allocas
 renews_held : (sizes : List Frame) (g : RenewedGiven) (s : State) (from label : ℕ) (o : Option Point)

@@ -2,47 +2,47 @@
 use Rattle.std.proofs.Common.{◌≡◌, ◌+◌, ◌<◌, ℕ, zero, suc, Bool, true, false, List, [], ◌∷◌, ◌++◌, length}
 use Rattle.std.proofs.Common.{Option, Some, None, Result, Ok, Err, refl, sym, ap, ◌∙◌, subst, arith}
 use Rattle.std.specs.Prelude.{if◌then◌else◌, not, slice_get, unwrap_or, ◌==◌}
-use Rattle.ir_base.specs.declared.cause.Cause.{Cause}
-use Rattle.ir_base.specs.declared.outcome.Outcome.{Outcome}
-use Rattle.ir_model.specs.declared.module.Frame.{Frame}
-use Rattle.ir_model.specs.declared.operand.Arg.{Arg}
-use Rattle.ir_model.specs.declared.operand.Intrinsic.{Intrinsic}
-use Rattle.ir_model.specs.declared.operand.Operand.{Operand}
-use Rattle.ir_paths.specs.Windows.{operand_at, suspend_of}
-use Rattle.ir_paths.specs.declared.point.Point.{Point}
-use Rattle.ir_paths.specs.declared.point.Window.{Window}
+use Rattle.pass_frames_proof.specs.ir_base.declared.cause.Cause.{Cause}
+use Rattle.pass_frames_proof.specs.ir_base.declared.outcome.Outcome.{Outcome}
+use Rattle.pass_frames_proof.specs.ir_model.declared.module.Frame.{Frame}
+use Rattle.pass_frames_proof.specs.ir_model.declared.operand.Arg.{Arg}
+use Rattle.pass_frames_proof.specs.ir_model.declared.operand.Intrinsic.{Intrinsic}
+use Rattle.pass_frames_proof.specs.ir_model.declared.operand.Operand.{Operand}
+use Rattle.pass_frames_proof.specs.ir_paths.Windows.{operand_at, suspend_of}
+use Rattle.pass_frames_proof.specs.ir_paths.declared.point.Point.{Point}
+use Rattle.pass_frames_proof.specs.ir_paths.declared.point.Window.{Window}
 use Rattle.pass_frames_meaning.proofs.framed.Memory.{GivesHeld, IsStill, IsUnmarkedBlock, LeavesStill, changed_held}
 use Rattle.pass_frames_meaning.proofs.framed.Memory.{freed_held, moved_held, other_still, step_still, still_held}
 use Rattle.pass_frames_meaning.proofs.framed.Memory.{without_still}
 use Rattle.pass_frames_meaning.specs.Framed.{AreFramesHeld, IsFrameHeld, IsHeldState, KeepsHeld, MarksNoFrame}
 use Rattle.pass_frames_meaning.specs.Framed.{StaysHeld}
-use Rattle.run_hooks.proofs.Reached.{at_is, own_is}
-use Rattle.run_hooks.proofs.alive.Parts.{Here, IsSet, Other, get_set}
-use Rattle.run_hooks.specs.Hooks.{Hooks, hooked_act, hooked_advance, hooked_context, hooked_coro, hooked_next}
-use Rattle.run_hooks.specs.Hooks.{step_of}
-use Rattle.run_memory.specs.Memory.{disown, disowned}
-use Rattle.run_memory.specs.declared.block.MemoryBlock.{MemoryBlock}
-use Rattle.run_memory.specs.declared.pointer.Value.{Value}
+use Rattle.pass_renewed_meaning.proofs.run_hooks.Reached.{at_is, own_is}
+use Rattle.pass_renewed_meaning.proofs.run_hooks.alive.Parts.{Here, IsSet, Other, get_set}
+use Rattle.pass_renewed_meaning.specs.run_hooks.Hooks.{Hooks, hooked_act, hooked_advance, hooked_context, hooked_coro, hooked_next}
+use Rattle.pass_renewed_meaning.specs.run_hooks.Hooks.{step_of}
+use Rattle.pass_frames_proof.specs.run_memory.Memory.{disown, disowned}
+use Rattle.pass_frames_proof.specs.run_memory.declared.block.MemoryBlock.{MemoryBlock}
+use Rattle.pass_frames_proof.specs.run_memory.declared.pointer.Value.{Value}
 use Rattle.run_slots.proofs.Blocks.{StaysAlike, step_alike}
 use Rattle.run_slots.proofs.Keeping.{added_slotted, alike_slotted, in_instance}
 use Rattle.run_slots.proofs.Steps.{step_slotted}
 use Rattle.run_slots.specs.Slots.{AreSlotted, IsSlottedState, once_if, times_on}
-use Rattle.run_source.specs.Source.{Sleeper, after_end, branch_leaving, change_own, deallocate, end_of, if_let_go}
-use Rattle.run_source.specs.Source.{left_windows, let_go, may_be_freed, pop, release, return, returned, save_for}
-use Rattle.run_source.specs.Source.{sleeper_at, sleeper_of, suspend}
-use Rattle.run_source.specs.State.{function_of, instance_at, next, or_undefined, own_instance, point_of}
-use Rattle.run_source.specs.State.{settled, with_instance, with_left, with_memory, work_of}
-use Rattle.run_source.specs.declared.state.Activation.{Activation}
-use Rattle.run_source.specs.declared.state.Instance.{Instance}
-use Rattle.run_source.specs.declared.state.Mode.{Mode}
-use Rattle.run_source.specs.declared.state.State.{State}
-use Rattle.run_source.specs.declared.state.Status.{Status}
-use Rattle.run_source_tables.specs.Given.{Given, frame_of}
-use Rattle.run_step.specs.Results.{and_then, found, ok_if}
-use Rattle.run_step.specs.Runs.{iterate}
-use Rattle.run_step.specs.Step.{Action, Coro, Deallocate, Done, Enter, Fetched, GoTo, NewSlot, Return, Stuck}
-use Rattle.run_step.specs.Step.{action_of, deallocated, fetch, outcome_of, without_slots}
-use Rattle.run_step.specs.Values.{arg_values, nth}
+use Rattle.pass_frames_proof.specs.run_source.Source.{Sleeper, after_end, branch_leaving, change_own, deallocate, end_of, if_let_go}
+use Rattle.pass_frames_proof.specs.run_source.Source.{left_windows, let_go, may_be_freed, pop, release, return, returned, save_for}
+use Rattle.pass_frames_proof.specs.run_source.Source.{sleeper_at, sleeper_of, suspend}
+use Rattle.pass_frames_proof.specs.run_source.State.{function_of, instance_at, next, or_undefined, own_instance, point_of}
+use Rattle.pass_frames_proof.specs.run_source.State.{settled, with_instance, with_left, with_memory, work_of}
+use Rattle.pass_frames_proof.specs.run_source.declared.state.Activation.{Activation}
+use Rattle.pass_frames_proof.specs.run_source.declared.state.Instance.{Instance}
+use Rattle.pass_frames_proof.specs.run_source.declared.state.Mode.{Mode}
+use Rattle.pass_frames_proof.specs.run_source.declared.state.State.{State}
+use Rattle.pass_frames_proof.specs.run_source.declared.state.Status.{Status}
+use Rattle.pass_frames_proof.specs.run_source_tables.Given.{Given, frame_of}
+use Rattle.pass_frames_proof.specs.run_step.Results.{and_then, found, ok_if}
+use Rattle.pass_frames_proof.specs.run_step.Runs.{iterate}
+use Rattle.pass_frames_proof.specs.run_step.Step.{Action, Coro, Deallocate, Done, Enter, Fetched, GoTo, NewSlot, Return, Stuck}
+use Rattle.pass_frames_proof.specs.run_step.Step.{action_of, deallocated, fetch, outcome_of, without_slots}
+use Rattle.pass_frames_proof.specs.run_step.Values.{arg_values, nth}
 
 -- ---- parts of a step
 

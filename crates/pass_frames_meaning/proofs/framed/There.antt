@@ -6,15 +6,15 @@ use Rattle.pass_frames_meaning.specs.Framed.{AreFramesHeld, IsFrameHeld}
 use Rattle.pass_frames_meaning.specs.Setting.{Setting}
 use Rattle.pass_frames_proof.specs.Related.{is_coroutine}
 use Rattle.pass_frames_proof.specs.Slotted.{HasFrameThere}
-use Rattle.run_framed.specs.Framed.{layout_of}
-use Rattle.run_memory.specs.Memory.{is_below, same_kind}
-use Rattle.run_memory.specs.declared.block.Kind.{Kind}
-use Rattle.run_memory.specs.declared.block.MemoryBlock.{MemoryBlock}
+use Rattle.pass_frames_proof.specs.run_framed.Framed.{layout_of}
+use Rattle.pass_frames_proof.specs.run_memory.Memory.{is_below, same_kind}
+use Rattle.pass_frames_proof.specs.run_memory.declared.block.Kind.{Kind}
+use Rattle.pass_frames_proof.specs.run_memory.declared.block.MemoryBlock.{MemoryBlock}
 use Rattle.run_slots.proofs.Times.{same_there}
 use Rattle.run_slots.specs.Slots.{IsFrameBlock, IsSlottedState}
-use Rattle.run_source.specs.declared.state.Instance.{Instance}
-use Rattle.run_source.specs.declared.state.State.{State}
-use Rattle.run_source_tables.specs.Given.{frame_of}
+use Rattle.pass_frames_proof.specs.run_source.declared.state.Instance.{Instance}
+use Rattle.pass_frames_proof.specs.run_source.declared.state.State.{State}
+use Rattle.pass_frames_proof.specs.run_source_tables.Given.{frame_of}
 
 -- where the instance's layout has the printed size
 pub frame_same : (c : Setting) (s : State) → IsSlottedState s

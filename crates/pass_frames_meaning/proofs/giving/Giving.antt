@@ -5,9 +5,9 @@ use Rattle.std.specs.Option.{option_map_or}
 use Rattle.std.specs.Prelude.{◌≢◌, option_and_then, option_map, slice_get}
 use Rattle.std.proofs.lemmas.Bool.{eq-eqb, eqb-true, false≢true}
 use Rattle.std.proofs.lemmas.Option.{slice_get_within}
-use Rattle.flow_solver.specs.Paths.{IsListed}
-use Rattle.ir_base.specs.declared.cause.Cause.{Cause}
-use Rattle.ir_laws.proofs.facts.Truth.{and_both, and_first, and_second, both_true}
+use Rattle.pass_frames_proof.specs.flow_solver.Paths.{IsListed}
+use Rattle.pass_frames_proof.specs.ir_base.declared.cause.Cause.{Cause}
+use Rattle.pass_frames_proof.proofs.ir_laws.facts.Truth.{and_both, and_first, and_second, both_true}
 use Rattle.pass_frames_meaning.proofs.spared.Spared.{IsBeside, beside, shown_live}
 use Rattle.pass_frames_meaning.specs.Giving.{AreFramesOwned, HasNoHeapSlots, HasNoReturns}
 use Rattle.pass_frames_proof.proofs.followed.Assembly.{other_instance}
@@ -19,29 +19,29 @@ use Rattle.pass_frames_proof.specs.Places.{offsets}
 use Rattle.pass_frames_proof.specs.Related.{AreBuiltOf, Building, IsSlotBy, is_coroutine, is_slot}
 use Rattle.pass_frames_proof.specs.Returning.{HasSlotsListed}
 use Rattle.pass_frames_proof.specs.Slotted.{HasListedSlots, IsSlotSomewhere, OfActivation, OfInstance}
-use Rattle.pass_proofs.specs.addresses.rules.Addresses.{lies_in_frame}
-use Rattle.pass_renewed_proof.proofs.Finishing.{found_in}
-use Rattle.pass_renewed_proof.proofs.Freeing.{IsKilledAt, found_passes, killed_at}
-use Rattle.run_laws.proofs.memory.Written.{same_some}
-use Rattle.run_laws.specs.embedded.Making.{whole_home}
-use Rattle.run_laws.specs.embedded.Marks.{LivesAlone}
-use Rattle.run_laws.specs.memory.Pointers.{Home, home_of}
-use Rattle.run_laws.specs.transfer.Muted.{muted}
-use Rattle.run_memory.specs.Memory.{is_killed, is_live, is_owned, is_unkilled, killed, killed_block, same_kind}
-use Rattle.run_memory.specs.declared.block.Kind.{Kind}
-use Rattle.run_memory.specs.declared.block.MemoryBlock.{MemoryBlock}
-use Rattle.run_memory.specs.declared.pointer.Offset.{Offset}
-use Rattle.run_memory.specs.declared.pointer.Pointer.{Pointer}
-use Rattle.run_memory.specs.declared.pointer.Value.{Value}
-use Rattle.run_source.specs.Indexes.{last_from, or_else}
-use Rattle.run_source.specs.Source.{deallocate, if_let_go, is_live_at, is_over, let_go, may_be_freed}
-use Rattle.run_source.specs.State.{began_at, instance_at, is_finished, is_suspended, next, numbered, with_memory}
-use Rattle.run_source.specs.declared.state.Activation.{Activation}
-use Rattle.run_source.specs.declared.state.Instance.{Instance}
-use Rattle.run_source.specs.declared.state.State.{State}
-use Rattle.run_step.specs.Results.{and_then}
-use Rattle.run_step.specs.Step.{deallocated, without_slots}
-use Rattle.run_step.specs.declared.world.Slot.{Slot}
+use Rattle.pass_frames_proof.specs.pass_proofs.addresses.rules.Addresses.{lies_in_frame}
+use Rattle.pass_frames_proof.proofs.pass_renewed_proof.Finishing.{found_in}
+use Rattle.pass_frames_proof.proofs.pass_renewed_proof.Freeing.{IsKilledAt, found_passes, killed_at}
+use Rattle.pass_frames_proof.proofs.run_laws.memory.Written.{same_some}
+use Rattle.pass_frames_proof.specs.run_laws.embedded.Making.{whole_home}
+use Rattle.pass_frames_proof.specs.run_laws.embedded.Marks.{LivesAlone}
+use Rattle.pass_frames_proof.specs.run_laws.memory.Pointers.{Home, home_of}
+use Rattle.pass_frames_proof.specs.run_laws.transfer.Muted.{muted}
+use Rattle.pass_frames_proof.specs.run_memory.Memory.{is_killed, is_live, is_owned, is_unkilled, killed, killed_block, same_kind}
+use Rattle.pass_frames_proof.specs.run_memory.declared.block.Kind.{Kind}
+use Rattle.pass_frames_proof.specs.run_memory.declared.block.MemoryBlock.{MemoryBlock}
+use Rattle.pass_frames_proof.specs.run_memory.declared.pointer.Offset.{Offset}
+use Rattle.pass_frames_proof.specs.run_memory.declared.pointer.Pointer.{Pointer}
+use Rattle.pass_frames_proof.specs.run_memory.declared.pointer.Value.{Value}
+use Rattle.pass_frames_proof.specs.run_source.Indexes.{last_from, or_else}
+use Rattle.pass_frames_proof.specs.run_source.Source.{deallocate, if_let_go, is_live_at, is_over, let_go, may_be_freed}
+use Rattle.pass_frames_proof.specs.run_source.State.{began_at, instance_at, is_finished, is_suspended, next, numbered, with_memory}
+use Rattle.pass_frames_proof.specs.run_source.declared.state.Activation.{Activation}
+use Rattle.pass_frames_proof.specs.run_source.declared.state.Instance.{Instance}
+use Rattle.pass_frames_proof.specs.run_source.declared.state.State.{State}
+use Rattle.pass_frames_proof.specs.run_step.Results.{and_then}
+use Rattle.pass_frames_proof.specs.run_step.Step.{deallocated, without_slots}
+use Rattle.pass_frames_proof.specs.run_step.declared.world.Slot.{Slot}
 
 -- ---- the last one that passes
 

@@ -3,12 +3,12 @@ use Rattle.std.proofs.Common.{◌≡◌, true, false, refl, ap, ◌∙◌, subst
 use Rattle.std.specs.Prelude.{slice_get}
 use Rattle.pass_frames_meaning.proofs.slotted.Facts.{block_of, one_of}
 use Rattle.pass_frames_meaning.specs.Giving.{AreFramesOwned, HasNoHeapSlots}
-use Rattle.run_memory.specs.Memory.{is_owned, same_kind}
-use Rattle.run_memory.specs.declared.block.Kind.{Kind}
-use Rattle.run_memory.specs.declared.block.MemoryBlock.{MemoryBlock}
+use Rattle.pass_frames_proof.specs.run_memory.Memory.{is_owned, same_kind}
+use Rattle.pass_frames_proof.specs.run_memory.declared.block.Kind.{Kind}
+use Rattle.pass_frames_proof.specs.run_memory.declared.block.MemoryBlock.{MemoryBlock}
 use Rattle.run_slots.proofs.Times.{same_there}
 use Rattle.run_slots.specs.Slots.{IsSlottedState, is_alloca_block}
-use Rattle.run_source.specs.declared.state.State.{State}
+use Rattle.pass_frames_proof.specs.run_source.declared.state.State.{State}
 
 no_heap : (k : Kind) → (same_kind k Kind.Slot || same_kind k Kind.Stack) ≡ true → same_kind k Kind.Allocator ≡ false
 no_heap Kind.Slot e = refl

@@ -2,22 +2,22 @@
 use Rattle.std.proofs.Common.{◌≡◌, ◌≢◌, ◌⊎◌, inl, inr, ⊎_elim, ℕ, suc, ◌+◌, ◌<◌, ◌≤◌, ◌==◌, Bool, true, false, List, [], ◌∷◌, length, Option, Some, None, refl, sym, ap, ◌∙◌, subst, arith}
 use Rattle.std.specs.List.{Contains, list_any}
 use Rattle.std.specs.Prelude.{if◌then◌else◌, not, option_map, slice_get}
-use Rattle.flow_solver.specs.Paths.{IsListed}
-use Rattle.frame_classes.specs.declared.class.SlotClass.{SlotClass}
-use Rattle.ir_base.specs.declared.cause.Cause.{Cause}
-use Rattle.ir_base.specs.declared.outcome.Outcome.{Outcome}
-use Rattle.ir_laws.proofs.facts.Truth.{equal_numbers, itself}
-use Rattle.ir_model.specs.Layout.{extent_of, extent_or, size_of}
-use Rattle.ir_model.specs.Names.{function_at}
-use Rattle.ir_model.specs.Ty.{Ty}
-use Rattle.ir_model.specs.declared.instr.Instr.{Instr}
-use Rattle.ir_model.specs.declared.module.Function.{Function}
-use Rattle.ir_model.specs.declared.module.TypeItem.{TypeItem}
-use Rattle.pass_cells.specs.Kept.{entry}
-use Rattle.pass_copies.specs.Slots.{entry_instrs}
-use Rattle.pass_copies.specs.Uses.{used_before}
-use Rattle.pass_copies.specs.declared.slot.EarlySlot.{EarlySlot}
-use Rattle.pass_frames.specs.Tables.{class_flags, sizes_by_name}
+use Rattle.pass_frames_proof.specs.flow_solver.Paths.{IsListed}
+use Rattle.pass_frames_proof.specs.frame_classes.declared.class.SlotClass.{SlotClass}
+use Rattle.pass_frames_proof.specs.ir_base.declared.cause.Cause.{Cause}
+use Rattle.pass_frames_proof.specs.ir_base.declared.outcome.Outcome.{Outcome}
+use Rattle.pass_frames_proof.proofs.ir_laws.facts.Truth.{equal_numbers, itself}
+use Rattle.pass_frames_proof.specs.ir_model.Layout.{extent_of, extent_or, size_of}
+use Rattle.pass_frames_proof.specs.ir_model.Names.{function_at}
+use Rattle.pass_frames_proof.specs.ir_model.Ty.{Ty}
+use Rattle.pass_frames_proof.specs.ir_model.declared.instr.Instr.{Instr}
+use Rattle.pass_frames_proof.specs.ir_model.declared.module.Function.{Function}
+use Rattle.pass_frames_proof.specs.ir_model.declared.module.TypeItem.{TypeItem}
+use Rattle.pass_frames_proof.specs.pass_cells.Kept.{entry}
+use Rattle.pass_frames_proof.specs.pass_copies.Slots.{entry_instrs}
+use Rattle.pass_frames_proof.specs.pass_copies.Uses.{used_before}
+use Rattle.pass_frames_proof.specs.pass_copies.declared.slot.EarlySlot.{EarlySlot}
+use Rattle.pass_frames_proof.specs.pass_frames.Tables.{class_flags, sizes_by_name}
 use Rattle.pass_frames_meaning.proofs.coroutines.Steps.{not_stuck}
 use Rattle.pass_frames_meaning.proofs.kinds.Entry.{alloca_first, same_alloca}
 use Rattle.pass_frames_meaning.proofs.kinds.Unkept.{made_unkept}
@@ -41,29 +41,29 @@ use Rattle.pass_frames_proof.specs.Places.{Framing, before_labels, copies, edged
 use Rattle.pass_frames_proof.specs.Related.{AreBuiltOf, AreCellsRight, HasCells, HasValues, IsCell, IsDistanceOf, instance_in, is_coroutine, is_first, returned_from, root_of}
 use Rattle.pass_frames_proof.specs.Slotted.{HasSlotsThere, IsSlotField}
 use Rattle.pass_frames_proof.specs.Stepping.{IsNotEntering}
-use Rattle.pass_frames.specs.Tables.{offset_at}
-use Rattle.frame_contents.specs.Held.{position_of}
-use Rattle.ir_model.specs.Ty.{int}
-use Rattle.run_framed.specs.Framed.{layout_of}
-use Rattle.run_memory.specs.declared.pointer.Offset.{Offset}
-use Rattle.run_source.specs.Source.{context_of}
-use Rattle.run_source.specs.State.{work_of}
-use Rattle.run_step.specs.Step.{alloca}
-use Rattle.pass_proofs.proofs.copies.rules.Slots.{AreNumbered, numbered}
-use Rattle.pass_proofs.specs.addresses.rules.Addresses.{lies_in_frame}
-use Rattle.pass_renewed_proof.specs.Renewed.{renewed_step}
-use Rattle.run_agreement.specs.Machines.{IsFine}
-use Rattle.run_framed.specs.Framed.{frame_rights}
-use Rattle.run_memory.specs.declared.pointer.Value.{Value}
-use Rattle.run_source.specs.State.{function_of}
-use Rattle.run_source.specs.declared.state.Activation.{Activation}
-use Rattle.run_source.specs.declared.state.Instance.{Instance}
-use Rattle.run_source.specs.declared.state.Mode.{Mode}
-use Rattle.run_source.specs.declared.state.State.{State}
-use Rattle.run_states.specs.sound_states.Sound.{IsInstanceOf}
-use Rattle.run_step.specs.Step.{AtInstr, Stuck, fetch, is_alignment}
-use Rattle.run_step.specs.Values.{pointer_to, value_in}
-use Rattle.run_source_tables.specs.Given.{facts_at}
+use Rattle.pass_frames_proof.specs.pass_frames.Tables.{offset_at}
+use Rattle.pass_frames_proof.specs.frame_contents.Held.{position_of}
+use Rattle.pass_frames_proof.specs.ir_model.Ty.{int}
+use Rattle.pass_frames_proof.specs.run_framed.Framed.{layout_of}
+use Rattle.pass_frames_proof.specs.run_memory.declared.pointer.Offset.{Offset}
+use Rattle.pass_frames_proof.specs.run_source.Source.{context_of}
+use Rattle.pass_frames_proof.specs.run_source.State.{work_of}
+use Rattle.pass_frames_proof.specs.run_step.Step.{alloca}
+use Rattle.pass_frames_proof.proofs.pass_proofs.copies.rules.Slots.{AreNumbered, numbered}
+use Rattle.pass_frames_proof.specs.pass_proofs.addresses.rules.Addresses.{lies_in_frame}
+use Rattle.pass_frames_proof.specs.pass_renewed_proof.Renewed.{renewed_step}
+use Rattle.pass_frames_proof.specs.run_agreement.Machines.{IsFine}
+use Rattle.pass_frames_proof.specs.run_framed.Framed.{frame_rights}
+use Rattle.pass_frames_proof.specs.run_memory.declared.pointer.Value.{Value}
+use Rattle.pass_frames_proof.specs.run_source.State.{function_of}
+use Rattle.pass_frames_proof.specs.run_source.declared.state.Activation.{Activation}
+use Rattle.pass_frames_proof.specs.run_source.declared.state.Instance.{Instance}
+use Rattle.pass_frames_proof.specs.run_source.declared.state.Mode.{Mode}
+use Rattle.pass_frames_proof.specs.run_source.declared.state.State.{State}
+use Rattle.pass_frames_proof.specs.run_states.sound_states.Sound.{IsInstanceOf}
+use Rattle.pass_frames_proof.specs.run_step.Step.{AtInstr, Stuck, fetch, is_alignment}
+use Rattle.pass_frames_proof.specs.run_step.Values.{pointer_to, value_in}
+use Rattle.pass_frames_proof.specs.run_source_tables.Given.{facts_at}
 
 -- ---- temporaries
 

@@ -1,21 +1,21 @@
 -- Whose distance is kept goes back to a local slot: its base is the slot, or the distance of that is kept too.
 use Rattle.std.proofs.Common.{◌≡◌, ◌⊎◌, inl, inr, ⊎_elim, ℕ, zero, suc, ◌<◌, Bool, true, List, [], ◌∷◌, length, replicate, Option, Some, None, refl, sym, ap, ◌∙◌, subst}
 use Rattle.std.specs.Prelude.{slice_get, slice_set, unwrap_or}
-use Rattle.flow_solver.specs.Paths.{IsListed}
-use Rattle.frame_classes.specs.declared.class.SlotClass.{SlotClass}
-use Rattle.ir_laws.proofs.facts.Lists.{get_within}
-use Rattle.ir_model.specs.Ty.{Ty}
-use Rattle.ir_model.specs.declared.instr.Instr.{Instr}
-use Rattle.ir_model.specs.declared.module.Block.{Block}
-use Rattle.ir_model.specs.declared.operand.Arg.{Arg}
-use Rattle.ir_model.specs.declared.operand.Operand.{Operand}
-use Rattle.ir_parts.specs.Contents.{result_of}
-use Rattle.ir_paths.specs.Slots.{allocas_of}
-use Rattle.ir_paths.specs.Windows.{instr_at, instr_in}
-use Rattle.ir_paths.specs.declared.point.Point.{Point}
-use Rattle.pass_cells.specs.Kept.{entry, is_flagged, joined, keeping_of}
-use Rattle.pass_cells.specs.Links.{bases_of, marks_of, roots_of, slots_of, with_base, with_bases_by, with_bases_in}
-use Rattle.pass_frames.specs.Tables.{class_flags}
+use Rattle.pass_frames_proof.specs.flow_solver.Paths.{IsListed}
+use Rattle.pass_frames_proof.specs.frame_classes.declared.class.SlotClass.{SlotClass}
+use Rattle.pass_frames_proof.proofs.ir_laws.facts.Lists.{get_within}
+use Rattle.pass_frames_proof.specs.ir_model.Ty.{Ty}
+use Rattle.pass_frames_proof.specs.ir_model.declared.instr.Instr.{Instr}
+use Rattle.pass_frames_proof.specs.ir_model.declared.module.Block.{Block}
+use Rattle.pass_frames_proof.specs.ir_model.declared.operand.Arg.{Arg}
+use Rattle.pass_frames_proof.specs.ir_model.declared.operand.Operand.{Operand}
+use Rattle.pass_frames_proof.specs.ir_parts.Contents.{result_of}
+use Rattle.pass_frames_proof.specs.ir_paths.Slots.{allocas_of}
+use Rattle.pass_frames_proof.specs.ir_paths.Windows.{instr_at, instr_in}
+use Rattle.pass_frames_proof.specs.ir_paths.declared.point.Point.{Point}
+use Rattle.pass_frames_proof.specs.pass_cells.Kept.{entry, is_flagged, joined, keeping_of}
+use Rattle.pass_frames_proof.specs.pass_cells.Links.{bases_of, marks_of, roots_of, slots_of, with_base, with_bases_by, with_bases_in}
+use Rattle.pass_frames_proof.specs.pass_frames.Tables.{class_flags}
 use Rattle.pass_frames_meaning.proofs.kinds.Chains.{base_leads, no_own_base, root_base, root_slot, slot_root}
 use Rattle.pass_frames_meaning.proofs.kinds.Marks.{cell_told, marks_closed}
 use Rattle.pass_frames_meaning.proofs.others.Names.{once, point_there, result_low}
@@ -24,11 +24,11 @@ use Rattle.pass_frames_proof.specs.Framings.{IsFraming}
 use Rattle.pass_frames_proof.specs.Passes.{no_block}
 use Rattle.pass_frames_proof.specs.Places.{Framing, edged, instrs_at, plan}
 use Rattle.pass_frames_proof.specs.Related.{root_of}
-use Rattle.pass_cells.specs.declared.keeping.Keeping.{Keeping}
-use Rattle.pass_proofs.proofs.cells.rules.Links.{distance_there}
-use Rattle.pass_proofs.proofs.edges.paths.Slots.{same_allocas}
-use Rattle.pass_proofs.proofs.frames.shape.Fits.{flags_are_allocas}
-use Rattle.rule_laws.proofs.rules.source_rules.Slots.{alloca_of}
+use Rattle.pass_frames_proof.specs.pass_cells.declared.keeping.Keeping.{Keeping}
+use Rattle.pass_frames_proof.proofs.pass_proofs.cells.rules.Links.{distance_there}
+use Rattle.pass_frames_proof.proofs.pass_proofs.edges.paths.Slots.{same_allocas}
+use Rattle.pass_frames_proof.proofs.pass_proofs.frames.shape.Fits.{flags_are_allocas}
+use Rattle.pass_frames_proof.proofs.rule_laws.rules.source_rules.Slots.{alloca_of}
 
 -- ---- the table of bases
 

@@ -1,27 +1,27 @@
 -- In the entry block what an instruction uses is given before it: so is the alloca of a slot that it uses.
 use Rattle.std.proofs.Common.{◌≡◌, ◌⊎◌, inl, inr, ⊎_elim, ℕ, zero, suc, ◌<◌, List, [], ◌∷◌, ◌++◌, Option, Some, None, refl, sym, ap, ◌∙◌, subst, arith}
 use Rattle.std.specs.Prelude.{option_to_list, slice_get, unwrap_or}
-use Rattle.flow_solver.specs.Paths.{IsListed}
-use Rattle.ir_laws.proofs.facts.Lists.{phi_names}
-use Rattle.ir_laws.proofs.paths.crossing.Spots.{listed_or}
-use Rattle.ir_laws.proofs.paths.source_rules.Locals.{listed_either}
-use Rattle.ir_model.specs.Ty.{Ty}
-use Rattle.ir_model.specs.declared.instr.Instr.{Instr}
-use Rattle.ir_model.specs.declared.instr.Phi.{Phi}
-use Rattle.ir_model.specs.declared.module.Block.{Block}
-use Rattle.ir_model.specs.declared.module.Function.{Function}
-use Rattle.ir_parts.specs.Contents.{instr_operands, result_of}
-use Rattle.ir_paths.specs.Windows.{instr_at, instr_in}
-use Rattle.ir_paths.specs.declared.point.Point.{Point}
+use Rattle.pass_frames_proof.specs.flow_solver.Paths.{IsListed}
+use Rattle.pass_frames_proof.proofs.ir_laws.facts.Lists.{phi_names}
+use Rattle.pass_frames_proof.proofs.ir_laws.paths.crossing.Spots.{listed_or}
+use Rattle.pass_frames_proof.proofs.ir_laws.paths.source_rules.Locals.{listed_either}
+use Rattle.pass_frames_proof.specs.ir_model.Ty.{Ty}
+use Rattle.pass_frames_proof.specs.ir_model.declared.instr.Instr.{Instr}
+use Rattle.pass_frames_proof.specs.ir_model.declared.instr.Phi.{Phi}
+use Rattle.pass_frames_proof.specs.ir_model.declared.module.Block.{Block}
+use Rattle.pass_frames_proof.specs.ir_model.declared.module.Function.{Function}
+use Rattle.pass_frames_proof.specs.ir_parts.Contents.{instr_operands, result_of}
+use Rattle.pass_frames_proof.specs.ir_paths.Windows.{instr_at, instr_in}
+use Rattle.pass_frames_proof.specs.ir_paths.declared.point.Point.{Point}
 use Rattle.pass_frames_meaning.proofs.others.Names.{point_there}
 use Rattle.pass_frames_proof.specs.Framings.{IsFraming}
 use Rattle.pass_frames_proof.specs.Passes.{no_block}
 use Rattle.pass_frames_proof.specs.Places.{Framing, edged, instrs_at}
-use Rattle.rule_laws.proofs.rules.counted.PartFacts.{AllMadeBefore, block_made}
-use Rattle.rule_laws.proofs.rules.source_rules.Locals.{no_param, no_phi, same_result}
-use Rattle.rule_laws.specs.rules.function_rules.Kept.{KeepsFunctionRules}
-use Rattle.rule_uses.specs.Undefined.{Entry, params_of}
-use Rattle.rule_uses.specs.Uses.{locals_in, made_by_phis, phi_values}
+use Rattle.pass_frames_proof.proofs.rule_laws.rules.counted.PartFacts.{AllMadeBefore, block_made}
+use Rattle.pass_frames_proof.proofs.rule_laws.rules.source_rules.Locals.{no_param, no_phi, same_result}
+use Rattle.pass_frames_proof.specs.rule_laws.rules.function_rules.Kept.{KeepsFunctionRules}
+use Rattle.pass_frames_proof.specs.rule_uses.Undefined.{Entry, params_of}
+use Rattle.pass_frames_proof.specs.rule_uses.Uses.{locals_in, made_by_phis, phi_values}
 
 -- what phis make are their names
 phis_make : (before : List ℕ) (ps : List Phi) (v : ℕ) → IsListed v (made_by_phis before ps)

@@ -3,29 +3,29 @@ use Rattle.std.proofs.Common.{◌≡◌, inl, inr, ℕ, ◌<◌, ◌≤◌, ◌=
 use Rattle.std.specs.List.{Contains, list_all}
 use Rattle.std.specs.Prelude.{is_none, is_some, not, option_map, slice_get}
 use Rattle.std.proofs.lemmas.Bool.{and_parts, false≢true}
-use Rattle.flow_solver.specs.Paths.{IsListed}
-use Rattle.ir_base.specs.declared.cause.Cause.{Cause}
-use Rattle.ir_base.specs.declared.outcome.Outcome.{Outcome}
-use Rattle.ir_laws.proofs.facts.Lists.{get_within}
-use Rattle.ir_laws.proofs.facts.Truth.{equal_numbers}
-use Rattle.ir_model.specs.Names.{function_at}
-use Rattle.ir_model.specs.Ty.{Ty, token}
-use Rattle.ir_model.specs.declared.instr.Instr.{Instr}
-use Rattle.ir_model.specs.declared.module.Function.{Function}
-use Rattle.ir_model.specs.declared.module.Module.{Module}
-use Rattle.ir_model.specs.declared.operand.Arg.{Arg}
-use Rattle.ir_model.specs.declared.operand.Callee.{Callee}
-use Rattle.ir_model.specs.declared.operand.Intrinsic.{Intrinsic}
-use Rattle.ir_model.specs.declared.operand.Operand.{Operand}
-use Rattle.ir_parts.specs.Contents.{instr_operands}
-use Rattle.ir_paths.specs.Windows.{operand_at}
-use Rattle.pass_addresses.specs.Placing.{stays, without_promise_of}
-use Rattle.pass_cells.specs.Cells.{fetches_of}
-use Rattle.pass_cells.specs.Kept.{entry}
-use Rattle.pass_fetch.specs.Fetching.{next_after_all}
-use Rattle.pass_frames.specs.Tables.{offset_at}
+use Rattle.pass_frames_proof.specs.flow_solver.Paths.{IsListed}
+use Rattle.pass_frames_proof.specs.ir_base.declared.cause.Cause.{Cause}
+use Rattle.pass_frames_proof.specs.ir_base.declared.outcome.Outcome.{Outcome}
+use Rattle.pass_frames_proof.proofs.ir_laws.facts.Lists.{get_within}
+use Rattle.pass_frames_proof.proofs.ir_laws.facts.Truth.{equal_numbers}
+use Rattle.pass_frames_proof.specs.ir_model.Names.{function_at}
+use Rattle.pass_frames_proof.specs.ir_model.Ty.{Ty, token}
+use Rattle.pass_frames_proof.specs.ir_model.declared.instr.Instr.{Instr}
+use Rattle.pass_frames_proof.specs.ir_model.declared.module.Function.{Function}
+use Rattle.pass_frames_proof.specs.ir_model.declared.module.Module.{Module}
+use Rattle.pass_frames_proof.specs.ir_model.declared.operand.Arg.{Arg}
+use Rattle.pass_frames_proof.specs.ir_model.declared.operand.Callee.{Callee}
+use Rattle.pass_frames_proof.specs.ir_model.declared.operand.Intrinsic.{Intrinsic}
+use Rattle.pass_frames_proof.specs.ir_model.declared.operand.Operand.{Operand}
+use Rattle.pass_frames_proof.specs.ir_parts.Contents.{instr_operands}
+use Rattle.pass_frames_proof.specs.ir_paths.Windows.{operand_at}
+use Rattle.pass_frames_proof.specs.pass_addresses.Placing.{stays, without_promise_of}
+use Rattle.pass_frames_proof.specs.pass_cells.Cells.{fetches_of}
+use Rattle.pass_frames_proof.specs.pass_cells.Kept.{entry}
+use Rattle.pass_frames_proof.specs.pass_fetch.Fetching.{next_after_all}
+use Rattle.pass_frames_proof.specs.pass_frames.Tables.{offset_at}
 use Rattle.pass_frames_proof.specs.Slotted.{IsSlotField}
-use Rattle.run_framed.specs.Framed.{layout_of}
+use Rattle.pass_frames_proof.specs.run_framed.Framed.{layout_of}
 use Rattle.pass_frames_meaning.proofs.begun.Begun.{begin_plain}
 use Rattle.pass_frames_meaning.proofs.coroutines.Steps.{acts_as}
 use Rattle.pass_frames_meaning.proofs.coroutines.Suspends.{token_is}
@@ -51,36 +51,36 @@ use Rattle.pass_frames_proof.specs.Ordinary.{IsPlainName}
 use Rattle.pass_frames_proof.specs.Places.{Framing, Placed, copies, edged, framed, instrs_at, marked, plan}
 use Rattle.pass_frames_proof.specs.Related.{AreBuiltOf, is_coroutine}
 use Rattle.pass_frames_proof.specs.Stepping.{AreNamesInOrder, IsNotEntering, state_in}
-use Rattle.pass_proofs.proofs.fetch.rules.Puts.{fetch_rises}
-use Rattle.pass_renewed_proof.specs.Renewed.{renewed_act, renewed_step}
-use Rattle.rule_types.specs.Signatures.{are_wanted}
-use Rattle.rule_types.specs.Wants.{any, is_basic, meets}
-use Rattle.rule_types.specs.declared.wants.Basic.{Basic}
-use Rattle.rule_types.specs.declared.wants.Demand.{Demand}
-use Rattle.rule_values.specs.Fits.{fits_arg, fits_kind, fits}
-use Rattle.rule_values.specs.Instrs.{fits_called, fits_result, is_passed, passes}
-use Rattle.rule_values.specs.Kinds.{value_kind}
-use Rattle.run_agreement.specs.Machines.{IsFine}
-use Rattle.run_memory.specs.Memory.{check, is_killed, is_live, may_be_owned, own, owned_to, same_kind, with_block}
-use Rattle.run_memory.specs.Pointers.{offset_of}
-use Rattle.run_memory.specs.declared.block.Kind.{Kind}
-use Rattle.run_memory.specs.declared.block.Life.{Life}
-use Rattle.run_memory.specs.declared.block.MemoryBlock.{MemoryBlock}
-use Rattle.run_memory.specs.declared.pointer.Pointer.{Pointer}
-use Rattle.run_memory.specs.declared.pointer.Value.{Value}
+use Rattle.pass_frames_proof.proofs.pass_proofs.fetch.rules.Puts.{fetch_rises}
+use Rattle.pass_frames_proof.specs.pass_renewed_proof.Renewed.{renewed_act, renewed_step}
+use Rattle.pass_frames_proof.specs.rule_types.Signatures.{are_wanted}
+use Rattle.pass_frames_proof.specs.rule_types.Wants.{any, is_basic, meets}
+use Rattle.pass_frames_proof.specs.rule_types.declared.wants.Basic.{Basic}
+use Rattle.pass_frames_proof.specs.rule_types.declared.wants.Demand.{Demand}
+use Rattle.pass_frames_proof.specs.rule_values.Fits.{fits_arg, fits_kind, fits}
+use Rattle.pass_frames_proof.specs.rule_values.Instrs.{fits_called, fits_result, is_passed, passes}
+use Rattle.pass_frames_proof.specs.rule_values.Kinds.{value_kind}
+use Rattle.pass_frames_proof.specs.run_agreement.Machines.{IsFine}
+use Rattle.pass_frames_proof.specs.run_memory.Memory.{check, is_killed, is_live, may_be_owned, own, owned_to, same_kind, with_block}
+use Rattle.pass_frames_proof.specs.run_memory.Pointers.{offset_of}
+use Rattle.pass_frames_proof.specs.run_memory.declared.block.Kind.{Kind}
+use Rattle.pass_frames_proof.specs.run_memory.declared.block.Life.{Life}
+use Rattle.pass_frames_proof.specs.run_memory.declared.block.MemoryBlock.{MemoryBlock}
+use Rattle.pass_frames_proof.specs.run_memory.declared.pointer.Pointer.{Pointer}
+use Rattle.pass_frames_proof.specs.run_memory.declared.pointer.Value.{Value}
 use Rattle.run_slots.specs.Slots.{IsFrameBlock, is_alloca_block}
-use Rattle.run_source.specs.Source.{begin, begin_at, begun}
-use Rattle.run_source.specs.State.{function_of, gives, own_frame, with_memory}
-use Rattle.run_source.specs.declared.state.Activation.{Activation}
-use Rattle.run_source.specs.declared.state.Instance.{Instance}
-use Rattle.run_source.specs.declared.state.State.{State}
-use Rattle.run_source_tables.specs.Given.{Given}
-use Rattle.run_states.specs.sound_states.Sound.{AreSoundBelow, IsInstanceOf}
-use Rattle.run_step.specs.Results.{and_then, found, ok_if}
-use Rattle.run_step.specs.Step.{AtInstr, Coro, fetch}
-use Rattle.run_step.specs.Step.{block_of as pointed}
-use Rattle.run_step.specs.Values.{pointer_to, value_in}
-use Rattle.run_step.specs.declared.world.Slot.{Slot}
+use Rattle.pass_frames_proof.specs.run_source.Source.{begin, begin_at, begun}
+use Rattle.pass_frames_proof.specs.run_source.State.{function_of, gives, own_frame, with_memory}
+use Rattle.pass_frames_proof.specs.run_source.declared.state.Activation.{Activation}
+use Rattle.pass_frames_proof.specs.run_source.declared.state.Instance.{Instance}
+use Rattle.pass_frames_proof.specs.run_source.declared.state.State.{State}
+use Rattle.pass_frames_proof.specs.run_source_tables.Given.{Given}
+use Rattle.pass_frames_proof.specs.run_states.sound_states.Sound.{AreSoundBelow, IsInstanceOf}
+use Rattle.pass_frames_proof.specs.run_step.Results.{and_then, found, ok_if}
+use Rattle.pass_frames_proof.specs.run_step.Step.{AtInstr, Coro, fetch}
+use Rattle.pass_frames_proof.specs.run_step.Step.{block_of as pointed}
+use Rattle.pass_frames_proof.specs.run_step.Values.{pointer_to, value_in}
+use Rattle.pass_frames_proof.specs.run_step.declared.world.Slot.{Slot}
 
 -- ---- what begin does
 

@@ -2,9 +2,9 @@
 use Rattle.std.proofs.Common.{◌≡◌, ◌⊎◌, inl, inr, ℕ, zero, suc, ◌+◌, ◌≤◌, Bool, true, false, List, Option, Some, None, refl, sym, ap, ◌∙◌, subst, arith, if◌then◌else◌}
 use Rattle.std.specs.Prelude.{option_map, slice_get}
 use Rattle.std.proofs.lemmas.Option.{slice_get-map}
-use Rattle.ir_model.specs.Calls.{or_else}
-use Rattle.pass_cells.specs.Kept.{entry, is_flagged, joined}
-use Rattle.pass_cells.specs.Links.{further, jumped, roots_after, roots_of, slot_by, slots_of}
+use Rattle.pass_frames_proof.specs.ir_model.Calls.{or_else}
+use Rattle.pass_frames_proof.specs.pass_cells.Kept.{entry, is_flagged, joined}
+use Rattle.pass_frames_proof.specs.pass_cells.Links.{further, jumped, roots_after, roots_of, slot_by, slots_of}
 
 -- a name leads to another one in so many steps
 abbrev pub Steps : List (Option ℕ) → ℕ → ℕ → ℕ → Type 0

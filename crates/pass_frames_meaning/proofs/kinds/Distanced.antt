@@ -3,27 +3,27 @@ use Rattle.std.proofs.Common.{◌≡◌, ◌≢◌, ◌⊎◌, inl, inr, ℕ, �
 use Rattle.std.specs.Prelude.{slice_get}
 use Rattle.std.specs.List.{list_all}
 use Rattle.std.proofs.lemmas.Bool.{and_parts}
-use Rattle.flow_solver.specs.Paths.{IsListed}
-use Rattle.ir_base.specs.declared.outcome.Outcome.{Outcome}
-use Rattle.ir_laws.proofs.facts.Members.{each_turns}
-use Rattle.ir_laws.proofs.facts.Truth.{itself}
-use Rattle.ir_model.specs.Names.{function_at}
-use Rattle.ir_model.specs.Ty.{Ty, int}
-use Rattle.ir_model.specs.declared.instr.Instr.{Instr}
-use Rattle.ir_model.specs.declared.module.Function.{Function}
-use Rattle.ir_model.specs.declared.operand.Arg.{Arg}
-use Rattle.ir_model.specs.declared.operand.Operand.{Operand}
-use Rattle.ir_parts.specs.Contents.{arg_operands}
-use Rattle.ir_paths.specs.Slots.{allocas_of}
-use Rattle.pass_addresses.specs.Placing.{slot_fetches}
-use Rattle.pass_cells.specs.Cells.{fetches_of}
-use Rattle.pass_cells.specs.Kept.{entry}
-use Rattle.pass_cells.specs.Written.{after_distance_into, cell_of, distance_from}
-use Rattle.pass_distances.specs.Sums.{distance_next}
-use Rattle.pass_distances.specs.Ways.{ways_of}
-use Rattle.pass_fetch.specs.Fetching.{fetch_of, fetched_args, next_after, next_after_all, next_by, operand_by}
-use Rattle.pass_fetch.specs.declared.fetch.Fetch.{Fetch}
-use Rattle.pass_frames.specs.Framed.{begin_of}
+use Rattle.pass_frames_proof.specs.flow_solver.Paths.{IsListed}
+use Rattle.pass_frames_proof.specs.ir_base.declared.outcome.Outcome.{Outcome}
+use Rattle.pass_frames_proof.proofs.ir_laws.facts.Members.{each_turns}
+use Rattle.pass_frames_proof.proofs.ir_laws.facts.Truth.{itself}
+use Rattle.pass_frames_proof.specs.ir_model.Names.{function_at}
+use Rattle.pass_frames_proof.specs.ir_model.Ty.{Ty, int}
+use Rattle.pass_frames_proof.specs.ir_model.declared.instr.Instr.{Instr}
+use Rattle.pass_frames_proof.specs.ir_model.declared.module.Function.{Function}
+use Rattle.pass_frames_proof.specs.ir_model.declared.operand.Arg.{Arg}
+use Rattle.pass_frames_proof.specs.ir_model.declared.operand.Operand.{Operand}
+use Rattle.pass_frames_proof.specs.ir_parts.Contents.{arg_operands}
+use Rattle.pass_frames_proof.specs.ir_paths.Slots.{allocas_of}
+use Rattle.pass_frames_proof.specs.pass_addresses.Placing.{slot_fetches}
+use Rattle.pass_frames_proof.specs.pass_cells.Cells.{fetches_of}
+use Rattle.pass_frames_proof.specs.pass_cells.Kept.{entry}
+use Rattle.pass_frames_proof.specs.pass_cells.Written.{after_distance_into, cell_of, distance_from}
+use Rattle.pass_frames_proof.specs.pass_distances.Sums.{distance_next}
+use Rattle.pass_frames_proof.specs.pass_distances.Ways.{ways_of}
+use Rattle.pass_frames_proof.specs.pass_fetch.Fetching.{fetch_of, fetched_args, next_after, next_after_all, next_by, operand_by}
+use Rattle.pass_frames_proof.specs.pass_fetch.declared.fetch.Fetch.{Fetch}
+use Rattle.pass_frames_proof.specs.pass_frames.Framed.{begin_of}
 use Rattle.pass_frames_meaning.proofs.coroutines.Steps.{done_by, may_stand, storable}
 use Rattle.pass_frames_meaning.proofs.kinds.Bases.{GoesOn, base_low, base_of, bases, goes_on, no_alloca_base, root_flagged, root_listed}
 use Rattle.pass_frames_meaning.proofs.kinds.Before.{alloca_before}
@@ -54,19 +54,19 @@ use Rattle.pass_frames_proof.specs.Operands.{IsAtFetch}
 use Rattle.pass_frames_proof.specs.Places.{Framing, Placed, edged, instrs_at, named, offsets, plan, written}
 use Rattle.pass_frames_proof.specs.Related.{AreBuiltOf, is_coroutine, root_of}
 use Rattle.pass_frames_proof.specs.Stepping.{IsNotEntering, state_in}
-use Rattle.pass_proofs.proofs.fetch.rules.Puts.{fetch_rises}
-use Rattle.pass_renewed_proof.specs.Renewed.{renewed_step}
-use Rattle.rule_values.specs.Fits.{fits, fits_integer, fits_kind, is_integer}
-use Rattle.rule_values.specs.Kinds.{value_kind}
-use Rattle.rule_values.specs.declared.kinds.Kind.{Kind}
-use Rattle.run_agreement.specs.Machines.{IsFine}
-use Rattle.run_laws.proofs.changed.Kept.{distance_kept}
-use Rattle.run_laws.specs.changed.Changed.{Each}
-use Rattle.run_source.specs.Source.{context_of}
-use Rattle.run_source.specs.State.{function_of, work_of}
-use Rattle.run_source.specs.declared.state.State.{State}
-use Rattle.run_step.specs.Step.{AtInstr, Done, Work, fetch, instr_action}
-use Rattle.run_step.specs.Values.{pointer_to, value_in}
+use Rattle.pass_frames_proof.proofs.pass_proofs.fetch.rules.Puts.{fetch_rises}
+use Rattle.pass_frames_proof.specs.pass_renewed_proof.Renewed.{renewed_step}
+use Rattle.pass_frames_proof.specs.rule_values.Fits.{fits, fits_integer, fits_kind, is_integer}
+use Rattle.pass_frames_proof.specs.rule_values.Kinds.{value_kind}
+use Rattle.pass_frames_proof.specs.rule_values.declared.kinds.Kind.{Kind}
+use Rattle.pass_frames_proof.specs.run_agreement.Machines.{IsFine}
+use Rattle.pass_frames_proof.proofs.run_laws.changed.Kept.{distance_kept}
+use Rattle.pass_frames_proof.specs.run_laws.changed.Changed.{Each}
+use Rattle.pass_frames_proof.specs.run_source.Source.{context_of}
+use Rattle.pass_frames_proof.specs.run_source.State.{function_of, work_of}
+use Rattle.pass_frames_proof.specs.run_source.declared.state.State.{State}
+use Rattle.pass_frames_proof.specs.run_step.Step.{AtInstr, Done, Work, fetch, instr_action}
+use Rattle.pass_frames_proof.specs.run_step.Values.{pointer_to, value_in}
 
 -- ---- indices
 

@@ -1,24 +1,24 @@
 -- Allocas of a coroutine stand in its entry block (F3), and each gives its name alone (N1).
 use Rattle.std.proofs.Common.{◌≡◌, ℕ, false, Option, Some, None, refl, sym, ap, ◌∙◌, ◌==◌}
 use Rattle.std.specs.Prelude.{not, slice_get, unwrap_or}
-use Rattle.flow_solver.specs.Paths.{IsListed}
-use Rattle.ir_laws.proofs.facts.Members.{at_each}
-use Rattle.ir_laws.proofs.facts.Truth.{equal_numbers, holds}
-use Rattle.ir_model.specs.Ty.{Ty}
-use Rattle.ir_model.specs.declared.instr.Instr.{Instr}
-use Rattle.ir_model.specs.declared.module.Block.{Block}
-use Rattle.ir_paths.specs.Slots.{allocas_of}
-use Rattle.ir_paths.specs.Windows.{instr_at, instr_in}
-use Rattle.ir_paths.specs.declared.point.Point.{Point}
+use Rattle.pass_frames_proof.specs.flow_solver.Paths.{IsListed}
+use Rattle.pass_frames_proof.proofs.ir_laws.facts.Members.{at_each}
+use Rattle.pass_frames_proof.proofs.ir_laws.facts.Truth.{equal_numbers, holds}
+use Rattle.pass_frames_proof.specs.ir_model.Ty.{Ty}
+use Rattle.pass_frames_proof.specs.ir_model.declared.instr.Instr.{Instr}
+use Rattle.pass_frames_proof.specs.ir_model.declared.module.Block.{Block}
+use Rattle.pass_frames_proof.specs.ir_paths.Slots.{allocas_of}
+use Rattle.pass_frames_proof.specs.ir_paths.Windows.{instr_at, instr_in}
+use Rattle.pass_frames_proof.specs.ir_paths.declared.point.Point.{Point}
 use Rattle.pass_frames_meaning.proofs.others.Names.{point_there}
 use Rattle.pass_frames_proof.specs.Framings.{IsFraming}
 use Rattle.pass_frames_proof.specs.Passes.{no_block}
 use Rattle.pass_frames_proof.specs.Places.{Framing, edged, instrs_at}
-use Rattle.rule_laws.proofs.rules.counted.PartFacts.{block_passes}
-use Rattle.rule_laws.proofs.rules.source_rules.Locals.{same_result}
-use Rattle.rule_laws.proofs.rules.source_rules.Slots.{alloca_of}
-use Rattle.rule_locals.specs.Entries.{allocates_late, is_past_entry}
-use Rattle.rule_locals.specs.Instrs.{on_instr}
+use Rattle.pass_frames_proof.proofs.rule_laws.rules.counted.PartFacts.{block_passes}
+use Rattle.pass_frames_proof.proofs.rule_laws.rules.source_rules.Locals.{same_result}
+use Rattle.pass_frames_proof.proofs.rule_laws.rules.source_rules.Slots.{alloca_of}
+use Rattle.pass_frames_proof.specs.rule_locals.Entries.{allocates_late, is_past_entry}
+use Rattle.pass_frames_proof.specs.rule_locals.Instrs.{on_instr}
 
 -- an alloca of the entry block gives the name
 pub record IsInEntry (x : Framing) (v : ℕ) : Type 0 where

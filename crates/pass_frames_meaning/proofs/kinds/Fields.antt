@@ -3,13 +3,13 @@ use Rattle.std.proofs.Common.{◌≡◌, inl, inr, ⊎_elim, ℕ, ◌+◌, ◌<�
 use Rattle.std.proofs.lemmas.Bool.{and_from, le-leb}
 use Rattle.std.specs.Prelude.{option_map, slice_get}
 use Rattle.std.specs.List.{Contains}
-use Rattle.flow_solver.specs.Paths.{IsListed}
-use Rattle.frame_contents.specs.Held.{position_of}
-use Rattle.ir_laws.proofs.facts.Lists.{get_within}
-use Rattle.pass_cells.specs.Written.{row_at}
-use Rattle.pass_cells.specs.declared.plan.KeptValue.{KeptValue}
-use Rattle.pass_fetch.specs.Fetching.{value_bytes}
-use Rattle.pass_frames.specs.Tables.{offset_at}
+use Rattle.pass_frames_proof.specs.flow_solver.Paths.{IsListed}
+use Rattle.pass_frames_proof.specs.frame_contents.Held.{position_of}
+use Rattle.pass_frames_proof.proofs.ir_laws.facts.Lists.{get_within}
+use Rattle.pass_frames_proof.specs.pass_cells.Written.{row_at}
+use Rattle.pass_frames_proof.specs.pass_cells.declared.plan.KeptValue.{KeptValue}
+use Rattle.pass_frames_proof.specs.pass_fetch.Fetching.{value_bytes}
+use Rattle.pass_frames_proof.specs.pass_frames.Tables.{offset_at}
 use Rattle.pass_frames_meaning.proofs.kinds.SaveNames.{get_there}
 use Rattle.pass_frames_meaning.proofs.slotted.Facts.{instances_placed, listed_slots, slots_apart, slots_listed}
 use Rattle.pass_frames_meaning.proofs.spared.Spared.{free, same_frame}
@@ -24,21 +24,21 @@ use Rattle.pass_frames_proof.specs.Places.{Framing, offsets, plan}
 use Rattle.pass_frames_proof.specs.Related.{Anything, AreBuiltOf, AreInstances, IsKeptValue, is_coroutine}
 use Rattle.pass_frames_proof.specs.Saves.{HasRoomFor, HoldsField}
 use Rattle.pass_frames_proof.specs.Slotted.{AreRangesApart, HasFrameThere, IsSlotField}
-use Rattle.run_framed.specs.Framed.{frame_rights, layout_of}
-use Rattle.run_laws.specs.access.Changed.{IsFree}
-use Rattle.run_laws.specs.access.Lines.{Holds}
-use Rattle.run_laws.specs.memory.Pointers.{Home, home_of}
-use Rattle.run_laws.specs.memory.Standing.{IsAlignment, Stands}
-use Rattle.run_laws.specs.transfer.Muted.{ended_if, muted}
-use Rattle.run_laws.specs.transfer.Places.{HasRoom}
-use Rattle.run_memory.specs.Memory.{Rights, is_live, owner_rights}
-use Rattle.run_memory.specs.declared.block.Byte.{Byte}
-use Rattle.run_memory.specs.declared.block.Kind.{Kind}
-use Rattle.run_memory.specs.declared.block.Life.{Life}
-use Rattle.run_memory.specs.declared.block.MemoryBlock.{MemoryBlock}
-use Rattle.run_source.specs.declared.state.Instance.{Instance}
-use Rattle.run_source.specs.declared.state.State.{State}
-use Rattle.run_step.specs.declared.world.Slot.{Slot}
+use Rattle.pass_frames_proof.specs.run_framed.Framed.{frame_rights, layout_of}
+use Rattle.pass_frames_proof.specs.run_laws.access.Changed.{IsFree}
+use Rattle.pass_frames_proof.specs.run_laws.access.Lines.{Holds}
+use Rattle.pass_frames_proof.specs.run_laws.memory.Pointers.{Home, home_of}
+use Rattle.pass_frames_proof.specs.run_laws.memory.Standing.{IsAlignment, Stands}
+use Rattle.pass_frames_proof.specs.run_laws.transfer.Muted.{ended_if, muted}
+use Rattle.pass_frames_proof.specs.run_laws.transfer.Places.{HasRoom}
+use Rattle.pass_frames_proof.specs.run_memory.Memory.{Rights, is_live, owner_rights}
+use Rattle.pass_frames_proof.specs.run_memory.declared.block.Byte.{Byte}
+use Rattle.pass_frames_proof.specs.run_memory.declared.block.Kind.{Kind}
+use Rattle.pass_frames_proof.specs.run_memory.declared.block.Life.{Life}
+use Rattle.pass_frames_proof.specs.run_memory.declared.block.MemoryBlock.{MemoryBlock}
+use Rattle.pass_frames_proof.specs.run_source.declared.state.Instance.{Instance}
+use Rattle.pass_frames_proof.specs.run_source.declared.state.State.{State}
+use Rattle.pass_frames_proof.specs.run_step.declared.world.Slot.{Slot}
 
 zero_meets : (a : ℕ) → IsAlignment a → (0 % a == 0) ≡ true
 zero_meets a (inl e) = ap (λ (n : ℕ). 0 % n == 0) e

@@ -1,6 +1,6 @@
 -- Where both runs go on behind an instruction of a coroutine, and nothing else changes, the relation holds.
 use Rattle.std.proofs.Common.{◌≡◌, ℕ, ◌+◌, true, false, Option, refl, sym, ap, ◌∙◌, subst, arith}
-use Rattle.ir_paths.specs.declared.point.Point.{Point}
+use Rattle.pass_frames_proof.specs.ir_paths.declared.point.Point.{Point}
 use Rattle.pass_frames_proof.proofs.stepping.After.{cells_turned, right_there, wheres_there, wheres_turned}
 use Rattle.pass_frames_proof.proofs.stepping.May.{coroutine_values, not_returned}
 use Rattle.pass_frames_proof.proofs.stepping.Operands.{asked}
@@ -11,11 +11,11 @@ use Rattle.pass_frames_proof.specs.Framings.{IsFraming}
 use Rattle.pass_frames_proof.specs.Places.{Framing, is_return, place}
 use Rattle.pass_frames_proof.specs.Related.{AreActivations, AreAhead, AreBuiltOf, AreCellsRight, AreCoroutines, AreWheresRight, Building, HasCells, IsAhead, instance_in, is_coroutine, is_first, top_place}
 use Rattle.pass_frames_proof.specs.Stepping.{IsNotEntering}
-use Rattle.run_framed.specs.Framed.{frame_rights}
-use Rattle.run_memory.specs.Memory.{Rights}
-use Rattle.run_source.specs.declared.state.Activation.{Activation}
-use Rattle.run_source.specs.declared.state.Instance.{Instance}
-use Rattle.run_source.specs.declared.state.State.{State}
+use Rattle.pass_frames_proof.specs.run_framed.Framed.{frame_rights}
+use Rattle.pass_frames_proof.specs.run_memory.Memory.{Rights}
+use Rattle.pass_frames_proof.specs.run_source.declared.state.Activation.{Activation}
+use Rattle.pass_frames_proof.specs.run_source.declared.state.Instance.{Instance}
+use Rattle.pass_frames_proof.specs.run_source.declared.state.State.{State}
 
 module _ (b : Building) (s t : State) (r : AreBuiltOf b s t)
     (framings : (func : ℕ) → is_coroutine b func ≡ true → IsFraming (b.framing func))
@@ -97,7 +97,7 @@ module _ (b : Building) (s t : State) (r : AreBuiltOf b s t)
         turned e.temporary e.align ((r.ahead.0 q first in_entry).temporaries e n align ty listed there (omega (arith, le)));
   }
     where
-      turned : (u align : ℕ) {ty : Rattle.ir_model.specs.Ty.Ty}
+      turned : (u align : ℕ) {ty : Rattle.pass_frames_proof.specs.ir_model.Ty.Ty}
           → IsAhead x r.homes r.hides s.world.memory t.world.memory t.top u ty align
           → IsAhead x r.homes r.hides s.world.memory t.world.memory c' u ty align
       turned u align one = record {

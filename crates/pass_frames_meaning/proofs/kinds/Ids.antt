@@ -2,24 +2,24 @@
 use Rattle.std.proofs.Common.{◌≡◌, ℕ, ◌+◌, ◌-◌, ◌≤◌, Bool, true, false, List, [], ◌∷◌, Option, Some, None, refl, sym, ap, ◌∙◌, subst, arith, if◌then◌else◌}
 use Rattle.std.specs.Prelude.{slice_get}
 use Rattle.std.proofs.lemmas.Bool.{and_parts}
-use Rattle.flow_solver.specs.Paths.{IsListed}
-use Rattle.ir_base.specs.declared.outcome.Outcome.{Outcome}
-use Rattle.ir_model.specs.Names.{function_at}
-use Rattle.ir_model.specs.Ty.{Ty, token}
-use Rattle.ir_model.specs.declared.instr.Instr.{Instr}
-use Rattle.ir_model.specs.declared.module.Function.{Function}
-use Rattle.ir_model.specs.declared.operand.Arg.{Arg}
-use Rattle.ir_model.specs.declared.operand.Callee.{Callee}
-use Rattle.ir_model.specs.declared.operand.Intrinsic.{Intrinsic}
-use Rattle.ir_model.specs.declared.operand.Operand.{Operand}
-use Rattle.ir_parts.specs.Contents.{instr_operands}
-use Rattle.ir_paths.specs.Slots.{allocas_of}
-use Rattle.ir_paths.specs.Windows.{operand_at}
-use Rattle.ir_paths.specs.declared.point.Point.{Point}
-use Rattle.pass_addresses.specs.Placing.{with_null, without_promise_of}
-use Rattle.pass_cells.specs.Cells.{fetches_of}
-use Rattle.pass_fetch.specs.Fetching.{fetch_of}
-use Rattle.pass_fetch.specs.declared.fetch.Fetch.{Fetch}
+use Rattle.pass_frames_proof.specs.flow_solver.Paths.{IsListed}
+use Rattle.pass_frames_proof.specs.ir_base.declared.outcome.Outcome.{Outcome}
+use Rattle.pass_frames_proof.specs.ir_model.Names.{function_at}
+use Rattle.pass_frames_proof.specs.ir_model.Ty.{Ty, token}
+use Rattle.pass_frames_proof.specs.ir_model.declared.instr.Instr.{Instr}
+use Rattle.pass_frames_proof.specs.ir_model.declared.module.Function.{Function}
+use Rattle.pass_frames_proof.specs.ir_model.declared.operand.Arg.{Arg}
+use Rattle.pass_frames_proof.specs.ir_model.declared.operand.Callee.{Callee}
+use Rattle.pass_frames_proof.specs.ir_model.declared.operand.Intrinsic.{Intrinsic}
+use Rattle.pass_frames_proof.specs.ir_model.declared.operand.Operand.{Operand}
+use Rattle.pass_frames_proof.specs.ir_parts.Contents.{instr_operands}
+use Rattle.pass_frames_proof.specs.ir_paths.Slots.{allocas_of}
+use Rattle.pass_frames_proof.specs.ir_paths.Windows.{operand_at}
+use Rattle.pass_frames_proof.specs.ir_paths.declared.point.Point.{Point}
+use Rattle.pass_frames_proof.specs.pass_addresses.Placing.{with_null, without_promise_of}
+use Rattle.pass_frames_proof.specs.pass_cells.Cells.{fetches_of}
+use Rattle.pass_frames_proof.specs.pass_fetch.Fetching.{fetch_of}
+use Rattle.pass_frames_proof.specs.pass_fetch.declared.fetch.Fetch.{Fetch}
 use Rattle.pass_frames_meaning.proofs.coroutines.Tokens.{token_nowhere}
 use Rattle.pass_frames_meaning.proofs.kinds.Going.{going_related}
 use Rattle.pass_frames_meaning.proofs.kinds.Unkept.{AreFour, alloca_unloaded, four_wanted, literal_unfetched, token_given}
@@ -40,20 +40,20 @@ use Rattle.pass_frames_proof.specs.Meaning.{action_at, coroutine_cost, other_cos
 use Rattle.pass_frames_proof.specs.Places.{Framing, edged, framed, instrs_at, is_return, place, plan}
 use Rattle.pass_frames_proof.specs.Related.{AreBuiltOf, is_coroutine, point_of}
 use Rattle.pass_frames_proof.specs.Stepping.{IsNotEntering, StandsInPlace}
-use Rattle.pass_proofs.specs.fetch.rules.Fetches.{AreUnfetched}
-use Rattle.pass_renewed_proof.specs.Renewed.{renewed_step}
-use Rattle.rule_types.specs.Signatures.{are_wanted}
-use Rattle.rule_types.specs.Wants.{any, intrinsic_params, is_basic, meets, want}
-use Rattle.rule_types.specs.declared.wants.Basic.{Basic}
-use Rattle.rule_types.specs.declared.wants.Demand.{Demand}
-use Rattle.rule_values.specs.Fits.{fits_kind}
-use Rattle.rule_values.specs.Kinds.{value_kind}
-use Rattle.rule_values.specs.declared.kinds.Kind.{Kind}
-use Rattle.run_framed.specs.Framed.{framed_step}
-use Rattle.run_source.specs.Source.{context_of}
-use Rattle.run_source.specs.State.{function_of, next, work_of}
-use Rattle.run_source.specs.declared.state.State.{State}
-use Rattle.run_step.specs.Step.{AtInstr, Coro, Fetched, action_of, fetch}
+use Rattle.pass_frames_proof.specs.pass_proofs.fetch.rules.Fetches.{AreUnfetched}
+use Rattle.pass_frames_proof.specs.pass_renewed_proof.Renewed.{renewed_step}
+use Rattle.pass_frames_proof.specs.rule_types.Signatures.{are_wanted}
+use Rattle.pass_frames_proof.specs.rule_types.Wants.{any, intrinsic_params, is_basic, meets, want}
+use Rattle.pass_frames_proof.specs.rule_types.declared.wants.Basic.{Basic}
+use Rattle.pass_frames_proof.specs.rule_types.declared.wants.Demand.{Demand}
+use Rattle.pass_frames_proof.specs.rule_values.Fits.{fits_kind}
+use Rattle.pass_frames_proof.specs.rule_values.Kinds.{value_kind}
+use Rattle.pass_frames_proof.specs.rule_values.declared.kinds.Kind.{Kind}
+use Rattle.pass_frames_proof.specs.run_framed.Framed.{framed_step}
+use Rattle.pass_frames_proof.specs.run_source.Source.{context_of}
+use Rattle.pass_frames_proof.specs.run_source.State.{function_of, next, work_of}
+use Rattle.pass_frames_proof.specs.run_source.declared.state.State.{State}
+use Rattle.pass_frames_proof.specs.run_step.Step.{AtInstr, Coro, Fetched, action_of, fetch}
 
 module _ (c : Setting) (all : KeepsAll c) (kinds : KeepsKinds c) (s t : State) (r : AreBuiltOf c.b s t)
     (k : AreOfRuns c s t r) (runs : s.outcome ≡ Outcome.Running) (coroutine : is_coroutine c.b s.top.func ≡ true)

@@ -2,9 +2,9 @@
 -- marked alone.
 use Rattle.std.proofs.Common.{◌≡◌, ◌⊎◌, inl, inr, ⊎_elim, ℕ, zero, suc, ◌+◌, ◌<◌, ◌≤◌, Bool, true, false, List, [], ◌∷◌, length, replicate, Option, Some, None, refl, sym, ap, ◌∙◌, subst, arith}
 use Rattle.std.specs.Prelude.{slice_set}
-use Rattle.ir_laws.proofs.facts.Lists.{set_length}
-use Rattle.pass_cells.specs.Kept.{entry, is_flagged}
-use Rattle.pass_cells.specs.Links.{cells_from, climbed, distance_cell, links_after, marks_of, unmarked, unmarked_by, with_climbs}
+use Rattle.pass_frames_proof.proofs.ir_laws.facts.Lists.{set_length}
+use Rattle.pass_frames_proof.specs.pass_cells.Kept.{entry, is_flagged}
+use Rattle.pass_frames_proof.specs.pass_cells.Links.{cells_from, climbed, distance_cell, links_after, marks_of, unmarked, unmarked_by, with_climbs}
 
 -- ---- flags
 

@@ -1,20 +1,20 @@
 -- The new names of what is put in front of a save come in the order of the passes.
 use Rattle.std.proofs.Common.{◌≡◌, inl, inr, ⊎_elim, ℕ, zero, suc, ◌+◌, ◌<◌, ◌≤◌, Bool, List, [], ◌∷◌, ◌++◌, length, Option, Some, None, refl, sym, ap, ◌∙◌, subst, arith}
 use Rattle.std.specs.Prelude.{replicate, slice_get}
-use Rattle.flow_solver.specs.Paths.{IsListed}
-use Rattle.ir_laws.proofs.facts.Lists.{get_within, set_at}
-use Rattle.ir_laws.proofs.paths.source_rules.Locals.{listed_either}
-use Rattle.ir_model.specs.declared.instr.Instr.{Instr}
-use Rattle.pass_addresses.specs.Placing.{stays, without_promise_of}
-use Rattle.pass_cells.specs.Cells.{fetched_function, fetches_of}
-use Rattle.pass_cells.specs.Kept.{entry, row_or, rows_from, with_pair, with_row, with_row_of}
-use Rattle.pass_cells.specs.Moves.{after_saved, saved_one, saved_values}
-use Rattle.pass_cells.specs.Written.{after_one, row_at, save_row}
-use Rattle.pass_cells.specs.declared.plan.KeptValue.{KeptValue}
-use Rattle.pass_fetch.specs.Fetching.{fetch_at, fetch_of, next_after, next_by}
-use Rattle.pass_fetch.specs.Instrs.{next_after_instrs}
-use Rattle.pass_fetch.specs.declared.fetch.Fetch.{Fetch}
-use Rattle.pass_frames.specs.Framed.{begin_of}
+use Rattle.pass_frames_proof.specs.flow_solver.Paths.{IsListed}
+use Rattle.pass_frames_proof.proofs.ir_laws.facts.Lists.{get_within, set_at}
+use Rattle.pass_frames_proof.proofs.ir_laws.paths.source_rules.Locals.{listed_either}
+use Rattle.pass_frames_proof.specs.ir_model.declared.instr.Instr.{Instr}
+use Rattle.pass_frames_proof.specs.pass_addresses.Placing.{stays, without_promise_of}
+use Rattle.pass_frames_proof.specs.pass_cells.Cells.{fetched_function, fetches_of}
+use Rattle.pass_frames_proof.specs.pass_cells.Kept.{entry, row_or, rows_from, with_pair, with_row, with_row_of}
+use Rattle.pass_frames_proof.specs.pass_cells.Moves.{after_saved, saved_one, saved_values}
+use Rattle.pass_frames_proof.specs.pass_cells.Written.{after_one, row_at, save_row}
+use Rattle.pass_frames_proof.specs.pass_cells.declared.plan.KeptValue.{KeptValue}
+use Rattle.pass_frames_proof.specs.pass_fetch.Fetching.{fetch_at, fetch_of, next_after, next_by}
+use Rattle.pass_frames_proof.specs.pass_fetch.Instrs.{next_after_instrs}
+use Rattle.pass_frames_proof.specs.pass_fetch.declared.fetch.Fetch.{Fetch}
+use Rattle.pass_frames_proof.specs.pass_frames.Framed.{begin_of}
 use Rattle.pass_frames_meaning.proofs.kinds.Writing.{write_low, write_to}
 use Rattle.pass_frames_meaning.proofs.order.Counts.{joined}
 use Rattle.pass_frames_meaning.proofs.order.Order.{front_room, names_in_order}
@@ -26,10 +26,10 @@ use Rattle.pass_frames_proof.specs.Places.{Framing, Placed, fetched, instrs_at, 
 use Rattle.pass_frames_proof.specs.Related.{IsKeptValue}
 use Rattle.pass_frames_proof.specs.Saving.{AreSavesInOrder, IsBare, save_call}
 use Rattle.pass_frames_proof.specs.Stepping.{AreNamesInOrder, state_in}
-use Rattle.pass_proofs.proofs.fetch.rules.Puts.{fetch_rises}
-use Rattle.ir_model.specs.Ty.{Ty}
-use Rattle.ir_model.specs.declared.operand.Arg.{Arg}
-use Rattle.ir_model.specs.declared.operand.Operand.{Operand}
+use Rattle.pass_frames_proof.proofs.pass_proofs.fetch.rules.Puts.{fetch_rises}
+use Rattle.pass_frames_proof.specs.ir_model.Ty.{Ty}
+use Rattle.pass_frames_proof.specs.ir_model.declared.operand.Arg.{Arg}
+use Rattle.pass_frames_proof.specs.ir_model.declared.operand.Operand.{Operand}
 use Rattle.pass_frames_proof.proofs.code.Idle.{instr_same}
 use Rattle.pass_frames_proof.proofs.code.Left.{longer}
 use Rattle.std.proofs.lemmas.Option.{slice_get-map}

@@ -3,29 +3,29 @@ use Rattle.std.proofs.Common.{◌≡◌, ⊎_elim, ℕ, suc, ◌+◌, ◌<◌, B
 use Rattle.std.specs.Prelude.{not, option_and_then, option_map, slice_get}
 use Rattle.std.specs.List.{Contains}
 use Rattle.std.proofs.lemmas.Bool.{and_parts, false≢true}
-use Rattle.flow_solver.specs.Paths.{IsListed}
-use Rattle.frame_contents.specs.Held.{position_of}
-use Rattle.ir_base.specs.declared.cause.Cause.{Cause}
-use Rattle.ir_base.specs.declared.outcome.Outcome.{Outcome}
-use Rattle.ir_laws.proofs.facts.Lists.{get_within, set_here}
-use Rattle.ir_model.specs.Names.{function_at}
-use Rattle.ir_model.specs.Ty.{Ty, token}
-use Rattle.ir_model.specs.declared.instr.Instr.{Instr}
-use Rattle.ir_model.specs.declared.module.Block.{Block}
-use Rattle.ir_model.specs.declared.module.Function.{Function}
-use Rattle.ir_model.specs.declared.operand.Arg.{Arg}
-use Rattle.ir_model.specs.declared.operand.Callee.{Callee}
-use Rattle.ir_model.specs.declared.operand.Intrinsic.{Intrinsic}
-use Rattle.ir_model.specs.declared.operand.Operand.{Operand}
-use Rattle.ir_paths.specs.Windows.{call_result, instr_at, is_suspend_of, operand_at, points_from, points_in, points_where, suspend_of}
-use Rattle.ir_paths.specs.declared.point.Point.{Point}
-use Rattle.pass_cells.specs.Cells.{fetches_of}
-use Rattle.pass_cells.specs.Written.{row_at, save_row, stored_at}
-use Rattle.pass_cells.specs.declared.plan.KeptValue.{KeptValue}
-use Rattle.pass_fetch.specs.Fetching.{fetch_of, value_bytes}
-use Rattle.pass_fetch.specs.declared.fetch.Fetch.{Fetch}
-use Rattle.pass_frames.specs.Framed.{begin_of}
-use Rattle.pass_frames.specs.Tables.{offset_at}
+use Rattle.pass_frames_proof.specs.flow_solver.Paths.{IsListed}
+use Rattle.pass_frames_proof.specs.frame_contents.Held.{position_of}
+use Rattle.pass_frames_proof.specs.ir_base.declared.cause.Cause.{Cause}
+use Rattle.pass_frames_proof.specs.ir_base.declared.outcome.Outcome.{Outcome}
+use Rattle.pass_frames_proof.proofs.ir_laws.facts.Lists.{get_within, set_here}
+use Rattle.pass_frames_proof.specs.ir_model.Names.{function_at}
+use Rattle.pass_frames_proof.specs.ir_model.Ty.{Ty, token}
+use Rattle.pass_frames_proof.specs.ir_model.declared.instr.Instr.{Instr}
+use Rattle.pass_frames_proof.specs.ir_model.declared.module.Block.{Block}
+use Rattle.pass_frames_proof.specs.ir_model.declared.module.Function.{Function}
+use Rattle.pass_frames_proof.specs.ir_model.declared.operand.Arg.{Arg}
+use Rattle.pass_frames_proof.specs.ir_model.declared.operand.Callee.{Callee}
+use Rattle.pass_frames_proof.specs.ir_model.declared.operand.Intrinsic.{Intrinsic}
+use Rattle.pass_frames_proof.specs.ir_model.declared.operand.Operand.{Operand}
+use Rattle.pass_frames_proof.specs.ir_paths.Windows.{call_result, instr_at, is_suspend_of, operand_at, points_from, points_in, points_where, suspend_of}
+use Rattle.pass_frames_proof.specs.ir_paths.declared.point.Point.{Point}
+use Rattle.pass_frames_proof.specs.pass_cells.Cells.{fetches_of}
+use Rattle.pass_frames_proof.specs.pass_cells.Written.{row_at, save_row, stored_at}
+use Rattle.pass_frames_proof.specs.pass_cells.declared.plan.KeptValue.{KeptValue}
+use Rattle.pass_frames_proof.specs.pass_fetch.Fetching.{fetch_of, value_bytes}
+use Rattle.pass_frames_proof.specs.pass_fetch.declared.fetch.Fetch.{Fetch}
+use Rattle.pass_frames_proof.specs.pass_frames.Framed.{begin_of}
+use Rattle.pass_frames_proof.specs.pass_frames.Tables.{offset_at}
 use Rattle.pass_frames_meaning.proofs.begun.Begun.{begin_plain}
 use Rattle.pass_frames_meaning.proofs.coroutines.Steps.{acts_as}
 use Rattle.pass_frames_meaning.proofs.coroutines.Tokens.{token_nowhere}
@@ -51,34 +51,34 @@ use Rattle.pass_frames_proof.specs.Saves.{HasRoomFor}
 use Rattle.pass_frames_proof.specs.Saving.{HasFieldsFor, IsBare, IsRunningInstance, save_call}
 use Rattle.pass_frames_proof.specs.Slotted.{AreRangesApart, HasFrameThere}
 use Rattle.pass_frames_proof.specs.Stepping.{IsNotEntering}
-use Rattle.pass_proofs.proofs.addresses.rules.Placed.{outside_unfetched}
-use Rattle.pass_proofs.proofs.cells.rules.Planned.{unplaced_fetch}
-use Rattle.pass_renewed_proof.specs.Renewed.{renewed_act, renewed_step}
-use Rattle.rule_types.specs.Signatures.{are_wanted}
-use Rattle.rule_types.specs.Wants.{any}
-use Rattle.rule_types.specs.declared.wants.Basic.{Basic}
-use Rattle.rule_values.specs.Fits.{fits_kind}
-use Rattle.rule_values.specs.Kinds.{value_kind}
-use Rattle.rule_values.specs.declared.kinds.Kind.{Kind}
-use Rattle.run_agreement.specs.Machines.{IsFine}
-use Rattle.run_framed.specs.Framed.{frame_rights}
-use Rattle.run_laws.specs.access.Changed.{IsFree}
-use Rattle.run_laws.specs.transfer.Muted.{muted}
-use Rattle.run_memory.specs.Memory.{is_live, owner_rights}
-use Rattle.run_memory.specs.declared.block.MemoryBlock.{MemoryBlock}
-use Rattle.run_source.specs.Source.{save, save_for}
-use Rattle.run_source.specs.State.{function_of, next, numbered, own_instance, with_instance, with_left}
-use Rattle.run_source.specs.State.{point_of as here_of}
-use Rattle.run_source.specs.declared.state.Instance.{Instance}
-use Rattle.run_source.specs.declared.state.State.{State}
-use Rattle.run_source.specs.declared.state.Status.{Status}
-use Rattle.run_states.specs.sound_states.Sound.{IsInstanceOf}
-use Rattle.run_step.specs.Results.{and_then, found, ok_if}
-use Rattle.run_step.specs.Step.{AtInstr, Coro, fetch}
-use Rattle.run_step.specs.Values.{Env, value_in}
-use Rattle.run_step.specs.declared.world.World.{World}
-use Rattle.run_step.specs.declared.world.Slot.{Slot}
-use Rattle.run_source_tables.specs.Given.{Given}
+use Rattle.pass_frames_proof.proofs.pass_proofs.addresses.rules.Placed.{outside_unfetched}
+use Rattle.pass_frames_proof.proofs.pass_proofs.cells.rules.Planned.{unplaced_fetch}
+use Rattle.pass_frames_proof.specs.pass_renewed_proof.Renewed.{renewed_act, renewed_step}
+use Rattle.pass_frames_proof.specs.rule_types.Signatures.{are_wanted}
+use Rattle.pass_frames_proof.specs.rule_types.Wants.{any}
+use Rattle.pass_frames_proof.specs.rule_types.declared.wants.Basic.{Basic}
+use Rattle.pass_frames_proof.specs.rule_values.Fits.{fits_kind}
+use Rattle.pass_frames_proof.specs.rule_values.Kinds.{value_kind}
+use Rattle.pass_frames_proof.specs.rule_values.declared.kinds.Kind.{Kind}
+use Rattle.pass_frames_proof.specs.run_agreement.Machines.{IsFine}
+use Rattle.pass_frames_proof.specs.run_framed.Framed.{frame_rights}
+use Rattle.pass_frames_proof.specs.run_laws.access.Changed.{IsFree}
+use Rattle.pass_frames_proof.specs.run_laws.transfer.Muted.{muted}
+use Rattle.pass_frames_proof.specs.run_memory.Memory.{is_live, owner_rights}
+use Rattle.pass_frames_proof.specs.run_memory.declared.block.MemoryBlock.{MemoryBlock}
+use Rattle.pass_frames_proof.specs.run_source.Source.{save, save_for}
+use Rattle.pass_frames_proof.specs.run_source.State.{function_of, next, numbered, own_instance, with_instance, with_left}
+use Rattle.pass_frames_proof.specs.run_source.State.{point_of as here_of}
+use Rattle.pass_frames_proof.specs.run_source.declared.state.Instance.{Instance}
+use Rattle.pass_frames_proof.specs.run_source.declared.state.State.{State}
+use Rattle.pass_frames_proof.specs.run_source.declared.state.Status.{Status}
+use Rattle.pass_frames_proof.specs.run_states.sound_states.Sound.{IsInstanceOf}
+use Rattle.pass_frames_proof.specs.run_step.Results.{and_then, found, ok_if}
+use Rattle.pass_frames_proof.specs.run_step.Step.{AtInstr, Coro, fetch}
+use Rattle.pass_frames_proof.specs.run_step.Values.{Env, value_in}
+use Rattle.pass_frames_proof.specs.run_step.declared.world.World.{World}
+use Rattle.pass_frames_proof.specs.run_step.declared.world.Slot.{Slot}
+use Rattle.pass_frames_proof.specs.run_source_tables.Given.{Given}
 
 -- ---- what a save does
 

@@ -3,45 +3,45 @@ use Rattle.std.proofs.Common.{◌≡◌, ⊎_elim, ℕ, ◌+◌, ◌<◌, ◌≤
 use Rattle.std.proofs.lemmas.Bool.{and_parts, false≢true}
 use Rattle.std.proofs.lemmas.Option.{slice_get-map}
 use Rattle.std.specs.Prelude.{not, option_map, slice_get, unwrap_or}
-use Rattle.flow_solver.specs.Paths.{IsListed}
-use Rattle.frame_classes.specs.declared.class.SlotClass.{SlotClass}
-use Rattle.ir_laws.proofs.facts.Truth.{itself}
-use Rattle.ir_model.specs.Ty.{Ty, token}
-use Rattle.ir_model.specs.declared.instr.Instr.{Instr}
-use Rattle.ir_model.specs.declared.module.Function.{Function}
-use Rattle.ir_model.specs.declared.module.Module.{Module}
-use Rattle.ir_model.specs.declared.operand.Arg.{Arg}
-use Rattle.ir_model.specs.declared.operand.Callee.{Callee}
-use Rattle.ir_model.specs.declared.operand.Intrinsic.{Intrinsic}
-use Rattle.ir_model.specs.declared.operand.Operand.{Operand}
-use Rattle.ir_paths.specs.Slots.{allocas_of}
-use Rattle.pass_cells.specs.Cells.{fetches_of}
-use Rattle.pass_addresses.specs.Placing.{is_none, slot_fetches}
-use Rattle.pass_cells.specs.Kept.{entry, joined}
-use Rattle.pass_fetch.specs.Fetching.{fetch_at, fetch_of}
-use Rattle.pass_fetch.specs.declared.fetch.Fetch.{Fetch}
+use Rattle.pass_frames_proof.specs.flow_solver.Paths.{IsListed}
+use Rattle.pass_frames_proof.specs.frame_classes.declared.class.SlotClass.{SlotClass}
+use Rattle.pass_frames_proof.proofs.ir_laws.facts.Truth.{itself}
+use Rattle.pass_frames_proof.specs.ir_model.Ty.{Ty, token}
+use Rattle.pass_frames_proof.specs.ir_model.declared.instr.Instr.{Instr}
+use Rattle.pass_frames_proof.specs.ir_model.declared.module.Function.{Function}
+use Rattle.pass_frames_proof.specs.ir_model.declared.module.Module.{Module}
+use Rattle.pass_frames_proof.specs.ir_model.declared.operand.Arg.{Arg}
+use Rattle.pass_frames_proof.specs.ir_model.declared.operand.Callee.{Callee}
+use Rattle.pass_frames_proof.specs.ir_model.declared.operand.Intrinsic.{Intrinsic}
+use Rattle.pass_frames_proof.specs.ir_model.declared.operand.Operand.{Operand}
+use Rattle.pass_frames_proof.specs.ir_paths.Slots.{allocas_of}
+use Rattle.pass_frames_proof.specs.pass_cells.Cells.{fetches_of}
+use Rattle.pass_frames_proof.specs.pass_addresses.Placing.{is_none, slot_fetches}
+use Rattle.pass_frames_proof.specs.pass_cells.Kept.{entry, joined}
+use Rattle.pass_frames_proof.specs.pass_fetch.Fetching.{fetch_at, fetch_of}
+use Rattle.pass_frames_proof.specs.pass_fetch.declared.fetch.Fetch.{Fetch}
 use Rattle.pass_frames_meaning.proofs.coroutines.Suspends.{token_is}
 use Rattle.pass_frames_proof.specs.Framings.{IsFraming}
-use Rattle.ir_paths.specs.declared.point.Point.{Point}
-use Rattle.ir_paths.specs.Windows.{instr_at}
+use Rattle.pass_frames_proof.specs.ir_paths.declared.point.Point.{Point}
+use Rattle.pass_frames_proof.specs.ir_paths.Windows.{instr_at}
 use Rattle.pass_frames_proof.specs.Places.{Framing, edged, offsets, plan, with_copies}
-use Rattle.pass_proofs.proofs.cells.rules.Keeping.{keeping_is}
-use Rattle.pass_proofs.proofs.cells.rules.Planned.{unplaced_fetch}
-use Rattle.pass_proofs.proofs.frames.begin_order.Framed.{in_either, old_slot, slot_alloca}
-use Rattle.pass_proofs.specs.addresses.rules.Addresses.{lies_in_frame}
-use Rattle.pass_proofs.specs.frames.begin_order.Fields.{IsField, values_kept}
-use Rattle.rule_laws.proofs.frames.needed.Apart.{apart_no_value}
-use Rattle.rule_laws.proofs.rules.source_rules.Slots.{alloca_of}
-use Rattle.rule_types.specs.Signatures.{are_wanted, is_result}
-use Rattle.rule_types.specs.Wants.{intrinsic_result, is_basic, meets}
-use Rattle.rule_types.specs.declared.wants.Basic.{Basic}
-use Rattle.rule_types.specs.declared.wants.Demand.{Demand}
-use Rattle.rule_types.specs.declared.wants.Wanted.{Wanted}
-use Rattle.rule_values.specs.Fits.{fits_kind}
-use Rattle.rule_values.specs.Kinds.{result_kind, value_kind}
-use Rattle.rule_values.specs.declared.kinds.Kind.{Kind}
-use Rattle.run_step.specs.Step.{AtInstr, fetch}
-use Rattle.run_types.specs.Rules.{KeepsTypes}
+use Rattle.pass_frames_proof.proofs.pass_proofs.cells.rules.Keeping.{keeping_is}
+use Rattle.pass_frames_proof.proofs.pass_proofs.cells.rules.Planned.{unplaced_fetch}
+use Rattle.pass_frames_proof.proofs.pass_proofs.frames.begin_order.Framed.{in_either, old_slot, slot_alloca}
+use Rattle.pass_frames_proof.specs.pass_proofs.addresses.rules.Addresses.{lies_in_frame}
+use Rattle.pass_frames_proof.specs.pass_proofs.frames.begin_order.Fields.{IsField, values_kept}
+use Rattle.pass_frames_proof.proofs.rule_laws.frames.needed.Apart.{apart_no_value}
+use Rattle.pass_frames_proof.proofs.rule_laws.rules.source_rules.Slots.{alloca_of}
+use Rattle.pass_frames_proof.specs.rule_types.Signatures.{are_wanted, is_result}
+use Rattle.pass_frames_proof.specs.rule_types.Wants.{intrinsic_result, is_basic, meets}
+use Rattle.pass_frames_proof.specs.rule_types.declared.wants.Basic.{Basic}
+use Rattle.pass_frames_proof.specs.rule_types.declared.wants.Demand.{Demand}
+use Rattle.pass_frames_proof.specs.rule_types.declared.wants.Wanted.{Wanted}
+use Rattle.pass_frames_proof.specs.rule_values.Fits.{fits_kind}
+use Rattle.pass_frames_proof.specs.rule_values.Kinds.{result_kind, value_kind}
+use Rattle.pass_frames_proof.specs.rule_values.declared.kinds.Kind.{Kind}
+use Rattle.pass_frames_proof.specs.run_step.Step.{AtInstr, fetch}
+use Rattle.pass_renewed_meaning.specs.run_types.Rules.{KeepsTypes}
 
 module _ (x : Framing) (is : IsFraming x) where
   pub made_unkept : (p : Point) (v align : ℕ) (ty : Ty) → instr_at (edged x) p ≡ Some (Instr.Alloca v ty align)

@@ -1,18 +1,18 @@
 -- What indices add to an address goes by the types alone, and uses no new name.
 use Rattle.std.proofs.Common.{◌≡◌, ℕ, zero, suc, ◌^◌, ◌-◌, ◌<◌, List, [], ◌∷◌, Option, refl, sym, ap, ◌∙◌, subst, arith}
 use Rattle.std.specs.Prelude.{min}
-use Rattle.ir_laws.proofs.facts.Numbers.{min_small}
-use Rattle.ir_model.specs.Layout.{Extent, extent_of, extent_or, field_offset_from, no_fields, rounded_up, size_of, type_named, type_or, unnamed, with_field}
-use Rattle.ir_model.specs.Ty.{Ty, Tys, array, field, int, named, none, ptr, structure, token}
-use Rattle.ir_model.specs.declared.module.Module.{Module}
-use Rattle.ir_model.specs.declared.operand.Arg.{Arg}
-use Rattle.ir_parts.specs.Contents.{arg_operands}
-use Rattle.pass_distances.specs.Ways.{field_number, inner_type, inner_ways, way_at, ways_of}
-use Rattle.pass_distances.specs.declared.way.Way.{Way}
-use Rattle.pass_fetch.specs.Fetching.{fetched_arg, fetched_args, fetched_operand, next_after}
-use Rattle.pass_fetch.specs.declared.fetch.Fetch.{Fetch}
+use Rattle.pass_frames_proof.proofs.ir_laws.facts.Numbers.{min_small}
+use Rattle.pass_frames_proof.specs.ir_model.Layout.{Extent, extent_of, extent_or, field_offset_from, no_fields, rounded_up, size_of, type_named, type_or, unnamed, with_field}
+use Rattle.pass_frames_proof.specs.ir_model.Ty.{Ty, Tys, array, field, int, named, none, ptr, structure, token}
+use Rattle.pass_frames_proof.specs.ir_model.declared.module.Module.{Module}
+use Rattle.pass_frames_proof.specs.ir_model.declared.operand.Arg.{Arg}
+use Rattle.pass_frames_proof.specs.ir_parts.Contents.{arg_operands}
+use Rattle.pass_frames_proof.specs.pass_distances.Ways.{field_number, inner_type, inner_ways, way_at, ways_of}
+use Rattle.pass_frames_proof.specs.pass_distances.declared.way.Way.{Way}
+use Rattle.pass_frames_proof.specs.pass_fetch.Fetching.{fetched_arg, fetched_args, fetched_operand, next_after}
+use Rattle.pass_frames_proof.specs.pass_fetch.declared.fetch.Fetch.{Fetch}
 use Rattle.pass_frames_proof.specs.Distances.{AreFields, AreFieldsInside, AreWaysBelow, IsBelow, IsField, IsWayBelow}
-use Rattle.run_laws.specs.changed.Changed.{Each}
+use Rattle.pass_frames_proof.specs.run_laws.changed.Changed.{Each}
 
 -- ---- by the types
 
@@ -60,7 +60,7 @@ module _ (m k : Module) (types : k.types ≡ m.types) where
       → IsField u (fetched_arg t n a) × (inner_type u (fetched_arg t n a) ≡ inner_type u a)
   field_same t n (structure ts) a h = (
     (h.0, h.1, ap (fetched_operand t n) h.2, h.3),
-    λ j. Rattle.ir_model.specs.Layout.field_type ts (field_number ((ap (fetched_operand t n) h.2 ∙ sym h.2) j)),
+    λ j. Rattle.pass_frames_proof.specs.ir_model.Layout.field_type ts (field_number ((ap (fetched_operand t n) h.2 ∙ sym h.2) j)),
   )
   field_same t n (array s u) a h = (tt, refl)
   field_same t n (int w) a h = (tt, refl)

@@ -2,17 +2,17 @@
 -- function.
 use Rattle.std.proofs.Common.{◌≡◌, ℕ, zero, suc, ◌-◌, ◌≤◌, List, [], ◌∷◌, ◌++◌, length, Option, Some, None, refl, sym, ap, ◌∙◌, subst, arith, append_assoc, length-append}
 use Rattle.std.specs.Prelude.{codes, drop, slice_get, take, unwrap_or}
-use Rattle.ir_model.specs.declared.instr.Instr.{Instr}
-use Rattle.ir_model.specs.declared.module.Block.{Block}
-use Rattle.ir_model.specs.declared.module.Module.{Module}
-use Rattle.ir_parts.specs.Contents.{instr_operands}
-use Rattle.pass_cells.specs.Cells.{fetched_function, fetches_of}
-use Rattle.pass_cells.specs.Moves.{after_again}
-use Rattle.pass_cells.specs.Written.{after_block, after_blocks, after_instrs, after_one, again_row}
-use Rattle.pass_cells.specs.declared.plan.Plan.{Plan}
-use Rattle.pass_fetch.specs.Blocks.{numbered_names}
-use Rattle.pass_fetch.specs.Fetching.{fetches_of_all, next_after_all}
-use Rattle.pass_fetch.specs.Instrs.{next_after_instr, next_after_instrs, with_fetched}
+use Rattle.pass_frames_proof.specs.ir_model.declared.instr.Instr.{Instr}
+use Rattle.pass_frames_proof.specs.ir_model.declared.module.Block.{Block}
+use Rattle.pass_frames_proof.specs.ir_model.declared.module.Module.{Module}
+use Rattle.pass_frames_proof.specs.ir_parts.Contents.{instr_operands}
+use Rattle.pass_frames_proof.specs.pass_cells.Cells.{fetched_function, fetches_of}
+use Rattle.pass_frames_proof.specs.pass_cells.Moves.{after_again}
+use Rattle.pass_frames_proof.specs.pass_cells.Written.{after_block, after_blocks, after_instrs, after_one, again_row}
+use Rattle.pass_frames_proof.specs.pass_cells.declared.plan.Plan.{Plan}
+use Rattle.pass_frames_proof.specs.pass_fetch.Blocks.{numbered_names}
+use Rattle.pass_frames_proof.specs.pass_fetch.Fetching.{fetches_of_all, next_after_all}
+use Rattle.pass_frames_proof.specs.pass_fetch.Instrs.{next_after_instr, next_after_instrs, with_fetched}
 use Rattle.pass_frames_meaning.proofs.order.Counts.{at_one, instrs_to}
 use Rattle.pass_frames_proof.proofs.code.Left.{parts_left}
 use Rattle.pass_frames_proof.proofs.code.Passes.{fetches_made}
@@ -25,9 +25,9 @@ use Rattle.pass_frames_proof.specs.Layers.{IsMadeBy, becomes, grown, passed, wov
 use Rattle.pass_frames_proof.specs.Passes.{IsBlockMade, block_at, no_block}
 use Rattle.pass_frames_proof.specs.Places.{Celled, Framing, Placed, celled_layer, edged, fetched, instrs_at, loading_layer, named, placed_layer, plan, writing_layer, written}
 use Rattle.pass_frames_proof.specs.Stepping.{state_in}
-use Rattle.pass_proofs.proofs.cells.rules.Around.{again_low}
-use Rattle.pass_proofs.proofs.cells.rules.Counts.{written_low}
-use Rattle.pass_proofs.proofs.cells.rules.Totals.{all_rise, numbered_length}
+use Rattle.pass_frames_proof.proofs.pass_proofs.cells.rules.Around.{again_low}
+use Rattle.pass_frames_proof.proofs.pass_proofs.cells.rules.Counts.{written_low}
+use Rattle.pass_frames_proof.proofs.pass_proofs.cells.rules.Totals.{all_rise, numbered_length}
 
 -- ---- all blocks
 

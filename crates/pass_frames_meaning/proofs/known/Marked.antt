@@ -4,11 +4,11 @@ use Rattle.std.proofs.Common.{Some, None}
 use Rattle.std.proofs.Common.{refl, sym, ap, ◌∙◌, subst, arith}
 use Rattle.std.specs.Prelude.{is_none, option_map, slice_get}
 use Rattle.std.specs.List.{Contains}
-use Rattle.ir_base.specs.declared.outcome.Outcome.{Outcome}
-use Rattle.ir_laws.proofs.facts.Lists.{get_within}
-use Rattle.ir_model.specs.Names.{function_at}
-use Rattle.ir_model.specs.Ty.{Ty}
-use Rattle.ir_model.specs.declared.operand.Arg.{Arg}
+use Rattle.pass_frames_proof.specs.ir_base.declared.outcome.Outcome.{Outcome}
+use Rattle.pass_frames_proof.proofs.ir_laws.facts.Lists.{get_within}
+use Rattle.pass_frames_proof.specs.ir_model.Names.{function_at}
+use Rattle.pass_frames_proof.specs.ir_model.Ty.{Ty}
+use Rattle.pass_frames_proof.specs.ir_model.declared.operand.Arg.{Arg}
 use Rattle.pass_frames_meaning.proofs.slotted.Facts.{own_slots, slots_apart}
 use Rattle.pass_frames_meaning.specs.Called.{FitsMode, IsCalledState}
 use Rattle.pass_frames_meaning.specs.Executed.{HasExecuted, HasSlotOf, IsExecutedState, IsFirstMode, KeepAllOwn}
@@ -18,19 +18,19 @@ use Rattle.pass_frames_proof.proofs.allocating.Grown.{listed_in}
 use Rattle.pass_frames_proof.specs.Marking.{IsWholeMarked, marking}
 use Rattle.pass_frames_proof.specs.Related.{AreBuiltOf, is_coroutine}
 use Rattle.pass_frames_proof.specs.Returning.{is_own_kind}
-use Rattle.pass_renewed_proof.specs.SlotRules.{IsMadeOnce}
-use Rattle.run_memory.specs.Memory.{same_kind}
-use Rattle.run_memory.specs.declared.block.Kind.{Kind}
-use Rattle.run_memory.specs.declared.block.MemoryBlock.{MemoryBlock}
+use Rattle.pass_frames_proof.specs.pass_renewed_proof.SlotRules.{IsMadeOnce}
+use Rattle.pass_frames_proof.specs.run_memory.Memory.{same_kind}
+use Rattle.pass_frames_proof.specs.run_memory.declared.block.Kind.{Kind}
+use Rattle.pass_frames_proof.specs.run_memory.declared.block.MemoryBlock.{MemoryBlock}
 use Rattle.run_slots.specs.Slots.{IsSlottedState}
-use Rattle.run_source.specs.State.{function_of}
-use Rattle.run_source.specs.declared.state.Instance.{Instance}
-use Rattle.run_source.specs.declared.state.Mode.{Mode}
-use Rattle.run_source.specs.declared.state.State.{State}
-use Rattle.run_states.specs.sound_states.Sound.{IsInstanceOf, IsModeOf, IsSound}
-use Rattle.run_step.specs.Step.{AtInstr, fetch}
-use Rattle.run_step.specs.Values.{value_in}
-use Rattle.run_step.specs.declared.world.Slot.{Slot}
+use Rattle.pass_frames_proof.specs.run_source.State.{function_of}
+use Rattle.pass_frames_proof.specs.run_source.declared.state.Instance.{Instance}
+use Rattle.pass_frames_proof.specs.run_source.declared.state.Mode.{Mode}
+use Rattle.pass_frames_proof.specs.run_source.declared.state.State.{State}
+use Rattle.pass_frames_proof.specs.run_states.sound_states.Sound.{IsInstanceOf, IsModeOf, IsSound}
+use Rattle.pass_frames_proof.specs.run_step.Step.{AtInstr, fetch}
+use Rattle.pass_frames_proof.specs.run_step.Values.{value_in}
+use Rattle.pass_frames_proof.specs.run_step.declared.world.Slot.{Slot}
 
 there_at : {A : Type 0} (xs : List A) (i : ℕ) → i < length xs → (x : A) × (slice_get xs i ≡ Some x)
 there_at [] i lt = absurd (omega (arith, lt))

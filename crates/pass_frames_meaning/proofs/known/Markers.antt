@@ -5,17 +5,17 @@ use Rattle.std.proofs.Common.{Some, None, refl, sym, ap, ◌∙◌, subst, arith
 use Rattle.std.proofs.lemmas.Bool.{eqb-true, false≢true}
 use Rattle.std.specs.List.{Contains}
 use Rattle.std.specs.Prelude.{slice_get, unwrap_or, ◌==◌}
-use Rattle.flow_solver.specs.Paths.{IsListed}
-use Rattle.ir_base.specs.declared.outcome.Outcome.{Outcome}
-use Rattle.ir_laws.proofs.facts.Lists.{get_within}
-use Rattle.ir_laws.proofs.facts.Truth.{itself}
-use Rattle.ir_model.specs.Names.{function_at}
-use Rattle.ir_model.specs.Ty.{Ty}
-use Rattle.ir_model.specs.declared.instr.Instr.{Instr}
-use Rattle.ir_model.specs.declared.module.Block.{Block}
-use Rattle.ir_model.specs.declared.module.Function.{Function}
-use Rattle.ir_model.specs.declared.operand.Arg.{Arg}
-use Rattle.pass_copies.specs.declared.slot.EarlySlot.{EarlySlot}
+use Rattle.pass_frames_proof.specs.flow_solver.Paths.{IsListed}
+use Rattle.pass_frames_proof.specs.ir_base.declared.outcome.Outcome.{Outcome}
+use Rattle.pass_frames_proof.proofs.ir_laws.facts.Lists.{get_within}
+use Rattle.pass_frames_proof.proofs.ir_laws.facts.Truth.{itself}
+use Rattle.pass_frames_proof.specs.ir_model.Names.{function_at}
+use Rattle.pass_frames_proof.specs.ir_model.Ty.{Ty}
+use Rattle.pass_frames_proof.specs.ir_model.declared.instr.Instr.{Instr}
+use Rattle.pass_frames_proof.specs.ir_model.declared.module.Block.{Block}
+use Rattle.pass_frames_proof.specs.ir_model.declared.module.Function.{Function}
+use Rattle.pass_frames_proof.specs.ir_model.declared.operand.Arg.{Arg}
+use Rattle.pass_frames_proof.specs.pass_copies.declared.slot.EarlySlot.{EarlySlot}
 use Rattle.pass_frames_meaning.proofs.known.Marked.{whole_there}
 use Rattle.pass_frames_meaning.proofs.known.Operands.{own_there}
 use Rattle.pass_frames_meaning.proofs.led.Values.{led_to}
@@ -33,17 +33,17 @@ use Rattle.pass_frames_proof.specs.Marking.{IsUnmarked, marking}
 use Rattle.pass_frames_proof.specs.Passes.{no_block}
 use Rattle.pass_frames_proof.specs.Places.{Framing, copies, edged, instrs_at, offsets}
 use Rattle.pass_frames_proof.specs.Related.{AreBuiltOf, is_coroutine}
-use Rattle.pass_proofs.specs.addresses.rules.Addresses.{lies_in_frame}
-use Rattle.pass_renewed_proof.specs.SlotRules.{IsMadeOnce}
-use Rattle.pass_renewed_proof.specs.Steps.{given_at}
-use Rattle.run_memory.specs.declared.pointer.Value.{Value}
-use Rattle.run_source.specs.State.{frame_address_of, function_of}
-use Rattle.run_source.specs.declared.state.Instance.{Instance}
-use Rattle.run_source.specs.declared.state.State.{State}
-use Rattle.run_states.specs.sound_states.Sound.{IsInstanceOf}
-use Rattle.run_step.specs.Step.{AtInstr, fetch, fetch_in, fetch_or}
-use Rattle.run_step.specs.Values.{pointer_to, value_in}
-use Rattle.run_step.specs.declared.world.Slot.{Slot}
+use Rattle.pass_frames_proof.specs.pass_proofs.addresses.rules.Addresses.{lies_in_frame}
+use Rattle.pass_frames_proof.specs.pass_renewed_proof.SlotRules.{IsMadeOnce}
+use Rattle.pass_frames_proof.specs.pass_renewed_proof.Steps.{given_at}
+use Rattle.pass_frames_proof.specs.run_memory.declared.pointer.Value.{Value}
+use Rattle.pass_frames_proof.specs.run_source.State.{frame_address_of, function_of}
+use Rattle.pass_frames_proof.specs.run_source.declared.state.Instance.{Instance}
+use Rattle.pass_frames_proof.specs.run_source.declared.state.State.{State}
+use Rattle.pass_frames_proof.specs.run_states.sound_states.Sound.{IsInstanceOf}
+use Rattle.pass_frames_proof.specs.run_step.Step.{AtInstr, fetch, fetch_in, fetch_or}
+use Rattle.pass_frames_proof.specs.run_step.Values.{pointer_to, value_in}
+use Rattle.pass_frames_proof.specs.run_step.declared.world.Slot.{Slot}
 
 -- whether the slot of a name is used before begin
 early_or : (name : ℕ) (es : List EarlySlot)

@@ -2,18 +2,18 @@
 use Rattle.std.proofs.Common.{◌≡◌, ◌+◌, ◌<◌, ◌^◌, inl, inr, ℕ, Bool, true, List, [], ◌∷◌, length, Option, Some, None}
 use Rattle.std.proofs.Common.{refl, sym, ap, ◌∙◌, subst, arith}
 use Rattle.std.specs.Prelude.{slice_get, option_map}
-use Rattle.flow_solver.specs.Paths.{IsListed}
-use Rattle.ir_base.specs.declared.outcome.Outcome.{Outcome}
-use Rattle.ir_laws.proofs.facts.Members.{at_each}
-use Rattle.ir_laws.proofs.paths.renamed.Uses.{stands_in}
-use Rattle.ir_laws.specs.facts.expanded.Tokens.{IsNamed}
-use Rattle.ir_model.specs.Names.{function_at}
-use Rattle.ir_model.specs.declared.module.Function.{Function}
-use Rattle.ir_model.specs.declared.instr.Instr.{Instr}
-use Rattle.ir_model.specs.declared.operand.Operand.{Operand}
-use Rattle.ir_parts.specs.Contents.{instr_operands}
-use Rattle.pass_cells.specs.Kept.{entry, joined}
-use Rattle.pass_frames.specs.Framed.{begin_of}
+use Rattle.pass_frames_proof.specs.flow_solver.Paths.{IsListed}
+use Rattle.pass_frames_proof.specs.ir_base.declared.outcome.Outcome.{Outcome}
+use Rattle.pass_frames_proof.proofs.ir_laws.facts.Members.{at_each}
+use Rattle.pass_frames_proof.proofs.ir_laws.paths.renamed.Uses.{stands_in}
+use Rattle.pass_frames_proof.specs.ir_laws.facts.expanded.Tokens.{IsNamed}
+use Rattle.pass_frames_proof.specs.ir_model.Names.{function_at}
+use Rattle.pass_frames_proof.specs.ir_model.declared.module.Function.{Function}
+use Rattle.pass_frames_proof.specs.ir_model.declared.instr.Instr.{Instr}
+use Rattle.pass_frames_proof.specs.ir_model.declared.operand.Operand.{Operand}
+use Rattle.pass_frames_proof.specs.ir_parts.Contents.{instr_operands}
+use Rattle.pass_frames_proof.specs.pass_cells.Kept.{entry, joined}
+use Rattle.pass_frames_proof.specs.pass_frames.Framed.{begin_of}
 use Rattle.pass_frames_meaning.proofs.led.Values.{led_to}
 use Rattle.pass_frames_meaning.specs.Coroutines.{HasStorables, IsUnlocatedHere, MayFollow}
 use Rattle.pass_frames_meaning.specs.Known.{IsKnown, KeepsKnown}
@@ -24,18 +24,18 @@ use Rattle.pass_frames_proof.specs.Framings.{IsFraming}
 use Rattle.pass_frames_proof.specs.Places.{Framing, edged, offsets, with_copies}
 use Rattle.pass_frames_proof.specs.Related.{is_coroutine}
 use Rattle.pass_frames_proof.specs.Stepping.{IsPlacedOperand, IsSlotOf}
-use Rattle.pass_proofs.proofs.frames.begin_order.Framed.{celled_behind}
-use Rattle.pass_renewed_proof.specs.Renewed.{renewed_step}
-use Rattle.rule_laws.proofs.rules.renamed.Uses.{operands_spelt}
-use Rattle.rule_laws.proofs.rules.sources.Places.{instr_there, point}
-use Rattle.run_laws.specs.changed.Changed.{Each, operands_of}
+use Rattle.pass_frames_proof.proofs.pass_proofs.frames.begin_order.Framed.{celled_behind}
+use Rattle.pass_frames_proof.specs.pass_renewed_proof.Renewed.{renewed_step}
+use Rattle.pass_frames_proof.proofs.rule_laws.rules.renamed.Uses.{operands_spelt}
+use Rattle.pass_frames_proof.proofs.rule_laws.rules.sources.Places.{instr_there, point}
+use Rattle.pass_frames_proof.specs.run_laws.changed.Changed.{Each, operands_of}
 use Rattle.run_slots.specs.Slots.{IsFrameBlock}
-use Rattle.run_source.specs.State.{address_in, frame_address_of, function_of}
-use Rattle.run_source.specs.declared.state.Instance.{Instance}
-use Rattle.run_source.specs.declared.state.State.{State}
-use Rattle.run_states.specs.sound_states.Sound.{IsInstanceOf, coroutine_at}
-use Rattle.run_step.specs.Step.{AtInstr, fetch}
-use Rattle.run_step.specs.Values.{value_in}
+use Rattle.pass_frames_proof.specs.run_source.State.{address_in, frame_address_of, function_of}
+use Rattle.pass_frames_proof.specs.run_source.declared.state.Instance.{Instance}
+use Rattle.pass_frames_proof.specs.run_source.declared.state.State.{State}
+use Rattle.pass_frames_proof.specs.run_states.sound_states.Sound.{IsInstanceOf, coroutine_at}
+use Rattle.pass_frames_proof.specs.run_step.Step.{AtInstr, fetch}
+use Rattle.pass_frames_proof.specs.run_step.Values.{value_in}
 
 pub told : (t : List (Option ℕ)) (v d : ℕ) → entry t v ≡ Some d → slice_get t v ≡ Some (Some d)
 told t v d e = on (slice_get t v) refl e

@@ -1,19 +1,19 @@
 -- Where begin stands that gives the name.
 use Rattle.std.proofs.Common.{◌≡◌, ℕ, true, Option, Some, None, refl, sym, ap, ◌∙◌}
 use Rattle.std.specs.Prelude.{option_and_then, slice_get}
-use Rattle.ir_model.specs.declared.instr.Instr.{Instr}
-use Rattle.ir_model.specs.declared.module.Function.{Function}
-use Rattle.ir_model.specs.declared.operand.Callee.{Callee}
-use Rattle.ir_model.specs.declared.operand.Intrinsic.{Intrinsic}
-use Rattle.ir_paths.specs.Windows.{call_result, instr_at, is_call_of, points_where}
-use Rattle.ir_paths.specs.declared.point.Point.{Point}
+use Rattle.pass_frames_proof.specs.ir_model.declared.instr.Instr.{Instr}
+use Rattle.pass_frames_proof.specs.ir_model.declared.module.Function.{Function}
+use Rattle.pass_frames_proof.specs.ir_model.declared.operand.Callee.{Callee}
+use Rattle.pass_frames_proof.specs.ir_model.declared.operand.Intrinsic.{Intrinsic}
+use Rattle.pass_frames_proof.specs.ir_paths.Windows.{call_result, instr_at, is_call_of, points_where}
+use Rattle.pass_frames_proof.specs.ir_paths.declared.point.Point.{Point}
 use Rattle.pass_frames_meaning.specs.Led.{IsBegin}
-use Rattle.pass_kept_proof.proofs.Rules.{where_is}
-use Rattle.pass_kept_proof.specs.Needed.{given_by}
-use Rattle.pass_renewed_proof.proofs.Left.{instr_there}
-use Rattle.run_framed.specs.Framed.{begin_name}
-use Rattle.run_laws.specs.changed.Changed.{result_at, result_of}
-use Rattle.run_step.specs.Step.{AtInstr, fetch}
+use Rattle.pass_frames_proof.proofs.pass_kept_proof.Rules.{where_is}
+use Rattle.pass_frames_proof.specs.pass_kept_proof.Needed.{given_by}
+use Rattle.pass_frames_proof.proofs.pass_renewed_proof.Left.{instr_there}
+use Rattle.pass_frames_proof.specs.run_framed.Framed.{begin_name}
+use Rattle.pass_frames_proof.specs.run_laws.changed.Changed.{result_at, result_of}
+use Rattle.pass_frames_proof.specs.run_step.Step.{AtInstr, fetch}
 
 -- where begin stands that gives the name
 pub record HasBegin (f : Function) (v : ℕ) : Type 0 where

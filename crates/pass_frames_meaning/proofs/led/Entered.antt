@@ -2,37 +2,37 @@
 use Rattle.std.proofs.Common.{◌≡◌, ℕ, Bool, true, false, List, [], ◌∷◌, Option, Some, None, Result, Ok, Err}
 use Rattle.std.proofs.Common.{if◌then◌else◌, length}
 use Rattle.std.specs.Prelude.{is_none, not}
-use Rattle.ir_base.specs.declared.cause.Cause.{Cause}
-use Rattle.ir_model.specs.Names.{function_at}
-use Rattle.ir_model.specs.declared.operand.Arg.{Arg}
-use Rattle.ir_model.specs.declared.operand.Intrinsic.{Intrinsic}
-use Rattle.ir_model.specs.declared.operand.Operand.{Operand}
-use Rattle.ir_paths.specs.Windows.{operand_at, suspend_of}
-use Rattle.ir_paths.specs.declared.point.Point.{Point}
-use Rattle.ir_paths.specs.declared.point.Window.{Window}
+use Rattle.pass_frames_proof.specs.ir_base.declared.cause.Cause.{Cause}
+use Rattle.pass_frames_proof.specs.ir_model.Names.{function_at}
+use Rattle.pass_frames_proof.specs.ir_model.declared.operand.Arg.{Arg}
+use Rattle.pass_frames_proof.specs.ir_model.declared.operand.Intrinsic.{Intrinsic}
+use Rattle.pass_frames_proof.specs.ir_model.declared.operand.Operand.{Operand}
+use Rattle.pass_frames_proof.specs.ir_paths.Windows.{operand_at, suspend_of}
+use Rattle.pass_frames_proof.specs.ir_paths.declared.point.Point.{Point}
+use Rattle.pass_frames_proof.specs.ir_paths.declared.point.Window.{Window}
 use Rattle.pass_frames_meaning.proofs.led.Names.{calm_still}
 use Rattle.pass_frames_meaning.specs.Called.{AreBehindCalls}
 use Rattle.pass_frames_proof.specs.Stepping.{IsNotEntering}
-use Rattle.run_memory.specs.Memory.{own}
-use Rattle.run_memory.specs.declared.block.Kind.{Kind}
-use Rattle.run_memory.specs.declared.block.MemoryBlock.{MemoryBlock}
-use Rattle.run_memory.specs.declared.pointer.Value.{Value}
-use Rattle.run_source.specs.Source.{Continues, Sleeper, act, after_end, begin, begin_at, begun, branch_leaving}
-use Rattle.run_source.specs.Source.{change_own, coro, deallocate, end_of, finish, if_let_go, left_windows, let_go}
-use Rattle.run_source.specs.Source.{may_be_freed, pop, promise, return, returned, save_for, sleeper_at}
-use Rattle.run_source.specs.Source.{sleeper_of, suspend}
-use Rattle.run_source.specs.State.{function_of, gives, instance_at, own_frame, own_instance, point_of}
-use Rattle.run_source.specs.State.{with_instance, with_left, with_memory}
-use Rattle.run_source.specs.declared.state.Activation.{Activation}
-use Rattle.run_source.specs.declared.state.Instance.{Instance}
-use Rattle.run_source.specs.declared.state.Mode.{Mode}
-use Rattle.run_source.specs.declared.state.State.{State}
-use Rattle.run_source.specs.declared.state.Status.{Status}
-use Rattle.run_source_tables.specs.Given.{Given}
-use Rattle.run_step.specs.Results.{and_then, found, ok_if}
-use Rattle.run_step.specs.Step.{Action, Coro, Deallocate, Done, Enter, GoTo, NewSlot, Return, Stuck, block_of}
-use Rattle.run_step.specs.Step.{deallocated, outcome_of}
-use Rattle.run_step.specs.Values.{Env, arg_values, nth}
+use Rattle.pass_frames_proof.specs.run_memory.Memory.{own}
+use Rattle.pass_frames_proof.specs.run_memory.declared.block.Kind.{Kind}
+use Rattle.pass_frames_proof.specs.run_memory.declared.block.MemoryBlock.{MemoryBlock}
+use Rattle.pass_frames_proof.specs.run_memory.declared.pointer.Value.{Value}
+use Rattle.pass_frames_proof.specs.run_source.Source.{Continues, Sleeper, act, after_end, begin, begin_at, begun, branch_leaving}
+use Rattle.pass_frames_proof.specs.run_source.Source.{change_own, coro, deallocate, end_of, finish, if_let_go, left_windows, let_go}
+use Rattle.pass_frames_proof.specs.run_source.Source.{may_be_freed, pop, promise, return, returned, save_for, sleeper_at}
+use Rattle.pass_frames_proof.specs.run_source.Source.{sleeper_of, suspend}
+use Rattle.pass_frames_proof.specs.run_source.State.{function_of, gives, instance_at, own_frame, own_instance, point_of}
+use Rattle.pass_frames_proof.specs.run_source.State.{with_instance, with_left, with_memory}
+use Rattle.pass_frames_proof.specs.run_source.declared.state.Activation.{Activation}
+use Rattle.pass_frames_proof.specs.run_source.declared.state.Instance.{Instance}
+use Rattle.pass_frames_proof.specs.run_source.declared.state.Mode.{Mode}
+use Rattle.pass_frames_proof.specs.run_source.declared.state.State.{State}
+use Rattle.pass_frames_proof.specs.run_source.declared.state.Status.{Status}
+use Rattle.pass_frames_proof.specs.run_source_tables.Given.{Given}
+use Rattle.pass_frames_proof.specs.run_step.Results.{and_then, found, ok_if}
+use Rattle.pass_frames_proof.specs.run_step.Step.{Action, Coro, Deallocate, Done, Enter, GoTo, NewSlot, Return, Stuck, block_of}
+use Rattle.pass_frames_proof.specs.run_step.Step.{deallocated, outcome_of}
+use Rattle.pass_frames_proof.specs.run_step.Values.{Env, arg_values, nth}
 
 abbrev pub ReturnsNowhere : Mode → Option ℕ → Type 0
 ReturnsNowhere (Mode.Entering from label) result = result ≡ None

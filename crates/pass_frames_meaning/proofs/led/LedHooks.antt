@@ -4,15 +4,15 @@ use Rattle.std.proofs.Common.{length, Option, Some, None, Ok, refl, sym, ap, ◌
 use Rattle.std.proofs.Common.{◌==◌}
 use Rattle.std.proofs.lemmas.Bool.{false≢true}
 use Rattle.std.specs.Prelude.{drop, filter, is_none, not, option_and_then, option_map, slice_get, slice_set}
-use Rattle.ir_base.specs.declared.cause.Cause.{Cause}
-use Rattle.ir_base.specs.declared.outcome.Word.{Word}
-use Rattle.ir_model.specs.Names.{first_where, function_at}
-use Rattle.ir_model.specs.Ty.{Ty}
-use Rattle.ir_model.specs.declared.instr.Instr.{Instr}
-use Rattle.ir_model.specs.declared.module.Block.{Block}
-use Rattle.ir_model.specs.declared.module.Function.{Function}
-use Rattle.ir_model.specs.declared.module.Module.{Module}
-use Rattle.ir_paths.specs.declared.point.Point.{Point}
+use Rattle.pass_frames_proof.specs.ir_base.declared.cause.Cause.{Cause}
+use Rattle.pass_frames_proof.specs.ir_base.declared.outcome.Word.{Word}
+use Rattle.pass_frames_proof.specs.ir_model.Names.{first_where, function_at}
+use Rattle.pass_frames_proof.specs.ir_model.Ty.{Ty}
+use Rattle.pass_frames_proof.specs.ir_model.declared.instr.Instr.{Instr}
+use Rattle.pass_frames_proof.specs.ir_model.declared.module.Block.{Block}
+use Rattle.pass_frames_proof.specs.ir_model.declared.module.Function.{Function}
+use Rattle.pass_frames_proof.specs.ir_model.declared.module.Module.{Module}
+use Rattle.pass_frames_proof.specs.ir_paths.declared.point.Point.{Point}
 use Rattle.pass_frames_meaning.proofs.led.Led.{changed_led, enter_block_led, own_led, step_led}
 use Rattle.pass_frames_meaning.proofs.led.Names.{apart, entry_poison}
 use Rattle.pass_frames_meaning.proofs.led.Values.{AreMore, AreSame, IsMore, asleep_at, asleep_more, asleep_set}
@@ -23,43 +23,43 @@ use Rattle.pass_frames_meaning.specs.Led.{AreLed, AreLedAsleep, AreLedOn, AreLed
 use Rattle.pass_frames_meaning.specs.Led.{IsLedBy, IsLedState, IsLedStatus, KeepAllNames, KeepsLed, KeepsLedTables}
 use Rattle.pass_frames_meaning.specs.Led.{StaysLed}
 use Rattle.pass_frames_proof.specs.Stepping.{IsNotEntering}
-use Rattle.pass_kept_proof.proofs.Same.{eq_from, kept_at}
-use Rattle.pass_kept_proof.specs.Kept.{kept}
-use Rattle.pass_kept_proof.specs.Related.{IsSoundStatus, IsSuspendedAt}
+use Rattle.pass_frames_proof.proofs.pass_kept_proof.Same.{eq_from, kept_at}
+use Rattle.pass_frames_proof.specs.pass_kept_proof.Kept.{kept}
+use Rattle.pass_frames_proof.specs.pass_kept_proof.Related.{IsSoundStatus, IsSuspendedAt}
 use Rattle.pass_renewed_meaning.proofs.Renaming.{plain_value}
-use Rattle.pass_renewed_proof.proofs.EnteredValues.{set_here}
-use Rattle.pass_renewed_proof.proofs.Sets.{result_elsewhere}
-use Rattle.pass_renewed_proof.specs.Renewed.{RenewedGiven, is_renewed, renew_after, renewed_from, renewed_in}
-use Rattle.pass_renewed_proof.specs.Renewed.{renewed_slot, renewed_values, with_life, with_renewed}
-use Rattle.run_framed.specs.Framed.{at_point, begin_name, with_mode}
-use Rattle.run_hooks.proofs.PlacedKeeping.{renewed_keeps_placed}
-use Rattle.run_hooks.proofs.Reached.{get_last, own_is, sound_get}
-use Rattle.run_hooks.proofs.alive.Parts.{set_there}
-use Rattle.run_hooks.specs.Hooks.{Hooks, hooked_state_at, step_of}
-use Rattle.run_hooks.specs.Meanings.{renewed_hooks}
-use Rattle.run_hooks.specs.Reached.{IsReachedState}
-use Rattle.run_memory.specs.Memory.{check, killed, may_be_owned, owned_to, start, with_block}
-use Rattle.run_memory.specs.declared.block.Kind.{Kind}
-use Rattle.run_memory.specs.declared.block.MemoryBlock.{MemoryBlock}
-use Rattle.run_memory.specs.declared.pointer.Offset.{Offset}
-use Rattle.run_memory.specs.declared.pointer.Pointer.{Pointer}
-use Rattle.run_memory.specs.declared.pointer.Value.{Value}
-use Rattle.run_source.specs.Source.{begin, begin_at, begun, finish, first_state, is_among, is_over, kill_late}
-use Rattle.run_source.specs.Source.{new_instance, new_slot, push, resumed, with_new_slots}
-use Rattle.run_source.specs.State.{address_in, frame_address_of, function_of, gives, numbered, own_facts, own_frame}
-use Rattle.run_source.specs.State.{own_instance, with_memory, with_slots, with_status}
-use Rattle.run_source.specs.declared.state.Instance.{Instance}
-use Rattle.run_source.specs.declared.state.Mode.{Mode}
-use Rattle.run_source.specs.declared.state.State.{State}
-use Rattle.run_source.specs.declared.state.Status.{Status}
-use Rattle.run_source_tables.specs.Given.{Given, facts_at}
-use Rattle.run_states.specs.sound_states.Sound.{HasValues}
-use Rattle.run_step.specs.Results.{and_then, found, ok_if}
-use Rattle.run_step.specs.Runs.{iterate}
-use Rattle.run_step.specs.Step.{AtInstr, fetch, fetch_in, fetch_or}
-use Rattle.run_step.specs.Values.{Env, value_in, with_result}
-use Rattle.run_step.specs.declared.world.Slot.{Slot}
-use Rattle.run_types.specs.Rules.{KeepsAllTypes}
+use Rattle.pass_frames_proof.proofs.pass_renewed_proof.EnteredValues.{set_here}
+use Rattle.pass_frames_proof.proofs.pass_renewed_proof.Sets.{result_elsewhere}
+use Rattle.pass_frames_proof.specs.pass_renewed_proof.Renewed.{RenewedGiven, is_renewed, renew_after, renewed_from, renewed_in}
+use Rattle.pass_frames_proof.specs.pass_renewed_proof.Renewed.{renewed_slot, renewed_values, with_life, with_renewed}
+use Rattle.pass_frames_proof.specs.run_framed.Framed.{at_point, begin_name, with_mode}
+use Rattle.pass_renewed_meaning.proofs.run_hooks.PlacedKeeping.{renewed_keeps_placed}
+use Rattle.pass_renewed_meaning.proofs.run_hooks.Reached.{get_last, own_is, sound_get}
+use Rattle.pass_renewed_meaning.proofs.run_hooks.alive.Parts.{set_there}
+use Rattle.pass_renewed_meaning.specs.run_hooks.Hooks.{Hooks, hooked_state_at, step_of}
+use Rattle.pass_renewed_meaning.specs.run_hooks.Meanings.{renewed_hooks}
+use Rattle.pass_renewed_meaning.specs.run_hooks.Reached.{IsReachedState}
+use Rattle.pass_frames_proof.specs.run_memory.Memory.{check, killed, may_be_owned, owned_to, start, with_block}
+use Rattle.pass_frames_proof.specs.run_memory.declared.block.Kind.{Kind}
+use Rattle.pass_frames_proof.specs.run_memory.declared.block.MemoryBlock.{MemoryBlock}
+use Rattle.pass_frames_proof.specs.run_memory.declared.pointer.Offset.{Offset}
+use Rattle.pass_frames_proof.specs.run_memory.declared.pointer.Pointer.{Pointer}
+use Rattle.pass_frames_proof.specs.run_memory.declared.pointer.Value.{Value}
+use Rattle.pass_frames_proof.specs.run_source.Source.{begin, begin_at, begun, finish, first_state, is_among, is_over, kill_late}
+use Rattle.pass_frames_proof.specs.run_source.Source.{new_instance, new_slot, push, resumed, with_new_slots}
+use Rattle.pass_frames_proof.specs.run_source.State.{address_in, frame_address_of, function_of, gives, numbered, own_facts, own_frame}
+use Rattle.pass_frames_proof.specs.run_source.State.{own_instance, with_memory, with_slots, with_status}
+use Rattle.pass_frames_proof.specs.run_source.declared.state.Instance.{Instance}
+use Rattle.pass_frames_proof.specs.run_source.declared.state.Mode.{Mode}
+use Rattle.pass_frames_proof.specs.run_source.declared.state.State.{State}
+use Rattle.pass_frames_proof.specs.run_source.declared.state.Status.{Status}
+use Rattle.pass_frames_proof.specs.run_source_tables.Given.{Given, facts_at}
+use Rattle.pass_frames_proof.specs.run_states.sound_states.Sound.{HasValues}
+use Rattle.pass_frames_proof.specs.run_step.Results.{and_then, found, ok_if}
+use Rattle.pass_frames_proof.specs.run_step.Runs.{iterate}
+use Rattle.pass_frames_proof.specs.run_step.Step.{AtInstr, fetch, fetch_in, fetch_or}
+use Rattle.pass_frames_proof.specs.run_step.Values.{Env, value_in, with_result}
+use Rattle.pass_frames_proof.specs.run_step.declared.world.Slot.{Slot}
+use Rattle.pass_renewed_meaning.specs.run_types.Rules.{KeepsAllTypes}
 
 -- ---- a new slot
 

@@ -4,37 +4,37 @@ use Rattle.std.proofs.Common.{None, refl, sym, ap, ◌∙◌, subst, if◌then�
 use Rattle.std.proofs.lemmas.Bool.{false≢true}
 use Rattle.std.specs.List.{list_any}
 use Rattle.std.specs.Prelude.{replicate, slice_get}
-use Rattle.ir_base.specs.declared.cause.Cause.{Cause}
-use Rattle.ir_model.specs.Layout.{size_of}
-use Rattle.ir_model.specs.Ty.{Ty}
-use Rattle.ir_model.specs.declared.instr.Instr.{Instr}
-use Rattle.ir_model.specs.declared.module.Function.{Function}
-use Rattle.ir_model.specs.declared.module.Module.{Module}
-use Rattle.ir_model.specs.declared.module.Param.{Param}
-use Rattle.ir_model.specs.declared.operand.Callee.{Callee}
-use Rattle.ir_model.specs.declared.operand.Intrinsic.{Intrinsic}
-use Rattle.ir_parts.specs.Contents.{result_of}
+use Rattle.pass_frames_proof.specs.ir_base.declared.cause.Cause.{Cause}
+use Rattle.pass_frames_proof.specs.ir_model.Layout.{size_of}
+use Rattle.pass_frames_proof.specs.ir_model.Ty.{Ty}
+use Rattle.pass_frames_proof.specs.ir_model.declared.instr.Instr.{Instr}
+use Rattle.pass_frames_proof.specs.ir_model.declared.module.Function.{Function}
+use Rattle.pass_frames_proof.specs.ir_model.declared.module.Module.{Module}
+use Rattle.pass_frames_proof.specs.ir_model.declared.module.Param.{Param}
+use Rattle.pass_frames_proof.specs.ir_model.declared.operand.Callee.{Callee}
+use Rattle.pass_frames_proof.specs.ir_model.declared.operand.Intrinsic.{Intrinsic}
+use Rattle.pass_frames_proof.specs.ir_parts.Contents.{result_of}
 use Rattle.pass_frames_meaning.proofs.called.Voids.{void_intrinsic}
 use Rattle.pass_frames_meaning.proofs.led.Values.{AreSame, IsWatched}
 use Rattle.pass_frames_meaning.specs.Called.{IsBehindCall, IsCalling, IsCalm}
 use Rattle.pass_frames_meaning.specs.Led.{IsBegin, IsLedBy, KeepsNames}
 use Rattle.pass_frames_proof.specs.Stepping.{IsNotEntering}
-use Rattle.pass_kept_proof.proofs.Same.{neither}
-use Rattle.pass_kept_proof.specs.Crossing.{is_param}
-use Rattle.pass_kept_proof.specs.Needed.{given_by, phis_give}
-use Rattle.pass_renewed_proof.proofs.Sets.{result_elsewhere, set_elsewhere}
-use Rattle.pass_renewed_proof.specs.Steps.{given_at}
-use Rattle.run_framed.specs.Framed.{begin_name}
-use Rattle.run_hooks.proofs.alive.Changes.{phis_other}
-use Rattle.run_memory.specs.declared.pointer.Value.{Value}
-use Rattle.run_source.specs.declared.state.Activation.{Activation}
-use Rattle.run_source.specs.declared.state.Mode.{Mode}
-use Rattle.run_step.specs.Effects.{is_alloca}
-use Rattle.run_step.specs.Step.{Action, AtInstr, Context, NewSlot, Stuck, Work, action_of, alloca, entry_values, fetch}
-use Rattle.run_step.specs.Step.{is_alignment, phis_of, values_in, with_params}
-use Rattle.run_step.specs.Values.{Env, pointer_to, value_in, with_result, with_value}
-use Rattle.run_step.specs.declared.world.Slot.{Slot}
-use Rattle.run_types.specs.Rules.{KeepsTypes}
+use Rattle.pass_frames_proof.proofs.pass_kept_proof.Same.{neither}
+use Rattle.pass_frames_proof.specs.pass_kept_proof.Crossing.{is_param}
+use Rattle.pass_frames_proof.specs.pass_kept_proof.Needed.{given_by, phis_give}
+use Rattle.pass_frames_proof.proofs.pass_renewed_proof.Sets.{result_elsewhere, set_elsewhere}
+use Rattle.pass_frames_proof.specs.pass_renewed_proof.Steps.{given_at}
+use Rattle.pass_frames_proof.specs.run_framed.Framed.{begin_name}
+use Rattle.pass_renewed_meaning.proofs.run_hooks.alive.Changes.{phis_other}
+use Rattle.pass_frames_proof.specs.run_memory.declared.pointer.Value.{Value}
+use Rattle.pass_frames_proof.specs.run_source.declared.state.Activation.{Activation}
+use Rattle.pass_frames_proof.specs.run_source.declared.state.Mode.{Mode}
+use Rattle.pass_frames_proof.specs.run_step.Effects.{is_alloca}
+use Rattle.pass_frames_proof.specs.run_step.Step.{Action, AtInstr, Context, NewSlot, Stuck, Work, action_of, alloca, entry_values, fetch}
+use Rattle.pass_frames_proof.specs.run_step.Step.{is_alignment, phis_of, values_in, with_params}
+use Rattle.pass_frames_proof.specs.run_step.Values.{Env, pointer_to, value_in, with_result, with_value}
+use Rattle.pass_frames_proof.specs.run_step.declared.world.Slot.{Slot}
+use Rattle.pass_renewed_meaning.specs.run_types.Rules.{KeepsTypes}
 
 -- an alloca or a begin
 abbrev pub IsMaker : Instr → Type 0

@@ -2,47 +2,47 @@
 use Rattle.std.proofs.Common.{◌≡◌, ℕ, zero, suc, ◌+◌, Bool, true, false, List, [], ◌∷◌, length, Option, Some, None}
 use Rattle.std.proofs.Common.{Result, Ok, Err, refl, sym, ap, ◌∙◌, subst, if◌then◌else◌, ◌&&◌}
 use Rattle.std.specs.Prelude.{is_none, not, option_map, slice_set}
-use Rattle.ir_base.specs.declared.cause.Cause.{Cause}
-use Rattle.ir_base.specs.declared.outcome.Outcome.{Outcome}
-use Rattle.ir_base.specs.declared.outcome.Word.{Word}
-use Rattle.ir_laws.specs.facts.sound_states.Named.{AreLocalsNamed}
-use Rattle.ir_model.specs.Names.{function_at}
-use Rattle.ir_model.specs.declared.instr.Instr.{Instr}
-use Rattle.ir_paths.specs.declared.point.Point.{Point}
+use Rattle.pass_frames_proof.specs.ir_base.declared.cause.Cause.{Cause}
+use Rattle.pass_frames_proof.specs.ir_base.declared.outcome.Outcome.{Outcome}
+use Rattle.pass_frames_proof.specs.ir_base.declared.outcome.Word.{Word}
+use Rattle.pass_frames_proof.specs.ir_laws.facts.sound_states.Named.{AreLocalsNamed}
+use Rattle.pass_frames_proof.specs.ir_model.Names.{function_at}
+use Rattle.pass_frames_proof.specs.ir_model.declared.instr.Instr.{Instr}
+use Rattle.pass_frames_proof.specs.ir_paths.declared.point.Point.{Point}
 use Rattle.pass_frames_meaning.proofs.led.Entered.{IsEnterer, ReturnsNowhere, StaysEnterer, act_enterer}
 use Rattle.pass_frames_meaning.proofs.led.Entered.{still_enterer}
 use Rattle.pass_frames_meaning.proofs.led.Names.{IsMaking, alloca_is, making, of_alloca}
 use Rattle.pass_frames_meaning.specs.Called.{FitsMode, IsCalledState}
 use Rattle.pass_frames_proof.specs.Stepping.{IsNotEntering}
-use Rattle.pass_kept_proof.proofs.Same.{kept_wide}
-use Rattle.pass_kept_proof.specs.Kept.{kept}
-use Rattle.pass_renewed_proof.specs.Renewed.{RenewedGiven, continue_renewed, is_idle, renew_after, renewed_act}
-use Rattle.pass_renewed_proof.specs.Renewed.{renewed_advance, renewed_from, renewed_slot, renewed_step}
-use Rattle.pass_renewed_proof.specs.Renewed.{renewed_values, with_life, with_renewed}
-use Rattle.run_framed.specs.Framed.{at_point, with_mode}
-use Rattle.run_hooks.specs.Away.{IsPlacedState}
-use Rattle.run_hooks.specs.Meanings.{renewed_hooks}
-use Rattle.run_memory.specs.Memory.{killed, start}
-use Rattle.run_source.specs.Source.{act, first_state, is_among, is_over, kill_late, new_slot, push, resumed}
-use Rattle.run_source.specs.Source.{with_new_slots}
-use Rattle.run_source.specs.State.{function_of, next, or_undefined, own_facts, own_instance, settled, with_memory}
-use Rattle.run_source.specs.State.{with_slots, with_status, work_of}
-use Rattle.run_source.specs.Source.{advance_by, context_of}
-use Rattle.run_source.specs.declared.state.Instance.{Instance}
-use Rattle.run_source.specs.declared.state.Mode.{Mode}
-use Rattle.run_source.specs.declared.state.State.{State}
-use Rattle.run_source.specs.declared.state.Status.{Status}
-use Rattle.run_states.proofs.sound_states.Acts.{entered_sound, new_slot_sound, next_sound}
-use Rattle.run_states.proofs.sound_states.Fits.{Fits, fits}
-use Rattle.run_states.proofs.sound_states.Kept.{IsGrown, activation_grown, below_grown, grown_set, instance_sound}
-use Rattle.run_states.proofs.sound_states.Kept.{memory_sound, moved_on, settled_sound, slots_sound}
-use Rattle.run_states.proofs.sound_states.Steps.{first_sound, step_sound}
-use Rattle.run_states.specs.sound_states.Sound.{HasValues, IsSound, IsSoundStatus, KeepsSound}
-use Rattle.run_step.specs.Runs.{iterate}
-use Rattle.run_step.specs.Step.{Action, AtInstr, Coro, Deallocate, Done, Enter, Fetched, GoTo, NewSlot, Return, Stuck}
-use Rattle.run_step.specs.Step.{action_of, fetch}
-use Rattle.run_step.specs.Values.{Env}
-use Rattle.run_step.specs.declared.world.Slot.{Slot}
+use Rattle.pass_frames_proof.proofs.pass_kept_proof.Same.{kept_wide}
+use Rattle.pass_frames_proof.specs.pass_kept_proof.Kept.{kept}
+use Rattle.pass_frames_proof.specs.pass_renewed_proof.Renewed.{RenewedGiven, continue_renewed, is_idle, renew_after, renewed_act}
+use Rattle.pass_frames_proof.specs.pass_renewed_proof.Renewed.{renewed_advance, renewed_from, renewed_slot, renewed_step}
+use Rattle.pass_frames_proof.specs.pass_renewed_proof.Renewed.{renewed_values, with_life, with_renewed}
+use Rattle.pass_frames_proof.specs.run_framed.Framed.{at_point, with_mode}
+use Rattle.pass_renewed_meaning.specs.run_hooks.Away.{IsPlacedState}
+use Rattle.pass_renewed_meaning.specs.run_hooks.Meanings.{renewed_hooks}
+use Rattle.pass_frames_proof.specs.run_memory.Memory.{killed, start}
+use Rattle.pass_frames_proof.specs.run_source.Source.{act, first_state, is_among, is_over, kill_late, new_slot, push, resumed}
+use Rattle.pass_frames_proof.specs.run_source.Source.{with_new_slots}
+use Rattle.pass_frames_proof.specs.run_source.State.{function_of, next, or_undefined, own_facts, own_instance, settled, with_memory}
+use Rattle.pass_frames_proof.specs.run_source.State.{with_slots, with_status, work_of}
+use Rattle.pass_frames_proof.specs.run_source.Source.{advance_by, context_of}
+use Rattle.pass_frames_proof.specs.run_source.declared.state.Instance.{Instance}
+use Rattle.pass_frames_proof.specs.run_source.declared.state.Mode.{Mode}
+use Rattle.pass_frames_proof.specs.run_source.declared.state.State.{State}
+use Rattle.pass_frames_proof.specs.run_source.declared.state.Status.{Status}
+use Rattle.pass_frames_proof.proofs.run_states.sound_states.Acts.{entered_sound, new_slot_sound, next_sound}
+use Rattle.pass_frames_proof.proofs.run_states.sound_states.Fits.{Fits, fits}
+use Rattle.pass_frames_proof.proofs.run_states.sound_states.Kept.{IsGrown, activation_grown, below_grown, grown_set, instance_sound}
+use Rattle.pass_frames_proof.proofs.run_states.sound_states.Kept.{memory_sound, moved_on, settled_sound, slots_sound}
+use Rattle.pass_frames_proof.proofs.run_states.sound_states.Steps.{first_sound, step_sound}
+use Rattle.pass_frames_proof.specs.run_states.sound_states.Sound.{HasValues, IsSound, IsSoundStatus, KeepsSound}
+use Rattle.pass_frames_proof.specs.run_step.Runs.{iterate}
+use Rattle.pass_frames_proof.specs.run_step.Step.{Action, AtInstr, Coro, Deallocate, Done, Enter, Fetched, GoTo, NewSlot, Return, Stuck}
+use Rattle.pass_frames_proof.specs.run_step.Step.{action_of, fetch}
+use Rattle.pass_frames_proof.specs.run_step.Values.{Env}
+use Rattle.pass_frames_proof.specs.run_step.declared.world.Slot.{Slot}
 
 renewed_wide : (roots : ℕ → Option ℕ) (e vs : Env) → length (renewed_values roots e vs) ≡ length vs
 renewed_wide roots e [] = refl

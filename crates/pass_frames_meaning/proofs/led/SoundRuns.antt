@@ -1,23 +1,23 @@
 -- Each state of a run that makes slots anew is sound.
 use Rattle.std.proofs.Common.{ℕ, List, subst, sym}
-use Rattle.ir_base.specs.declared.outcome.Word.{Word}
-use Rattle.ir_laws.specs.facts.sound_states.Named.{AreLocalsNamed}
+use Rattle.pass_frames_proof.specs.ir_base.declared.outcome.Word.{Word}
+use Rattle.pass_frames_proof.specs.ir_laws.facts.sound_states.Named.{AreLocalsNamed}
 use Rattle.pass_frames_meaning.proofs.called.CalledHooks.{renewed_keeps_called, states_called}
 use Rattle.pass_frames_meaning.proofs.led.Sound.{states_both}
 use Rattle.pass_frames_meaning.specs.Called.{IsCalledState}
-use Rattle.pass_renewed_proof.specs.Renewed.{RenewedGiven, renewed_step}
-use Rattle.run_hooks.proofs.Keeping.{renewed_keeps}
-use Rattle.run_hooks.proofs.PlacedKeeping.{renewed_keeps_placed}
-use Rattle.run_hooks.proofs.PlacedSteps.{states_placed}
-use Rattle.run_hooks.proofs.Steps.{renewed_steps, same_runs}
-use Rattle.run_hooks.specs.Away.{IsPlacedState, KeepsAllPlaceRules}
-use Rattle.run_hooks.specs.Hooks.{step_of}
-use Rattle.run_hooks.specs.Meanings.{renewed_hooks}
-use Rattle.run_hooks.specs.Reached.{AllHaveSwitches}
-use Rattle.run_source.specs.Source.{first_state}
-use Rattle.run_states.specs.sound_states.Sound.{IsSound}
-use Rattle.run_step.specs.Runs.{iterate}
-use Rattle.run_types.specs.Rules.{KeepsAllTypes}
+use Rattle.pass_frames_proof.specs.pass_renewed_proof.Renewed.{RenewedGiven, renewed_step}
+use Rattle.pass_renewed_meaning.proofs.run_hooks.Keeping.{renewed_keeps}
+use Rattle.pass_renewed_meaning.proofs.run_hooks.PlacedKeeping.{renewed_keeps_placed}
+use Rattle.pass_renewed_meaning.proofs.run_hooks.PlacedSteps.{states_placed}
+use Rattle.pass_renewed_meaning.proofs.run_hooks.Steps.{renewed_steps, same_runs}
+use Rattle.pass_renewed_meaning.specs.run_hooks.Away.{IsPlacedState, KeepsAllPlaceRules}
+use Rattle.pass_renewed_meaning.specs.run_hooks.Hooks.{step_of}
+use Rattle.pass_renewed_meaning.specs.run_hooks.Meanings.{renewed_hooks}
+use Rattle.pass_renewed_meaning.specs.run_hooks.Reached.{AllHaveSwitches}
+use Rattle.pass_frames_proof.specs.run_source.Source.{first_state}
+use Rattle.pass_frames_proof.specs.run_states.sound_states.Sound.{IsSound}
+use Rattle.pass_frames_proof.specs.run_step.Runs.{iterate}
+use Rattle.pass_renewed_meaning.specs.run_types.Rules.{KeepsAllTypes}
 
 module _ (g : RenewedGiven) (entry : ℕ) (args : List Word) (ok : AllHaveSwitches g.given.code)
     (places : KeepsAllPlaceRules g.given) (types : KeepsAllTypes g.given.code) where

@@ -1,21 +1,21 @@
 -- No name of an alloca that counts, and no value of begin, is an address in a slot that is made anew.
 use Rattle.std.proofs.Common.{◌≡◌, ℕ, Bool, true, false, List, Option, Some, None, refl, sym, ap, ◌∙◌}
 use Rattle.std.proofs.lemmas.Bool.{false≢true}
-use Rattle.ir_model.specs.Names.{function_at}
-use Rattle.ir_model.specs.Ty.{Ty}
-use Rattle.ir_model.specs.declared.instr.Instr.{Instr}
-use Rattle.ir_model.specs.declared.operand.Arg.{Arg}
-use Rattle.ir_model.specs.declared.operand.Intrinsic.{Intrinsic}
-use Rattle.ir_model.specs.declared.operand.Operand.{Operand}
-use Rattle.ir_paths.specs.declared.point.Point.{Point}
+use Rattle.pass_frames_proof.specs.ir_model.Names.{function_at}
+use Rattle.pass_frames_proof.specs.ir_model.Ty.{Ty}
+use Rattle.pass_frames_proof.specs.ir_model.declared.instr.Instr.{Instr}
+use Rattle.pass_frames_proof.specs.ir_model.declared.operand.Arg.{Arg}
+use Rattle.pass_frames_proof.specs.ir_model.declared.operand.Intrinsic.{Intrinsic}
+use Rattle.pass_frames_proof.specs.ir_model.declared.operand.Operand.{Operand}
+use Rattle.pass_frames_proof.specs.ir_paths.declared.point.Point.{Point}
 use Rattle.pass_frames_meaning.proofs.led.Begins.{HasBegin, has_begin}
 use Rattle.pass_frames_meaning.specs.Led.{KeepAllNames, KeepsLedTables}
-use Rattle.pass_kept_proof.specs.SuspendRules.{IsCallAt}
-use Rattle.pass_renewed_proof.specs.Renewed.{RenewedGiven}
-use Rattle.pass_renewed_proof.specs.SlotRules.{IsAddressOf, IsMadeOnce, Itself, KeepsAllSlots, Part}
-use Rattle.pass_renewed_proof.specs.Steps.{given_at}
-use Rattle.run_framed.specs.Framed.{begin_name}
-use Rattle.run_step.specs.Step.{AtInstr}
+use Rattle.pass_frames_proof.specs.pass_kept_proof.SuspendRules.{IsCallAt}
+use Rattle.pass_frames_proof.specs.pass_renewed_proof.Renewed.{RenewedGiven}
+use Rattle.pass_frames_proof.specs.pass_renewed_proof.SlotRules.{IsAddressOf, IsMadeOnce, Itself, KeepsAllSlots, Part}
+use Rattle.pass_frames_proof.specs.pass_renewed_proof.Steps.{given_at}
+use Rattle.pass_frames_proof.specs.run_framed.Framed.{begin_name}
+use Rattle.pass_frames_proof.specs.run_step.Step.{AtInstr}
 
 no_gep : (v align : ℕ) (t : Ty) (w : ℕ) (inbounds : Bool) (ty : Ty) (u : ℕ) (indices : List Arg)
     → AtInstr (Instr.Alloca v t align) ≡ AtInstr (Instr.Gep w inbounds ty (Operand.Local u) indices) → ⊥

@@ -3,23 +3,23 @@ use Rattle.std.proofs.Common.{◌≡◌, ◌⊎◌, inl, inr, ℕ, zero, suc, Bo
 use Rattle.std.proofs.Common.{None, refl, sym, ◌∙◌, subst, if◌then◌else◌}
 use Rattle.std.specs.List.{Contains}
 use Rattle.std.specs.Prelude.{filter, slice_get, slice_set}
-use Rattle.ir_model.specs.Names.{function_at}
-use Rattle.ir_model.specs.declared.module.Function.{Function}
-use Rattle.ir_model.specs.declared.module.Module.{Module}
+use Rattle.pass_frames_proof.specs.ir_model.Names.{function_at}
+use Rattle.pass_frames_proof.specs.ir_model.declared.module.Function.{Function}
+use Rattle.pass_frames_proof.specs.ir_model.declared.module.Module.{Module}
 use Rattle.pass_frames_meaning.specs.Led.{AreLed, AreLedAsleep, AreLedOn, AreLedWith, IsEnteringAt, IsLedBy}
 use Rattle.pass_frames_meaning.specs.Led.{IsLedInstance, IsLedStatus}
 use Rattle.pass_frames_proof.specs.Stepping.{IsNotEntering}
-use Rattle.pass_renewed_proof.proofs.Listing.{contains_first, contains_more}
-use Rattle.run_framed.specs.Framed.{begin_name}
-use Rattle.run_memory.specs.declared.pointer.Value.{Value}
-use Rattle.run_source.specs.State.{frame_address_of}
-use Rattle.run_source.specs.declared.state.Activation.{Activation}
-use Rattle.run_source.specs.declared.state.Instance.{Instance}
-use Rattle.run_source.specs.declared.state.Mode.{Mode}
-use Rattle.run_source.specs.declared.state.Status.{Status}
-use Rattle.run_step.specs.Step.{Fetched}
-use Rattle.run_step.specs.Values.{Env, pointer_to, value_in}
-use Rattle.run_step.specs.declared.world.Slot.{Slot}
+use Rattle.pass_frames_proof.proofs.pass_renewed_proof.Listing.{contains_first, contains_more}
+use Rattle.pass_frames_proof.specs.run_framed.Framed.{begin_name}
+use Rattle.pass_frames_proof.specs.run_memory.declared.pointer.Value.{Value}
+use Rattle.pass_frames_proof.specs.run_source.State.{frame_address_of}
+use Rattle.pass_frames_proof.specs.run_source.declared.state.Activation.{Activation}
+use Rattle.pass_frames_proof.specs.run_source.declared.state.Instance.{Instance}
+use Rattle.pass_frames_proof.specs.run_source.declared.state.Mode.{Mode}
+use Rattle.pass_frames_proof.specs.run_source.declared.state.Status.{Status}
+use Rattle.pass_frames_proof.specs.run_step.Step.{Fetched}
+use Rattle.pass_frames_proof.specs.run_step.Values.{Env, pointer_to, value_in}
+use Rattle.pass_frames_proof.specs.run_step.declared.world.Slot.{Slot}
 
 -- ---- slots
 

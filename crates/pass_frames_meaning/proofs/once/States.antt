@@ -2,25 +2,25 @@
 use Rattle.std.proofs.Common.{◌≡◌, ℕ, ◌+◌, Bool, true, false, List, [], ◌∷◌, ◌++◌, length, Option, Some, None}
 use Rattle.std.proofs.Common.{refl, sym, ◌∙◌, subst}
 use Rattle.std.specs.Prelude.{filter, if◌then◌else◌, not, slice_get, ◌&&◌}
-use Rattle.ir_model.specs.Ty.{Ty}
-use Rattle.ir_model.specs.declared.instr.Instr.{Instr}
-use Rattle.ir_model.specs.declared.module.Function.{Function}
+use Rattle.pass_frames_proof.specs.ir_model.Ty.{Ty}
+use Rattle.pass_frames_proof.specs.ir_model.declared.instr.Instr.{Instr}
+use Rattle.pass_frames_proof.specs.ir_model.declared.module.Function.{Function}
 use Rattle.pass_frames_meaning.proofs.once.Lists.{begun_some, next_made, placed_some}
 use Rattle.pass_frames_meaning.specs.Executed.{IsFirstMode}
 use Rattle.pass_frames_meaning.specs.Once.{AreMadeOnce, IsOnceAt}
-use Rattle.pass_renewed_proof.specs.Renewed.{RenewedGiven, renewed_slot, with_life}
-use Rattle.pass_renewed_proof.specs.SlotRules.{IsMadeOnce}
-use Rattle.run_hooks.proofs.alive.Parts.{Here, IsSet, Other, get_set}
-use Rattle.run_hooks.proofs.alive.Places.{own_there}
-use Rattle.run_memory.specs.Memory.{killed, start}
-use Rattle.run_source.specs.Source.{begun, is_among, is_over, kill_late, new_instance, new_slot, with_new_slots}
-use Rattle.run_source.specs.State.{own_facts, own_instance, with_memory}
-use Rattle.run_source.specs.declared.state.Instance.{Instance}
-use Rattle.run_source.specs.declared.state.Mode.{Mode}
-use Rattle.run_source.specs.declared.state.State.{State}
-use Rattle.run_source_tables.specs.Given.{Given}
-use Rattle.run_step.specs.Step.{AtInstr, fetch}
-use Rattle.run_step.specs.declared.world.Slot.{Slot}
+use Rattle.pass_frames_proof.specs.pass_renewed_proof.Renewed.{RenewedGiven, renewed_slot, with_life}
+use Rattle.pass_frames_proof.specs.pass_renewed_proof.SlotRules.{IsMadeOnce}
+use Rattle.pass_renewed_meaning.proofs.run_hooks.alive.Parts.{Here, IsSet, Other, get_set}
+use Rattle.pass_renewed_meaning.proofs.run_hooks.alive.Places.{own_there}
+use Rattle.pass_frames_proof.specs.run_memory.Memory.{killed, start}
+use Rattle.pass_frames_proof.specs.run_source.Source.{begun, is_among, is_over, kill_late, new_instance, new_slot, with_new_slots}
+use Rattle.pass_frames_proof.specs.run_source.State.{own_facts, own_instance, with_memory}
+use Rattle.pass_frames_proof.specs.run_source.declared.state.Instance.{Instance}
+use Rattle.pass_frames_proof.specs.run_source.declared.state.Mode.{Mode}
+use Rattle.pass_frames_proof.specs.run_source.declared.state.State.{State}
+use Rattle.pass_frames_proof.specs.run_source_tables.Given.{Given}
+use Rattle.pass_frames_proof.specs.run_step.Step.{AtInstr, fetch}
+use Rattle.pass_frames_proof.specs.run_step.declared.world.Slot.{Slot}
 
 module _ (f : Function) (block at : ℕ) where
   -- of the number of an instance

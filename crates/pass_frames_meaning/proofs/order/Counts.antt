@@ -1,19 +1,19 @@
 -- How many new names fetches take, up to an instruction and in all.
 use Rattle.std.proofs.Common.{◌≡◌, ℕ, zero, suc, ◌+◌, ◌≤◌, List, [], ◌∷◌, ◌++◌, length, Option, Some, None, refl, subst, arith, length-append}
 use Rattle.std.specs.Prelude.{◌-◌, slice_get, take}
-use Rattle.ir_model.specs.declared.instr.Instr.{Instr}
-use Rattle.ir_model.specs.declared.module.Block.{Block}
-use Rattle.ir_model.specs.declared.module.Function.{Function}
-use Rattle.ir_model.specs.declared.operand.Operand.{Operand}
-use Rattle.ir_parts.specs.Contents.{instr_operands}
-use Rattle.pass_fetch.specs.Blocks.{next_after_block, next_after_blocks, next_after_phis_by, numbered_names, with_fetches}
-use Rattle.pass_fetch.specs.Fetching.{fetch_of, next_after, next_after_all, next_by}
-use Rattle.pass_fetch.specs.Instrs.{next_after_instr, next_after_instrs, term_operands}
-use Rattle.pass_fetch.specs.declared.fetch.Fetch.{Fetch}
+use Rattle.pass_frames_proof.specs.ir_model.declared.instr.Instr.{Instr}
+use Rattle.pass_frames_proof.specs.ir_model.declared.module.Block.{Block}
+use Rattle.pass_frames_proof.specs.ir_model.declared.module.Function.{Function}
+use Rattle.pass_frames_proof.specs.ir_model.declared.operand.Operand.{Operand}
+use Rattle.pass_frames_proof.specs.ir_parts.Contents.{instr_operands}
+use Rattle.pass_frames_proof.specs.pass_fetch.Blocks.{next_after_block, next_after_blocks, next_after_phis_by, numbered_names, with_fetches}
+use Rattle.pass_frames_proof.specs.pass_fetch.Fetching.{fetch_of, next_after, next_after_all, next_by}
+use Rattle.pass_frames_proof.specs.pass_fetch.Instrs.{next_after_instr, next_after_instrs, term_operands}
+use Rattle.pass_frames_proof.specs.pass_fetch.declared.fetch.Fetch.{Fetch}
 use Rattle.pass_frames_proof.specs.Passes.{fetched_first}
-use Rattle.pass_proofs.proofs.cells.rules.Counts.{by_phis_rise}
-use Rattle.pass_proofs.proofs.cells.rules.Totals.{blocks_rise, numbered_length}
-use Rattle.pass_proofs.proofs.fetch.rules.Puts.{fetch_rises}
+use Rattle.pass_frames_proof.proofs.pass_proofs.cells.rules.Counts.{by_phis_rise}
+use Rattle.pass_frames_proof.proofs.pass_proofs.cells.rules.Totals.{blocks_rise, numbered_length}
+use Rattle.pass_frames_proof.proofs.pass_proofs.fetch.rules.Puts.{fetch_rises}
 
 module _ (t : List (Option Fetch)) where
   one_more : (n : ℕ) (x : Operand) → next_after t n x ≡ n + next_after t 0 x

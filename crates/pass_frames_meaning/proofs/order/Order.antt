@@ -2,23 +2,23 @@
 use Rattle.std.proofs.Common.{◌≡◌, ℕ, zero, suc, ◌+◌, ◌*◌, ◌<◌, ◌≤◌, true, List, [], ◌∷◌, ◌++◌, length, Option, Some, None, refl, sym, ap, ◌∙◌, arith, append_assoc, length-append}
 use Rattle.std.specs.List.{Contains}
 use Rattle.std.specs.Prelude.{codes, drop, slice_get, take, unwrap_or}
-use Rattle.frame_classes.specs.declared.class.SlotClass.{SlotClass}
-use Rattle.ir_model.specs.declared.instr.Instr.{Instr}
-use Rattle.ir_model.specs.declared.module.Block.{Block}
-use Rattle.ir_model.specs.declared.module.Function.{Function}
-use Rattle.ir_parts.specs.Contents.{instr_operands}
-use Rattle.pass_addresses.specs.Placing.{stays, without_promise_of}
-use Rattle.pass_cells.specs.Cells.{fetched_function, fetches_of}
-use Rattle.pass_cells.specs.Written.{entry_front as cells_front}
-use Rattle.pass_copies.specs.BeginCopies.{entry_front as copies_front, first_fetched}
-use Rattle.pass_copies.specs.Slots.{entry_instrs, names_of_slot, slot_names}
-use Rattle.pass_copies.specs.Uses.{used_before}
-use Rattle.pass_copies.specs.declared.slot.EarlySlot.{EarlySlot}
-use Rattle.pass_fetch.specs.Blocks.{with_fetches}
-use Rattle.pass_fetch.specs.Fetching.{next_after_all}
-use Rattle.pass_fetch.specs.Instrs.{next_after_instrs}
-use Rattle.pass_fetch.specs.declared.fetch.Fetch.{Fetch}
-use Rattle.pass_frames.specs.Tables.{class_flags, sizes_by_name}
+use Rattle.pass_frames_proof.specs.frame_classes.declared.class.SlotClass.{SlotClass}
+use Rattle.pass_frames_proof.specs.ir_model.declared.instr.Instr.{Instr}
+use Rattle.pass_frames_proof.specs.ir_model.declared.module.Block.{Block}
+use Rattle.pass_frames_proof.specs.ir_model.declared.module.Function.{Function}
+use Rattle.pass_frames_proof.specs.ir_parts.Contents.{instr_operands}
+use Rattle.pass_frames_proof.specs.pass_addresses.Placing.{stays, without_promise_of}
+use Rattle.pass_frames_proof.specs.pass_cells.Cells.{fetched_function, fetches_of}
+use Rattle.pass_frames_proof.specs.pass_cells.Written.{entry_front as cells_front}
+use Rattle.pass_frames_proof.specs.pass_copies.BeginCopies.{entry_front as copies_front, first_fetched}
+use Rattle.pass_frames_proof.specs.pass_copies.Slots.{entry_instrs, names_of_slot, slot_names}
+use Rattle.pass_frames_proof.specs.pass_copies.Uses.{used_before}
+use Rattle.pass_frames_proof.specs.pass_copies.declared.slot.EarlySlot.{EarlySlot}
+use Rattle.pass_frames_proof.specs.pass_fetch.Blocks.{with_fetches}
+use Rattle.pass_frames_proof.specs.pass_fetch.Fetching.{next_after_all}
+use Rattle.pass_frames_proof.specs.pass_fetch.Instrs.{next_after_instrs}
+use Rattle.pass_frames_proof.specs.pass_fetch.declared.fetch.Fetch.{Fetch}
+use Rattle.pass_frames_proof.specs.pass_frames.Tables.{class_flags, sizes_by_name}
 use Rattle.pass_frames_meaning.proofs.order.Counts.{among, at_one, first_low, instrs_to, instrs_up, joined}
 use Rattle.pass_frames_meaning.proofs.order.Parts.{unmarked_becomes}
 use Rattle.pass_frames_proof.proofs.code.Framed.{framed_is}
@@ -36,7 +36,7 @@ use Rattle.pass_frames_proof.specs.Layers.{IsIdle, becomes, each, grown, only, p
 use Rattle.pass_frames_proof.specs.Passes.{IsBlockMade, copying_at, fetched_first, fetching_at, no_block, unmarked_at, writing_at}
 use Rattle.pass_frames_proof.specs.Places.{Framing, Placed, Unmarked, addressing_layer, before_labels, celled_layer, copied_layer, copies, edged, fetched, framed, instrs_at, marked, named, placed_layer, plan, unmarked, unmarked_layer, with_copies, written}
 use Rattle.pass_frames_proof.specs.Stepping.{AreNamesInOrder, IsUnlocated, state_in}
-use Rattle.pass_proofs.proofs.copies.rules.Slots.{AreNumbered, cell_named, front_range, numbered, temporary_named}
+use Rattle.pass_frames_proof.proofs.pass_proofs.copies.rules.Slots.{AreNumbered, cell_named, front_range, numbered, temporary_named}
 
 doubled : (n : ℕ) → length (slot_names n) ≡ 2 * n
 doubled zero = refl

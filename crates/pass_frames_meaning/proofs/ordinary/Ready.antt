@@ -1,8 +1,8 @@
 -- An ordinary instruction of a coroutine stands as the law on such instructions asks.
 use Rattle.std.proofs.Common.{◌≡◌, true}
-use Rattle.ir_base.specs.declared.outcome.Outcome.{Outcome}
-use Rattle.ir_model.specs.declared.instr.Instr.{Instr}
-use Rattle.ir_model.specs.declared.operand.Callee.{Callee}
+use Rattle.pass_frames_proof.specs.ir_base.declared.outcome.Outcome.{Outcome}
+use Rattle.pass_frames_proof.specs.ir_model.declared.instr.Instr.{Instr}
+use Rattle.pass_frames_proof.specs.ir_model.declared.operand.Callee.{Callee}
 use Rattle.pass_frames_meaning.proofs.ordinary.Standing.{fetch_ready, line_ready}
 use Rattle.pass_frames_meaning.specs.Ordinary.{MayBeOrdinary}
 use Rattle.pass_frames_meaning.specs.Plain.{IsNoAlloca}
@@ -13,12 +13,12 @@ use Rattle.pass_frames_proof.specs.Here.{IsOnLine}
 use Rattle.pass_frames_proof.specs.Operands.{IsAtFetch}
 use Rattle.pass_frames_proof.specs.Related.{is_coroutine}
 use Rattle.pass_frames_proof.specs.Stepping.{IsAtOrdinary, IsCommon, IsNotEntering}
-use Rattle.run_laws.proofs.changed.Kept.{distance_kept}
-use Rattle.run_source.specs.Source.{context_of}
-use Rattle.run_source.specs.State.{function_of, work_of}
-use Rattle.run_source.specs.declared.state.State.{State}
-use Rattle.run_states.specs.sound_states.Sound.{IsSound}
-use Rattle.run_step.specs.Step.{AtInstr, Done, Work, fetch, instr_action}
+use Rattle.pass_frames_proof.proofs.run_laws.changed.Kept.{distance_kept}
+use Rattle.pass_frames_proof.specs.run_source.Source.{context_of}
+use Rattle.pass_frames_proof.specs.run_source.State.{function_of, work_of}
+use Rattle.pass_frames_proof.specs.run_source.declared.state.State.{State}
+use Rattle.pass_frames_proof.specs.run_states.sound_states.Sound.{IsSound}
+use Rattle.pass_frames_proof.specs.run_step.Step.{AtInstr, Done, Work, fetch, instr_action}
 
 pub no_alloca : (i : Instr) → IsCommon i → IsNoAlloca i
 no_alloca (Instr.Alloca r ty align) h = h

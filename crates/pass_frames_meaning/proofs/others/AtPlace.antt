@@ -4,29 +4,29 @@ use Rattle.std.proofs.Common.{◌≡◌, ℕ, Bool, true, false, List, [], ◌�
 use Rattle.std.specs.Prelude.{not, slice_get, unwrap_or}
 use Rattle.std.specs.List.{list_all}
 use Rattle.std.proofs.lemmas.Bool.{and_parts, false≢true}
-use Rattle.ir_laws.proofs.facts.Members.{at_each}
-use Rattle.ir_laws.proofs.paths.renamed.Uses.{stands_in}
-use Rattle.ir_model.specs.Names.{function_at, no_function}
-use Rattle.ir_model.specs.Ty.{Ty}
-use Rattle.ir_model.specs.declared.instr.Instr.{Instr}
-use Rattle.ir_model.specs.declared.module.Function.{Function}
-use Rattle.ir_model.specs.declared.module.Module.{Module}
-use Rattle.ir_model.specs.declared.operand.Arg.{Arg}
-use Rattle.ir_model.specs.declared.operand.Callee.{Callee}
-use Rattle.ir_model.specs.declared.operand.Intrinsic.{Intrinsic}
-use Rattle.ir_parts.specs.Contents.{part_operands}
-use Rattle.ir_parts.specs.Parts.{OfInstr}
-use Rattle.rule_laws.proofs.rules.counted.PartFacts.{block_passes}
-use Rattle.rule_laws.proofs.rules.sources.Places.{instr_there, point}
-use Rattle.rule_laws.specs.rules.function_rules.Kept.{KeepsFunctionRules}
-use Rattle.rule_locals.specs.Addresses.{is_no_function, points_to_functions}
-use Rattle.rule_locals.specs.Intrinsics.{calls_inner, is_inner, misplaces}
-use Rattle.rule_names.specs.declared.stage.Stage.{Stage}
-use Rattle.rule_types.specs.Signatures.{are_wanted, is_result}
-use Rattle.rule_types.specs.Wants.{intrinsic_params, intrinsic_result}
-use Rattle.rule_types.specs.declared.wants.Wanted.{Wanted}
-use Rattle.run_step.specs.Step.{AtInstr, fetch}
-use Rattle.run_types.specs.Rules.{KeepsTypes}
+use Rattle.pass_frames_proof.proofs.ir_laws.facts.Members.{at_each}
+use Rattle.pass_frames_proof.proofs.ir_laws.paths.renamed.Uses.{stands_in}
+use Rattle.pass_frames_proof.specs.ir_model.Names.{function_at, no_function}
+use Rattle.pass_frames_proof.specs.ir_model.Ty.{Ty}
+use Rattle.pass_frames_proof.specs.ir_model.declared.instr.Instr.{Instr}
+use Rattle.pass_frames_proof.specs.ir_model.declared.module.Function.{Function}
+use Rattle.pass_frames_proof.specs.ir_model.declared.module.Module.{Module}
+use Rattle.pass_frames_proof.specs.ir_model.declared.operand.Arg.{Arg}
+use Rattle.pass_frames_proof.specs.ir_model.declared.operand.Callee.{Callee}
+use Rattle.pass_frames_proof.specs.ir_model.declared.operand.Intrinsic.{Intrinsic}
+use Rattle.pass_frames_proof.specs.ir_parts.Contents.{part_operands}
+use Rattle.pass_frames_proof.specs.ir_parts.Parts.{OfInstr}
+use Rattle.pass_frames_proof.proofs.rule_laws.rules.counted.PartFacts.{block_passes}
+use Rattle.pass_frames_proof.proofs.rule_laws.rules.sources.Places.{instr_there, point}
+use Rattle.pass_frames_proof.specs.rule_laws.rules.function_rules.Kept.{KeepsFunctionRules}
+use Rattle.pass_frames_proof.specs.rule_locals.Addresses.{is_no_function, points_to_functions}
+use Rattle.pass_frames_proof.specs.rule_locals.Intrinsics.{calls_inner, is_inner, misplaces}
+use Rattle.pass_frames_proof.specs.rule_names.declared.stage.Stage.{Stage}
+use Rattle.pass_frames_proof.specs.rule_types.Signatures.{are_wanted, is_result}
+use Rattle.pass_frames_proof.specs.rule_types.Wants.{intrinsic_params, intrinsic_result}
+use Rattle.pass_frames_proof.specs.rule_types.declared.wants.Wanted.{Wanted}
+use Rattle.pass_frames_proof.specs.run_step.Step.{AtInstr, fetch}
+use Rattle.pass_renewed_meaning.specs.run_types.Rules.{KeepsTypes}
 
 -- the function at a place is there
 pub function_there : (m : Module) (k block at : ℕ) (i : Instr) → fetch (function_at m k) block at ≡ AtInstr i

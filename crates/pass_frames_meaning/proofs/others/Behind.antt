@@ -1,12 +1,12 @@
 -- A coroutine below stands behind its call as returns ask.
 use Rattle.std.proofs.Common.{◌≡◌, ℕ, true, false, length, Option, Some, refl, ap, ◌∙◌}
 use Rattle.std.specs.Prelude.{slice_get}
-use Rattle.ir_model.specs.Names.{function_at}
-use Rattle.ir_model.specs.declared.instr.Instr.{Instr}
-use Rattle.ir_model.specs.declared.module.Function.{Function}
-use Rattle.ir_model.specs.declared.operand.Callee.{Callee}
-use Rattle.ir_model.specs.declared.operand.Intrinsic.{Intrinsic}
-use Rattle.pass_copies.specs.Uses.{is_access}
+use Rattle.pass_frames_proof.specs.ir_model.Names.{function_at}
+use Rattle.pass_frames_proof.specs.ir_model.declared.instr.Instr.{Instr}
+use Rattle.pass_frames_proof.specs.ir_model.declared.module.Function.{Function}
+use Rattle.pass_frames_proof.specs.ir_model.declared.operand.Callee.{Callee}
+use Rattle.pass_frames_proof.specs.ir_model.declared.operand.Intrinsic.{Intrinsic}
+use Rattle.pass_frames_proof.specs.pass_copies.Uses.{is_access}
 use Rattle.pass_frames_meaning.proofs.others.Names.{no_alloca, plain_name, result_low}
 use Rattle.pass_frames_meaning.proofs.others.Returns.{instr_in, no_return}
 use Rattle.pass_frames_meaning.proofs.others.Unlocated.{unaccessed}
@@ -18,8 +18,8 @@ use Rattle.pass_frames_proof.specs.Places.{Framing, edged, instrs_at}
 use Rattle.pass_frames_proof.specs.Related.{is_coroutine}
 use Rattle.pass_frames_proof.specs.Returning.{IsBehindCall, IsSwitching}
 use Rattle.pass_frames_proof.specs.Stepping.{IsNotEntering, state_in}
-use Rattle.run_source.specs.declared.state.Activation.{Activation}
-use Rattle.run_source.specs.declared.state.Mode.{Mode}
+use Rattle.pass_frames_proof.specs.run_source.declared.state.Activation.{Activation}
+use Rattle.pass_frames_proof.specs.run_source.declared.state.Mode.{Mode}
 
 pub waits : (mode : Mode) → IsCalm mode → IsNotEntering mode
 waits Mode.Plain h = tt

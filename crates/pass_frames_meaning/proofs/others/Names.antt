@@ -2,21 +2,21 @@
 use Rattle.std.proofs.Common.{◌≡◌, ◌⊎◌, inl, inr, ⊎_elim, ℕ, zero, suc, ◌<◌, Bool, List, [], ◌∷◌, length, replicate, Option, Some, None, refl, sym, ap, ◌∙◌, subst}
 use Rattle.std.specs.Prelude.{option_map, slice_get, slice_set, unwrap_or}
 use Rattle.std.proofs.lemmas.Option.{slice_get-map}
-use Rattle.flow_solver.specs.Paths.{IsListed}
-use Rattle.frame_classes.specs.declared.class.SlotClass.{SlotClass}
-use Rattle.ir_laws.proofs.facts.Members.{at_each}
-use Rattle.ir_model.specs.Ty.{Ty}
-use Rattle.ir_model.specs.declared.instr.Instr.{Instr}
-use Rattle.ir_model.specs.declared.module.Block.{Block}
-use Rattle.ir_model.specs.declared.module.Function.{Function}
-use Rattle.ir_model.specs.declared.operand.Arg.{Arg}
-use Rattle.ir_model.specs.declared.operand.Operand.{Operand}
-use Rattle.ir_parts.specs.Contents.{result_of}
-use Rattle.ir_paths.specs.Windows.{instr_at, instr_in}
-use Rattle.ir_paths.specs.declared.point.Point.{Point}
-use Rattle.pass_cells.specs.Kept.{entry, joined}
-use Rattle.pass_cells.specs.Links.{bases_of, further, jumped, roots_after, roots_of, slot_by, slots_of, with_base, with_bases_by, with_bases_in}
-use Rattle.pass_frames.specs.Tables.{class_flags}
+use Rattle.pass_frames_proof.specs.flow_solver.Paths.{IsListed}
+use Rattle.pass_frames_proof.specs.frame_classes.declared.class.SlotClass.{SlotClass}
+use Rattle.pass_frames_proof.proofs.ir_laws.facts.Members.{at_each}
+use Rattle.pass_frames_proof.specs.ir_model.Ty.{Ty}
+use Rattle.pass_frames_proof.specs.ir_model.declared.instr.Instr.{Instr}
+use Rattle.pass_frames_proof.specs.ir_model.declared.module.Block.{Block}
+use Rattle.pass_frames_proof.specs.ir_model.declared.module.Function.{Function}
+use Rattle.pass_frames_proof.specs.ir_model.declared.operand.Arg.{Arg}
+use Rattle.pass_frames_proof.specs.ir_model.declared.operand.Operand.{Operand}
+use Rattle.pass_frames_proof.specs.ir_parts.Contents.{result_of}
+use Rattle.pass_frames_proof.specs.ir_paths.Windows.{instr_at, instr_in}
+use Rattle.pass_frames_proof.specs.ir_paths.declared.point.Point.{Point}
+use Rattle.pass_frames_proof.specs.pass_cells.Kept.{entry, joined}
+use Rattle.pass_frames_proof.specs.pass_cells.Links.{bases_of, further, jumped, roots_after, roots_of, slot_by, slots_of, with_base, with_bases_by, with_bases_in}
+use Rattle.pass_frames_proof.specs.pass_frames.Tables.{class_flags}
 use Rattle.pass_frames_meaning.specs.Called.{IsCalling}
 use Rattle.pass_frames_meaning.specs.Plain.{IsNoAlloca, IsNoGep}
 use Rattle.pass_frames_proof.proofs.distances.Apart.{has_root}
@@ -26,14 +26,14 @@ use Rattle.pass_frames_proof.specs.Ordinary.{IsPlainName}
 use Rattle.pass_frames_proof.specs.Passes.{no_block}
 use Rattle.pass_frames_proof.specs.Places.{Framing, edged, instrs_at, plan}
 use Rattle.pass_frames_proof.specs.Related.{root_of}
-use Rattle.pass_proofs.proofs.cells.rules.Links.{slot_flagged}
-use Rattle.pass_proofs.proofs.edges.paths.Slots.{same_allocas}
-use Rattle.pass_proofs.proofs.frames.shape.Fits.{flags_are_allocas}
-use Rattle.rule_laws.proofs.rules.named_results.Named.{locals_tabled}
-use Rattle.rule_laws.proofs.rules.renamed.Uses.{result_spelt}
-use Rattle.rule_laws.proofs.rules.source_rules.Locals.{same_instr}
-use Rattle.rule_laws.proofs.rules.source_rules.Slots.{alloca_of}
-use Rattle.rule_laws.specs.rules.function_rules.Kept.{KeepsFunctionRules}
+use Rattle.pass_frames_proof.proofs.pass_proofs.cells.rules.Links.{slot_flagged}
+use Rattle.pass_frames_proof.proofs.pass_proofs.edges.paths.Slots.{same_allocas}
+use Rattle.pass_frames_proof.proofs.pass_proofs.frames.shape.Fits.{flags_are_allocas}
+use Rattle.pass_frames_proof.proofs.rule_laws.rules.named_results.Named.{locals_tabled}
+use Rattle.pass_frames_proof.proofs.rule_laws.rules.renamed.Uses.{result_spelt}
+use Rattle.pass_frames_proof.proofs.rule_laws.rules.source_rules.Locals.{same_instr}
+use Rattle.pass_frames_proof.proofs.rule_laws.rules.source_rules.Slots.{alloca_of}
+use Rattle.pass_frames_proof.specs.rule_laws.rules.function_rules.Kept.{KeepsFunctionRules}
 
 -- ---- chains of bases
 
@@ -166,7 +166,7 @@ module _ (x : Framing) (is : IsFraming x) where
           (locals_tabled is.position (edged x) rules.tabled).results d) h)
         where
           named : (o : Option ℕ) → o ≡ Some r
-              → Rattle.ir_laws.specs.facts.expanded.Tokens.IsNamedResult (length (edged x).names) o
+              → Rattle.pass_frames_proof.specs.ir_laws.facts.expanded.Tokens.IsNamedResult (length (edged x).names) o
               → r < length (edged x).names
           named None q n = absurd (cc)
           named (Some v) q n = let same : v ≡ r = cc in subst (λ (u : ℕ). u < length (edged x).names) same n
@@ -179,7 +179,7 @@ module _ (x : Framing) (is : IsFraming x) where
 
   -- a root of distances is an alloca's
   pub root_alloca : (u slot : ℕ) → root_of x u ≡ Some slot
-      → Rattle.rule_laws.proofs.rules.source_rules.Slots.HasAlloca (edged x) slot
+      → Rattle.pass_frames_proof.proofs.rule_laws.rules.source_rules.Slots.HasAlloca (edged x) slot
   root_alloca u slot e = alloca_of (edged x) slot
       (subst (IsListed slot) (sym (same_allocas x.function))
       (flags_are_allocas x.function x.contents.classes SlotClass.Local slot

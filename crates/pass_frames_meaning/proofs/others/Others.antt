@@ -2,26 +2,26 @@
 use Rattle.std.proofs.Common.{◌≡◌, ◌⊎◌, inl, inr, ℕ, ◌<◌, Bool, true, false, List, [], ◌∷◌, length, Option, Some, None, Result, Ok, Err, refl, sym, ap, ◌∙◌, subst, if◌then◌else◌, ◌&&◌}
 use Rattle.std.specs.Prelude.{option_map, slice_get}
 use Rattle.std.proofs.lemmas.Bool.{false≢true}
-use Rattle.flow_solver.specs.Paths.{IsListed}
-use Rattle.ir_base.specs.declared.cause.Cause.{Cause}
-use Rattle.ir_base.specs.declared.outcome.Outcome.{Outcome}
-use Rattle.ir_base.specs.declared.outcome.Word.{Word}
-use Rattle.ir_base.specs.declared.name.Name.{Name}
-use Rattle.ir_base.specs.declared.ops.Pred.{Pred}
-use Rattle.ir_model.specs.Layout.{extent_of, extent_or, size_of}
-use Rattle.ir_model.specs.Names.{declaration_named, function_at, function_named}
-use Rattle.ir_model.specs.Ty.{Ty, array, int, named, ptr, structure, token}
-use Rattle.ir_model.specs.declared.instr.Case.{Case}
-use Rattle.ir_model.specs.declared.instr.Instr.{Instr}
-use Rattle.ir_model.specs.declared.instr.Terminator.{Terminator}
-use Rattle.ir_model.specs.declared.module.Function.{Function}
-use Rattle.ir_model.specs.declared.module.TypeItem.{TypeItem}
-use Rattle.ir_model.specs.declared.operand.Allocator.{Allocator}
-use Rattle.ir_model.specs.declared.operand.Arg.{Arg}
-use Rattle.ir_model.specs.declared.operand.Callee.{Callee}
-use Rattle.ir_model.specs.declared.operand.Intrinsic.{Intrinsic}
-use Rattle.ir_model.specs.declared.operand.Operand.{Operand}
-use Rattle.ir_paths.specs.Windows.{operand_at, windows_of}
+use Rattle.pass_frames_proof.specs.flow_solver.Paths.{IsListed}
+use Rattle.pass_frames_proof.specs.ir_base.declared.cause.Cause.{Cause}
+use Rattle.pass_frames_proof.specs.ir_base.declared.outcome.Outcome.{Outcome}
+use Rattle.pass_frames_proof.specs.ir_base.declared.outcome.Word.{Word}
+use Rattle.pass_frames_proof.specs.ir_base.declared.name.Name.{Name}
+use Rattle.pass_frames_proof.specs.ir_base.declared.ops.Pred.{Pred}
+use Rattle.pass_frames_proof.specs.ir_model.Layout.{extent_of, extent_or, size_of}
+use Rattle.pass_frames_proof.specs.ir_model.Names.{declaration_named, function_at, function_named}
+use Rattle.pass_frames_proof.specs.ir_model.Ty.{Ty, array, int, named, ptr, structure, token}
+use Rattle.pass_frames_proof.specs.ir_model.declared.instr.Case.{Case}
+use Rattle.pass_frames_proof.specs.ir_model.declared.instr.Instr.{Instr}
+use Rattle.pass_frames_proof.specs.ir_model.declared.instr.Terminator.{Terminator}
+use Rattle.pass_frames_proof.specs.ir_model.declared.module.Function.{Function}
+use Rattle.pass_frames_proof.specs.ir_model.declared.module.TypeItem.{TypeItem}
+use Rattle.pass_frames_proof.specs.ir_model.declared.operand.Allocator.{Allocator}
+use Rattle.pass_frames_proof.specs.ir_model.declared.operand.Arg.{Arg}
+use Rattle.pass_frames_proof.specs.ir_model.declared.operand.Callee.{Callee}
+use Rattle.pass_frames_proof.specs.ir_model.declared.operand.Intrinsic.{Intrinsic}
+use Rattle.pass_frames_proof.specs.ir_model.declared.operand.Operand.{Operand}
+use Rattle.pass_frames_proof.specs.ir_paths.Windows.{operand_at, windows_of}
 use Rattle.pass_frames_meaning.proofs.giving.Giving.{given_back}
 use Rattle.pass_frames_meaning.proofs.giving.Owned.{frames_owned, no_heap_slots}
 use Rattle.pass_frames_meaning.proofs.others.AtPlace.{AreTwo, args_wanted, called_by_name, function_there, not_inner, two_wanted}
@@ -58,29 +58,29 @@ use Rattle.pass_frames_proof.specs.Marking.{marker, marking}
 use Rattle.pass_frames_proof.specs.Related.{AreBuiltOf, all_slots, is_coroutine, returned_from}
 use Rattle.pass_frames_proof.specs.Returning.{OwnsSlots, value_of}
 use Rattle.pass_frames_proof.specs.Stepping.{AreFieldsSpared, GoesAsFar, HasNoWindows, IsAtOther, IsCommon, IsNotEntering}
-use Rattle.pass_renewed_proof.specs.Renewed.{is_flagged, is_idle, renewed_act, renewed_advance, renewed_next, renewed_step}
-use Rattle.rule_locals.specs.Intrinsics.{is_inner}
-use Rattle.rule_types.specs.Wants.{any, want}
-use Rattle.rule_types.specs.declared.wants.Basic.{Basic}
-use Rattle.rule_types.specs.declared.wants.Demand.{Demand}
-use Rattle.run_agreement.specs.Machines.{IsFine}
-use Rattle.run_framed.specs.Framed.{allocates}
-use Rattle.run_laws.proofs.changed.Kept.{distance_kept}
-use Rattle.run_memory.specs.Memory.{compare, copy}
-use Rattle.run_memory.specs.declared.pointer.Value.{Value}
-use Rattle.run_source.specs.Source.{pop, return, returned}
-use Rattle.run_source.specs.Source.{context_of}
-use Rattle.run_source.specs.State.{next, or_undefined, work_of}
-use Rattle.run_source.specs.declared.state.Activation.{Activation}
-use Rattle.run_source.specs.declared.state.Instance.{Instance}
-use Rattle.run_source.specs.declared.state.Mode.{Mode}
-use Rattle.run_source.specs.declared.state.State.{State}
-use Rattle.run_states.specs.sound_states.Sound.{AreSoundBelow, IsInstanceOf}
-use Rattle.run_step.specs.Results.{and_then}
-use Rattle.run_step.specs.Step.{Action, AtInstr, AtTerm, Context, Coro, Deallocate, Done, Enter, Fetched, GoTo, NewSlot, Nowhere, Return, Stuck, Work, action_of, branch, compared, copied_bytes, done, fetch, if_alignment, instr_action, is_alignment, named_call, observed, outcome_of, set_memory, switch, term_action, value_at, with_length, words_of}
-use Rattle.run_step.specs.Values.{address, arg_value, arg_values, nth}
-use Rattle.run_types.proofs.Runs.{sizes_small}
-use Rattle.run_types.specs.States.{IsMalloc, IsNew, TakesSize}
+use Rattle.pass_frames_proof.specs.pass_renewed_proof.Renewed.{is_flagged, is_idle, renewed_act, renewed_advance, renewed_next, renewed_step}
+use Rattle.pass_frames_proof.specs.rule_locals.Intrinsics.{is_inner}
+use Rattle.pass_frames_proof.specs.rule_types.Wants.{any, want}
+use Rattle.pass_frames_proof.specs.rule_types.declared.wants.Basic.{Basic}
+use Rattle.pass_frames_proof.specs.rule_types.declared.wants.Demand.{Demand}
+use Rattle.pass_frames_proof.specs.run_agreement.Machines.{IsFine}
+use Rattle.pass_frames_proof.specs.run_framed.Framed.{allocates}
+use Rattle.pass_frames_proof.proofs.run_laws.changed.Kept.{distance_kept}
+use Rattle.pass_frames_proof.specs.run_memory.Memory.{compare, copy}
+use Rattle.pass_frames_proof.specs.run_memory.declared.pointer.Value.{Value}
+use Rattle.pass_frames_proof.specs.run_source.Source.{pop, return, returned}
+use Rattle.pass_frames_proof.specs.run_source.Source.{context_of}
+use Rattle.pass_frames_proof.specs.run_source.State.{next, or_undefined, work_of}
+use Rattle.pass_frames_proof.specs.run_source.declared.state.Activation.{Activation}
+use Rattle.pass_frames_proof.specs.run_source.declared.state.Instance.{Instance}
+use Rattle.pass_frames_proof.specs.run_source.declared.state.Mode.{Mode}
+use Rattle.pass_frames_proof.specs.run_source.declared.state.State.{State}
+use Rattle.pass_frames_proof.specs.run_states.sound_states.Sound.{AreSoundBelow, IsInstanceOf}
+use Rattle.pass_frames_proof.specs.run_step.Results.{and_then}
+use Rattle.pass_frames_proof.specs.run_step.Step.{Action, AtInstr, AtTerm, Context, Coro, Deallocate, Done, Enter, Fetched, GoTo, NewSlot, Nowhere, Return, Stuck, Work, action_of, branch, compared, copied_bytes, done, fetch, if_alignment, instr_action, is_alignment, named_call, observed, outcome_of, set_memory, switch, term_action, value_at, with_length, words_of}
+use Rattle.pass_frames_proof.specs.run_step.Values.{address, arg_value, arg_values, nth}
+use Rattle.pass_renewed_meaning.proofs.run_types.Runs.{sizes_small}
+use Rattle.pass_renewed_meaning.specs.run_types.States.{IsMalloc, IsNew, TakesSize}
 
 -- ---- what ordinary instructions do
 
@@ -322,7 +322,7 @@ module _ (c : Setting) (all : KeepsAll c) (s t : State) (r : AreBuiltOf c.b s t)
     where
       on : (b : Bool) → is_alignment align ≡ b → Follows
       on false e = absurd (not_stuck (Instr.Alloca name ty align) there Cause.Align
-          (ap (λ (b : Bool). if b then Rattle.run_step.specs.Step.alloca (context_of c.g.given s) (work_of s) name
+          (ap (λ (b : Bool). if b then Rattle.pass_frames_proof.specs.run_step.Step.alloca (context_of c.g.given s) (work_of s) name
           (size_of c.g.given.code ty) align else Stuck Cause.Align) e))
       on true e = plain_followed c.b c.g all.given s t r name ty align (record {
         runs = runs;
@@ -407,7 +407,7 @@ module _ (c : Setting) (all : KeepsAll c) (s t : State) (r : AreBuiltOf c.b s t)
         → fetch (function_at c.g.given.code s.top.func) s.top.block s.top.at
         ≡ AtInstr (Instr.Call result must_tail ty (Callee.Allocator a) args)
         → ((v : Value) → nth (arg_values c.g.given.code s.top.values args) 0 ≡ v → (cause : Cause)
-        → with_length v (λ n. Done (Rattle.run_step.specs.Step.allocated (work_of s) result n)) ≡ Stuck cause
+        → with_length v (λ n. Done (Rattle.pass_frames_proof.specs.run_step.Step.allocated (work_of s) result n)) ≡ Stuck cause
         → instr_action (context_of c.g.given s) (work_of s) (Instr.Call result must_tail ty (Callee.Allocator a) args)
         ≡ Stuck cause) → Follows
     makes a makes_it takes there same = on (nth (arg_values c.g.given.code s.top.values args) 0) refl
@@ -428,7 +428,7 @@ module _ (c : Setting) (all : KeepsAll c) (s t : State) (r : AreBuiltOf c.b s t)
         on (Value.Ptr p) e = absurd (not_stuck (Instr.Call result must_tail ty (Callee.Allocator a) args) there
             Cause.Poison (same (Value.Ptr p) e Cause.Poison refl))
 
-    frees : (a : Allocator) → IsDeallocator a → Rattle.rule_types.specs.Wants.allocator_result a ≡ None
+    frees : (a : Allocator) → IsDeallocator a → Rattle.pass_frames_proof.specs.rule_types.Wants.allocator_result a ≡ None
         → fetch (function_at c.g.given.code s.top.func) s.top.block s.top.at
         ≡ AtInstr (Instr.Call result must_tail ty (Callee.Allocator a) args)
         → instr_action (context_of c.g.given s) (work_of s) (Instr.Call result must_tail ty (Callee.Allocator a) args)
@@ -453,7 +453,7 @@ module _ (c : Setting) (all : KeepsAll c) (s t : State) (r : AreBuiltOf c.b s t)
     -- ---- intrinsics
 
     copies : (x : Intrinsic) → Rattle.pass_frames_proof.specs.Copying.IsCopying x
-        → Rattle.rule_types.specs.Wants.intrinsic_result x ≡ None
+        → Rattle.pass_frames_proof.specs.rule_types.Wants.intrinsic_result x ≡ None
         → fetch (function_at c.g.given.code s.top.func) s.top.block s.top.at
         ≡ AtInstr (Instr.Call result must_tail ty (Callee.Intrinsic x) args)
         → IsQuietAction (instr_action (context_of c.g.given s) (work_of s)
@@ -474,7 +474,7 @@ module _ (c : Setting) (all : KeepsAll c) (s t : State) (r : AreBuiltOf c.b s t)
     marks : (starts : Bool) → fetch (function_at c.g.given.code s.top.func) s.top.block s.top.at
         ≡ AtInstr (Instr.Call result must_tail ty (Callee.Intrinsic (marker starts)) args)
         → (marker starts ≡ Intrinsic.LifetimeStart) ⊎ (marker starts ≡ Intrinsic.LifetimeEnd)
-        → Rattle.rule_types.specs.Wants.intrinsic_result (marker starts) ≡ None
+        → Rattle.pass_frames_proof.specs.rule_types.Wants.intrinsic_result (marker starts) ≡ None
         → AreTwo args → Follows
     marks starts there is void two =
         let none : result ≡ None = void_intrinsic c.g.given.code (function_at c.g.given.code s.top.func)
@@ -570,10 +570,10 @@ module _ (c : Setting) (all : KeepsAll c) (s t : State) (r : AreBuiltOf c.b s t)
         there)
     called enters (Callee.Allocator Allocator.Malloc) there = makes Allocator.Malloc tt IsMalloc there
         (λ v e cause d. ap (λ (z : Value). with_length z
-        (λ n. Done (Rattle.run_step.specs.Step.allocated (work_of s) result n))) e ∙ d)
+        (λ n. Done (Rattle.pass_frames_proof.specs.run_step.Step.allocated (work_of s) result n))) e ∙ d)
     called enters (Callee.Allocator Allocator.Znwm) there = makes Allocator.Znwm tt IsNew there
         (λ v e cause d. ap (λ (z : Value). with_length z
-        (λ n. Done (Rattle.run_step.specs.Step.allocated (work_of s) result n))) e ∙ d)
+        (λ n. Done (Rattle.pass_frames_proof.specs.run_step.Step.allocated (work_of s) result n))) e ∙ d)
     called enters (Callee.Allocator Allocator.Free) there = frees Allocator.Free tt refl there refl
     called enters (Callee.Allocator Allocator.ZdlPv) there = frees Allocator.ZdlPv tt refl there refl
     called enters (Callee.Allocator Allocator.ZdlPvm) there = frees Allocator.ZdlPvm tt refl there refl

@@ -2,33 +2,33 @@
 use Rattle.std.proofs.Common.{◌≡◌, ◌⊎◌, inl, inr, ⊎_elim, ℕ, Bool, true, false, List, [], ◌∷◌, length, Option, Some, None, refl, sym, ap, ◌∙◌, subst, if◌then◌else◌, ◌==◌}
 use Rattle.std.specs.Prelude.{replicate, slice_get, slice_set, unwrap_or}
 use Rattle.std.proofs.lemmas.Bool.{false≢true}
-use Rattle.flow_solver.specs.Paths.{IsListed}
-use Rattle.ir_model.specs.Names.{function_at, position_of}
-use Rattle.ir_model.specs.declared.instr.Instr.{Instr}
-use Rattle.ir_model.specs.declared.instr.Terminator.{Terminator}
-use Rattle.ir_model.specs.declared.module.Block.{Block}
-use Rattle.ir_model.specs.declared.module.Function.{Function}
-use Rattle.ir_laws.specs.paths.rows.Returns.{IsOwnBlock}
-use Rattle.pass_copies.specs.Slots.{resumed_at, set_resumed}
-use Rattle.pass_copies.specs.Uses.{flag_at}
+use Rattle.pass_frames_proof.specs.flow_solver.Paths.{IsListed}
+use Rattle.pass_frames_proof.specs.ir_model.Names.{function_at, position_of}
+use Rattle.pass_frames_proof.specs.ir_model.declared.instr.Instr.{Instr}
+use Rattle.pass_frames_proof.specs.ir_model.declared.instr.Terminator.{Terminator}
+use Rattle.pass_frames_proof.specs.ir_model.declared.module.Block.{Block}
+use Rattle.pass_frames_proof.specs.ir_model.declared.module.Function.{Function}
+use Rattle.pass_frames_proof.specs.ir_laws.paths.rows.Returns.{IsOwnBlock}
+use Rattle.pass_frames_proof.specs.pass_copies.Slots.{resumed_at, set_resumed}
+use Rattle.pass_frames_proof.specs.pass_copies.Uses.{flag_at}
 use Rattle.pass_frames_meaning.specs.Called.{AreBehindCalls, IsBehindCall, IsCalm}
 use Rattle.pass_frames_meaning.specs.Spared.{HasNoReturnsBelow}
 use Rattle.pass_frames_proof.specs.Framings.{IsFraming}
 use Rattle.pass_frames_proof.specs.Passes.{block_at, no_block}
 use Rattle.pass_frames_proof.specs.Places.{Framing, edged, instrs_at, is_return, plan}
 use Rattle.pass_frames_proof.specs.Related.{is_coroutine, returned_from}
-use Rattle.pass_intrinsics.specs.Shapes.{suspends_of}
-use Rattle.pass_intrinsics.specs.declared.shape.SuspendPoint.{SuspendPoint}
-use Rattle.pass_proofs.proofs.copies.begin_order.Marks.{flag_back, none_flagged}
-use Rattle.rule_laws.proofs.rules.source_rules.Locals.{own_label}
-use Rattle.rule_laws.specs.frames.rows.Returns.{HaveOwnReturns, return_labels}
-use Rattle.rule_laws.specs.rules.function_rules.Kept.{KeepsFunctionRules}
-use Rattle.run_source.specs.declared.state.Activation.{Activation}
-use Rattle.run_source.specs.declared.state.Mode.{Mode}
-use Rattle.run_source.specs.declared.state.State.{State}
-use Rattle.run_step.specs.Step.{AtInstr, Nowhere, fetch, fetch_or}
+use Rattle.pass_frames_proof.specs.pass_intrinsics.Shapes.{suspends_of}
+use Rattle.pass_frames_proof.specs.pass_intrinsics.declared.shape.SuspendPoint.{SuspendPoint}
+use Rattle.pass_frames_proof.proofs.pass_proofs.copies.begin_order.Marks.{flag_back, none_flagged}
+use Rattle.pass_frames_proof.proofs.rule_laws.rules.source_rules.Locals.{own_label}
+use Rattle.pass_frames_proof.specs.rule_laws.frames.rows.Returns.{HaveOwnReturns, return_labels}
+use Rattle.pass_frames_proof.specs.rule_laws.rules.function_rules.Kept.{KeepsFunctionRules}
+use Rattle.pass_frames_proof.specs.run_source.declared.state.Activation.{Activation}
+use Rattle.pass_frames_proof.specs.run_source.declared.state.Mode.{Mode}
+use Rattle.pass_frames_proof.specs.run_source.declared.state.State.{State}
+use Rattle.pass_frames_proof.specs.run_step.Step.{AtInstr, Nowhere, fetch, fetch_or}
 use Rattle.pass_frames_meaning.specs.Setting.{KeepsAll, Setting}
-use Rattle.pass_cells.specs.Kept.{entry}
+use Rattle.pass_frames_proof.specs.pass_cells.Kept.{entry}
 
 -- ---- labels that are flagged
 
@@ -94,10 +94,10 @@ instr_in x f same k at i e =
     on : (o : Option Block) → slice_get (edged x).blocks k ≡ o → fetch (edged x) k at ≡ AtInstr i
         → slice_get (unwrap_or o no_block).instrs at ≡ Some i
     on None d h =
-        let z : Nowhere ≡ AtInstr i = sym (ap (λ (o : Option Block). Rattle.run_step.specs.Step.fetch_in o at) d) ∙ h in
+        let z : Nowhere ≡ AtInstr i = sym (ap (λ (o : Option Block). Rattle.pass_frames_proof.specs.run_step.Step.fetch_in o at) d) ∙ h in
         absurd (cc)
     on (Some b) d h = by (slice_get b.instrs at) (at == length b.instrs) b.term
-        (sym (ap (λ (o : Option Block). Rattle.run_step.specs.Step.fetch_in o at) d) ∙ h)
+        (sym (ap (λ (o : Option Block). Rattle.pass_frames_proof.specs.run_step.Step.fetch_in o at) d) ∙ h)
 
 -- ---- activations below
 

@@ -1,17 +1,17 @@
 -- An instruction that loads, stores or copies nothing goes by no address of a slot that is used before begin.
 use Rattle.std.proofs.Common.{◌≡◌, ℕ, Bool, true, false, List, [], Option, Some, None, refl, ap, if◌then◌else◌, ◌&&◌}
-use Rattle.ir_model.specs.Ty.{Ty}
-use Rattle.ir_model.specs.declared.instr.Instr.{Instr}
-use Rattle.ir_model.specs.declared.operand.Arg.{Arg}
-use Rattle.ir_model.specs.declared.operand.Callee.{Callee}
-use Rattle.ir_model.specs.declared.operand.Intrinsic.{Intrinsic}
-use Rattle.ir_parts.specs.Contents.{callee_operands, instr_operands}
-use Rattle.pass_cells.specs.Cells.{fetches_of}
-use Rattle.pass_copies.specs.BeginCopies.{is_fetched}
-use Rattle.pass_copies.specs.Uses.{is_access}
-use Rattle.pass_fetch.specs.Fetching.{callee_by, fetch_of_callee, fetched_args, fetches_of_all, next_after_all}
-use Rattle.pass_fetch.specs.Instrs.{with_fetched}
-use Rattle.pass_fetch.specs.declared.fetch.Fetch.{Fetch}
+use Rattle.pass_frames_proof.specs.ir_model.Ty.{Ty}
+use Rattle.pass_frames_proof.specs.ir_model.declared.instr.Instr.{Instr}
+use Rattle.pass_frames_proof.specs.ir_model.declared.operand.Arg.{Arg}
+use Rattle.pass_frames_proof.specs.ir_model.declared.operand.Callee.{Callee}
+use Rattle.pass_frames_proof.specs.ir_model.declared.operand.Intrinsic.{Intrinsic}
+use Rattle.pass_frames_proof.specs.ir_parts.Contents.{callee_operands, instr_operands}
+use Rattle.pass_frames_proof.specs.pass_cells.Cells.{fetches_of}
+use Rattle.pass_frames_proof.specs.pass_copies.BeginCopies.{is_fetched}
+use Rattle.pass_frames_proof.specs.pass_copies.Uses.{is_access}
+use Rattle.pass_frames_proof.specs.pass_fetch.Fetching.{callee_by, fetch_of_callee, fetched_args, fetches_of_all, next_after_all}
+use Rattle.pass_frames_proof.specs.pass_fetch.Instrs.{with_fetched}
+use Rattle.pass_frames_proof.specs.pass_fetch.declared.fetch.Fetch.{Fetch}
 use Rattle.pass_frames_proof.specs.Code.{is_ahead, load_name, loaded, where_name}
 use Rattle.pass_frames_proof.specs.Places.{Framing, Placed, copies, plan}
 use Rattle.pass_frames_proof.specs.Stepping.{IsUnlocated}

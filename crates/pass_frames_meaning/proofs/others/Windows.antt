@@ -1,17 +1,17 @@
 -- Functions that are no coroutines have no windows.
 use Rattle.std.proofs.Common.{◌≡◌, ℕ, false, List, [], ◌∷◌, Option, Some, None, refl, ap}
 use Rattle.std.specs.Prelude.{filter_map, map, option_map, slice_get, unwrap_or}
-use Rattle.ir_laws.proofs.paths.alike_functions.Lists.{each_where}
-use Rattle.ir_model.specs.Names.{function_at, no_function}
-use Rattle.ir_model.specs.declared.module.Function.{Function}
-use Rattle.ir_model.specs.declared.module.Module.{Module}
-use Rattle.ir_model.specs.declared.operand.Intrinsic.{Intrinsic}
-use Rattle.ir_paths.specs.Windows.{is_call_of, points_where, saves_of, suspend_of, window_of, windows_of}
-use Rattle.ir_paths.specs.declared.point.Point.{Point}
-use Rattle.pass_proofs.proofs.kept.sources.Names.{none_outside, save_inside}
-use Rattle.pass_proofs.proofs.early.save_simulation.Suspending.{fetch_at}
-use Rattle.rule_laws.specs.rules.function_rules.Kept.{AllKeepFunctionRules, KeepsFunctionRules}
-use Rattle.run_laws.specs.changed.Changed.{Each}
+use Rattle.pass_frames_proof.proofs.ir_laws.paths.alike_functions.Lists.{each_where}
+use Rattle.pass_frames_proof.specs.ir_model.Names.{function_at, no_function}
+use Rattle.pass_frames_proof.specs.ir_model.declared.module.Function.{Function}
+use Rattle.pass_frames_proof.specs.ir_model.declared.module.Module.{Module}
+use Rattle.pass_frames_proof.specs.ir_model.declared.operand.Intrinsic.{Intrinsic}
+use Rattle.pass_frames_proof.specs.ir_paths.Windows.{is_call_of, points_where, saves_of, suspend_of, window_of, windows_of}
+use Rattle.pass_frames_proof.specs.ir_paths.declared.point.Point.{Point}
+use Rattle.pass_frames_proof.proofs.pass_proofs.kept.sources.Names.{none_outside, save_inside}
+use Rattle.pass_frames_proof.proofs.pass_proofs.early.save_simulation.Suspending.{fetch_at}
+use Rattle.pass_frames_proof.specs.rule_laws.rules.function_rules.Kept.{AllKeepFunctionRules, KeepsFunctionRules}
+use Rattle.pass_frames_proof.specs.run_laws.changed.Changed.{Each}
 
 none_listed : (ps : List Point) → Each (λ (p : Point). ⊥) ps → ps ≡ []
 none_listed [] h = refl

@@ -2,25 +2,25 @@
 use Rattle.std.proofs.Common.{◌≡◌, ◌⊎◌, inl, inr, ℕ, zero, suc, Bool, true, false, List, [], ◌∷◌, ◌++◌, map, Option, Some, None, refl, sym, ap, ◌∙◌, subst, if◌then◌else◌}
 use Rattle.std.proofs.lemmas.List.{map-append}
 use Rattle.std.specs.Prelude.{option_to_list, slice_get}
-use Rattle.flow_solver.specs.Paths.{IsListed}
-use Rattle.frame_contents.specs.Held.{held_blocks, held_by, held_instr, held_instrs, held_params, held_phis, if_result, if_value, result_size, slot_held, value_held, value_size}
-use Rattle.frame_contents.specs.declared.held.Holding.{Holding}
-use Rattle.ir_laws.proofs.facts.Lists.{phi_names, row_of}
-use Rattle.ir_laws.proofs.paths.source_rules.Locals.{Apart}
-use Rattle.ir_model.specs.declared.instr.Instr.{Instr}
-use Rattle.ir_model.specs.declared.instr.Phi.{Phi}
-use Rattle.ir_model.specs.declared.module.Block.{Block}
-use Rattle.ir_model.specs.declared.module.Function.{Function}
-use Rattle.ir_model.specs.declared.module.Module.{Module}
-use Rattle.ir_model.specs.declared.module.Param.{Param}
-use Rattle.ir_parts.specs.Contents.{result_of}
-use Rattle.ir_parts.specs.Locals.{locals_of}
-use Rattle.ir_paths.specs.Slots.{promise_of}
-use Rattle.rule_laws.proofs.rules.local_rules.Names.{numbers}
-use Rattle.rule_laws.proofs.rules.local_rules.Woven.{apart_names}
-use Rattle.rule_laws.proofs.rules.renamed.Uses.{result_spelt}
-use Rattle.rule_laws.proofs.rules.source_rules.Locals.{block_names, made_by, names_are}
-use Rattle.rule_laws.specs.rules.function_rules.Kept.{KeepsFunctionRules}
+use Rattle.pass_frames_proof.specs.flow_solver.Paths.{IsListed}
+use Rattle.pass_frames_proof.specs.frame_contents.Held.{held_blocks, held_by, held_instr, held_instrs, held_params, held_phis, if_result, if_value, result_size, slot_held, value_held, value_size}
+use Rattle.pass_frames_proof.specs.frame_contents.declared.held.Holding.{Holding}
+use Rattle.pass_frames_proof.proofs.ir_laws.facts.Lists.{phi_names, row_of}
+use Rattle.pass_frames_proof.proofs.ir_laws.paths.source_rules.Locals.{Apart}
+use Rattle.pass_frames_proof.specs.ir_model.declared.instr.Instr.{Instr}
+use Rattle.pass_frames_proof.specs.ir_model.declared.instr.Phi.{Phi}
+use Rattle.pass_frames_proof.specs.ir_model.declared.module.Block.{Block}
+use Rattle.pass_frames_proof.specs.ir_model.declared.module.Function.{Function}
+use Rattle.pass_frames_proof.specs.ir_model.declared.module.Module.{Module}
+use Rattle.pass_frames_proof.specs.ir_model.declared.module.Param.{Param}
+use Rattle.pass_frames_proof.specs.ir_parts.Contents.{result_of}
+use Rattle.pass_frames_proof.specs.ir_parts.Locals.{locals_of}
+use Rattle.pass_frames_proof.specs.ir_paths.Slots.{promise_of}
+use Rattle.pass_frames_proof.proofs.rule_laws.rules.local_rules.Names.{numbers}
+use Rattle.pass_frames_proof.proofs.rule_laws.rules.local_rules.Woven.{apart_names}
+use Rattle.pass_frames_proof.proofs.rule_laws.rules.renamed.Uses.{result_spelt}
+use Rattle.pass_frames_proof.proofs.rule_laws.rules.source_rules.Locals.{block_names, made_by, names_are}
+use Rattle.pass_frames_proof.specs.rule_laws.rules.function_rules.Kept.{KeepsFunctionRules}
 
 -- ---- lists within others, in their order
 

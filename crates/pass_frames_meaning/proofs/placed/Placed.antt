@@ -2,24 +2,24 @@
 use Rattle.std.proofs.Common.{◌≡◌, ◌⊎◌, inl, inr, ⊎_elim, ℕ, suc, ◌+◌, ◌<◌, ◌≤◌, Bool, true, false, List, [], ◌∷◌, length, Option, Some, None, refl, sym, ap, ◌∙◌, subst, arith, ◌==◌, if◌then◌else◌}
 use Rattle.std.proofs.lemmas.Bool.{eqb-true}
 use Rattle.std.specs.Prelude.{replicate, slice_get, slice_set}
-use Rattle.flow_solver.proofs.Lists.{set_cases}
-use Rattle.frame_contents.specs.Held.{crossing_values, frame_slots, position_from, position_of}
-use Rattle.frame_contents.specs.declared.held.Holding.{Holding}
-use Rattle.frame_layout.specs.declared.layout.Layout.{Layout}
-use Rattle.ir_paths.specs.Slots.{has_name}
-use Rattle.pass_cells.specs.Kept.{entry, joined}
-use Rattle.pass_frames.specs.Framed.{kept_of}
-use Rattle.pass_frames.specs.Tables.{is_slot_kind, offset_at, with_slot_offset, with_slot_offsets}
+use Rattle.pass_frames_proof.proofs.flow_solver.Lists.{set_cases}
+use Rattle.pass_frames_proof.specs.frame_contents.Held.{crossing_values, frame_slots, position_from, position_of}
+use Rattle.pass_frames_proof.specs.frame_contents.declared.held.Holding.{Holding}
+use Rattle.pass_frames_proof.specs.frame_layout.declared.layout.Layout.{Layout}
+use Rattle.pass_frames_proof.specs.ir_paths.Slots.{has_name}
+use Rattle.pass_frames_proof.specs.pass_cells.Kept.{entry, joined}
+use Rattle.pass_frames_proof.specs.pass_frames.Framed.{kept_of}
+use Rattle.pass_frames_proof.specs.pass_frames.Tables.{is_slot_kind, offset_at, with_slot_offset, with_slot_offsets}
 use Rattle.pass_frames_meaning.proofs.placed.Held.{held_apart, held_within, listed_within, positions_once, value_there}
 use Rattle.pass_frames_proof.proofs.code.Left.{longer}
 use Rattle.pass_frames_proof.specs.Framings.{IsFraming}
 use Rattle.pass_frames_proof.specs.Offsets.{AreHeldOnce}
 use Rattle.pass_frames_proof.specs.Places.{Framing, edged, offsets, with_copies}
 use Rattle.pass_frames_proof.specs.Stepping.{AreOffsetsPlaced}
-use Rattle.pass_proofs.proofs.frames.begin_order.Framed.{none_there}
-use Rattle.pass_proofs.proofs.frames.begin_order.Tables.{IsFieldAt, field_at}
-use Rattle.rule_laws.proofs.rules.woven_rules.Once.{names_below}
-use Rattle.rule_laws.specs.rules.function_rules.Kept.{KeepsFunctionRules}
+use Rattle.pass_frames_proof.proofs.pass_proofs.frames.begin_order.Framed.{none_there}
+use Rattle.pass_frames_proof.proofs.pass_proofs.frames.begin_order.Tables.{IsFieldAt, field_at}
+use Rattle.pass_frames_proof.proofs.rule_laws.rules.woven_rules.Once.{names_below}
+use Rattle.pass_frames_proof.specs.rule_laws.rules.function_rules.Kept.{KeepsFunctionRules}
 
 -- a holding of a value, by its position
 pub record IsHeldAt (hs : List Holding) (v n : ℕ) : Type 0 where

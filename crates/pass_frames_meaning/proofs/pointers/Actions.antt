@@ -4,58 +4,58 @@ use Rattle.std.proofs.Common.{Ok, Err}
 use Rattle.std.proofs.Common.{refl, sym, ap, ◌∙◌, subst}
 use Rattle.std.specs.List.{list_all}
 use Rattle.std.specs.Prelude.{if◌then◌else◌, not, slice_get, unwrap_or, ◌==◌}
-use Rattle.ir_base.specs.declared.cause.Cause.{Cause}
-use Rattle.ir_base.specs.declared.name.Name.{Name}
-use Rattle.ir_base.specs.declared.ops.CastOp.{CastOp}
-use Rattle.ir_base.specs.declared.ops.Pred.{Pred}
-use Rattle.ir_base.specs.declared.outcome.Word.{Word}
-use Rattle.ir_model.specs.Layout.{same_type, size_of}
-use Rattle.ir_model.specs.Names.{declaration_named, function_at, function_named, no_function}
-use Rattle.ir_model.specs.Ty.{Ty, array, int, named, ptr, structure, token}
-use Rattle.ir_model.specs.declared.instr.Case.{Case}
-use Rattle.ir_model.specs.declared.instr.Instr.{Instr}
-use Rattle.ir_model.specs.declared.instr.Terminator.{Terminator}
-use Rattle.ir_model.specs.declared.module.Function.{Function}
-use Rattle.ir_model.specs.declared.module.Module.{Module}
-use Rattle.ir_model.specs.declared.module.Param.{Param}
-use Rattle.ir_model.specs.declared.operand.Allocator.{Allocator}
-use Rattle.ir_model.specs.declared.operand.Arg.{Arg}
-use Rattle.ir_model.specs.declared.operand.Callee.{Callee}
-use Rattle.ir_model.specs.declared.operand.Intrinsic.{Intrinsic}
+use Rattle.pass_frames_proof.specs.ir_base.declared.cause.Cause.{Cause}
+use Rattle.pass_frames_proof.specs.ir_base.declared.name.Name.{Name}
+use Rattle.pass_frames_proof.specs.ir_base.declared.ops.CastOp.{CastOp}
+use Rattle.pass_frames_proof.specs.ir_base.declared.ops.Pred.{Pred}
+use Rattle.pass_frames_proof.specs.ir_base.declared.outcome.Word.{Word}
+use Rattle.pass_frames_proof.specs.ir_model.Layout.{same_type, size_of}
+use Rattle.pass_frames_proof.specs.ir_model.Names.{declaration_named, function_at, function_named, no_function}
+use Rattle.pass_frames_proof.specs.ir_model.Ty.{Ty, array, int, named, ptr, structure, token}
+use Rattle.pass_frames_proof.specs.ir_model.declared.instr.Case.{Case}
+use Rattle.pass_frames_proof.specs.ir_model.declared.instr.Instr.{Instr}
+use Rattle.pass_frames_proof.specs.ir_model.declared.instr.Terminator.{Terminator}
+use Rattle.pass_frames_proof.specs.ir_model.declared.module.Function.{Function}
+use Rattle.pass_frames_proof.specs.ir_model.declared.module.Module.{Module}
+use Rattle.pass_frames_proof.specs.ir_model.declared.module.Param.{Param}
+use Rattle.pass_frames_proof.specs.ir_model.declared.operand.Allocator.{Allocator}
+use Rattle.pass_frames_proof.specs.ir_model.declared.operand.Arg.{Arg}
+use Rattle.pass_frames_proof.specs.ir_model.declared.operand.Callee.{Callee}
+use Rattle.pass_frames_proof.specs.ir_model.declared.operand.Intrinsic.{Intrinsic}
 use Rattle.pass_frames_meaning.proofs.pointers.Values.{address_points, arg_points, literal_points, no_pointer}
 use Rattle.pass_frames_meaning.proofs.pointers.Values.{points_as, points_back, points_on, poison_points}
 use Rattle.pass_frames_meaning.proofs.pointers.Values.{result_points, same_points, set_points, type_points}
 use Rattle.pass_frames_meaning.specs.Pointers.{ArePointing, IsAddress, PointParams, PointsAs, PointsBack, PointsBy}
 use Rattle.pass_frames_meaning.specs.Pointers.{PointsOn}
-use Rattle.rule_types.specs.Signatures.{fits_function as fits_types, fits_position, same_list}
-use Rattle.rule_types.specs.Signatures.{same_result as same_types_of}
-use Rattle.rule_values.specs.Fits.{fits, fits_arg, fits_scalar, is_integer, is_scalar}
-use Rattle.rule_values.specs.Instrs.{both_fit, is_passed, passes}
-use Rattle.rule_values.specs.Kinds.{instr_kind, kind_of, result_kind, value_kind}
-use Rattle.rule_values.specs.Values.{fits_return}
-use Rattle.rule_values.specs.declared.kinds.Kind.{Kind}
-use Rattle.run_memory.specs.Memory.{Rights, access_bytes, are_parts, bytes_at, compare, copy, decode, load, on_ok}
-use Rattle.run_memory.specs.Memory.{pointer_from, range, store}
-use Rattle.run_memory.specs.declared.block.Byte.{Byte}
-use Rattle.run_memory.specs.declared.block.MemoryBlock.{MemoryBlock}
-use Rattle.run_memory.specs.declared.pointer.Pointer.{Pointer}
-use Rattle.run_memory.specs.declared.pointer.Value.{Value}
-use Rattle.run_memory.specs.declared.pointer.Spot.{Spot}
-use Rattle.run_step.specs.Step.{Action, AtInstr, AtTerm, Context, Coro, Done, Enter, Fetched, NewSlot, Nowhere}
-use Rattle.run_step.specs.Step.{Return, Stuck, Work}
-use Rattle.run_step.specs.Step.{action_of, alloca, allocated, allocator_call, answer, branch}
-use Rattle.run_step.specs.Step.{by_pred, cast_to, chosen, compared, copied_bytes, done, fetch, fits_function}
-use Rattle.run_step.specs.Step.{fits_params, if_alignment, indirect_call, instr_action, intrinsic_call}
-use Rattle.run_step.specs.Step.{is_alignment, named_call, observed, same_result, set_memory, set_value}
-use Rattle.run_step.specs.Step.{switch, term_action, value_at, with_length, words_of}
-use Rattle.run_memory.specs.Pointers.{moved}
-use Rattle.run_step.specs.Values.{Env, access_of, address, arg_value, arg_values, element, indices_of, is_in_bounds}
-use Rattle.run_step.specs.Values.{distance, literal, moved_by}
-use Rattle.run_step.specs.Values.{nth, number_at, number_of_width, pointer_to, stored, truth_value, value_in, value_of}
-use Rattle.run_types.proofs.Fit.{both_true, kind_self}
-use Rattle.run_types.proofs.Results.{Called, IsCoroCall, chosen_fits, function_there}
-use Rattle.run_types.proofs.Rules.{arguments_pass, call_kind_is, steps_same}
-use Rattle.run_types.specs.Rules.{KeepsTypes}
+use Rattle.pass_frames_proof.specs.rule_types.Signatures.{fits_function as fits_types, fits_position, same_list}
+use Rattle.pass_frames_proof.specs.rule_types.Signatures.{same_result as same_types_of}
+use Rattle.pass_frames_proof.specs.rule_values.Fits.{fits, fits_arg, fits_scalar, is_integer, is_scalar}
+use Rattle.pass_frames_proof.specs.rule_values.Instrs.{both_fit, is_passed, passes}
+use Rattle.pass_frames_proof.specs.rule_values.Kinds.{instr_kind, kind_of, result_kind, value_kind}
+use Rattle.pass_frames_proof.specs.rule_values.Values.{fits_return}
+use Rattle.pass_frames_proof.specs.rule_values.declared.kinds.Kind.{Kind}
+use Rattle.pass_frames_proof.specs.run_memory.Memory.{Rights, access_bytes, are_parts, bytes_at, compare, copy, decode, load, on_ok}
+use Rattle.pass_frames_proof.specs.run_memory.Memory.{pointer_from, range, store}
+use Rattle.pass_frames_proof.specs.run_memory.declared.block.Byte.{Byte}
+use Rattle.pass_frames_proof.specs.run_memory.declared.block.MemoryBlock.{MemoryBlock}
+use Rattle.pass_frames_proof.specs.run_memory.declared.pointer.Pointer.{Pointer}
+use Rattle.pass_frames_proof.specs.run_memory.declared.pointer.Value.{Value}
+use Rattle.pass_frames_proof.specs.run_memory.declared.pointer.Spot.{Spot}
+use Rattle.pass_frames_proof.specs.run_step.Step.{Action, AtInstr, AtTerm, Context, Coro, Done, Enter, Fetched, NewSlot, Nowhere}
+use Rattle.pass_frames_proof.specs.run_step.Step.{Return, Stuck, Work}
+use Rattle.pass_frames_proof.specs.run_step.Step.{action_of, alloca, allocated, allocator_call, answer, branch}
+use Rattle.pass_frames_proof.specs.run_step.Step.{by_pred, cast_to, chosen, compared, copied_bytes, done, fetch, fits_function}
+use Rattle.pass_frames_proof.specs.run_step.Step.{fits_params, if_alignment, indirect_call, instr_action, intrinsic_call}
+use Rattle.pass_frames_proof.specs.run_step.Step.{is_alignment, named_call, observed, same_result, set_memory, set_value}
+use Rattle.pass_frames_proof.specs.run_step.Step.{switch, term_action, value_at, with_length, words_of}
+use Rattle.pass_frames_proof.specs.run_memory.Pointers.{moved}
+use Rattle.pass_frames_proof.specs.run_step.Values.{Env, access_of, address, arg_value, arg_values, element, indices_of, is_in_bounds}
+use Rattle.pass_frames_proof.specs.run_step.Values.{distance, literal, moved_by}
+use Rattle.pass_frames_proof.specs.run_step.Values.{nth, number_at, number_of_width, pointer_to, stored, truth_value, value_in, value_of}
+use Rattle.pass_renewed_meaning.proofs.run_types.Fit.{both_true, kind_self}
+use Rattle.pass_renewed_meaning.proofs.run_types.Results.{Called, IsCoroCall, chosen_fits, function_there}
+use Rattle.pass_renewed_meaning.proofs.run_types.Rules.{arguments_pass, call_kind_is, steps_same}
+use Rattle.pass_renewed_meaning.specs.run_types.Rules.{KeepsTypes}
 
 -- ---- what an action gives
 

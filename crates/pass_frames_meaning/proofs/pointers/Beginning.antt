@@ -2,34 +2,34 @@
 use Rattle.std.proofs.Common.{◌≡◌, ℕ, Bool, true, false, not, List, [], ◌∷◌, ◌++◌, length, Option, Some, None}
 use Rattle.std.proofs.Common.{Result, Ok, Err, refl}
 use Rattle.std.specs.Prelude.{filter, is_none, is_some, slice_get}
-use Rattle.ir_base.specs.declared.cause.Cause.{Cause}
-use Rattle.ir_model.specs.Names.{function_at}
-use Rattle.ir_model.specs.declared.module.Module.{Module}
-use Rattle.ir_paths.specs.declared.point.Point.{Point}
+use Rattle.pass_frames_proof.specs.ir_base.declared.cause.Cause.{Cause}
+use Rattle.pass_frames_proof.specs.ir_model.Names.{function_at}
+use Rattle.pass_frames_proof.specs.ir_model.declared.module.Module.{Module}
+use Rattle.pass_frames_proof.specs.ir_paths.declared.point.Point.{Point}
 use Rattle.pass_frames_meaning.proofs.pointers.Parts.{entered, gives_fits, instance_set, memory_set, no_result, pushed}
 use Rattle.pass_frames_meaning.proofs.pointers.Values.{address_points}
 use Rattle.pass_frames_meaning.specs.Pointers.{ArePointing, IsAddress, IsPointingState, PointsAsleep, StaysPointing}
-use Rattle.rule_values.specs.Kinds.{value_kind}
-use Rattle.run_framed.specs.Framed.{FramedGiven, at_point, enter_after, with_mode}
-use Rattle.run_hooks.proofs.alive.Parts.{all_append}
-use Rattle.run_hooks.proofs.alive.Places.{own_there}
-use Rattle.run_memory.specs.Memory.{own}
-use Rattle.run_memory.specs.declared.block.Kind.{Kind as BlockKind}
-use Rattle.run_memory.specs.declared.block.MemoryBlock.{MemoryBlock}
-use Rattle.run_memory.specs.declared.pointer.Value.{Value}
-use Rattle.run_source.specs.Source.{begin, begin_at, begun, change_own, finish, is_among, new_instance}
-use Rattle.run_source.specs.Source.{push, resumed, slots_of}
-use Rattle.run_source.specs.State.{gives, own_facts, own_frame, own_instance, with_instance, with_memory, with_status}
-use Rattle.run_source.specs.declared.state.Instance.{Instance}
-use Rattle.run_source.specs.declared.state.Mode.{Mode}
-use Rattle.run_source.specs.declared.state.State.{State}
-use Rattle.run_source.specs.declared.state.Status.{Status}
-use Rattle.run_source_tables.specs.Given.{Given}
-use Rattle.run_step.specs.Results.{and_then, found, ok_if}
-use Rattle.run_step.specs.Step.{block_of, without_slots}
-use Rattle.run_step.specs.Values.{Env}
-use Rattle.run_types.proofs.Parts.{all_set}
-use Rattle.run_types.specs.Rules.{KeepsAllTypes}
+use Rattle.pass_frames_proof.specs.rule_values.Kinds.{value_kind}
+use Rattle.pass_frames_proof.specs.run_framed.Framed.{FramedGiven, at_point, enter_after, with_mode}
+use Rattle.pass_renewed_meaning.proofs.run_hooks.alive.Parts.{all_append}
+use Rattle.pass_renewed_meaning.proofs.run_hooks.alive.Places.{own_there}
+use Rattle.pass_frames_proof.specs.run_memory.Memory.{own}
+use Rattle.pass_frames_proof.specs.run_memory.declared.block.Kind.{Kind as BlockKind}
+use Rattle.pass_frames_proof.specs.run_memory.declared.block.MemoryBlock.{MemoryBlock}
+use Rattle.pass_frames_proof.specs.run_memory.declared.pointer.Value.{Value}
+use Rattle.pass_frames_proof.specs.run_source.Source.{begin, begin_at, begun, change_own, finish, is_among, new_instance}
+use Rattle.pass_frames_proof.specs.run_source.Source.{push, resumed, slots_of}
+use Rattle.pass_frames_proof.specs.run_source.State.{gives, own_facts, own_frame, own_instance, with_instance, with_memory, with_status}
+use Rattle.pass_frames_proof.specs.run_source.declared.state.Instance.{Instance}
+use Rattle.pass_frames_proof.specs.run_source.declared.state.Mode.{Mode}
+use Rattle.pass_frames_proof.specs.run_source.declared.state.State.{State}
+use Rattle.pass_frames_proof.specs.run_source.declared.state.Status.{Status}
+use Rattle.pass_frames_proof.specs.run_source_tables.Given.{Given}
+use Rattle.pass_frames_proof.specs.run_step.Results.{and_then, found, ok_if}
+use Rattle.pass_frames_proof.specs.run_step.Step.{block_of, without_slots}
+use Rattle.pass_frames_proof.specs.run_step.Values.{Env}
+use Rattle.pass_renewed_meaning.proofs.run_types.Parts.{all_set}
+use Rattle.pass_renewed_meaning.specs.run_types.Rules.{KeepsAllTypes}
 
 -- a value that leads to a block is a pointer
 block_address : (v : Value) → is_some (block_of v) ≡ true → IsAddress v

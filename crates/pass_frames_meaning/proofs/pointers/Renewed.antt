@@ -2,36 +2,36 @@
 use Rattle.std.proofs.Common.{◌≡◌, ℕ, Bool, true, false, not, List, [], ◌∷◌, Option, Some, None, Result, Ok, Err}
 use Rattle.std.proofs.Common.{refl, subst, ◌==◌}
 use Rattle.std.specs.Prelude.{find, if◌then◌else◌}
-use Rattle.ir_base.specs.declared.cause.Cause.{Cause}
-use Rattle.ir_model.specs.Names.{function_at}
-use Rattle.ir_model.specs.declared.module.Module.{Module}
-use Rattle.ir_model.specs.declared.operand.Operand.{Operand}
-use Rattle.ir_paths.specs.declared.point.Point.{Point}
+use Rattle.pass_frames_proof.specs.ir_base.declared.cause.Cause.{Cause}
+use Rattle.pass_frames_proof.specs.ir_model.Names.{function_at}
+use Rattle.pass_frames_proof.specs.ir_model.declared.module.Module.{Module}
+use Rattle.pass_frames_proof.specs.ir_model.declared.operand.Operand.{Operand}
+use Rattle.pass_frames_proof.specs.ir_paths.declared.point.Point.{Point}
 use Rattle.pass_frames_meaning.proofs.pointers.Beginning.{begin_fits, entering, finish_top, finished_fits, resumed_fits}
 use Rattle.pass_frames_meaning.proofs.pointers.Parts.{memory_set, placed, slots_set}
 use Rattle.pass_frames_meaning.proofs.pointers.Values.{kept_points, renewed_points}
 use Rattle.pass_frames_meaning.specs.Pointers.{ArePointing, IsAddress, IsPointingState, KeepsPointing}
-use Rattle.pass_kept_proof.specs.Kept.{kept}
-use Rattle.pass_renewed_proof.specs.Renewed.{RenewedGiven, framed_of, renew_after, renewed_from, renewed_slot}
-use Rattle.pass_renewed_proof.specs.Renewed.{with_life, with_renewed}
-use Rattle.run_hooks.specs.Meanings.{renewed_hooks}
-use Rattle.run_memory.specs.Memory.{start}
-use Rattle.run_memory.specs.declared.pointer.Pointer.{Pointer}
-use Rattle.run_memory.specs.declared.pointer.Value.{Value}
-use Rattle.run_source.specs.Source.{frame_address, frame_of_promise, has_promise_at, is_live_at, promise}
-use Rattle.run_source.specs.Source.{promise_of_frame}
-use Rattle.run_source.specs.Source.{is_over, promise_block, push, resumed}
-use Rattle.run_source.specs.State.{frame_address_of, function_of, instance_at, own_instance, with_memory, with_slots}
-use Rattle.run_source.specs.State.{with_status}
-use Rattle.run_source.specs.declared.state.Instance.{Instance}
-use Rattle.run_source.specs.declared.state.Mode.{Mode}
-use Rattle.run_source.specs.declared.state.State.{State}
-use Rattle.run_source.specs.declared.state.Status.{Status}
-use Rattle.run_source_tables.specs.Given.{Given, is_true}
-use Rattle.run_step.specs.Results.{and_then, found, ok_if}
-use Rattle.run_step.specs.Values.{Env, pointer_to}
-use Rattle.run_step.specs.declared.world.Slot.{Slot}
-use Rattle.run_types.specs.Rules.{KeepsAllTypes}
+use Rattle.pass_frames_proof.specs.pass_kept_proof.Kept.{kept}
+use Rattle.pass_frames_proof.specs.pass_renewed_proof.Renewed.{RenewedGiven, framed_of, renew_after, renewed_from, renewed_slot}
+use Rattle.pass_frames_proof.specs.pass_renewed_proof.Renewed.{with_life, with_renewed}
+use Rattle.pass_renewed_meaning.specs.run_hooks.Meanings.{renewed_hooks}
+use Rattle.pass_frames_proof.specs.run_memory.Memory.{start}
+use Rattle.pass_frames_proof.specs.run_memory.declared.pointer.Pointer.{Pointer}
+use Rattle.pass_frames_proof.specs.run_memory.declared.pointer.Value.{Value}
+use Rattle.pass_frames_proof.specs.run_source.Source.{frame_address, frame_of_promise, has_promise_at, is_live_at, promise}
+use Rattle.pass_frames_proof.specs.run_source.Source.{promise_of_frame}
+use Rattle.pass_frames_proof.specs.run_source.Source.{is_over, promise_block, push, resumed}
+use Rattle.pass_frames_proof.specs.run_source.State.{frame_address_of, function_of, instance_at, own_instance, with_memory, with_slots}
+use Rattle.pass_frames_proof.specs.run_source.State.{with_status}
+use Rattle.pass_frames_proof.specs.run_source.declared.state.Instance.{Instance}
+use Rattle.pass_frames_proof.specs.run_source.declared.state.Mode.{Mode}
+use Rattle.pass_frames_proof.specs.run_source.declared.state.State.{State}
+use Rattle.pass_frames_proof.specs.run_source.declared.state.Status.{Status}
+use Rattle.pass_frames_proof.specs.run_source_tables.Given.{Given, is_true}
+use Rattle.pass_frames_proof.specs.run_step.Results.{and_then, found, ok_if}
+use Rattle.pass_frames_proof.specs.run_step.Values.{Env, pointer_to}
+use Rattle.pass_frames_proof.specs.run_step.declared.world.Slot.{Slot}
+use Rattle.pass_renewed_meaning.specs.run_types.Rules.{KeepsAllTypes}
 
 -- ---- what free and promise give
 

@@ -1,22 +1,22 @@
 -- In each state of a run by hooks pointers' types have pointers.
 use Rattle.std.proofs.Common.{◌≡◌, ℕ, zero, suc, List, [], ◌∷◌, map}
 use Rattle.std.specs.List.{AllByRecursion}
-use Rattle.ir_base.specs.declared.outcome.Word.{Word}
-use Rattle.ir_model.specs.Names.{function_at}
-use Rattle.ir_model.specs.Ty.{ptr}
-use Rattle.ir_model.specs.declared.module.Module.{Module}
-use Rattle.ir_model.specs.declared.module.Param.{Param}
+use Rattle.pass_frames_proof.specs.ir_base.declared.outcome.Word.{Word}
+use Rattle.pass_frames_proof.specs.ir_model.Names.{function_at}
+use Rattle.pass_frames_proof.specs.ir_model.Ty.{ptr}
+use Rattle.pass_frames_proof.specs.ir_model.declared.module.Module.{Module}
+use Rattle.pass_frames_proof.specs.ir_model.declared.module.Param.{Param}
 use Rattle.pass_frames_meaning.proofs.pointers.Acts.{step_points}
 use Rattle.pass_frames_meaning.proofs.pointers.Values.{entry_points, type_points}
 use Rattle.pass_frames_meaning.specs.Pointers.{HasNoPointers, IsPointingState, KeepsPointing, PointParams}
-use Rattle.run_hooks.proofs.Reaching.{first_reached, step_stays}
-use Rattle.run_hooks.specs.Hooks.{Hooks, hooked_state_at, step_of}
-use Rattle.run_hooks.specs.Reached.{AllHaveSwitches, IsReachedState, KeepsReached}
-use Rattle.run_memory.specs.declared.pointer.Value.{Value}
-use Rattle.run_source.specs.Source.{first_state}
-use Rattle.run_source.specs.declared.state.State.{State}
-use Rattle.run_step.specs.Runs.{iterate}
-use Rattle.run_types.specs.Rules.{KeepsAllTypes}
+use Rattle.pass_renewed_meaning.proofs.run_hooks.Reaching.{first_reached, step_stays}
+use Rattle.pass_renewed_meaning.specs.run_hooks.Hooks.{Hooks, hooked_state_at, step_of}
+use Rattle.pass_renewed_meaning.specs.run_hooks.Reached.{AllHaveSwitches, IsReachedState, KeepsReached}
+use Rattle.pass_frames_proof.specs.run_memory.declared.pointer.Value.{Value}
+use Rattle.pass_frames_proof.specs.run_source.Source.{first_state}
+use Rattle.pass_frames_proof.specs.run_source.declared.state.State.{State}
+use Rattle.pass_frames_proof.specs.run_step.Runs.{iterate}
+use Rattle.pass_renewed_meaning.specs.run_types.Rules.{KeepsAllTypes}
 
 words_point : (params : List Param) (args : List Word) → AllByRecursion (λ (p : Param). p.ty ≡ ptr → ⊥) params
     → PointParams params (map Value.Int args)

@@ -3,19 +3,19 @@ use Rattle.std.proofs.Common.{◌≡◌, ℕ, ◌<◌, ◌^◌, Bool, true, fals
 use Rattle.std.proofs.Common.{subst, arith}
 use Rattle.std.proofs.lemmas.Bool.{and_from}
 use Rattle.std.specs.Prelude.{if◌then◌else◌, nat_lt, slice_get, ◌==◌}
-use Rattle.frame_classes.specs.declared.class.SlotClass.{SlotClass}
-use Rattle.ir_base.specs.declared.outcome.Word.{Word}
-use Rattle.ir_laws.proofs.facts.Truth.{itself}
-use Rattle.ir_model.specs.Names.{function_at}
-use Rattle.ir_model.specs.Ty.{Ty, array, int, named, ptr, structure, token}
-use Rattle.ir_model.specs.declared.instr.Terminator.{Terminator}
-use Rattle.ir_model.specs.declared.module.Function.{Function}
-use Rattle.ir_model.specs.declared.module.Module.{Module}
-use Rattle.ir_model.specs.declared.operand.Arg.{Arg}
-use Rattle.pass_cells.specs.Kept.{entry, value_types}
-use Rattle.pass_cells.specs.Links.{bases_of, slots_of}
-use Rattle.pass_cells.specs.Plan.{kept_value, type_at}
-use Rattle.pass_cells.specs.declared.plan.KeptValue.{KeptValue}
+use Rattle.pass_frames_proof.specs.frame_classes.declared.class.SlotClass.{SlotClass}
+use Rattle.pass_frames_proof.specs.ir_base.declared.outcome.Word.{Word}
+use Rattle.pass_frames_proof.proofs.ir_laws.facts.Truth.{itself}
+use Rattle.pass_frames_proof.specs.ir_model.Names.{function_at}
+use Rattle.pass_frames_proof.specs.ir_model.Ty.{Ty, array, int, named, ptr, structure, token}
+use Rattle.pass_frames_proof.specs.ir_model.declared.instr.Terminator.{Terminator}
+use Rattle.pass_frames_proof.specs.ir_model.declared.module.Function.{Function}
+use Rattle.pass_frames_proof.specs.ir_model.declared.module.Module.{Module}
+use Rattle.pass_frames_proof.specs.ir_model.declared.operand.Arg.{Arg}
+use Rattle.pass_frames_proof.specs.pass_cells.Kept.{entry, value_types}
+use Rattle.pass_frames_proof.specs.pass_cells.Links.{bases_of, slots_of}
+use Rattle.pass_frames_proof.specs.pass_cells.Plan.{kept_value, type_at}
+use Rattle.pass_frames_proof.specs.pass_cells.declared.plan.KeptValue.{KeptValue}
 use Rattle.pass_frames_meaning.proofs.pointers.Actions.{action_fine}
 use Rattle.pass_frames_meaning.specs.Pointers.{ArePointingBelow, IsPointingState, PointsAs, PointsBack, PointsBy}
 use Rattle.pass_frames_meaning.specs.Setting.{KeepsAll, Setting}
@@ -26,23 +26,23 @@ use Rattle.pass_frames_proof.specs.Lines.{IsStorable}
 use Rattle.pass_frames_proof.specs.Places.{Framing, plan}
 use Rattle.pass_frames_proof.specs.Related.{IsKeptValue, is_coroutine}
 use Rattle.pass_frames_proof.specs.Returning.{FitsResult as FitsBelow, given_value}
-use Rattle.pass_proofs.proofs.cells.rules.Keepable.{IsKeepable, blocks_tell, params_tell}
-use Rattle.pass_proofs.proofs.cells.rules.Plans.{kept_of}
-use Rattle.pass_proofs.proofs.cells.rules.ValueTypes.{types_seen}
-use Rattle.rule_laws.proofs.rules.counted.Types.{is_cell_type}
-use Rattle.rule_values.specs.Kinds.{kind_of, value_kind}
-use Rattle.rule_values.specs.declared.kinds.Kind.{Kind}
-use Rattle.run_hooks.specs.Hooks.{hooked_context}
-use Rattle.run_hooks.specs.Meanings.{renewed_hooks}
-use Rattle.run_memory.specs.declared.pointer.Value.{Value}
-use Rattle.run_source.specs.State.{function_of, work_of}
-use Rattle.run_source.specs.declared.state.Activation.{Activation}
-use Rattle.run_source.specs.declared.state.State.{State}
-use Rattle.run_step.specs.Step.{AtTerm, fetch}
-use Rattle.run_step.specs.Values.{is_word_of, value_in, value_of}
-use Rattle.run_types.proofs.Ordinary.{action_fine as fine_action}
-use Rattle.run_types.specs.Fitting.{FitsKind, FitsResult, FitsType}
-use Rattle.run_types.specs.States.{AreFittingBelow, IsFittingState}
+use Rattle.pass_frames_proof.proofs.pass_proofs.cells.rules.Keepable.{IsKeepable, blocks_tell, params_tell}
+use Rattle.pass_frames_proof.proofs.pass_proofs.cells.rules.Plans.{kept_of}
+use Rattle.pass_frames_proof.proofs.pass_proofs.cells.rules.ValueTypes.{types_seen}
+use Rattle.pass_frames_proof.proofs.rule_laws.rules.counted.Types.{is_cell_type}
+use Rattle.pass_frames_proof.specs.rule_values.Kinds.{kind_of, value_kind}
+use Rattle.pass_frames_proof.specs.rule_values.declared.kinds.Kind.{Kind}
+use Rattle.pass_renewed_meaning.specs.run_hooks.Hooks.{hooked_context}
+use Rattle.pass_renewed_meaning.specs.run_hooks.Meanings.{renewed_hooks}
+use Rattle.pass_frames_proof.specs.run_memory.declared.pointer.Value.{Value}
+use Rattle.pass_frames_proof.specs.run_source.State.{function_of, work_of}
+use Rattle.pass_frames_proof.specs.run_source.declared.state.Activation.{Activation}
+use Rattle.pass_frames_proof.specs.run_source.declared.state.State.{State}
+use Rattle.pass_frames_proof.specs.run_step.Step.{AtTerm, fetch}
+use Rattle.pass_frames_proof.specs.run_step.Values.{is_word_of, value_in, value_of}
+use Rattle.pass_renewed_meaning.proofs.run_types.Ordinary.{action_fine as fine_action}
+use Rattle.pass_renewed_meaning.specs.run_types.Fitting.{FitsKind, FitsResult, FitsType}
+use Rattle.pass_renewed_meaning.specs.run_types.States.{AreFittingBelow, IsFittingState}
 
 -- ---- values
 

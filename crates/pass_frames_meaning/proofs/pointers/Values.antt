@@ -4,38 +4,38 @@ use Rattle.std.proofs.Common.{Option, Some, None, refl, sym, ap, ◌∙◌, subs
 use Rattle.std.proofs.lemmas.Bool.{eq-eqb, eqb-true}
 use Rattle.std.specs.List.{AllByRecursion, list_all}
 use Rattle.std.specs.Prelude.{if◌then◌else◌, slice_get}
-use Rattle.ir_model.specs.Layout.{same_type}
-use Rattle.ir_model.specs.Names.{declaration_named, function_at, function_named, global_named}
-use Rattle.ir_model.specs.Ty.{Ty, array, int, named, ptr, structure, token}
-use Rattle.ir_model.specs.declared.instr.Incoming.{Incoming}
-use Rattle.ir_model.specs.declared.instr.Instr.{Instr}
-use Rattle.ir_model.specs.declared.instr.Phi.{Phi}
-use Rattle.ir_model.specs.declared.module.Function.{Function}
-use Rattle.ir_model.specs.declared.module.Module.{Module}
-use Rattle.ir_model.specs.declared.module.Param.{Param}
-use Rattle.ir_model.specs.declared.operand.Arg.{Arg}
-use Rattle.ir_model.specs.declared.operand.Callee.{Callee}
-use Rattle.ir_model.specs.declared.operand.Operand.{Operand}
+use Rattle.pass_frames_proof.specs.ir_model.Layout.{same_type}
+use Rattle.pass_frames_proof.specs.ir_model.Names.{declaration_named, function_at, function_named, global_named}
+use Rattle.pass_frames_proof.specs.ir_model.Ty.{Ty, array, int, named, ptr, structure, token}
+use Rattle.pass_frames_proof.specs.ir_model.declared.instr.Incoming.{Incoming}
+use Rattle.pass_frames_proof.specs.ir_model.declared.instr.Instr.{Instr}
+use Rattle.pass_frames_proof.specs.ir_model.declared.instr.Phi.{Phi}
+use Rattle.pass_frames_proof.specs.ir_model.declared.module.Function.{Function}
+use Rattle.pass_frames_proof.specs.ir_model.declared.module.Module.{Module}
+use Rattle.pass_frames_proof.specs.ir_model.declared.module.Param.{Param}
+use Rattle.pass_frames_proof.specs.ir_model.declared.operand.Arg.{Arg}
+use Rattle.pass_frames_proof.specs.ir_model.declared.operand.Callee.{Callee}
+use Rattle.pass_frames_proof.specs.ir_model.declared.operand.Operand.{Operand}
 use Rattle.pass_frames_meaning.specs.Pointers.{ArePointing, IsAddress, PointParams, PointsAs, PointsBack, PointsBy}
 use Rattle.pass_frames_meaning.specs.Pointers.{PointsOn}
-use Rattle.pass_kept_proof.specs.Kept.{kept}
-use Rattle.pass_renewed_proof.proofs.Sets.{set_elsewhere}
-use Rattle.pass_renewed_proof.specs.Renewed.{in_new_slot, renewed_value, renewed_values}
-use Rattle.rule_types.specs.Signatures.{same_result as same_types_of}
-use Rattle.rule_types.specs.Wants.{is_int, is_ptr, is_token}
-use Rattle.rule_values.specs.Fits.{fits, fits_arg, fits_kind, is_scalar}
-use Rattle.rule_values.specs.Kinds.{kind_of, result_kind, value_kind}
-use Rattle.rule_values.specs.Values.{takes}
-use Rattle.rule_values.specs.declared.kinds.Kind.{Kind}
-use Rattle.run_memory.specs.declared.pointer.Pointer.{Pointer}
-use Rattle.run_memory.specs.declared.pointer.Value.{Value}
-use Rattle.run_step.specs.Step.{AtInstr, entry_values, fetch, incoming_from, phi_values, phis_of, values_in, with_all}
-use Rattle.run_step.specs.Step.{with_params}
-use Rattle.run_step.specs.Values.{Env, address_from, address_of, arg_value, literal, operand_value, value_in}
-use Rattle.run_step.specs.Values.{with_result, with_value}
-use Rattle.run_types.proofs.Fit.{both_true}
-use Rattle.run_types.proofs.Rules.{call_kind_is}
-use Rattle.run_types.specs.Rules.{FitsPhi, KeepsTypes}
+use Rattle.pass_frames_proof.specs.pass_kept_proof.Kept.{kept}
+use Rattle.pass_frames_proof.proofs.pass_renewed_proof.Sets.{set_elsewhere}
+use Rattle.pass_frames_proof.specs.pass_renewed_proof.Renewed.{in_new_slot, renewed_value, renewed_values}
+use Rattle.pass_frames_proof.specs.rule_types.Signatures.{same_result as same_types_of}
+use Rattle.pass_frames_proof.specs.rule_types.Wants.{is_int, is_ptr, is_token}
+use Rattle.pass_frames_proof.specs.rule_values.Fits.{fits, fits_arg, fits_kind, is_scalar}
+use Rattle.pass_frames_proof.specs.rule_values.Kinds.{kind_of, result_kind, value_kind}
+use Rattle.pass_frames_proof.specs.rule_values.Values.{takes}
+use Rattle.pass_frames_proof.specs.rule_values.declared.kinds.Kind.{Kind}
+use Rattle.pass_frames_proof.specs.run_memory.declared.pointer.Pointer.{Pointer}
+use Rattle.pass_frames_proof.specs.run_memory.declared.pointer.Value.{Value}
+use Rattle.pass_frames_proof.specs.run_step.Step.{AtInstr, entry_values, fetch, incoming_from, phi_values, phis_of, values_in, with_all}
+use Rattle.pass_frames_proof.specs.run_step.Step.{with_params}
+use Rattle.pass_frames_proof.specs.run_step.Values.{Env, address_from, address_of, arg_value, literal, operand_value, value_in}
+use Rattle.pass_frames_proof.specs.run_step.Values.{with_result, with_value}
+use Rattle.pass_renewed_meaning.proofs.run_types.Fit.{both_true}
+use Rattle.pass_renewed_meaning.proofs.run_types.Rules.{call_kind_is}
+use Rattle.pass_renewed_meaning.specs.run_types.Rules.{FitsPhi, KeepsTypes}
 
 -- ---- kinds
 

@@ -4,35 +4,35 @@ use Rattle.std.proofs.Common.{Option, Some, None}
 use Rattle.std.proofs.Common.{Result, Ok, Err, refl, sym, ap, ◌∙◌, subst, not, ◌&&◌, ◌==◌, replicate}
 use Rattle.std.proofs.lemmas.Option.{slice_get-map}
 use Rattle.std.specs.Prelude.{if◌then◌else◌, is_none, option_map, slice_get, unwrap_or}
-use Rattle.ir_base.specs.declared.cause.Cause.{Cause}
-use Rattle.ir_base.specs.declared.outcome.Outcome.{Outcome}
-use Rattle.ir_model.specs.Layout.{size_of}
-use Rattle.ir_model.specs.Ty.{Ty}
-use Rattle.ir_model.specs.declared.instr.Instr.{Instr}
-use Rattle.ir_model.specs.declared.module.Function.{Function}
-use Rattle.ir_model.specs.declared.module.Module.{Module}
-use Rattle.ir_model.specs.declared.operand.Allocator.{Allocator}
-use Rattle.ir_model.specs.declared.operand.Arg.{Arg}
-use Rattle.ir_model.specs.declared.operand.Callee.{Callee}
-use Rattle.ir_model.specs.declared.operand.Intrinsic.{Intrinsic}
+use Rattle.pass_frames_proof.specs.ir_base.declared.cause.Cause.{Cause}
+use Rattle.pass_frames_proof.specs.ir_base.declared.outcome.Outcome.{Outcome}
+use Rattle.pass_frames_proof.specs.ir_model.Layout.{size_of}
+use Rattle.pass_frames_proof.specs.ir_model.Ty.{Ty}
+use Rattle.pass_frames_proof.specs.ir_model.declared.instr.Instr.{Instr}
+use Rattle.pass_frames_proof.specs.ir_model.declared.module.Function.{Function}
+use Rattle.pass_frames_proof.specs.ir_model.declared.module.Module.{Module}
+use Rattle.pass_frames_proof.specs.ir_model.declared.operand.Allocator.{Allocator}
+use Rattle.pass_frames_proof.specs.ir_model.declared.operand.Arg.{Arg}
+use Rattle.pass_frames_proof.specs.ir_model.declared.operand.Callee.{Callee}
+use Rattle.pass_frames_proof.specs.ir_model.declared.operand.Intrinsic.{Intrinsic}
 use Rattle.pass_frames_meaning.specs.Sized.{IsLonger, sizes_of}
-use Rattle.run_laws.proofs.embedded.Refills.{step_only}
-use Rattle.run_laws.specs.embedded.Refilled.{AreRefilled, IsRefilled, OnlyRefills}
-use Rattle.run_memory.specs.Memory.{check, disown, disowned, end, ended, is_killed, is_owned, is_unkilled, killed}
-use Rattle.run_memory.specs.Memory.{killed_block}
-use Rattle.run_memory.specs.Memory.{may_be_owned, own, owned_to, start, started, with_block}
-use Rattle.run_memory.specs.declared.block.Byte.{Byte}
-use Rattle.run_memory.specs.declared.block.Kind.{Kind}
-use Rattle.run_memory.specs.declared.block.Life.{Life}
-use Rattle.run_memory.specs.declared.block.MemoryBlock.{MemoryBlock}
-use Rattle.run_memory.specs.declared.pointer.Pointer.{Pointer}
-use Rattle.run_memory.specs.declared.pointer.Value.{Value}
-use Rattle.run_step.specs.Step.{Action, AtInstr, AtTerm, Context, Done, Fetched, NewSlot, Nowhere, Stuck, Work}
-use Rattle.run_step.specs.Step.{action_of, alloca, alloca_kind, block_of, deallocated, has_markers, instr_action}
-use Rattle.run_step.specs.Step.{is_alignment}
-use Rattle.run_step.specs.Step.{on_block, set_memory, set_value, with_length, without_slots}
-use Rattle.run_step.specs.Values.{arg_values, nth, pointer_to}
-use Rattle.run_step.specs.declared.world.Slot.{Slot}
+use Rattle.pass_frames_proof.proofs.run_laws.embedded.Refills.{step_only}
+use Rattle.pass_frames_proof.specs.run_laws.embedded.Refilled.{AreRefilled, IsRefilled, OnlyRefills}
+use Rattle.pass_frames_proof.specs.run_memory.Memory.{check, disown, disowned, end, ended, is_killed, is_owned, is_unkilled, killed}
+use Rattle.pass_frames_proof.specs.run_memory.Memory.{killed_block}
+use Rattle.pass_frames_proof.specs.run_memory.Memory.{may_be_owned, own, owned_to, start, started, with_block}
+use Rattle.pass_frames_proof.specs.run_memory.declared.block.Byte.{Byte}
+use Rattle.pass_frames_proof.specs.run_memory.declared.block.Kind.{Kind}
+use Rattle.pass_frames_proof.specs.run_memory.declared.block.Life.{Life}
+use Rattle.pass_frames_proof.specs.run_memory.declared.block.MemoryBlock.{MemoryBlock}
+use Rattle.pass_frames_proof.specs.run_memory.declared.pointer.Pointer.{Pointer}
+use Rattle.pass_frames_proof.specs.run_memory.declared.pointer.Value.{Value}
+use Rattle.pass_frames_proof.specs.run_step.Step.{Action, AtInstr, AtTerm, Context, Done, Fetched, NewSlot, Nowhere, Stuck, Work}
+use Rattle.pass_frames_proof.specs.run_step.Step.{action_of, alloca, alloca_kind, block_of, deallocated, has_markers, instr_action}
+use Rattle.pass_frames_proof.specs.run_step.Step.{is_alignment}
+use Rattle.pass_frames_proof.specs.run_step.Step.{on_block, set_memory, set_value, with_length, without_slots}
+use Rattle.pass_frames_proof.specs.run_step.Values.{arg_values, nth, pointer_to}
+use Rattle.pass_frames_proof.specs.run_step.declared.world.Slot.{Slot}
 
 -- ---- rows of sizes
 

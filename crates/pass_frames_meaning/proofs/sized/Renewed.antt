@@ -1,32 +1,32 @@
 -- The hooks that make slots anew keep the sizes of blocks.
 use Rattle.std.proofs.Common.{◌≡◌, ℕ, Bool, true, false, not, List, [], ◌∷◌, Option, Some, None, Result, Ok, Err, ◌&&◌}
 use Rattle.std.specs.Prelude.{if◌then◌else◌, is_none}
-use Rattle.ir_base.specs.declared.cause.Cause.{Cause}
-use Rattle.ir_model.specs.Names.{function_at}
-use Rattle.ir_paths.specs.declared.point.Point.{Point}
+use Rattle.pass_frames_proof.specs.ir_base.declared.cause.Cause.{Cause}
+use Rattle.pass_frames_proof.specs.ir_model.Names.{function_at}
+use Rattle.pass_frames_proof.specs.ir_paths.declared.point.Point.{Point}
 use Rattle.pass_frames_meaning.proofs.sized.Memory.{GivesSizes, killed_keeps, more_sizes, own_keeps, same_sizes}
 use Rattle.pass_frames_meaning.proofs.sized.Memory.{start_keeps}
 use Rattle.pass_frames_meaning.proofs.sized.Memory.{without_keeps}
 use Rattle.pass_frames_meaning.specs.Sized.{IsLonger, KeepsSizes, StaysLonger, sizes_of}
-use Rattle.pass_kept_proof.specs.Kept.{kept}
-use Rattle.pass_renewed_proof.specs.Renewed.{RenewedGiven, renew_after, renewed_from, renewed_slot, with_life}
-use Rattle.run_hooks.specs.Meanings.{renewed_hooks}
-use Rattle.run_memory.specs.Memory.{killed, own, start}
-use Rattle.run_memory.specs.declared.block.Kind.{Kind}
-use Rattle.run_memory.specs.declared.block.MemoryBlock.{MemoryBlock}
-use Rattle.run_memory.specs.declared.pointer.Value.{Value}
-use Rattle.run_source.specs.Source.{begin, begin_at, begun, change_own, finish, is_among, is_over, kill_late, new_slot}
-use Rattle.run_source.specs.Source.{push, resumed, slots_of, with_new_slots}
-use Rattle.run_source.specs.State.{function_of, gives, own_facts, own_frame, own_instance, with_memory, with_slots}
-use Rattle.run_source.specs.State.{with_status}
-use Rattle.run_source.specs.declared.state.Instance.{Instance}
-use Rattle.run_source.specs.declared.state.Mode.{Mode}
-use Rattle.run_source.specs.declared.state.State.{State}
-use Rattle.run_source.specs.declared.state.Status.{Status}
-use Rattle.run_source_tables.specs.Given.{Given}
-use Rattle.run_step.specs.Results.{and_then, found, ok_if}
-use Rattle.run_step.specs.Step.{block_of, without_slots}
-use Rattle.run_step.specs.declared.world.Slot.{Slot}
+use Rattle.pass_frames_proof.specs.pass_kept_proof.Kept.{kept}
+use Rattle.pass_frames_proof.specs.pass_renewed_proof.Renewed.{RenewedGiven, renew_after, renewed_from, renewed_slot, with_life}
+use Rattle.pass_renewed_meaning.specs.run_hooks.Meanings.{renewed_hooks}
+use Rattle.pass_frames_proof.specs.run_memory.Memory.{killed, own, start}
+use Rattle.pass_frames_proof.specs.run_memory.declared.block.Kind.{Kind}
+use Rattle.pass_frames_proof.specs.run_memory.declared.block.MemoryBlock.{MemoryBlock}
+use Rattle.pass_frames_proof.specs.run_memory.declared.pointer.Value.{Value}
+use Rattle.pass_frames_proof.specs.run_source.Source.{begin, begin_at, begun, change_own, finish, is_among, is_over, kill_late, new_slot}
+use Rattle.pass_frames_proof.specs.run_source.Source.{push, resumed, slots_of, with_new_slots}
+use Rattle.pass_frames_proof.specs.run_source.State.{function_of, gives, own_facts, own_frame, own_instance, with_memory, with_slots}
+use Rattle.pass_frames_proof.specs.run_source.State.{with_status}
+use Rattle.pass_frames_proof.specs.run_source.declared.state.Instance.{Instance}
+use Rattle.pass_frames_proof.specs.run_source.declared.state.Mode.{Mode}
+use Rattle.pass_frames_proof.specs.run_source.declared.state.State.{State}
+use Rattle.pass_frames_proof.specs.run_source.declared.state.Status.{Status}
+use Rattle.pass_frames_proof.specs.run_source_tables.Given.{Given}
+use Rattle.pass_frames_proof.specs.run_step.Results.{and_then, found, ok_if}
+use Rattle.pass_frames_proof.specs.run_step.Step.{block_of, without_slots}
+use Rattle.pass_frames_proof.specs.run_step.declared.world.Slot.{Slot}
 
 after_longer : (g : RenewedGiven) (s : State) (from label : ℕ) (o : Option Point) (t : List (ℕ × ℕ))
     → IsLonger t (sizes_of s.world.memory) → IsLonger t (sizes_of (renew_after g s from label o).world.memory)

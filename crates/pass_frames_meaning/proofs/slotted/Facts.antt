@@ -4,25 +4,25 @@ use Rattle.std.proofs.Common.{Option, Some, None, refl, sym, ap, ◌∙◌, subs
 use Rattle.std.specs.List.{Contains}
 use Rattle.std.specs.Option.{option_map_or}
 use Rattle.std.specs.Prelude.{map, slice_get, ◌==◌, ◌||◌}
-use Rattle.flow_solver.specs.Paths.{IsListed}
-use Rattle.ir_laws.specs.paths.woven_rules.Pairs.{AreDifferent}
+use Rattle.pass_frames_proof.specs.flow_solver.Paths.{IsListed}
+use Rattle.pass_frames_proof.specs.ir_laws.paths.woven_rules.Pairs.{AreDifferent}
 use Rattle.pass_frames_proof.proofs.allocating.Grown.{listed_in}
 use Rattle.pass_frames_proof.proofs.lines.Cells.{contained}
 use Rattle.pass_frames_proof.specs.Asking.{AreInstancesPlaced}
 use Rattle.pass_frames_proof.specs.Related.{all_slots, is_slot, slots_below}
 use Rattle.pass_frames_proof.specs.Returning.{HasOwnSlots, HasSlotKinds, HasSlotsListed, IsAmong, is_own_kind}
 use Rattle.pass_frames_proof.specs.Slotted.{HasListedSlots, HasSlotsApart, HasSlotsThere, IsSlotSomewhere, OfActivation, OfInstance}
-use Rattle.run_memory.specs.Memory.{is_killed, is_live, same_kind}
-use Rattle.run_memory.specs.declared.block.Kind.{Kind}
-use Rattle.run_memory.specs.declared.block.Life.{Life}
-use Rattle.run_memory.specs.declared.block.MemoryBlock.{MemoryBlock}
+use Rattle.pass_frames_proof.specs.run_memory.Memory.{is_killed, is_live, same_kind}
+use Rattle.pass_frames_proof.specs.run_memory.declared.block.Kind.{Kind}
+use Rattle.pass_frames_proof.specs.run_memory.declared.block.Life.{Life}
+use Rattle.pass_frames_proof.specs.run_memory.declared.block.MemoryBlock.{MemoryBlock}
 use Rattle.run_slots.proofs.Times.{equal_is, itself, same_there, there_below, times_joined}
 use Rattle.run_slots.specs.Slots.{IsSlotBlock, IsSlottedState, is_alloca_block, is_killed_at, is_killed_in, once_if, times, times_in, times_on}
-use Rattle.run_source.specs.Source.{is_live_at}
-use Rattle.run_source.specs.declared.state.Activation.{Activation}
-use Rattle.run_source.specs.declared.state.Instance.{Instance}
-use Rattle.run_source.specs.declared.state.State.{State}
-use Rattle.run_step.specs.declared.world.Slot.{Slot}
+use Rattle.pass_frames_proof.specs.run_source.Source.{is_live_at}
+use Rattle.pass_frames_proof.specs.run_source.declared.state.Activation.{Activation}
+use Rattle.pass_frames_proof.specs.run_source.declared.state.Instance.{Instance}
+use Rattle.pass_frames_proof.specs.run_source.declared.state.State.{State}
+use Rattle.pass_frames_proof.specs.run_step.declared.world.Slot.{Slot}
 
 -- ---- how many, and which
 

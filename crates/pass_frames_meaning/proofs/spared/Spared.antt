@@ -4,11 +4,11 @@ use Rattle.std.specs.List.{Contains}
 use Rattle.std.specs.Prelude.{◌≢◌, option_map, slice_get}
 use Rattle.std.proofs.lemmas.Bool.{false≢true}
 use Rattle.std.proofs.lemmas.Option.{slice_get_within}
-use Rattle.flow_solver.specs.Paths.{IsListed}
-use Rattle.frame_contents.specs.Held.{position_of}
-use Rattle.pass_cells.specs.declared.plan.KeptValue.{KeptValue}
-use Rattle.pass_fetch.specs.Fetching.{value_bytes}
-use Rattle.pass_frames.specs.Tables.{offset_at}
+use Rattle.pass_frames_proof.specs.flow_solver.Paths.{IsListed}
+use Rattle.pass_frames_proof.specs.frame_contents.Held.{position_of}
+use Rattle.pass_frames_proof.specs.pass_cells.declared.plan.KeptValue.{KeptValue}
+use Rattle.pass_frames_proof.specs.pass_fetch.Fetching.{value_bytes}
+use Rattle.pass_frames_proof.specs.pass_frames.Tables.{offset_at}
 use Rattle.pass_frames_meaning.specs.Spared.{AreFieldsApart, HasFieldAt, HasNoReturnsBelow}
 use Rattle.pass_frames_proof.proofs.followed.Assembly.{other_instance}
 use Rattle.pass_frames_proof.proofs.stepping.Stored.{muted_is}
@@ -18,18 +18,18 @@ use Rattle.pass_frames_proof.specs.Related.{AreBelow, AreBuiltOf, AreInstances, 
 use Rattle.pass_frames_proof.specs.Returning.{HasSlotsListed}
 use Rattle.pass_frames_proof.specs.Slotted.{AreRangesApart, HasFrameThere, HasListedSlots, HasSlotsApart, IsSlotSomewhere, OfActivation, OfInstance}
 use Rattle.pass_frames_proof.specs.Stepping.{AreFieldsSpared}
-use Rattle.pass_proofs.specs.addresses.rules.Addresses.{lies_in_frame}
-use Rattle.run_framed.specs.Framed.{layout_of}
-use Rattle.run_laws.specs.embedded.Making.{whole_home}
-use Rattle.run_laws.specs.memory.Pointers.{Home, home_of}
-use Rattle.run_laws.specs.memory.Standing.{IsOpen}
-use Rattle.run_laws.specs.transfer.Muted.{ended_if, muted}
-use Rattle.run_memory.specs.Memory.{is_below, is_live, owner_rights}
-use Rattle.run_memory.specs.declared.block.MemoryBlock.{MemoryBlock}
-use Rattle.run_source.specs.declared.state.Activation.{Activation}
-use Rattle.run_source.specs.declared.state.Instance.{Instance}
-use Rattle.run_source.specs.declared.state.State.{State}
-use Rattle.run_step.specs.declared.world.Slot.{Slot}
+use Rattle.pass_frames_proof.specs.pass_proofs.addresses.rules.Addresses.{lies_in_frame}
+use Rattle.pass_frames_proof.specs.run_framed.Framed.{layout_of}
+use Rattle.pass_frames_proof.specs.run_laws.embedded.Making.{whole_home}
+use Rattle.pass_frames_proof.specs.run_laws.memory.Pointers.{Home, home_of}
+use Rattle.pass_frames_proof.specs.run_laws.memory.Standing.{IsOpen}
+use Rattle.pass_frames_proof.specs.run_laws.transfer.Muted.{ended_if, muted}
+use Rattle.pass_frames_proof.specs.run_memory.Memory.{is_below, is_live, owner_rights}
+use Rattle.pass_frames_proof.specs.run_memory.declared.block.MemoryBlock.{MemoryBlock}
+use Rattle.pass_frames_proof.specs.run_source.declared.state.Activation.{Activation}
+use Rattle.pass_frames_proof.specs.run_source.declared.state.Instance.{Instance}
+use Rattle.pass_frames_proof.specs.run_source.declared.state.State.{State}
+use Rattle.pass_frames_proof.specs.run_step.declared.world.Slot.{Slot}
 
 -- what lives where some blocks count as dead lives, and isn't one of them
 pub shown_live : (hides : ℕ → Bool) (m : List MemoryBlock) (n : ℕ) (z : MemoryBlock)

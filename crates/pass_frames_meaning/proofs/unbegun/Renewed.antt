@@ -2,25 +2,25 @@
 use Rattle.std.proofs.Common.{◌≡◌, ℕ, Bool, true, false, List, [], ◌∷◌, Option, Some, None, refl, sym, ap, ◌∙◌, subst}
 use Rattle.std.proofs.Common.{if◌then◌else◌}
 use Rattle.std.specs.Prelude.{is_none, not, ◌&&◌}
-use Rattle.ir_model.specs.declared.instr.Instr.{Instr}
-use Rattle.ir_model.specs.declared.operand.Callee.{Callee}
-use Rattle.ir_model.specs.declared.operand.Intrinsic.{Intrinsic}
+use Rattle.pass_frames_proof.specs.ir_model.declared.instr.Instr.{Instr}
+use Rattle.pass_frames_proof.specs.ir_model.declared.operand.Callee.{Callee}
+use Rattle.pass_frames_proof.specs.ir_model.declared.operand.Intrinsic.{Intrinsic}
 use Rattle.pass_frames_meaning.specs.Called.{FitsMode}
 use Rattle.pass_frames_meaning.specs.Led.{IsBegin}
 use Rattle.pass_frames_meaning.specs.Unbegun.{IsSameSpot, KeepsUnbegun}
-use Rattle.pass_renewed_proof.specs.Renewed.{RenewedGiven, is_idle, renewed_slot, with_life}
-use Rattle.run_hooks.proofs.Keeping.{renewed_keeps}
-use Rattle.run_hooks.proofs.LeftKeeping.{renewed_keeps_last}
-use Rattle.run_hooks.specs.Meanings.{renewed_hooks}
-use Rattle.run_memory.specs.Memory.{killed, start}
-use Rattle.run_source.specs.Source.{is_among, is_over, kill_late, new_slot, with_new_slots}
-use Rattle.run_source.specs.State.{own_facts, own_instance, with_memory}
-use Rattle.run_source.specs.declared.state.Instance.{Instance}
-use Rattle.run_source.specs.declared.state.Mode.{Mode}
-use Rattle.run_source.specs.declared.state.State.{State}
-use Rattle.run_source_tables.specs.Given.{Given}
-use Rattle.run_step.specs.Step.{AtInstr}
-use Rattle.run_step.specs.declared.world.Slot.{Slot}
+use Rattle.pass_frames_proof.specs.pass_renewed_proof.Renewed.{RenewedGiven, is_idle, renewed_slot, with_life}
+use Rattle.pass_renewed_meaning.proofs.run_hooks.Keeping.{renewed_keeps}
+use Rattle.pass_renewed_meaning.proofs.run_hooks.LeftKeeping.{renewed_keeps_last}
+use Rattle.pass_renewed_meaning.specs.run_hooks.Meanings.{renewed_hooks}
+use Rattle.pass_frames_proof.specs.run_memory.Memory.{killed, start}
+use Rattle.pass_frames_proof.specs.run_source.Source.{is_among, is_over, kill_late, new_slot, with_new_slots}
+use Rattle.pass_frames_proof.specs.run_source.State.{own_facts, own_instance, with_memory}
+use Rattle.pass_frames_proof.specs.run_source.declared.state.Instance.{Instance}
+use Rattle.pass_frames_proof.specs.run_source.declared.state.Mode.{Mode}
+use Rattle.pass_frames_proof.specs.run_source.declared.state.State.{State}
+use Rattle.pass_frames_proof.specs.run_source_tables.Given.{Given}
+use Rattle.pass_frames_proof.specs.run_step.Step.{AtInstr}
+use Rattle.pass_frames_proof.specs.run_step.declared.world.Slot.{Slot}
 
 new_slot_there : (g : Given) (s : State) (slot : Slot) → s.top.instance ≡ None → IsSameSpot s (new_slot g s slot)
 new_slot_there g s slot none = by (own_instance s)

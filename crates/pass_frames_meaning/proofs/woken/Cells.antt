@@ -3,14 +3,14 @@ use Rattle.std.proofs.Common.{◌≡◌, ◌⊎◌, inl, inr, ℕ, zero, suc, �
 use Rattle.std.proofs.lemmas.Bool.{cases_lt}
 use Rattle.std.proofs.lemmas.List.{length-replicate}
 use Rattle.std.specs.Prelude.{option_map, slice_get}
-use Rattle.ir_base.specs.declared.outcome.Outcome.{Outcome}
-use Rattle.ir_base.specs.declared.outcome.Word.{Word}
-use Rattle.ir_laws.proofs.facts.Lists.{get_within}
-use Rattle.ir_model.specs.Names.{function_at}
-use Rattle.ir_model.specs.declared.instr.Instr.{Instr}
-use Rattle.ir_model.specs.declared.module.Function.{Function}
-use Rattle.ir_model.specs.declared.module.Module.{Module}
-use Rattle.ir_paths.specs.declared.point.Point.{Point}
+use Rattle.pass_frames_proof.specs.ir_base.declared.outcome.Outcome.{Outcome}
+use Rattle.pass_frames_proof.specs.ir_base.declared.outcome.Word.{Word}
+use Rattle.pass_frames_proof.proofs.ir_laws.facts.Lists.{get_within}
+use Rattle.pass_frames_proof.specs.ir_model.Names.{function_at}
+use Rattle.pass_frames_proof.specs.ir_model.declared.instr.Instr.{Instr}
+use Rattle.pass_frames_proof.specs.ir_model.declared.module.Function.{Function}
+use Rattle.pass_frames_proof.specs.ir_model.declared.module.Module.{Module}
+use Rattle.pass_frames_proof.specs.ir_paths.declared.point.Point.{Point}
 use Rattle.pass_frames_meaning.proofs.woken.Fronts.{fronts_good, fronts_stand, standing}
 use Rattle.pass_frames_meaning.proofs.woken.ModeHooks.{framed_modes}
 use Rattle.pass_frames_meaning.proofs.woken.Modes.{step_stays}
@@ -28,22 +28,22 @@ use Rattle.pass_frames_proof.specs.Places.{Framing, framed}
 use Rattle.pass_frames_proof.specs.Related.{is_coroutine}
 use Rattle.pass_frames_proof.specs.Stepping.{IsNotEntering}
 use Rattle.pass_frames_proof.specs.Waking.{AreFrontsGood}
-use Rattle.run_framed.specs.Framed.{FramedGiven, alloca_from, continue_framed, enter_after, framed_advance, framed_state_at, framed_step, given_call, reentry_values}
-use Rattle.run_hooks.proofs.Steps.{framed_steps}
-use Rattle.run_hooks.specs.Meanings.{framed_hooks}
-use Rattle.run_laws.proofs.transfer.Sets.{set_length as value_length}
-use Rattle.run_laws.specs.changed.Changed.{Each}
-use Rattle.run_memory.specs.declared.pointer.Value.{Value}
+use Rattle.pass_frames_proof.specs.run_framed.Framed.{FramedGiven, alloca_from, continue_framed, enter_after, framed_advance, framed_state_at, framed_step, given_call, reentry_values}
+use Rattle.pass_renewed_meaning.proofs.run_hooks.Steps.{framed_steps}
+use Rattle.pass_renewed_meaning.specs.run_hooks.Meanings.{framed_hooks}
+use Rattle.pass_frames_proof.proofs.run_laws.transfer.Sets.{set_length as value_length}
+use Rattle.pass_frames_proof.specs.run_laws.changed.Changed.{Each}
+use Rattle.pass_frames_proof.specs.run_memory.declared.pointer.Value.{Value}
 use Rattle.run_slots.specs.Slots.{IsSlottedState}
-use Rattle.run_source.specs.Source.{Sleeper, first_state, push, resumed, sleeper_at}
-use Rattle.run_source.specs.State.{frame_address_of, function_of, with_status}
-use Rattle.run_source.specs.declared.state.Mode.{Mode}
-use Rattle.run_source.specs.declared.state.State.{State}
-use Rattle.run_source.specs.declared.state.Status.{Status}
-use Rattle.run_states.proofs.sound_states.Acts.{IsAsleepAt, asleep_there}
-use Rattle.run_step.specs.Runs.{iterate}
-use Rattle.run_step.specs.Step.{AtInstr, fetch}
-use Rattle.run_step.specs.Values.{Env, with_result}
+use Rattle.pass_frames_proof.specs.run_source.Source.{Sleeper, first_state, push, resumed, sleeper_at}
+use Rattle.pass_frames_proof.specs.run_source.State.{frame_address_of, function_of, with_status}
+use Rattle.pass_frames_proof.specs.run_source.declared.state.Mode.{Mode}
+use Rattle.pass_frames_proof.specs.run_source.declared.state.State.{State}
+use Rattle.pass_frames_proof.specs.run_source.declared.state.Status.{Status}
+use Rattle.pass_frames_proof.proofs.run_states.sound_states.Acts.{IsAsleepAt, asleep_there}
+use Rattle.pass_frames_proof.specs.run_step.Runs.{iterate}
+use Rattle.pass_frames_proof.specs.run_step.Step.{AtInstr, fetch}
+use Rattle.pass_frames_proof.specs.run_step.Values.{Env, with_result}
 
 -- ---- parts of a list
 

@@ -3,23 +3,23 @@
 use Rattle.std.proofs.Common.{◌≡◌, ◌⊎◌, inl, inr, ⊎_elim, ℕ, zero, suc, ◌+◌, ◌<◌, Bool, true, false, List, [], ◌∷◌, length, replicate, Option, Some, None, refl, sym, ap, ◌∙◌, subst, arith}
 use Rattle.std.proofs.lemmas.List.{length-replicate}
 use Rattle.std.specs.Prelude.{slice_get, slice_set, unwrap_or}
-use Rattle.flow_solver.proofs.Lists.{listed_at as listed_there}
-use Rattle.flow_solver.specs.Paths.{IsListed}
-use Rattle.ir_laws.proofs.facts.Lists.{set_here, set_length, set_other}
-use Rattle.ir_laws.proofs.paths.crossing.Values.{listed_at}
-use Rattle.ir_laws.specs.paths.rows.Returns.{IsOwnBlock}
-use Rattle.ir_laws.specs.paths.woven_rules.Pairs.{AreDifferent}
-use Rattle.ir_model.specs.Names.{block_labelled, position_of}
-use Rattle.ir_model.specs.Ty.{Ty, int, ptr}
-use Rattle.ir_model.specs.declared.instr.Instr.{Instr}
-use Rattle.ir_model.specs.declared.module.Block.{Block}
-use Rattle.ir_paths.specs.Windows.{destroy_label, resume_label}
-use Rattle.ir_paths.specs.declared.point.Point.{Point}
-use Rattle.pass_cells.specs.Kept.{entry, joined}
-use Rattle.pass_cells.specs.Plan.{with_returns}
-use Rattle.pass_copies.specs.Slots.{resumed_at, set_resumed}
-use Rattle.pass_copies.specs.Uses.{flag_at}
-use Rattle.pass_fetch.specs.Fetching.{value_bytes}
+use Rattle.pass_frames_proof.proofs.flow_solver.Lists.{listed_at as listed_there}
+use Rattle.pass_frames_proof.specs.flow_solver.Paths.{IsListed}
+use Rattle.pass_frames_proof.proofs.ir_laws.facts.Lists.{set_here, set_length, set_other}
+use Rattle.pass_frames_proof.proofs.ir_laws.paths.crossing.Values.{listed_at}
+use Rattle.pass_frames_proof.specs.ir_laws.paths.rows.Returns.{IsOwnBlock}
+use Rattle.pass_frames_proof.specs.ir_laws.paths.woven_rules.Pairs.{AreDifferent}
+use Rattle.pass_frames_proof.specs.ir_model.Names.{block_labelled, position_of}
+use Rattle.pass_frames_proof.specs.ir_model.Ty.{Ty, int, ptr}
+use Rattle.pass_frames_proof.specs.ir_model.declared.instr.Instr.{Instr}
+use Rattle.pass_frames_proof.specs.ir_model.declared.module.Block.{Block}
+use Rattle.pass_frames_proof.specs.ir_paths.Windows.{destroy_label, resume_label}
+use Rattle.pass_frames_proof.specs.ir_paths.declared.point.Point.{Point}
+use Rattle.pass_frames_proof.specs.pass_cells.Kept.{entry, joined}
+use Rattle.pass_frames_proof.specs.pass_cells.Plan.{with_returns}
+use Rattle.pass_frames_proof.specs.pass_copies.Slots.{resumed_at, set_resumed}
+use Rattle.pass_frames_proof.specs.pass_copies.Uses.{flag_at}
+use Rattle.pass_frames_proof.specs.pass_fetch.Fetching.{value_bytes}
 use Rattle.pass_frames_meaning.proofs.woken.Fronts.{allocas}
 use Rattle.pass_frames_meaning.proofs.woken.Listed.{listed_suspend}
 use Rattle.pass_frames_meaning.specs.Setting.{Setting}
@@ -37,11 +37,11 @@ use Rattle.pass_frames_proof.specs.Passes.{block_at, no_block}
 use Rattle.pass_frames_proof.specs.Places.{Framing, copies, edged, plan}
 use Rattle.pass_frames_proof.specs.Related.{IsSuspendNumber}
 use Rattle.pass_frames_proof.specs.Waking.{HasEdgeBlock, IsCellMade}
-use Rattle.pass_intrinsics.specs.Shapes.{suspends_of}
-use Rattle.pass_intrinsics.specs.declared.shape.SuspendPoint.{SuspendPoint}
-use Rattle.pass_proofs.proofs.copies.begin_order.Marks.{flag_set, flag_stays}
-use Rattle.pass_proofs.proofs.frames.begin_order.Blocks.{label_low}
-use Rattle.rule_laws.specs.frames.rows.Returns.{HaveOwnReturns, return_labels}
+use Rattle.pass_frames_proof.specs.pass_intrinsics.Shapes.{suspends_of}
+use Rattle.pass_frames_proof.specs.pass_intrinsics.declared.shape.SuspendPoint.{SuspendPoint}
+use Rattle.pass_frames_proof.proofs.pass_proofs.copies.begin_order.Marks.{flag_set, flag_stays}
+use Rattle.pass_frames_proof.proofs.pass_proofs.frames.begin_order.Blocks.{label_low}
+use Rattle.pass_frames_proof.specs.rule_laws.frames.rows.Returns.{HaveOwnReturns, return_labels}
 
 -- ---- labels of suspends in tables
 

@@ -1,6 +1,6 @@
 -- Each step that enters a coroutine is followed.
 use Rattle.std.proofs.Common.{◌≡◌, true}
-use Rattle.ir_base.specs.declared.outcome.Outcome.{Outcome}
+use Rattle.pass_frames_proof.specs.ir_base.declared.outcome.Outcome.{Outcome}
 use Rattle.pass_frames_meaning.proofs.woken.Ramps.{ramps_all}
 use Rattle.pass_frames_meaning.proofs.woken.Wakes.{wakes_followed}
 use Rattle.pass_frames_meaning.specs.Coroutines.{HasStorables, MayFollow}
@@ -9,9 +9,9 @@ use Rattle.pass_frames_meaning.specs.Setting.{AreOfRuns, KeepsAll, Setting}
 use Rattle.pass_frames_meaning.specs.Woken.{KeepsWaking, MayWake}
 use Rattle.pass_frames_proof.specs.Related.{AreBuiltOf, is_coroutine}
 use Rattle.pass_frames_proof.specs.Stepping.{IsNotEntering}
-use Rattle.pass_renewed_proof.specs.Renewed.{renewed_step}
-use Rattle.run_agreement.specs.Machines.{IsFine}
-use Rattle.run_source.specs.declared.state.State.{State}
+use Rattle.pass_frames_proof.specs.pass_renewed_proof.Renewed.{renewed_step}
+use Rattle.pass_frames_proof.specs.run_agreement.Machines.{IsFine}
+use Rattle.pass_frames_proof.specs.run_source.declared.state.State.{State}
 
 pub enters_all : (c : Setting) → KeepsAll c → KeepsWaking c → (s t : State) (r : AreBuiltOf c.b s t)
     → AreOfRuns c s t r

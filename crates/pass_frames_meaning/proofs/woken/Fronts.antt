@@ -2,12 +2,12 @@
 -- them.
 use Rattle.std.proofs.Common.{◌≡◌, inl, inr, ℕ, zero, suc, ◌+◌, ◌<◌, List, [], ◌∷◌, length, Some, refl, sym, ap, ◌∙◌, subst, arith}
 use Rattle.std.specs.Prelude.{slice_get}
-use Rattle.flow_solver.specs.Paths.{IsListed}
-use Rattle.ir_laws.specs.paths.woven_rules.Pairs.{AreDifferent}
-use Rattle.ir_model.specs.Ty.{Ty}
-use Rattle.ir_model.specs.declared.instr.Instr.{Instr}
-use Rattle.ir_paths.specs.Slots.{allocas_in}
-use Rattle.pass_frames.specs.Framed.{begin_of}
+use Rattle.pass_frames_proof.specs.flow_solver.Paths.{IsListed}
+use Rattle.pass_frames_proof.specs.ir_laws.paths.woven_rules.Pairs.{AreDifferent}
+use Rattle.pass_frames_proof.specs.ir_model.Ty.{Ty}
+use Rattle.pass_frames_proof.specs.ir_model.declared.instr.Instr.{Instr}
+use Rattle.pass_frames_proof.specs.ir_paths.Slots.{allocas_in}
+use Rattle.pass_frames_proof.specs.pass_frames.Framed.{begin_of}
 use Rattle.pass_frames_meaning.proofs.led.Begins.{HasBegin, has_begin}
 use Rattle.pass_frames_meaning.specs.Led.{IsBegin}
 use Rattle.pass_frames_meaning.specs.Setting.{Setting}
@@ -22,12 +22,12 @@ use Rattle.pass_frames_proof.specs.Framings.{IsFraming}
 use Rattle.pass_frames_proof.specs.Places.{Framing, framed}
 use Rattle.pass_frames_proof.specs.Ramps.{entry_stores}
 use Rattle.pass_frames_proof.specs.Waking.{AreFrontsGood}
-use Rattle.rule_laws.proofs.rules.source_rules.Locals.{same_instr}
-use Rattle.rule_laws.proofs.rules.sources.Places.{instr_there, point}
-use Rattle.run_laws.specs.access.Lines.{StandAt}
-use Rattle.run_laws.specs.changed.Changed.{Each}
-use Rattle.run_step.specs.Step.{AtInstr, fetch}
-use Rattle.ir_model.specs.declared.module.Function.{Function}
+use Rattle.pass_frames_proof.proofs.rule_laws.rules.source_rules.Locals.{same_instr}
+use Rattle.pass_frames_proof.proofs.rule_laws.rules.sources.Places.{instr_there, point}
+use Rattle.pass_frames_proof.specs.run_laws.access.Lines.{StandAt}
+use Rattle.pass_frames_proof.specs.run_laws.changed.Changed.{Each}
+use Rattle.pass_frames_proof.specs.run_step.Step.{AtInstr, fetch}
+use Rattle.pass_frames_proof.specs.ir_model.declared.module.Function.{Function}
 
 -- ---- their names
 

@@ -2,10 +2,10 @@
 use Rattle.std.proofs.Common.{◌≡◌, ◌⊎◌, inl, inr, ℕ, zero, suc, Bool, true, false, [], ◌∷◌, Some, None, refl, sym, ◌∙◌, subst, if◌then◌else◌}
 use Rattle.std.proofs.lemmas.Bool.{false≢true}
 use Rattle.std.specs.List.{Contains}
-use Rattle.ir_paths.specs.declared.point.Point.{Point}
-use Rattle.pass_cells.specs.Kept.{entry}
-use Rattle.pass_cells.specs.declared.plan.KeptValue.{KeptValue}
-use Rattle.pass_frames.specs.Framed.{begin_of}
+use Rattle.pass_frames_proof.specs.ir_paths.declared.point.Point.{Point}
+use Rattle.pass_frames_proof.specs.pass_cells.Kept.{entry}
+use Rattle.pass_frames_proof.specs.pass_cells.declared.plan.KeptValue.{KeptValue}
+use Rattle.pass_frames_proof.specs.pass_frames.Framed.{begin_of}
 use Rattle.pass_frames_meaning.proofs.begun.Begun.{begin_plain}
 use Rattle.pass_frames_meaning.proofs.woken.Unkept.{alloca_near, alloca_unkept, begin_near}
 use Rattle.pass_frames_meaning.specs.Setting.{Setting}
@@ -13,11 +13,11 @@ use Rattle.pass_frames_meaning.specs.Woken.{IsHandedOn, IsWakeable}
 use Rattle.pass_frames_proof.specs.Framings.{IsFraming}
 use Rattle.pass_frames_proof.specs.Places.{Framing, offsets, plan}
 use Rattle.pass_frames_proof.specs.Related.{AreGone, IsKeptValue, IsSuspendNumber}
-use Rattle.pass_kept_proof.proofs.Same.{kept_at}
-use Rattle.pass_kept_proof.specs.Kept.{kept}
-use Rattle.pass_proofs.specs.addresses.rules.Addresses.{lies_in_frame}
-use Rattle.run_memory.specs.declared.pointer.Value.{Value}
-use Rattle.run_step.specs.Values.{Env, value_in}
+use Rattle.pass_frames_proof.proofs.pass_kept_proof.Same.{kept_at}
+use Rattle.pass_frames_proof.specs.pass_kept_proof.Kept.{kept}
+use Rattle.pass_frames_proof.specs.pass_proofs.addresses.rules.Addresses.{lies_in_frame}
+use Rattle.pass_frames_proof.specs.run_memory.declared.pointer.Value.{Value}
+use Rattle.pass_frames_proof.specs.run_step.Values.{Env, value_in}
 
 -- what isn't handed on has no value
 pub kept_out : (keep : ℕ → Bool) (env : Env) (v : ℕ) → keep v ≡ false → value_in (kept keep env) v ≡ Value.Poison

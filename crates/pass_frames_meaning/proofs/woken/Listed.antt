@@ -1,18 +1,18 @@
 -- Suspends in order of the text are those that the passes list, and lead to the same labels.
 use Rattle.std.proofs.Common.{◌≡◌, ℕ, zero, suc, ◌+◌, Bool, List, [], ◌∷◌, ◌++◌, Some, append-nil, append_assoc, refl, sym, ap, ◌∙◌, subst, arith}
 use Rattle.std.specs.Prelude.{slice_get}
-use Rattle.ir_model.specs.declared.instr.Instr.{Instr}
-use Rattle.ir_model.specs.declared.module.Block.{Block}
-use Rattle.ir_model.specs.declared.module.Function.{Function}
-use Rattle.ir_model.specs.declared.operand.Callee.{Callee}
-use Rattle.ir_model.specs.declared.operand.Intrinsic.{Intrinsic}
-use Rattle.ir_paths.specs.Windows.{destroy_label, is_call_of, label_at, points_from, points_in, points_where, resume_label}
-use Rattle.ir_paths.specs.declared.point.Point.{Point}
+use Rattle.pass_frames_proof.specs.ir_model.declared.instr.Instr.{Instr}
+use Rattle.pass_frames_proof.specs.ir_model.declared.module.Block.{Block}
+use Rattle.pass_frames_proof.specs.ir_model.declared.module.Function.{Function}
+use Rattle.pass_frames_proof.specs.ir_model.declared.operand.Callee.{Callee}
+use Rattle.pass_frames_proof.specs.ir_model.declared.operand.Intrinsic.{Intrinsic}
+use Rattle.pass_frames_proof.specs.ir_paths.Windows.{destroy_label, is_call_of, label_at, points_from, points_in, points_where, resume_label}
+use Rattle.pass_frames_proof.specs.ir_paths.declared.point.Point.{Point}
 use Rattle.pass_frames_meaning.specs.Woken.{IsListedSuspend}
 use Rattle.pass_frames_proof.specs.Places.{Framing, edged}
 use Rattle.pass_frames_proof.specs.Related.{IsSuspendNumber}
-use Rattle.pass_intrinsics.specs.Shapes.{suspends_of, with_suspend, with_suspends_by, with_suspends_in}
-use Rattle.pass_intrinsics.specs.declared.shape.SuspendPoint.{SuspendPoint}
+use Rattle.pass_frames_proof.specs.pass_intrinsics.Shapes.{suspends_of, with_suspend, with_suspends_by, with_suspends_in}
+use Rattle.pass_frames_proof.specs.pass_intrinsics.declared.shape.SuspendPoint.{SuspendPoint}
 
 abbrev is_suspend : Instr → Bool
 is_suspend i = is_call_of Intrinsic.CoroSuspend i

@@ -1,30 +1,30 @@
 -- In both runs between which frames are built, what makes slots anew comes of a resume or destroy.
 use Rattle.std.proofs.Common.{◌≡◌, ℕ, Bool, true, false, List, [], ◌∷◌, Option, Some, None, Result, Ok, Err, refl, sym, ap, ◌∙◌, subst, if◌then◌else◌, ◌&&◌, ◌==◌}
 use Rattle.std.specs.Prelude.{is_none, not}
-use Rattle.ir_base.specs.declared.cause.Cause.{Cause}
+use Rattle.pass_frames_proof.specs.ir_base.declared.cause.Cause.{Cause}
 use Rattle.pass_frames_meaning.proofs.called.CalledHooks.{framed_keeps_called, renewed_keeps_called}
 use Rattle.pass_frames_meaning.specs.Called.{IsCalm}
 use Rattle.pass_frames_meaning.specs.Woken.{KeepsModes}
 use Rattle.pass_frames_proof.specs.Stepping.{IsNotEntering}
-use Rattle.pass_renewed_proof.specs.Renewed.{RenewedGiven, renewed_slot, with_life}
-use Rattle.run_framed.specs.Framed.{FramedGiven, disown_given, framed_begin, framed_finish, framed_slot, given_call, is_stack_block}
-use Rattle.run_hooks.proofs.PlacedKeeping.{renewed_keeps_placed}
-use Rattle.run_hooks.specs.Meanings.{framed_hooks, renewed_hooks}
-use Rattle.run_memory.specs.Memory.{disown, own, start}
-use Rattle.run_memory.specs.declared.block.Kind.{Kind}
-use Rattle.run_memory.specs.declared.block.MemoryBlock.{MemoryBlock}
-use Rattle.run_memory.specs.declared.pointer.Value.{Value}
-use Rattle.run_memory.specs.Memory.{killed}
-use Rattle.run_source.specs.Source.{begin, begin_at, begun, change_own, finish, is_among, is_over, kill_late, new_slot, slots_of, with_new_slots}
-use Rattle.run_source.specs.State.{function_of, gives, own_facts, own_frame, own_instance, with_memory}
-use Rattle.run_source.specs.declared.state.Instance.{Instance}
-use Rattle.run_source.specs.declared.state.Mode.{Mode}
-use Rattle.run_source.specs.declared.state.State.{State}
-use Rattle.run_source.specs.declared.state.Status.{Status}
-use Rattle.run_source_tables.specs.Given.{Given}
-use Rattle.run_step.specs.Results.{and_then, found, ok_if}
-use Rattle.run_step.specs.Step.{block_of, fetch, without_slots}
-use Rattle.run_step.specs.declared.world.Slot.{Slot}
+use Rattle.pass_frames_proof.specs.pass_renewed_proof.Renewed.{RenewedGiven, renewed_slot, with_life}
+use Rattle.pass_frames_proof.specs.run_framed.Framed.{FramedGiven, disown_given, framed_begin, framed_finish, framed_slot, given_call, is_stack_block}
+use Rattle.pass_renewed_meaning.proofs.run_hooks.PlacedKeeping.{renewed_keeps_placed}
+use Rattle.pass_renewed_meaning.specs.run_hooks.Meanings.{framed_hooks, renewed_hooks}
+use Rattle.pass_frames_proof.specs.run_memory.Memory.{disown, own, start}
+use Rattle.pass_frames_proof.specs.run_memory.declared.block.Kind.{Kind}
+use Rattle.pass_frames_proof.specs.run_memory.declared.block.MemoryBlock.{MemoryBlock}
+use Rattle.pass_frames_proof.specs.run_memory.declared.pointer.Value.{Value}
+use Rattle.pass_frames_proof.specs.run_memory.Memory.{killed}
+use Rattle.pass_frames_proof.specs.run_source.Source.{begin, begin_at, begun, change_own, finish, is_among, is_over, kill_late, new_slot, slots_of, with_new_slots}
+use Rattle.pass_frames_proof.specs.run_source.State.{function_of, gives, own_facts, own_frame, own_instance, with_memory}
+use Rattle.pass_frames_proof.specs.run_source.declared.state.Instance.{Instance}
+use Rattle.pass_frames_proof.specs.run_source.declared.state.Mode.{Mode}
+use Rattle.pass_frames_proof.specs.run_source.declared.state.State.{State}
+use Rattle.pass_frames_proof.specs.run_source.declared.state.Status.{Status}
+use Rattle.pass_frames_proof.specs.run_source_tables.Given.{Given}
+use Rattle.pass_frames_proof.specs.run_step.Results.{and_then, found, ok_if}
+use Rattle.pass_frames_proof.specs.run_step.Step.{block_of, fetch, without_slots}
+use Rattle.pass_frames_proof.specs.run_step.declared.world.Slot.{Slot}
 
 new_slot_mode : (g : Given) (s : State) (slot : Slot) → (new_slot g s slot).top.mode ≡ s.top.mode
 new_slot_mode g s slot = on (own_instance s)

@@ -1,13 +1,13 @@
 -- A suspend has a number in order of the text.
 use Rattle.std.proofs.Common.{◌≡◌, inl, inr, ℕ, zero, suc, ◌+◌, Bool, true, false, List, [], ◌∷◌, Some, None, Option, refl, sym, ap, ◌∙◌, subst, arith, if◌then◌else◌}
 use Rattle.std.specs.Prelude.{slice_get}
-use Rattle.flow_solver.specs.Paths.{IsListed}
-use Rattle.ir_laws.proofs.paths.source_rules.Locals.{listed_left, listed_right}
-use Rattle.ir_model.specs.declared.instr.Instr.{Instr}
-use Rattle.ir_model.specs.declared.module.Block.{Block}
-use Rattle.ir_model.specs.declared.module.Function.{Function}
-use Rattle.ir_paths.specs.Windows.{instr_at, instr_in, points_from, points_in, points_where}
-use Rattle.ir_paths.specs.declared.point.Point.{Point}
+use Rattle.pass_frames_proof.specs.flow_solver.Paths.{IsListed}
+use Rattle.pass_frames_proof.proofs.ir_laws.paths.source_rules.Locals.{listed_left, listed_right}
+use Rattle.pass_frames_proof.specs.ir_model.declared.instr.Instr.{Instr}
+use Rattle.pass_frames_proof.specs.ir_model.declared.module.Block.{Block}
+use Rattle.pass_frames_proof.specs.ir_model.declared.module.Function.{Function}
+use Rattle.pass_frames_proof.specs.ir_paths.Windows.{instr_at, instr_in, points_from, points_in, points_where}
+use Rattle.pass_frames_proof.specs.ir_paths.declared.point.Point.{Point}
 
 -- what is listed stands at a position
 index_of : {A : Type 0} (xs : List A) (x : A) → IsListed x xs → (k : ℕ) × (slice_get xs k ≡ Some x)

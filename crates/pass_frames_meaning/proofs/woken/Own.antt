@@ -1,21 +1,21 @@
 -- Allocas of an entry that lie in no frame, in front of the framed form's entry.
 use Rattle.std.proofs.Common.{◌≡◌, inl, ℕ, zero, suc, ◌+◌, ◌<◌, ◌≤◌, false, List, [], ◌∷◌, ◌++◌, take, Some, None, refl, sym, subst, arith}
 use Rattle.std.specs.Prelude.{slice_get}
-use Rattle.flow_solver.specs.Paths.{IsListed}
-use Rattle.ir_laws.proofs.paths.source_rules.Locals.{listed_left, listed_right}
-use Rattle.ir_model.specs.Ty.{Ty}
-use Rattle.ir_model.specs.declared.instr.Instr.{Instr}
-use Rattle.ir_paths.specs.Slots.{allocas_in}
-use Rattle.pass_cells.specs.Kept.{entry}
+use Rattle.pass_frames_proof.specs.flow_solver.Paths.{IsListed}
+use Rattle.pass_frames_proof.proofs.ir_laws.paths.source_rules.Locals.{listed_left, listed_right}
+use Rattle.pass_frames_proof.specs.ir_model.Ty.{Ty}
+use Rattle.pass_frames_proof.specs.ir_model.declared.instr.Instr.{Instr}
+use Rattle.pass_frames_proof.specs.ir_paths.Slots.{allocas_in}
+use Rattle.pass_frames_proof.specs.pass_cells.Kept.{entry}
 use Rattle.pass_frames_proof.proofs.allocating.Stands.{one_further, stands_in_front}
 use Rattle.pass_frames_proof.proofs.anew.Lists.{allocas_append, allocas_apart}
 use Rattle.pass_frames_proof.proofs.entering.Stand.{between}
-use Rattle.ir_laws.specs.paths.woven_rules.Pairs.{AreDifferent}
+use Rattle.pass_frames_proof.specs.ir_laws.paths.woven_rules.Pairs.{AreDifferent}
 use Rattle.pass_frames_proof.specs.Entering.{AreAllocasBetween, allocas_up_to, front_allocas}
 use Rattle.pass_frames_proof.specs.Framings.{IsFraming}
 use Rattle.pass_frames_proof.specs.Places.{Framing, instrs_at, offsets, plan}
 use Rattle.pass_frames_proof.specs.Waking.{StandsInFront}
-use Rattle.pass_proofs.specs.addresses.rules.Addresses.{lies_in_frame}
+use Rattle.pass_frames_proof.specs.pass_proofs.addresses.rules.Addresses.{lies_in_frame}
 
 -- an alloca of a line is one of a longer one
 pub joined_left : (v : ℕ) (is js : List Instr) → IsListed v (allocas_in is) → IsListed v (allocas_in (is ++ js))

@@ -3,19 +3,19 @@ use Rattle.std.proofs.Common.{◌≡◌, ℕ, suc, ◌<◌, Bool, true, false, L
 use Rattle.std.proofs.lemmas.Bool.{and_parts, false≢true}
 use Rattle.std.proofs.lemmas.List.{length-map, length-replicate}
 use Rattle.std.specs.Prelude.{slice_get, unwrap_or}
-use Rattle.ir_base.specs.declared.name.Name.{Name}
-use Rattle.ir_base.specs.declared.outcome.Outcome.{Outcome}
-use Rattle.ir_laws.proofs.facts.Members.{each_turns}
-use Rattle.ir_model.specs.Layout.{same_type}
-use Rattle.ir_model.specs.Names.{declaration_named, function_at, function_named, no_function}
-use Rattle.ir_model.specs.Ty.{Ty}
-use Rattle.ir_model.specs.declared.instr.Instr.{Instr}
-use Rattle.ir_model.specs.declared.module.Function.{Function}
-use Rattle.ir_model.specs.declared.module.Param.{Param}
-use Rattle.ir_model.specs.declared.operand.Arg.{Arg}
-use Rattle.ir_model.specs.declared.operand.Callee.{Callee}
-use Rattle.ir_model.specs.declared.operand.Intrinsic.{Intrinsic}
-use Rattle.pass_cells.specs.declared.plan.KeptValue.{KeptValue}
+use Rattle.pass_frames_proof.specs.ir_base.declared.name.Name.{Name}
+use Rattle.pass_frames_proof.specs.ir_base.declared.outcome.Outcome.{Outcome}
+use Rattle.pass_frames_proof.proofs.ir_laws.facts.Members.{each_turns}
+use Rattle.pass_frames_proof.specs.ir_model.Layout.{same_type}
+use Rattle.pass_frames_proof.specs.ir_model.Names.{declaration_named, function_at, function_named, no_function}
+use Rattle.pass_frames_proof.specs.ir_model.Ty.{Ty}
+use Rattle.pass_frames_proof.specs.ir_model.declared.instr.Instr.{Instr}
+use Rattle.pass_frames_proof.specs.ir_model.declared.module.Function.{Function}
+use Rattle.pass_frames_proof.specs.ir_model.declared.module.Param.{Param}
+use Rattle.pass_frames_proof.specs.ir_model.declared.operand.Arg.{Arg}
+use Rattle.pass_frames_proof.specs.ir_model.declared.operand.Callee.{Callee}
+use Rattle.pass_frames_proof.specs.ir_model.declared.operand.Intrinsic.{Intrinsic}
+use Rattle.pass_frames_proof.specs.pass_cells.declared.plan.KeptValue.{KeptValue}
 use Rattle.pass_frames_meaning.proofs.called.Comes.{Comes, comes}
 use Rattle.pass_frames_meaning.proofs.coroutines.Calls.{has_blocks}
 use Rattle.pass_frames_meaning.proofs.coroutines.Steps.{may_stand}
@@ -43,16 +43,16 @@ use Rattle.pass_frames_proof.specs.Ramps.{FitsParam, IsRamp}
 use Rattle.pass_frames_proof.specs.Related.{AreBuiltOf, IsKeptValue, is_coroutine}
 use Rattle.pass_frames_proof.specs.Stepping.{IsNotEntering, state_in}
 use Rattle.pass_frames_proof.specs.Stores.{given_params}
-use Rattle.pass_renewed_proof.specs.Renewed.{renewed_step}
-use Rattle.rule_types.specs.Signatures.{fits_function, fits_position, same_list, same_result}
-use Rattle.run_agreement.specs.Machines.{IsFine}
-use Rattle.run_laws.specs.changed.Changed.{Each}
-use Rattle.run_memory.specs.declared.pointer.Value.{Value}
-use Rattle.run_source.specs.Source.{context_of, enter}
-use Rattle.run_source.specs.State.{function_of, work_of}
-use Rattle.run_source.specs.declared.state.State.{State}
-use Rattle.run_step.specs.Step.{Action, AtInstr, Enter, entry_values, fetch, instr_action, named_call, with_params, words_of}
-use Rattle.run_step.specs.Values.{arg_value, arg_values, value_in}
+use Rattle.pass_frames_proof.specs.pass_renewed_proof.Renewed.{renewed_step}
+use Rattle.pass_frames_proof.specs.rule_types.Signatures.{fits_function, fits_position, same_list, same_result}
+use Rattle.pass_frames_proof.specs.run_agreement.Machines.{IsFine}
+use Rattle.pass_frames_proof.specs.run_laws.changed.Changed.{Each}
+use Rattle.pass_frames_proof.specs.run_memory.declared.pointer.Value.{Value}
+use Rattle.pass_frames_proof.specs.run_source.Source.{context_of, enter}
+use Rattle.pass_frames_proof.specs.run_source.State.{function_of, work_of}
+use Rattle.pass_frames_proof.specs.run_source.declared.state.State.{State}
+use Rattle.pass_frames_proof.specs.run_step.Step.{Action, AtInstr, Enter, entry_values, fetch, instr_action, named_call, with_params, words_of}
+use Rattle.pass_frames_proof.specs.run_step.Values.{arg_value, arg_values, value_in}
 
 -- ---- as many arguments as parameters
 

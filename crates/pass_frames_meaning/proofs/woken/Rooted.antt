@@ -1,16 +1,16 @@
 -- An address in a slot that is made anew and is kept in no cell: it is the alloca's own name, or isn't handed on.
 use Rattle.std.proofs.Common.{◌≡◌, ◌⊎◌, inl, inr, ℕ, Bool, true, false, Some, None, refl, sym, ap, ◌∙◌, subst}
-use Rattle.flow_solver.specs.Paths.{IsListed}
-use Rattle.ir_model.specs.Names.{function_at}
-use Rattle.ir_model.specs.Ty.{Ty}
-use Rattle.ir_model.specs.declared.instr.Instr.{Instr}
-use Rattle.ir_model.specs.declared.module.Function.{Function}
-use Rattle.ir_model.specs.declared.operand.Operand.{Operand}
-use Rattle.ir_paths.specs.Slots.{allocas_of}
-use Rattle.ir_paths.specs.declared.point.Point.{Point}
-use Rattle.pass_cells.specs.Kept.{entry}
-use Rattle.pass_cells.specs.declared.plan.KeptValue.{KeptValue}
-use Rattle.pass_frames.specs.Framed.{begin_of}
+use Rattle.pass_frames_proof.specs.flow_solver.Paths.{IsListed}
+use Rattle.pass_frames_proof.specs.ir_model.Names.{function_at}
+use Rattle.pass_frames_proof.specs.ir_model.Ty.{Ty}
+use Rattle.pass_frames_proof.specs.ir_model.declared.instr.Instr.{Instr}
+use Rattle.pass_frames_proof.specs.ir_model.declared.module.Function.{Function}
+use Rattle.pass_frames_proof.specs.ir_model.declared.operand.Operand.{Operand}
+use Rattle.pass_frames_proof.specs.ir_paths.Slots.{allocas_of}
+use Rattle.pass_frames_proof.specs.ir_paths.declared.point.Point.{Point}
+use Rattle.pass_frames_proof.specs.pass_cells.Kept.{entry}
+use Rattle.pass_frames_proof.specs.pass_cells.declared.plan.KeptValue.{KeptValue}
+use Rattle.pass_frames_proof.specs.pass_frames.Framed.{begin_of}
 use Rattle.pass_frames_meaning.proofs.led.Begins.{HasBegin, has_begin}
 use Rattle.pass_frames_meaning.proofs.woken.Sleeping.{entry_alloca, is, made_there, same, w}
 use Rattle.pass_frames_meaning.proofs.woken.Unkept.{begin_no_alloca}
@@ -20,11 +20,11 @@ use Rattle.pass_frames_meaning.specs.Woken.{IsHandedOn, IsWakeable, KeepsWaking}
 use Rattle.pass_frames_proof.specs.Framings.{IsFraming}
 use Rattle.pass_frames_proof.specs.Places.{Framing, edged, plan}
 use Rattle.pass_frames_proof.specs.Related.{IsKeptValue, IsSuspendNumber, is_coroutine}
-use Rattle.pass_renewed_proof.proofs.History.{fetch_is as fetched_there}
-use Rattle.pass_renewed_proof.specs.SlotRules.{IsAddressOf, IsMadeOnce, Itself, Part}
-use Rattle.pass_renewed_proof.specs.Steps.{given_at}
-use Rattle.rule_laws.proofs.rules.source_rules.Slots.{HasAlloca, alloca_of}
-use Rattle.run_step.specs.Step.{AtInstr, fetch}
+use Rattle.pass_frames_proof.proofs.pass_renewed_proof.History.{fetch_is as fetched_there}
+use Rattle.pass_frames_proof.specs.pass_renewed_proof.SlotRules.{IsAddressOf, IsMadeOnce, Itself, Part}
+use Rattle.pass_frames_proof.specs.pass_renewed_proof.Steps.{given_at}
+use Rattle.pass_frames_proof.proofs.rule_laws.rules.source_rules.Slots.{HasAlloca, alloca_of}
+use Rattle.pass_frames_proof.specs.run_step.Step.{AtInstr, fetch}
 use Rattle.pass_frames_meaning.proofs.others.Returns.{instr_in}
 
 module _ (c : Setting) (all : KeepsAll c) (waking : KeepsWaking c) (func : ℕ)

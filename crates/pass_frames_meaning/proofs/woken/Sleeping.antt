@@ -3,17 +3,17 @@
 use Rattle.std.proofs.Common.{◌≡◌, ◌⊎◌, ◌∷◌, [], inl, inr, ⊎_elim, ℕ, Bool, true, false, List, Option, Some, None, Ok, refl, sym, ap, ◌∙◌, subst, arith}
 use Rattle.std.proofs.lemmas.Bool.{false≢true}
 use Rattle.std.specs.Prelude.{flat_map, slice_get}
-use Rattle.flow_solver.specs.Paths.{IsListed}
-use Rattle.ir_laws.proofs.paths.source_rules.Locals.{listed_left}
-use Rattle.ir_model.specs.Names.{function_at}
-use Rattle.ir_model.specs.Ty.{Ty}
-use Rattle.ir_model.specs.declared.instr.Instr.{Instr}
-use Rattle.ir_model.specs.declared.module.Block.{Block}
-use Rattle.ir_model.specs.declared.module.Function.{Function}
-use Rattle.ir_paths.specs.Slots.{allocas_in, allocas_of}
-use Rattle.ir_paths.specs.declared.point.Point.{Point}
-use Rattle.pass_cells.specs.Kept.{entry}
-use Rattle.pass_frames.specs.Framed.{begin_of}
+use Rattle.pass_frames_proof.specs.flow_solver.Paths.{IsListed}
+use Rattle.pass_frames_proof.proofs.ir_laws.paths.source_rules.Locals.{listed_left}
+use Rattle.pass_frames_proof.specs.ir_model.Names.{function_at}
+use Rattle.pass_frames_proof.specs.ir_model.Ty.{Ty}
+use Rattle.pass_frames_proof.specs.ir_model.declared.instr.Instr.{Instr}
+use Rattle.pass_frames_proof.specs.ir_model.declared.module.Block.{Block}
+use Rattle.pass_frames_proof.specs.ir_model.declared.module.Function.{Function}
+use Rattle.pass_frames_proof.specs.ir_paths.Slots.{allocas_in, allocas_of}
+use Rattle.pass_frames_proof.specs.ir_paths.declared.point.Point.{Point}
+use Rattle.pass_frames_proof.specs.pass_cells.Kept.{entry}
+use Rattle.pass_frames_proof.specs.pass_frames.Framed.{begin_of}
 use Rattle.pass_frames_meaning.proofs.begun.Begun.{begin_plain}
 use Rattle.pass_frames_meaning.proofs.led.Values.{asleep_at}
 use Rattle.pass_frames_meaning.proofs.others.Returns.{instr_in}
@@ -34,19 +34,19 @@ use Rattle.pass_frames_proof.specs.Framings.{IsFraming}
 use Rattle.pass_frames_proof.specs.Places.{Framing, edged, instrs_at, offsets, plan}
 use Rattle.pass_frames_proof.specs.Related.{AreBuiltOf, AreInstances, IsStatus, IsSuspendNumber, is_coroutine}
 use Rattle.pass_frames_proof.specs.Waking.{HasFirstAnew, HasNoneAnew, IsSleeping}
-use Rattle.pass_kept_proof.proofs.Same.{kept_at}
-use Rattle.pass_kept_proof.specs.Kept.{kept}
-use Rattle.pass_proofs.specs.addresses.rules.Addresses.{lies_in_frame}
-use Rattle.pass_renewed_proof.specs.Renewed.{renewed_from}
-use Rattle.pass_renewed_proof.specs.SlotRules.{IsMadeOnce}
-use Rattle.run_memory.specs.declared.pointer.Value.{Value}
-use Rattle.run_source.specs.Source.{Sleeper, sleeper_at}
-use Rattle.run_source.specs.State.{frame_address_of}
-use Rattle.run_source.specs.declared.state.Instance.{Instance}
-use Rattle.run_source.specs.declared.state.State.{State}
-use Rattle.run_source.specs.declared.state.Status.{Status}
-use Rattle.run_states.proofs.sound_states.Acts.{IsAsleepAt, asleep_there}
-use Rattle.run_step.specs.Values.{Env, value_in}
+use Rattle.pass_frames_proof.proofs.pass_kept_proof.Same.{kept_at}
+use Rattle.pass_frames_proof.specs.pass_kept_proof.Kept.{kept}
+use Rattle.pass_frames_proof.specs.pass_proofs.addresses.rules.Addresses.{lies_in_frame}
+use Rattle.pass_frames_proof.specs.pass_renewed_proof.Renewed.{renewed_from}
+use Rattle.pass_frames_proof.specs.pass_renewed_proof.SlotRules.{IsMadeOnce}
+use Rattle.pass_frames_proof.specs.run_memory.declared.pointer.Value.{Value}
+use Rattle.pass_frames_proof.specs.run_source.Source.{Sleeper, sleeper_at}
+use Rattle.pass_frames_proof.specs.run_source.State.{frame_address_of}
+use Rattle.pass_frames_proof.specs.run_source.declared.state.Instance.{Instance}
+use Rattle.pass_frames_proof.specs.run_source.declared.state.State.{State}
+use Rattle.pass_frames_proof.specs.run_source.declared.state.Status.{Status}
+use Rattle.pass_frames_proof.proofs.run_states.sound_states.Acts.{IsAsleepAt, asleep_there}
+use Rattle.pass_frames_proof.specs.run_step.Values.{Env, value_in}
 
 -- ---- of a coroutine, where it is woken behind a suspend
 
@@ -201,7 +201,7 @@ module _ (c : Setting) (all : KeepsAll c) (waking : KeepsWaking c) (s t : State)
       (frame_address_of y.instance)) asleep.status
       (asleep_at c.g.given.code none_counts s.instances y.number y.instance asleep.got may.led.instances) in
       led.begun (begin_of f.function)
-      (ap Rattle.run_framed.specs.Framed.begin_name (same c all waking own coroutine_there) ∙ wakeable.begins)
+      (ap Rattle.pass_frames_proof.specs.run_framed.Framed.begin_name (same c all waking own coroutine_there) ∙ wakeable.begins)
 
   pub begun_now : (value_in (kept (c.g.keep own y.suspend) y.values) (begin_of f.function) ≡ Value.Poison)
       ⊎ (value_in (kept (c.g.keep own y.suspend) y.values) (begin_of f.function) ≡ frame_address_of y.instance)
@@ -232,7 +232,7 @@ module _ (c : Setting) (all : KeepsAll c) (waking : KeepsWaking c) (s t : State)
       there = asleep.got;
       status = asleep.status;
       unfreed = may.unfreed y.number y.instance asleep.got
-          (ap Rattle.run_source.specs.State.is_suspended asleep.status);
+          (ap Rattle.pass_frames_proof.specs.run_source.State.is_suspended asleep.status);
       small =
           let first = (instances_placed s k.slots).starts y.number y.instance asleep.got in
           omega (arith, first);

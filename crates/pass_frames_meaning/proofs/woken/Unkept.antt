@@ -1,18 +1,18 @@
 -- Allocas and begin give names that are kept in no cell, and of which no distance is kept.
 use Rattle.std.proofs.Common.{◌≡◌, ℕ, Bool, List, Option, Some, None, refl, sym, ◌∙◌, subst}
 use Rattle.std.specs.Prelude.{slice_get, unwrap_or}
-use Rattle.flow_solver.specs.Paths.{IsListed}
-use Rattle.frame_classes.specs.declared.class.SlotClass.{SlotClass}
-use Rattle.ir_model.specs.declared.instr.Instr.{Instr}
-use Rattle.ir_model.specs.declared.module.Block.{Block}
-use Rattle.ir_model.specs.declared.operand.Callee.{Callee}
-use Rattle.ir_model.specs.declared.operand.Intrinsic.{Intrinsic}
-use Rattle.ir_paths.specs.Slots.{allocas_of}
-use Rattle.ir_paths.specs.Windows.{instr_at, instr_in}
-use Rattle.ir_paths.specs.declared.point.Point.{Point}
-use Rattle.pass_cells.specs.Kept.{entry}
-use Rattle.pass_frames.specs.Framed.{begin_of}
-use Rattle.pass_frames.specs.Tables.{class_flags}
+use Rattle.pass_frames_proof.specs.flow_solver.Paths.{IsListed}
+use Rattle.pass_frames_proof.specs.frame_classes.declared.class.SlotClass.{SlotClass}
+use Rattle.pass_frames_proof.specs.ir_model.declared.instr.Instr.{Instr}
+use Rattle.pass_frames_proof.specs.ir_model.declared.module.Block.{Block}
+use Rattle.pass_frames_proof.specs.ir_model.declared.operand.Callee.{Callee}
+use Rattle.pass_frames_proof.specs.ir_model.declared.operand.Intrinsic.{Intrinsic}
+use Rattle.pass_frames_proof.specs.ir_paths.Slots.{allocas_of}
+use Rattle.pass_frames_proof.specs.ir_paths.Windows.{instr_at, instr_in}
+use Rattle.pass_frames_proof.specs.ir_paths.declared.point.Point.{Point}
+use Rattle.pass_frames_proof.specs.pass_cells.Kept.{entry}
+use Rattle.pass_frames_proof.specs.pass_frames.Framed.{begin_of}
+use Rattle.pass_frames_proof.specs.pass_frames.Tables.{class_flags}
 use Rattle.pass_frames_meaning.proofs.led.Begins.{HasBegin, has_begin}
 use Rattle.pass_frames_meaning.proofs.others.Names.{no_distance, once}
 use Rattle.pass_frames_meaning.specs.Led.{IsBegin}
@@ -20,11 +20,11 @@ use Rattle.pass_frames_meaning.specs.Plain.{IsNoGep}
 use Rattle.pass_frames_proof.specs.Framings.{IsFraming}
 use Rattle.pass_frames_proof.specs.Passes.{no_block}
 use Rattle.pass_frames_proof.specs.Places.{Framing, edged, instrs_at, plan}
-use Rattle.pass_proofs.proofs.cells.rules.Keepable.{keeping_holds, once as names_once}
-use Rattle.rule_laws.proofs.rules.counted.Slots.{alloca_sized}
-use Rattle.rule_laws.proofs.rules.renamed.Uses.{result_spelt}
-use Rattle.rule_laws.proofs.rules.source_rules.Slots.{HasAlloca, alloca_of}
-use Rattle.run_framed.specs.Framed.{begin_name}
+use Rattle.pass_frames_proof.proofs.pass_proofs.cells.rules.Keepable.{keeping_holds, once as names_once}
+use Rattle.pass_frames_proof.proofs.rule_laws.rules.counted.Slots.{alloca_sized}
+use Rattle.pass_frames_proof.proofs.rule_laws.rules.renamed.Uses.{result_spelt}
+use Rattle.pass_frames_proof.proofs.rule_laws.rules.source_rules.Slots.{HasAlloca, alloca_of}
+use Rattle.pass_frames_proof.specs.run_framed.Framed.{begin_name}
 
 -- what stands at a point is in its block
 in_block : (x : Framing) (p : Point) (i : Instr) → instr_at (edged x) p ≡ Some i

@@ -1,21 +1,21 @@
 -- Resumes and destroys are followed.
 use Rattle.std.proofs.Common.{◌≡◌, ◌⊎◌, inl, inr, ⊎_elim, ℕ, Bool, true, false, List, Option, Some, None, Result, Ok, Err, refl, sym, ap, ◌∙◌, subst, if◌then◌else◌}
 use Rattle.std.specs.Prelude.{not, slice_get}
-use Rattle.ir_base.specs.declared.cause.Cause.{Cause}
-use Rattle.ir_base.specs.declared.outcome.Outcome.{Outcome}
-use Rattle.ir_laws.proofs.facts.Members.{at_each}
-use Rattle.ir_laws.proofs.paths.alike_functions.Lists.{each_where}
-use Rattle.ir_model.specs.Names.{function_at}
-use Rattle.ir_model.specs.Ty.{Ty}
-use Rattle.ir_model.specs.declared.instr.Instr.{Instr}
-use Rattle.ir_model.specs.declared.module.Function.{Function}
-use Rattle.ir_model.specs.declared.operand.Arg.{Arg}
-use Rattle.ir_model.specs.declared.operand.Callee.{Callee}
-use Rattle.ir_model.specs.declared.operand.Intrinsic.{Intrinsic}
-use Rattle.ir_paths.specs.Windows.{destroy_label, instr_at, instr_in, is_call_of, points_where, resume_label}
-use Rattle.ir_paths.specs.declared.point.Point.{Point}
-use Rattle.ir_model.specs.declared.module.Block.{Block}
-use Rattle.pass_copies.specs.Uses.{is_access}
+use Rattle.pass_frames_proof.specs.ir_base.declared.cause.Cause.{Cause}
+use Rattle.pass_frames_proof.specs.ir_base.declared.outcome.Outcome.{Outcome}
+use Rattle.pass_frames_proof.proofs.ir_laws.facts.Members.{at_each}
+use Rattle.pass_frames_proof.proofs.ir_laws.paths.alike_functions.Lists.{each_where}
+use Rattle.pass_frames_proof.specs.ir_model.Names.{function_at}
+use Rattle.pass_frames_proof.specs.ir_model.Ty.{Ty}
+use Rattle.pass_frames_proof.specs.ir_model.declared.instr.Instr.{Instr}
+use Rattle.pass_frames_proof.specs.ir_model.declared.module.Function.{Function}
+use Rattle.pass_frames_proof.specs.ir_model.declared.operand.Arg.{Arg}
+use Rattle.pass_frames_proof.specs.ir_model.declared.operand.Callee.{Callee}
+use Rattle.pass_frames_proof.specs.ir_model.declared.operand.Intrinsic.{Intrinsic}
+use Rattle.pass_frames_proof.specs.ir_paths.Windows.{destroy_label, instr_at, instr_in, is_call_of, points_where, resume_label}
+use Rattle.pass_frames_proof.specs.ir_paths.declared.point.Point.{Point}
+use Rattle.pass_frames_proof.specs.ir_model.declared.module.Block.{Block}
+use Rattle.pass_frames_proof.specs.pass_copies.Uses.{is_access}
 use Rattle.pass_frames_meaning.proofs.coroutines.Steps.{may_stand}
 use Rattle.pass_frames_meaning.proofs.ordinary.Standing.{fetch_ready}
 use Rattle.pass_frames_meaning.proofs.others.Names.{result_low}
@@ -38,18 +38,18 @@ use Rattle.pass_frames_proof.specs.Places.{Framing, edged, is_return}
 use Rattle.pass_frames_proof.specs.Related.{AreBuiltOf, IsSuspendNumber, is_coroutine}
 use Rattle.pass_frames_proof.specs.Stepping.{IsNotEntering, state_in}
 use Rattle.pass_frames_proof.specs.Waking.{HasFirstAnew, HasNoneAnew, IsAtOwnWaking, IsAtWaking, IsSleeping, IsWaking, wake_call}
-use Rattle.pass_kept_proof.specs.Kept.{kept}
-use Rattle.pass_renewed_proof.specs.Renewed.{continue_renewed, is_idle, renewed_act, renewed_advance, renewed_next, renewed_step}
-use Rattle.run_agreement.specs.Machines.{IsFine}
-use Rattle.run_source.specs.Source.{Sleeper, context_of, sleeper_at}
-use Rattle.run_source.specs.State.{function_of, next, or_undefined, work_of}
-use Rattle.run_source.specs.declared.state.Mode.{Mode}
-use Rattle.run_source.specs.declared.state.State.{State}
-use Rattle.run_source_tables.specs.Given.{is_final}
-use Rattle.run_step.specs.Results.{and_then, ok_if}
-use Rattle.run_step.specs.Step.{AtInstr, Fetched, action_of, fetch}
-use Rattle.run_step.specs.Values.{arg_values, nth}
-use Rattle.run_memory.specs.declared.pointer.Value.{Value}
+use Rattle.pass_frames_proof.specs.pass_kept_proof.Kept.{kept}
+use Rattle.pass_frames_proof.specs.pass_renewed_proof.Renewed.{continue_renewed, is_idle, renewed_act, renewed_advance, renewed_next, renewed_step}
+use Rattle.pass_frames_proof.specs.run_agreement.Machines.{IsFine}
+use Rattle.pass_frames_proof.specs.run_source.Source.{Sleeper, context_of, sleeper_at}
+use Rattle.pass_frames_proof.specs.run_source.State.{function_of, next, or_undefined, work_of}
+use Rattle.pass_frames_proof.specs.run_source.declared.state.Mode.{Mode}
+use Rattle.pass_frames_proof.specs.run_source.declared.state.State.{State}
+use Rattle.pass_frames_proof.specs.run_source_tables.Given.{is_final}
+use Rattle.pass_frames_proof.specs.run_step.Results.{and_then, ok_if}
+use Rattle.pass_frames_proof.specs.run_step.Step.{AtInstr, Fetched, action_of, fetch}
+use Rattle.pass_frames_proof.specs.run_step.Values.{arg_values, nth}
+use Rattle.pass_frames_proof.specs.run_memory.declared.pointer.Value.{Value}
 
 -- what stands in the row of points is an instruction of a block without returns
 module _ (c : Setting) (all : KeepsAll c) (func : ℕ) (coroutine : is_coroutine c.b func ≡ true) where

@@ -2,17 +2,17 @@
 use Rattle.std.proofs.Common.{◌≡◌, ◌⊎◌, inl, inr, ⊎_elim, ℕ, zero, suc, ◌+◌, ◌<◌, Bool, true, false, List, drop, length, Option, Some, None, Ok, refl, sym, ap, ◌∙◌, subst, arith, [], ◌∷◌}
 use Rattle.std.proofs.lemmas.Bool.{cases_eq, cases_lt, false≢true}
 use Rattle.std.specs.Prelude.{option_map, slice_get}
-use Rattle.ir_base.specs.declared.outcome.Outcome.{Outcome}
-use Rattle.ir_base.specs.declared.outcome.Word.{Word}
-use Rattle.ir_laws.proofs.facts.Lists.{nothing_found, set_here, set_other}
-use Rattle.ir_model.specs.Names.{function_at}
-use Rattle.ir_model.specs.Ty.{Ty}
-use Rattle.ir_model.specs.declared.instr.Instr.{Instr}
-use Rattle.ir_model.specs.declared.module.Block.{Block}
-use Rattle.ir_model.specs.declared.module.Function.{Function}
-use Rattle.ir_model.specs.declared.operand.Intrinsic.{Intrinsic}
-use Rattle.ir_paths.specs.Windows.{destroy_label, instr_at, is_call_of, resume_label}
-use Rattle.ir_paths.specs.declared.point.Point.{Point}
+use Rattle.pass_frames_proof.specs.ir_base.declared.outcome.Outcome.{Outcome}
+use Rattle.pass_frames_proof.specs.ir_base.declared.outcome.Word.{Word}
+use Rattle.pass_frames_proof.proofs.ir_laws.facts.Lists.{nothing_found, set_here, set_other}
+use Rattle.pass_frames_proof.specs.ir_model.Names.{function_at}
+use Rattle.pass_frames_proof.specs.ir_model.Ty.{Ty}
+use Rattle.pass_frames_proof.specs.ir_model.declared.instr.Instr.{Instr}
+use Rattle.pass_frames_proof.specs.ir_model.declared.module.Block.{Block}
+use Rattle.pass_frames_proof.specs.ir_model.declared.module.Function.{Function}
+use Rattle.pass_frames_proof.specs.ir_model.declared.operand.Intrinsic.{Intrinsic}
+use Rattle.pass_frames_proof.specs.ir_paths.Windows.{destroy_label, instr_at, is_call_of, resume_label}
+use Rattle.pass_frames_proof.specs.ir_paths.declared.point.Point.{Point}
 use Rattle.pass_frames_meaning.proofs.coroutines.Calls.{calm_by}
 use Rattle.pass_frames_meaning.proofs.others.Names.{result_low}
 use Rattle.pass_frames_meaning.proofs.others.Returns.{instr_in}
@@ -23,8 +23,8 @@ use Rattle.pass_frames_meaning.proofs.woken.Modes.{step_stays}
 use Rattle.pass_frames_meaning.proofs.woken.Numbered.{numbered}
 use Rattle.pass_frames_meaning.proofs.led.Names.{calm_still}
 use Rattle.pass_frames_meaning.specs.Called.{AreBehindCalls, IsCalledState}
-use Rattle.run_source.specs.declared.state.Activation.{Activation}
-use Rattle.ir_model.specs.declared.module.Module.{Module}
+use Rattle.pass_frames_proof.specs.run_source.declared.state.Activation.{Activation}
+use Rattle.pass_frames_proof.specs.ir_model.declared.module.Module.{Module}
 use Rattle.pass_frames_meaning.specs.Setting.{KeepsAll, Setting}
 use Rattle.pass_frames_meaning.specs.Woken.{AreStill, IsOnWay, KeepsWaking}
 use Rattle.pass_frames_proof.proofs.ramps.Plain.{entry_there}
@@ -32,23 +32,23 @@ use Rattle.pass_frames_proof.specs.Framings.{IsFraming}
 use Rattle.pass_frames_proof.specs.Places.{Framing, edged, instrs_at}
 use Rattle.pass_frames_proof.specs.Related.{IsSuspendNumber, is_coroutine}
 use Rattle.pass_frames_proof.specs.Stepping.{IsNotEntering}
-use Rattle.pass_kept_proof.specs.Kept.{kept}
-use Rattle.pass_renewed_proof.proofs.Entering.{entering_step}
-use Rattle.pass_renewed_proof.specs.Entering.{made_anew}
-use Rattle.pass_renewed_proof.specs.Renewed.{continue_renewed, is_renewed, renew_after, renewed_advance, renewed_from, renewed_in, renewed_step}
-use Rattle.run_hooks.proofs.Steps.{renewed_steps}
-use Rattle.run_hooks.specs.Meanings.{renewed_hooks}
-use Rattle.run_memory.specs.declared.pointer.Value.{Value}
-use Rattle.run_source.specs.Source.{Sleeper, first_state, push, resumed, sleeper_at}
-use Rattle.run_source.specs.State.{function_of, with_status}
-use Rattle.run_source.specs.declared.state.Mode.{Mode}
-use Rattle.run_source.specs.declared.state.State.{State}
-use Rattle.run_source.specs.declared.state.Status.{Status}
-use Rattle.run_states.proofs.sound_states.Acts.{IsAsleepAt, asleep_there}
-use Rattle.run_states.specs.sound_states.Sound.{IsSound, IsSoundStatus, IsSuspendAt}
-use Rattle.run_step.specs.Runs.{iterate}
-use Rattle.run_step.specs.Step.{AtInstr, fetch}
-use Rattle.run_step.specs.Values.{Env, pointer_to, value_in, value_or_poison, with_value}
+use Rattle.pass_frames_proof.specs.pass_kept_proof.Kept.{kept}
+use Rattle.pass_frames_proof.proofs.pass_renewed_proof.Entering.{entering_step}
+use Rattle.pass_frames_proof.specs.pass_renewed_proof.Entering.{made_anew}
+use Rattle.pass_frames_proof.specs.pass_renewed_proof.Renewed.{continue_renewed, is_renewed, renew_after, renewed_advance, renewed_from, renewed_in, renewed_step}
+use Rattle.pass_renewed_meaning.proofs.run_hooks.Steps.{renewed_steps}
+use Rattle.pass_renewed_meaning.specs.run_hooks.Meanings.{renewed_hooks}
+use Rattle.pass_frames_proof.specs.run_memory.declared.pointer.Value.{Value}
+use Rattle.pass_frames_proof.specs.run_source.Source.{Sleeper, first_state, push, resumed, sleeper_at}
+use Rattle.pass_frames_proof.specs.run_source.State.{function_of, with_status}
+use Rattle.pass_frames_proof.specs.run_source.declared.state.Mode.{Mode}
+use Rattle.pass_frames_proof.specs.run_source.declared.state.State.{State}
+use Rattle.pass_frames_proof.specs.run_source.declared.state.Status.{Status}
+use Rattle.pass_frames_proof.proofs.run_states.sound_states.Acts.{IsAsleepAt, asleep_there}
+use Rattle.pass_frames_proof.specs.run_states.sound_states.Sound.{IsSound, IsSoundStatus, IsSuspendAt}
+use Rattle.pass_frames_proof.specs.run_step.Runs.{iterate}
+use Rattle.pass_frames_proof.specs.run_step.Step.{AtInstr, fetch}
+use Rattle.pass_frames_proof.specs.run_step.Values.{Env, pointer_to, value_in, value_or_poison, with_value}
 
 same_label : (f g l m : ℕ) → Mode.Entering f l ≡ Mode.Entering g m → l ≡ m
 same_label f g l m e = cc

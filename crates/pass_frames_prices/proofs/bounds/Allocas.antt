@@ -1,29 +1,29 @@
 -- The allocas among what is woven in: fetches, moves and distances have none.
 use Rattle.std.proofs.Common.{◌≡◌, ℕ, ◌+◌, Bool, true, false, List, [], ◌∷◌, ◌++◌, refl, arith}
 use Rattle.std.specs.Prelude.{None, Option, Some, if◌then◌else◌, pos, slice_get}
-use Rattle.ir_base.specs.declared.ops.BinOp.{BinOp}
-use Rattle.ir_base.specs.declared.ops.CastOp.{CastOp}
-use Rattle.ir_model.specs.Ty.{Ty, int}
-use Rattle.ir_model.specs.declared.instr.Instr.{Instr}
-use Rattle.ir_model.specs.declared.instr.Phi.{Phi}
-use Rattle.ir_model.specs.declared.module.Module.{Module}
-use Rattle.ir_model.specs.declared.module.Param.{Param}
-use Rattle.ir_model.specs.declared.operand.Arg.{Arg}
-use Rattle.ir_model.specs.declared.operand.Operand.{Operand}
-use Rattle.ir_parts.specs.Contents.{instr_operands, result_of}
-use Rattle.pass_cells.specs.Kept.{entry}
-use Rattle.pass_cells.specs.Moves.{address_again, after_saved, again_one, again_values, saved_one, saved_values}
-use Rattle.pass_cells.specs.Written.{after_one, distance_behind, distance_from, distance_into, save_row, stored, stored_at, stored_one, stored_params, stored_phis, stored_result, written_instrs, written_one}
-use Rattle.pass_cells.specs.declared.plan.KeptValue.{KeptValue}
-use Rattle.pass_cells.specs.declared.plan.Plan.{Plan}
-use Rattle.pass_distances.specs.Sums.{is_wide, on_number, start_instrs, start_value, sum_instrs, sum_value, way_instrs, widened, widening}
-use Rattle.pass_distances.specs.Ways.{ways_of}
-use Rattle.pass_distances.specs.declared.way.Way.{Way}
-use Rattle.pass_fetch.specs.Fetching.{fetch_of, fetches_by, fetches_of, fetches_of_all, next_after}
-use Rattle.pass_fetch.specs.Instrs.{fetched_instrs, next_after_instr, with_fetched}
-use Rattle.pass_fetch.specs.declared.fetch.Fetch.{Fetch}
-use Rattle.pass_front.specs.Front.{is_no_alloca}
-use Rattle.run_laws.specs.changed.Changed.{Each}
+use Rattle.pass_frames_proof.specs.ir_base.declared.ops.BinOp.{BinOp}
+use Rattle.pass_frames_proof.specs.ir_base.declared.ops.CastOp.{CastOp}
+use Rattle.pass_frames_proof.specs.ir_model.Ty.{Ty, int}
+use Rattle.pass_frames_proof.specs.ir_model.declared.instr.Instr.{Instr}
+use Rattle.pass_frames_proof.specs.ir_model.declared.instr.Phi.{Phi}
+use Rattle.pass_frames_proof.specs.ir_model.declared.module.Module.{Module}
+use Rattle.pass_frames_proof.specs.ir_model.declared.module.Param.{Param}
+use Rattle.pass_frames_proof.specs.ir_model.declared.operand.Arg.{Arg}
+use Rattle.pass_frames_proof.specs.ir_model.declared.operand.Operand.{Operand}
+use Rattle.pass_frames_proof.specs.ir_parts.Contents.{instr_operands, result_of}
+use Rattle.pass_frames_proof.specs.pass_cells.Kept.{entry}
+use Rattle.pass_frames_proof.specs.pass_cells.Moves.{address_again, after_saved, again_one, again_values, saved_one, saved_values}
+use Rattle.pass_frames_proof.specs.pass_cells.Written.{after_one, distance_behind, distance_from, distance_into, save_row, stored, stored_at, stored_one, stored_params, stored_phis, stored_result, written_instrs, written_one}
+use Rattle.pass_frames_proof.specs.pass_cells.declared.plan.KeptValue.{KeptValue}
+use Rattle.pass_frames_proof.specs.pass_cells.declared.plan.Plan.{Plan}
+use Rattle.pass_frames_proof.specs.pass_distances.Sums.{is_wide, on_number, start_instrs, start_value, sum_instrs, sum_value, way_instrs, widened, widening}
+use Rattle.pass_frames_proof.specs.pass_distances.Ways.{ways_of}
+use Rattle.pass_frames_proof.specs.pass_distances.declared.way.Way.{Way}
+use Rattle.pass_frames_proof.specs.pass_fetch.Fetching.{fetch_of, fetches_by, fetches_of, fetches_of_all, next_after}
+use Rattle.pass_frames_proof.specs.pass_fetch.Instrs.{fetched_instrs, next_after_instr, with_fetched}
+use Rattle.pass_frames_proof.specs.pass_fetch.declared.fetch.Fetch.{Fetch}
+use Rattle.pass_frames_proof.specs.pass_front.Front.{is_no_alloca}
+use Rattle.pass_frames_proof.specs.run_laws.changed.Changed.{Each}
 
 -- the allocas of a list, each with the weight of its name
 module _ (w : ℕ → ℕ) where

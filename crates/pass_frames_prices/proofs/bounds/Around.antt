@@ -1,21 +1,21 @@
 -- What is put in around an instruction by any tables, besides its fetches and the store of its result.
 use Rattle.std.proofs.Common.{◌≡◌, ℕ, suc, ◌+◌, ◌*◌, ◌≤◌, Bool, List, [], ◌∷◌, length, refl, ap, arith}
 use Rattle.std.specs.Prelude.{None, Option, Some, if◌then◌else◌}
-use Rattle.ir_model.specs.Ty.{Ty}
-use Rattle.ir_model.specs.declared.instr.Instr.{Instr}
-use Rattle.ir_model.specs.declared.module.Module.{Module}
-use Rattle.ir_model.specs.declared.operand.Arg.{Arg}
-use Rattle.ir_model.specs.declared.operand.Callee.{Callee}
-use Rattle.ir_model.specs.declared.operand.Intrinsic.{Intrinsic}
-use Rattle.ir_model.specs.declared.operand.Operand.{Operand}
-use Rattle.ir_parts.specs.Contents.{arg_operands, instr_operands}
-use Rattle.pass_cells.specs.Kept.{entry}
-use Rattle.pass_cells.specs.Written.{distance_behind, distance_from, row_at, save_row}
-use Rattle.pass_cells.specs.declared.plan.Plan.{Plan}
-use Rattle.pass_copies.specs.Uses.{is_access, is_begin}
-use Rattle.pass_fetch.specs.Fetching.{callee_by, fetch_of, fetched_args, next_after, next_by}
-use Rattle.pass_fetch.specs.Instrs.{with_fetched}
-use Rattle.pass_fetch.specs.declared.fetch.Fetch.{Fetch}
+use Rattle.pass_frames_proof.specs.ir_model.Ty.{Ty}
+use Rattle.pass_frames_proof.specs.ir_model.declared.instr.Instr.{Instr}
+use Rattle.pass_frames_proof.specs.ir_model.declared.module.Module.{Module}
+use Rattle.pass_frames_proof.specs.ir_model.declared.operand.Arg.{Arg}
+use Rattle.pass_frames_proof.specs.ir_model.declared.operand.Callee.{Callee}
+use Rattle.pass_frames_proof.specs.ir_model.declared.operand.Intrinsic.{Intrinsic}
+use Rattle.pass_frames_proof.specs.ir_model.declared.operand.Operand.{Operand}
+use Rattle.pass_frames_proof.specs.ir_parts.Contents.{arg_operands, instr_operands}
+use Rattle.pass_frames_proof.specs.pass_cells.Kept.{entry}
+use Rattle.pass_frames_proof.specs.pass_cells.Written.{distance_behind, distance_from, row_at, save_row}
+use Rattle.pass_frames_proof.specs.pass_cells.declared.plan.Plan.{Plan}
+use Rattle.pass_frames_proof.specs.pass_copies.Uses.{is_access, is_begin}
+use Rattle.pass_frames_proof.specs.pass_fetch.Fetching.{callee_by, fetch_of, fetched_args, next_after, next_by}
+use Rattle.pass_frames_proof.specs.pass_fetch.Instrs.{with_fetched}
+use Rattle.pass_frames_proof.specs.pass_fetch.declared.fetch.Fetch.{Fetch}
 use Rattle.pass_frames_prices.proofs.bounds.Parts.{distance_short}
 use Rattle.pass_frames_prices.specs.Counts.{behind_by, more_by}
 

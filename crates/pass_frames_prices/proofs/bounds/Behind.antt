@@ -2,12 +2,12 @@
 use Rattle.std.proofs.Common.{◌≡◌, ℕ, ◌+◌, ◌≤◌, Bool, List, [], ◌++◌, length, refl, ap, ◌∙◌, arith, append-nil}
 use Rattle.std.proofs.lemmas.List.{length-append}
 use Rattle.std.specs.Prelude.{None, Option, Some, if◌then◌else◌}
-use Rattle.ir_model.specs.declared.instr.Instr.{Instr}
-use Rattle.ir_parts.specs.Contents.{result_of}
-use Rattle.pass_addresses.specs.Placing.{stays, without_promise_of}
-use Rattle.pass_cells.specs.Cells.{fetches_of}
-use Rattle.pass_cells.specs.Moves.{after_saved}
-use Rattle.pass_cells.specs.Written.{distance_behind, row_at, save_row, stored_result}
+use Rattle.pass_frames_proof.specs.ir_model.declared.instr.Instr.{Instr}
+use Rattle.pass_frames_proof.specs.ir_parts.Contents.{result_of}
+use Rattle.pass_frames_proof.specs.pass_addresses.Placing.{stays, without_promise_of}
+use Rattle.pass_frames_proof.specs.pass_cells.Cells.{fetches_of}
+use Rattle.pass_frames_proof.specs.pass_cells.Moves.{after_saved}
+use Rattle.pass_frames_proof.specs.pass_cells.Written.{distance_behind, row_at, save_row, stored_result}
 use Rattle.pass_frames_prices.proofs.bounds.Around.{behind_fits}
 use Rattle.pass_frames_prices.proofs.bounds.Codes.{copied_few, stores_few}
 use Rattle.pass_frames_proof.proofs.code.Left.{Far}

@@ -2,20 +2,20 @@
 use Rattle.std.proofs.Common.{◌≡◌, ℕ, zero, suc, ◌+◌, ◌*◌, ◌≤◌, Bool, true, false, List, [], ◌∷◌, ◌++◌, length, refl, ap, ◌∙◌, arith}
 use Rattle.std.proofs.lemmas.List.{length-append}
 use Rattle.std.specs.Prelude.{None, Option, Some, filter, if◌then◌else◌, map, option_to_list, slice_get, take}
-use Rattle.ir_model.specs.Ty.{Ty, int, ptr}
-use Rattle.ir_model.specs.declared.instr.Instr.{Instr}
-use Rattle.ir_model.specs.declared.module.Block.{Block}
-use Rattle.ir_parts.specs.Contents.{instr_operands}
-use Rattle.pass_addresses.specs.Placing.{lies_outside}
-use Rattle.pass_cells.specs.Links.{link_name}
-use Rattle.pass_cells.specs.Moves.{again_values, cell_alloca}
-use Rattle.pass_cells.specs.Written.{after_blocks as after_written, again_row, distance_alloca, distance_allocas, kept_allocas, link_allocas, row_at, stored_params, stored_phis}
-use Rattle.pass_cells.specs.declared.plan.KeptValue.{KeptValue}
-use Rattle.pass_copies.specs.BeginCopies.{entry_front as copies_front, put, puts, slot_allocas}
-use Rattle.pass_copies.specs.Uses.{flag_at}
-use Rattle.pass_copies.specs.declared.slot.EarlySlot.{EarlySlot}
-use Rattle.pass_fetch.specs.Blocks.{end_at}
-use Rattle.pass_fetch.specs.declared.fetch.Fetch.{Fetch}
+use Rattle.pass_frames_proof.specs.ir_model.Ty.{Ty, int, ptr}
+use Rattle.pass_frames_proof.specs.ir_model.declared.instr.Instr.{Instr}
+use Rattle.pass_frames_proof.specs.ir_model.declared.module.Block.{Block}
+use Rattle.pass_frames_proof.specs.ir_parts.Contents.{instr_operands}
+use Rattle.pass_frames_proof.specs.pass_addresses.Placing.{lies_outside}
+use Rattle.pass_frames_proof.specs.pass_cells.Links.{link_name}
+use Rattle.pass_frames_proof.specs.pass_cells.Moves.{again_values, cell_alloca}
+use Rattle.pass_frames_proof.specs.pass_cells.Written.{after_blocks as after_written, again_row, distance_alloca, distance_allocas, kept_allocas, link_allocas, row_at, stored_params, stored_phis}
+use Rattle.pass_frames_proof.specs.pass_cells.declared.plan.KeptValue.{KeptValue}
+use Rattle.pass_frames_proof.specs.pass_copies.BeginCopies.{entry_front as copies_front, put, puts, slot_allocas}
+use Rattle.pass_frames_proof.specs.pass_copies.Uses.{flag_at}
+use Rattle.pass_frames_proof.specs.pass_copies.declared.slot.EarlySlot.{EarlySlot}
+use Rattle.pass_frames_proof.specs.pass_fetch.Blocks.{end_at}
+use Rattle.pass_frames_proof.specs.pass_fetch.declared.fetch.Fetch.{Fetch}
 use Rattle.pass_frames_prices.proofs.bounds.Codes.{T, slots_free}
 use Rattle.pass_frames_prices.proofs.bounds.Lean.{filtered, woven_few}
 use Rattle.pass_frames_prices.proofs.bounds.Lengths.{only_short}
@@ -32,8 +32,8 @@ use Rattle.pass_frames_proof.specs.Layers.{Layer, becomes, both, grown, only, wo
 use Rattle.pass_frames_prices.specs.Numbers.{allocas_of_instrs, distances_of}
 use Rattle.pass_frames_proof.specs.Passes.{block_at, fetched_first, fetching, phi_ends}
 use Rattle.pass_frames_proof.specs.Places.{Framing, addressing_layer, copies, copying_layer, edged, entry_layer, fetched, instrs_at, is_return, offsets, place_by, placed_layer, plan, unmarked, writing_layer, written}
-use Rattle.pass_front.specs.Front.{is_alloca, is_no_alloca}
-use Rattle.pass_proofs.specs.fetch.rules.Fetches.{AreUnfetched}
+use Rattle.pass_frames_proof.specs.pass_front.Front.{is_alloca, is_no_alloca}
+use Rattle.pass_frames_proof.specs.pass_proofs.fetch.rules.Fetches.{AreUnfetched}
 
 -- ---- what isn't an alloca, with its addresses
 

@@ -2,24 +2,24 @@
 use Rattle.std.proofs.Common.{◌≡◌, inl, inr, ⊎_elim, ℕ, ◌+◌, ◌*◌, ◌≤◌, Bool, true, false, List, [], ◌∷◌, ◌++◌, length, refl, ap, ◌∙◌, arith}
 use Rattle.std.proofs.lemmas.List.{length-append}
 use Rattle.std.specs.Prelude.{Option, Some, if◌then◌else◌, slice_get, ◌&&◌}
-use Rattle.flow_solver.specs.Paths.{IsListed}
-use Rattle.ir_model.specs.declared.instr.Instr.{Instr}
-use Rattle.ir_model.specs.declared.operand.Operand.{Operand}
-use Rattle.ir_parts.specs.Contents.{instr_operands, result_of}
-use Rattle.pass_addresses.specs.Placing.{lies_outside, without_promise_of}
-use Rattle.pass_cells.specs.Cells.{fetches_of}
-use Rattle.pass_cells.specs.Kept.{value_types}
-use Rattle.pass_cells.specs.Links.{bases_of, slots_of}
-use Rattle.pass_cells.specs.Moves.{after_saved}
-use Rattle.pass_cells.specs.Written.{distance_behind, row_at, save_row, stored_result}
-use Rattle.pass_cells.specs.declared.plan.KeptValue.{KeptValue}
-use Rattle.pass_copies.specs.BeginCopies.{begin_copies, is_fetched}
-use Rattle.pass_copies.specs.Uses.{is_access, is_begin}
-use Rattle.pass_copies.specs.declared.slot.EarlySlot.{EarlySlot}
-use Rattle.pass_fetch.specs.Blocks.{end_at}
-use Rattle.pass_fetch.specs.Fetching.{fetches_of_all}
-use Rattle.pass_fetch.specs.Instrs.{with_fetched}
-use Rattle.pass_fetch.specs.declared.fetch.Fetch.{Fetch}
+use Rattle.pass_frames_proof.specs.flow_solver.Paths.{IsListed}
+use Rattle.pass_frames_proof.specs.ir_model.declared.instr.Instr.{Instr}
+use Rattle.pass_frames_proof.specs.ir_model.declared.operand.Operand.{Operand}
+use Rattle.pass_frames_proof.specs.ir_parts.Contents.{instr_operands, result_of}
+use Rattle.pass_frames_proof.specs.pass_addresses.Placing.{lies_outside, without_promise_of}
+use Rattle.pass_frames_proof.specs.pass_cells.Cells.{fetches_of}
+use Rattle.pass_frames_proof.specs.pass_cells.Kept.{value_types}
+use Rattle.pass_frames_proof.specs.pass_cells.Links.{bases_of, slots_of}
+use Rattle.pass_frames_proof.specs.pass_cells.Moves.{after_saved}
+use Rattle.pass_frames_proof.specs.pass_cells.Written.{distance_behind, row_at, save_row, stored_result}
+use Rattle.pass_frames_proof.specs.pass_cells.declared.plan.KeptValue.{KeptValue}
+use Rattle.pass_frames_proof.specs.pass_copies.BeginCopies.{begin_copies, is_fetched}
+use Rattle.pass_frames_proof.specs.pass_copies.Uses.{is_access, is_begin}
+use Rattle.pass_frames_proof.specs.pass_copies.declared.slot.EarlySlot.{EarlySlot}
+use Rattle.pass_frames_proof.specs.pass_fetch.Blocks.{end_at}
+use Rattle.pass_frames_proof.specs.pass_fetch.Fetching.{fetches_of_all}
+use Rattle.pass_frames_proof.specs.pass_fetch.Instrs.{with_fetched}
+use Rattle.pass_frames_proof.specs.pass_fetch.declared.fetch.Fetch.{Fetch}
 use Rattle.pass_frames_proof.proofs.agains.Lines.{root_unfetched}
 use Rattle.pass_frames_proof.proofs.agains.Values.{kept_root}
 use Rattle.pass_frames_proof.proofs.allocating.Grown.{listed_in}
@@ -39,7 +39,7 @@ use Rattle.pass_frames_proof.specs.Led.{fetched_all}
 use Rattle.pass_frames_proof.specs.Passes.{block_at, fetched_first, phi_ends}
 use Rattle.pass_frames_proof.specs.Places.{Framing, Placed, copies, edged, instrs_at, marked, offsets, placed_layer, plan, unmarked}
 use Rattle.pass_frames_proof.specs.Related.{IsKeptValue}
-use Rattle.pass_proofs.proofs.cells.rules.Plans.{kept_of}
+use Rattle.pass_frames_proof.proofs.pass_proofs.cells.rules.Plans.{kept_of}
 
 module _ (x : Framing) (is : IsFraming x) where
   abbrev t : List (Option Fetch)

@@ -1,24 +1,24 @@
 -- Slots that are used before begin are allocas of the entry, each another one.
 use Rattle.std.proofs.Common.{◌≡◌, ℕ, zero, suc, ◌+◌, ◌<◌, ◌≤◌, Bool, true, false, List, [], ◌∷◌, ◌++◌, length, refl, ap, arith}
 use Rattle.std.specs.Prelude.{None, Option, Some, if◌then◌else◌, replicate, slice_get, unwrap_or}
-use Rattle.frame_classes.specs.declared.class.SlotClass.{SlotClass}
-use Rattle.ir_model.specs.Ty.{Ty, int}
-use Rattle.ir_model.specs.declared.instr.Instr.{Instr}
-use Rattle.ir_model.specs.declared.module.Block.{Block}
-use Rattle.ir_model.specs.declared.module.Module.{Module}
-use Rattle.pass_cells.specs.Cells.{fetched_function, fetches_of as loads_of}
-use Rattle.pass_cells.specs.Links.{link_name}
-use Rattle.pass_cells.specs.Moves.{after_again, again_values, cell_alloca}
-use Rattle.pass_cells.specs.Written.{again_row, distance_alloca, distance_allocas, entry_blocks, entry_front, kept_allocas, link_allocas, stored_params, stored_phis, written_instrs}
-use Rattle.pass_cells.specs.declared.plan.KeptValue.{KeptValue}
-use Rattle.pass_cells.specs.declared.plan.Plan.{Plan}
-use Rattle.pass_copies.specs.Slots.{early_slot, entry_instrs, slots_from}
-use Rattle.pass_copies.specs.Uses.{flag_at, used_before}
-use Rattle.pass_fetch.specs.Blocks.{end_at, fetched_blocks}
-use Rattle.pass_fetch.specs.Fetching.{fetch_into, fetches_of_all}
-use Rattle.pass_fetch.specs.Instrs.{fetched_instrs, next_after_instrs, term_operands}
-use Rattle.pass_fetch.specs.declared.fetch.Fetch.{Fetch}
-use Rattle.pass_frames.specs.Tables.{class_flags, sizes_by_name}
+use Rattle.pass_frames_proof.specs.frame_classes.declared.class.SlotClass.{SlotClass}
+use Rattle.pass_frames_proof.specs.ir_model.Ty.{Ty, int}
+use Rattle.pass_frames_proof.specs.ir_model.declared.instr.Instr.{Instr}
+use Rattle.pass_frames_proof.specs.ir_model.declared.module.Block.{Block}
+use Rattle.pass_frames_proof.specs.ir_model.declared.module.Module.{Module}
+use Rattle.pass_frames_proof.specs.pass_cells.Cells.{fetched_function, fetches_of as loads_of}
+use Rattle.pass_frames_proof.specs.pass_cells.Links.{link_name}
+use Rattle.pass_frames_proof.specs.pass_cells.Moves.{after_again, again_values, cell_alloca}
+use Rattle.pass_frames_proof.specs.pass_cells.Written.{again_row, distance_alloca, distance_allocas, entry_blocks, entry_front, kept_allocas, link_allocas, stored_params, stored_phis, written_instrs}
+use Rattle.pass_frames_proof.specs.pass_cells.declared.plan.KeptValue.{KeptValue}
+use Rattle.pass_frames_proof.specs.pass_cells.declared.plan.Plan.{Plan}
+use Rattle.pass_frames_proof.specs.pass_copies.Slots.{early_slot, entry_instrs, slots_from}
+use Rattle.pass_frames_proof.specs.pass_copies.Uses.{flag_at, used_before}
+use Rattle.pass_frames_proof.specs.pass_fetch.Blocks.{end_at, fetched_blocks}
+use Rattle.pass_frames_proof.specs.pass_fetch.Fetching.{fetch_into, fetches_of_all}
+use Rattle.pass_frames_proof.specs.pass_fetch.Instrs.{fetched_instrs, next_after_instrs, term_operands}
+use Rattle.pass_frames_proof.specs.pass_fetch.declared.fetch.Fetch.{Fetch}
+use Rattle.pass_frames_proof.specs.pass_frames.Tables.{class_flags, sizes_by_name}
 use Rattle.pass_frames_prices.proofs.bounds.Allocas.{again_none, fetched_many, fetches_none, many, many_append, none, one, params_none, phis_none, written_many}
 use Rattle.pass_frames_proof.proofs.code.Left.{blocks_by}
 use Rattle.pass_frames_proof.proofs.code.Names.{First, has_cells, used_low}
@@ -26,10 +26,10 @@ use Rattle.pass_frames_proof.specs.Framings.{IsFraming}
 use Rattle.pass_frames_prices.specs.Numbers.{allocas_of_instrs, one_alloca}
 use Rattle.pass_frames_proof.specs.Passes.{no_block, phi_ends}
 use Rattle.pass_frames_proof.specs.Places.{Framing, before_labels, copies, edged, fetched, instrs_at, named, plan, written}
-use Rattle.pass_front.specs.Front.{is_no_alloca}
-use Rattle.pass_proofs.proofs.cells.rules.Fronts.{HasCells}
-use Rattle.pass_proofs.proofs.fetch.shape.Fetching.{no_rows}
-use Rattle.run_laws.specs.changed.Changed.{Each}
+use Rattle.pass_frames_proof.specs.pass_front.Front.{is_no_alloca}
+use Rattle.pass_frames_proof.proofs.pass_proofs.cells.rules.Fronts.{HasCells}
+use Rattle.pass_frames_proof.proofs.pass_proofs.fetch.shape.Fetching.{no_rows}
+use Rattle.pass_frames_proof.specs.run_laws.changed.Changed.{Each}
 
 into_no_alloca : (n : ℕ) (y : Fetch) → is_no_alloca (fetch_into n y) ≡ true
 into_no_alloca n (Fetch.Load ty cell) = refl

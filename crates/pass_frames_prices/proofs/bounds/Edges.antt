@@ -2,11 +2,11 @@
 use Rattle.std.proofs.Common.{◌≡◌, ℕ, ◌+◌, Bool, List, [], ◌∷◌, ◌++◌, length, refl, arith}
 use Rattle.std.proofs.lemmas.List.{length-map}
 use Rattle.std.specs.Prelude.{map}
-use Rattle.ir_model.specs.declared.module.Block.{Block}
-use Rattle.ir_model.specs.declared.module.Function.{Function}
-use Rattle.pass_edges.specs.EdgeBlocks.{edge_block, split_block, split_blocks, split_phi, with_edge_blocks}
-use Rattle.pass_edges.specs.Edges.{block_edges, edge_table, edges_at, edges_of, phi_flags}
-use Rattle.pass_edges.specs.declared.edge.Edge.{Edge}
+use Rattle.pass_frames_proof.specs.ir_model.declared.module.Block.{Block}
+use Rattle.pass_frames_proof.specs.ir_model.declared.module.Function.{Function}
+use Rattle.pass_frames_proof.specs.pass_edges.EdgeBlocks.{edge_block, split_block, split_blocks, split_phi, with_edge_blocks}
+use Rattle.pass_frames_proof.specs.pass_edges.Edges.{block_edges, edge_table, edges_at, edges_of, phi_flags}
+use Rattle.pass_frames_proof.specs.pass_edges.declared.edge.Edge.{Edge}
 use Rattle.pass_frames_prices.specs.Numbers.{names_of, names_of_blocks}
 
 names_append : (bs cs : List Block) → names_of_blocks (bs ++ cs) ≡ names_of_blocks bs + names_of_blocks cs

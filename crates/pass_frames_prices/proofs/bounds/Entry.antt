@@ -1,19 +1,19 @@
 -- No resume or destroy edge leads to the entry.
 use Rattle.std.proofs.Common.{◌≡◌, inl, inr, ℕ, suc, Bool, true, false, List, [], ◌∷◌, length, refl, sym, ap, ◌∙◌}
 use Rattle.std.specs.Prelude.{Some, if◌then◌else◌, option_map, slice_get, unwrap_or, ◌==◌}
-use Rattle.flow_solver.specs.Paths.{IsListed}
-use Rattle.ir_laws.proofs.facts.Truth.{itself}
-use Rattle.ir_model.specs.Names.{first_where, position_of}
-use Rattle.ir_model.specs.declared.module.Block.{Block}
-use Rattle.ir_model.specs.declared.module.Function.{Function}
+use Rattle.pass_frames_proof.specs.flow_solver.Paths.{IsListed}
+use Rattle.pass_frames_proof.proofs.ir_laws.facts.Truth.{itself}
+use Rattle.pass_frames_proof.specs.ir_model.Names.{first_where, position_of}
+use Rattle.pass_frames_proof.specs.ir_model.declared.module.Block.{Block}
+use Rattle.pass_frames_proof.specs.ir_model.declared.module.Function.{Function}
 use Rattle.pass_frames_proof.specs.Framings.{IsFraming}
 use Rattle.pass_frames_proof.specs.Passes.{block_at}
 use Rattle.pass_frames_proof.specs.Places.{Framing, edged, is_return}
-use Rattle.pass_intrinsics.specs.Shapes.{suspends_of}
-use Rattle.pass_intrinsics.specs.declared.shape.SuspendPoint.{SuspendPoint}
-use Rattle.pass_proofs.proofs.copies.shape.Returned.{resumed_listed}
-use Rattle.rule_laws.specs.frames.counted.Asked.{IsAwayFromEntry}
-use Rattle.rule_laws.specs.frames.rows.Returns.{return_labels}
+use Rattle.pass_frames_proof.specs.pass_intrinsics.Shapes.{suspends_of}
+use Rattle.pass_frames_proof.specs.pass_intrinsics.declared.shape.SuspendPoint.{SuspendPoint}
+use Rattle.pass_frames_proof.proofs.pass_proofs.copies.shape.Returned.{resumed_listed}
+use Rattle.pass_frames_proof.specs.rule_laws.frames.counted.Asked.{IsAwayFromEntry}
+use Rattle.pass_frames_proof.specs.rule_laws.frames.rows.Returns.{return_labels}
 
 entry_position : (f : Function) (b : Block) → slice_get f.blocks 0 ≡ Some b → position_of f b.label ≡ 0
 entry_position f b e = on f.blocks e

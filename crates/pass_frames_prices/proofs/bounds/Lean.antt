@@ -1,14 +1,14 @@
 -- How many allocas stand in front of the entry of a framed form.
 use Rattle.std.proofs.Common.{◌≡◌, ℕ, zero, suc, ◌+◌, ◌*◌, ◌≤◌, List, [], ◌∷◌, length, refl, arith}
 use Rattle.std.specs.Prelude.{None, Option, Some, filter, slice_get}
-use Rattle.ir_model.specs.Ty.{int}
-use Rattle.ir_model.specs.declared.instr.Instr.{Instr}
-use Rattle.pass_cells.specs.Links.{link_name}
-use Rattle.pass_cells.specs.Moves.{cell_alloca}
-use Rattle.pass_cells.specs.Written.{distance_alloca, distance_allocas, kept_allocas, link_allocas}
-use Rattle.pass_cells.specs.declared.plan.KeptValue.{KeptValue}
-use Rattle.pass_copies.specs.BeginCopies.{slot_allocas}
-use Rattle.pass_copies.specs.declared.slot.EarlySlot.{EarlySlot}
+use Rattle.pass_frames_proof.specs.ir_model.Ty.{int}
+use Rattle.pass_frames_proof.specs.ir_model.declared.instr.Instr.{Instr}
+use Rattle.pass_frames_proof.specs.pass_cells.Links.{link_name}
+use Rattle.pass_frames_proof.specs.pass_cells.Moves.{cell_alloca}
+use Rattle.pass_frames_proof.specs.pass_cells.Written.{distance_alloca, distance_allocas, kept_allocas, link_allocas}
+use Rattle.pass_frames_proof.specs.pass_cells.declared.plan.KeptValue.{KeptValue}
+use Rattle.pass_frames_proof.specs.pass_copies.BeginCopies.{slot_allocas}
+use Rattle.pass_frames_proof.specs.pass_copies.declared.slot.EarlySlot.{EarlySlot}
 use Rattle.pass_frames_prices.proofs.bounds.Allocas.{many, many_append}
 use Rattle.pass_frames_prices.proofs.bounds.Weights.{woven_least}
 use Rattle.pass_frames_proof.proofs.entering.Stand.{all_counted}
@@ -17,7 +17,7 @@ use Rattle.pass_frames_proof.specs.Layers.{woven}
 use Rattle.pass_frames_prices.specs.Numbers.{allocas_of_instrs, distances_of, one_distance}
 use Rattle.pass_frames_proof.specs.Passes.{block_at}
 use Rattle.pass_frames_proof.specs.Places.{Framing, copies, edged, instrs_at, placed_layer, plan}
-use Rattle.pass_front.specs.Front.{is_alloca}
+use Rattle.pass_frames_proof.specs.pass_front.Front.{is_alloca}
 
 abbrev w : ℕ → ℕ
 w r = 1

@@ -2,13 +2,13 @@
 use Rattle.std.proofs.Common.{◌≡◌, ℕ, ◌+◌, ◌≤◌, Bool, true, false, List, [], ◌∷◌, ◌++◌, length, refl, ap, arith}
 use Rattle.std.proofs.lemmas.List.{length-append}
 use Rattle.std.specs.Prelude.{None, Option, Some, if◌then◌else◌, option_to_list}
-use Rattle.ir_model.specs.declared.instr.Instr.{Instr}
-use Rattle.ir_model.specs.declared.operand.Operand.{Operand}
-use Rattle.pass_fetch.specs.Fetching.{fetch_of, fetched_operand, fetches_by, fetches_of, fetches_of_all, next_after, operand_by}
-use Rattle.pass_fetch.specs.declared.fetch.Fetch.{Fetch}
+use Rattle.pass_frames_proof.specs.ir_model.declared.instr.Instr.{Instr}
+use Rattle.pass_frames_proof.specs.ir_model.declared.operand.Operand.{Operand}
+use Rattle.pass_frames_proof.specs.pass_fetch.Fetching.{fetch_of, fetched_operand, fetches_by, fetches_of, fetches_of_all, next_after, operand_by}
+use Rattle.pass_frames_proof.specs.pass_fetch.declared.fetch.Fetch.{Fetch}
 use Rattle.pass_frames_proof.specs.Layers.{becomes, grown, only}
 use Rattle.pass_frames_proof.specs.Led.{fetched_all}
-use Rattle.pass_proofs.proofs.fetch.rules.Puts.{fetch_rises}
+use Rattle.pass_frames_proof.proofs.pass_proofs.fetch.rules.Puts.{fetch_rises}
 
 pub one_few : (n : ℕ) (o : Option Fetch) → length (fetches_by n o) ≤ 1
 one_few n None = omega arith

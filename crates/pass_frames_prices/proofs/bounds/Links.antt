@@ -3,28 +3,28 @@ use Rattle.std.proofs.Common.{◌≡◌, ◌⊎◌, inl, inr, ⊎_elim, ℕ, zer
 use Rattle.std.proofs.lemmas.List.{length-append}
 use Rattle.std.proofs.lemmas.Option.{slice_get-map}
 use Rattle.std.specs.Prelude.{None, Option, Some, option_map, replicate, slice_get}
-use Rattle.flow_solver.specs.Paths.{IsListed}
-use Rattle.ir_laws.proofs.facts.Lists.{set_other}
-use Rattle.ir_laws.proofs.facts.Truth.{either}
-use Rattle.ir_laws.proofs.paths.edges.Lists.{joined_different}
-use Rattle.ir_laws.proofs.paths.source_rules.Locals.{listed_either, listed_left, listed_right}
-use Rattle.ir_laws.specs.paths.woven_rules.Pairs.{AreDifferent}
-use Rattle.ir_model.specs.Ty.{Ty}
-use Rattle.ir_model.specs.declared.instr.Instr.{Instr}
-use Rattle.ir_model.specs.declared.module.Block.{Block}
-use Rattle.ir_model.specs.declared.module.Function.{Function}
-use Rattle.ir_model.specs.declared.operand.Operand.{Operand}
-use Rattle.pass_cells.specs.Kept.{entry, flag_or_false, is_flagged, joined, value_types}
-use Rattle.pass_cells.specs.Links.{bases_of, cell_name, field_name, further, jumped, links_after, links_from, marks_of, roots_after, roots_of, slot_by, slots_of, with_base, with_bases_by, with_bases_in}
-use Rattle.pass_cells.specs.Plan.{kept_from, kept_value, type_at}
-use Rattle.pass_cells.specs.declared.plan.KeptValue.{KeptValue}
+use Rattle.pass_frames_proof.specs.flow_solver.Paths.{IsListed}
+use Rattle.pass_frames_proof.proofs.ir_laws.facts.Lists.{set_other}
+use Rattle.pass_frames_proof.proofs.ir_laws.facts.Truth.{either}
+use Rattle.pass_frames_proof.proofs.ir_laws.paths.edges.Lists.{joined_different}
+use Rattle.pass_frames_proof.proofs.ir_laws.paths.source_rules.Locals.{listed_either, listed_left, listed_right}
+use Rattle.pass_frames_proof.specs.ir_laws.paths.woven_rules.Pairs.{AreDifferent}
+use Rattle.pass_frames_proof.specs.ir_model.Ty.{Ty}
+use Rattle.pass_frames_proof.specs.ir_model.declared.instr.Instr.{Instr}
+use Rattle.pass_frames_proof.specs.ir_model.declared.module.Block.{Block}
+use Rattle.pass_frames_proof.specs.ir_model.declared.module.Function.{Function}
+use Rattle.pass_frames_proof.specs.ir_model.declared.operand.Operand.{Operand}
+use Rattle.pass_frames_proof.specs.pass_cells.Kept.{entry, flag_or_false, is_flagged, joined, value_types}
+use Rattle.pass_frames_proof.specs.pass_cells.Links.{bases_of, cell_name, field_name, further, jumped, links_after, links_from, marks_of, roots_after, roots_of, slot_by, slots_of, with_base, with_bases_by, with_bases_in}
+use Rattle.pass_frames_proof.specs.pass_cells.Plan.{kept_from, kept_value, type_at}
+use Rattle.pass_frames_proof.specs.pass_cells.declared.plan.KeptValue.{KeptValue}
 use Rattle.pass_frames_prices.proofs.bounds.Once.{without, without_fewer, without_listed}
 use Rattle.pass_frames_prices.proofs.bounds.Values.{kept_once, listed_place}
 use Rattle.pass_frames_proof.proofs.code.Names.{Count, F, First, Kept, keeping, local}
 use Rattle.pass_frames_proof.specs.Framings.{IsFraming}
 use Rattle.pass_frames_prices.specs.Numbers.{distances_of, gep_names, gep_names_of, one_distance}
 use Rattle.pass_frames_proof.specs.Places.{Framing, edged, plan}
-use Rattle.pass_proofs.proofs.cells.rules.Links.{HasSlot, marks_have}
+use Rattle.pass_frames_proof.proofs.pass_proofs.cells.rules.Links.{HasSlot, marks_have}
 
 -- ---- a name with a slot is a getelementptr's
 

@@ -2,18 +2,18 @@
 -- stand in front of it.
 use Rattle.std.proofs.Common.{◌≡◌, ◌≢◌, ◌⊎◌, inl, inr, ⊎_elim, ℕ, zero, suc, ◌<◌, ◌≤◌, Bool, true, false, List, [], ◌∷◌, length, refl, sym, ap, ◌∙◌, subst, arith}
 use Rattle.std.specs.Prelude.{None, Option, Some, codes, replicate, slice_get, slice_set, unwrap_or}
-use Rattle.flow_solver.specs.Paths.{IsListed}
-use Rattle.ir_laws.proofs.facts.Lists.{set_here, set_length, set_other}
-use Rattle.ir_laws.proofs.facts.Truth.{either}
-use Rattle.ir_model.specs.declared.module.Block.{Block}
-use Rattle.ir_model.specs.declared.module.Function.{Function}
-use Rattle.pass_cells.specs.Cells.{fetched_function, fetches_of, named_function}
-use Rattle.pass_cells.specs.Kept.{entry}
-use Rattle.pass_cells.specs.declared.plan.Plan.{Plan}
-use Rattle.pass_copies.specs.Slots.{resumed_at, set_resumed}
-use Rattle.pass_copies.specs.Uses.{flag_at}
-use Rattle.pass_fetch.specs.Blocks.{with_fetches}
-use Rattle.pass_frames.specs.Framed.{celled}
+use Rattle.pass_frames_proof.specs.flow_solver.Paths.{IsListed}
+use Rattle.pass_frames_proof.proofs.ir_laws.facts.Lists.{set_here, set_length, set_other}
+use Rattle.pass_frames_proof.proofs.ir_laws.facts.Truth.{either}
+use Rattle.pass_frames_proof.specs.ir_model.declared.module.Block.{Block}
+use Rattle.pass_frames_proof.specs.ir_model.declared.module.Function.{Function}
+use Rattle.pass_frames_proof.specs.pass_cells.Cells.{fetched_function, fetches_of, named_function}
+use Rattle.pass_frames_proof.specs.pass_cells.Kept.{entry}
+use Rattle.pass_frames_proof.specs.pass_cells.declared.plan.Plan.{Plan}
+use Rattle.pass_frames_proof.specs.pass_copies.Slots.{resumed_at, set_resumed}
+use Rattle.pass_frames_proof.specs.pass_copies.Uses.{flag_at}
+use Rattle.pass_frames_proof.specs.pass_fetch.Blocks.{with_fetches}
+use Rattle.pass_frames_proof.specs.pass_frames.Framed.{celled}
 use Rattle.pass_frames_prices.proofs.bounds.Parts.{phis_short}
 use Rattle.pass_frames_proof.proofs.code.Passes.{block_is, cells_made, fetches_made}
 use Rattle.pass_frames_proof.proofs.jumping.Places.{front_there}
@@ -22,11 +22,11 @@ use Rattle.pass_frames_proof.specs.Layers.{IsMadeBy}
 use Rattle.pass_frames_proof.specs.Passes.{block_at, fetching_at}
 use Rattle.pass_frames_proof.specs.Phis.{IsOrdinaryBlock}
 use Rattle.pass_frames_proof.specs.Places.{Framing, copies, edged, fetched, is_return, named, place, plan, written}
-use Rattle.pass_intrinsics.specs.Shapes.{suspends_of}
-use Rattle.pass_intrinsics.specs.declared.shape.SuspendPoint.{SuspendPoint}
-use Rattle.pass_proofs.proofs.copies.shape.Returned.{resumed_listed, returned_listed}
-use Rattle.pass_proofs.proofs.frames.begin_order.Blocks.{label_low}
-use Rattle.rule_laws.specs.frames.rows.Returns.{return_labels}
+use Rattle.pass_frames_proof.specs.pass_intrinsics.Shapes.{suspends_of}
+use Rattle.pass_frames_proof.specs.pass_intrinsics.declared.shape.SuspendPoint.{SuspendPoint}
+use Rattle.pass_frames_proof.proofs.pass_proofs.copies.shape.Returned.{resumed_listed, returned_listed}
+use Rattle.pass_frames_proof.proofs.pass_proofs.frames.begin_order.Blocks.{label_low}
+use Rattle.pass_frames_proof.specs.rule_laws.frames.rows.Returns.{return_labels}
 
 -- ---- labels to which such edges lead are flagged
 

@@ -1,12 +1,12 @@
 -- Four times a name, an operand and one pay for each instruction.
 use Rattle.std.proofs.Common.{◌≡◌, ℕ, ◌+◌, ◌-◌, ◌*◌, ◌≤◌, Bool, true, false, length, refl, ap, subst, arith}
 use Rattle.std.specs.Prelude.{None, Some, slice_get, ◌==◌}
-use Rattle.ir_laws.proofs.facts.Truth.{equal_numbers}
-use Rattle.ir_model.specs.declared.instr.Instr.{Instr}
-use Rattle.ir_model.specs.declared.operand.Callee.{Callee}
-use Rattle.ir_model.specs.declared.operand.Intrinsic.{Intrinsic}
-use Rattle.ir_parts.specs.Contents.{instr_operands}
-use Rattle.ir_paths.specs.declared.point.Point.{Point}
+use Rattle.pass_frames_proof.proofs.ir_laws.facts.Truth.{equal_numbers}
+use Rattle.pass_frames_proof.specs.ir_model.declared.instr.Instr.{Instr}
+use Rattle.pass_frames_proof.specs.ir_model.declared.operand.Callee.{Callee}
+use Rattle.pass_frames_proof.specs.ir_model.declared.operand.Intrinsic.{Intrinsic}
+use Rattle.pass_frames_proof.specs.ir_parts.Contents.{instr_operands}
+use Rattle.pass_frames_proof.specs.ir_paths.declared.point.Point.{Point}
 use Rattle.pass_frames_prices.proofs.bounds.Around.{operands_many}
 use Rattle.pass_frames_prices.proofs.bounds.Early.{early_few}
 use Rattle.pass_frames_prices.proofs.bounds.Rows.{row_few}

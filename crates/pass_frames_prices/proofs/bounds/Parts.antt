@@ -2,40 +2,40 @@
 use Rattle.std.proofs.Common.{◌≡◌, ◌⊎◌, inl, inr, ℕ, suc, ◌+◌, ◌*◌, ◌≤◌, Bool, true, false, List, [], ◌∷◌, ◌++◌, length, refl, ap, arith}
 use Rattle.std.proofs.lemmas.List.{length-append}
 use Rattle.std.specs.Prelude.{None, Option, Some, if◌then◌else◌, option_to_list, pos, slice_get}
-use Rattle.ir_model.specs.declared.instr.Instr.{Instr}
-use Rattle.ir_model.specs.declared.operand.Arg.{Arg}
-use Rattle.ir_model.specs.declared.operand.Callee.{Callee}
-use Rattle.ir_model.specs.declared.operand.Intrinsic.{Intrinsic}
-use Rattle.ir_model.specs.declared.operand.Operand.{Operand}
-use Rattle.ir_base.specs.declared.ops.BinOp.{BinOp}
-use Rattle.ir_base.specs.declared.ops.CastOp.{CastOp}
-use Rattle.ir_model.specs.Layout.{unnamed}
-use Rattle.ir_parts.specs.Contents.{arg_operands, instr_operands}
-use Rattle.pass_addresses.specs.Placing.{stays, without_promise_of}
-use Rattle.pass_cells.specs.Moves.{again_one, again_values, address_again, load_from, saved_one, saved_values, store_to}
-use Rattle.pass_cells.specs.Written.{distance_into, stored, stored_at, stored_one, stored_params, stored_phis, stored_result}
-use Rattle.pass_cells.specs.declared.plan.KeptValue.{KeptValue}
-use Rattle.pass_cells.specs.declared.plan.Plan.{Plan}
-use Rattle.pass_cells.specs.Kept.{entry}
-use Rattle.pass_copies.specs.BeginCopies.{begin_copies, copy, put, puts}
-use Rattle.pass_copies.specs.declared.slot.EarlySlot.{EarlySlot}
-use Rattle.pass_distances.specs.Sums.{is_wide, on_number, start_instrs, start_value, sum_instrs, sum_value, way_instrs, widened, widening}
-use Rattle.pass_distances.specs.Ways.{inner_type, inner_ways, ways_of}
-use Rattle.pass_distances.specs.declared.way.Way.{Way}
-use Rattle.pass_fetch.specs.Fetching.{fetch_of, fetches_by, fetches_of, fetches_of_all, next_after}
-use Rattle.pass_fetch.specs.Instrs.{with_fetched}
-use Rattle.pass_fetch.specs.declared.fetch.Fetch.{Fetch}
+use Rattle.pass_frames_proof.specs.ir_model.declared.instr.Instr.{Instr}
+use Rattle.pass_frames_proof.specs.ir_model.declared.operand.Arg.{Arg}
+use Rattle.pass_frames_proof.specs.ir_model.declared.operand.Callee.{Callee}
+use Rattle.pass_frames_proof.specs.ir_model.declared.operand.Intrinsic.{Intrinsic}
+use Rattle.pass_frames_proof.specs.ir_model.declared.operand.Operand.{Operand}
+use Rattle.pass_frames_proof.specs.ir_base.declared.ops.BinOp.{BinOp}
+use Rattle.pass_frames_proof.specs.ir_base.declared.ops.CastOp.{CastOp}
+use Rattle.pass_frames_proof.specs.ir_model.Layout.{unnamed}
+use Rattle.pass_frames_proof.specs.ir_parts.Contents.{arg_operands, instr_operands}
+use Rattle.pass_frames_proof.specs.pass_addresses.Placing.{stays, without_promise_of}
+use Rattle.pass_frames_proof.specs.pass_cells.Moves.{again_one, again_values, address_again, load_from, saved_one, saved_values, store_to}
+use Rattle.pass_frames_proof.specs.pass_cells.Written.{distance_into, stored, stored_at, stored_one, stored_params, stored_phis, stored_result}
+use Rattle.pass_frames_proof.specs.pass_cells.declared.plan.KeptValue.{KeptValue}
+use Rattle.pass_frames_proof.specs.pass_cells.declared.plan.Plan.{Plan}
+use Rattle.pass_frames_proof.specs.pass_cells.Kept.{entry}
+use Rattle.pass_frames_proof.specs.pass_copies.BeginCopies.{begin_copies, copy, put, puts}
+use Rattle.pass_frames_proof.specs.pass_copies.declared.slot.EarlySlot.{EarlySlot}
+use Rattle.pass_frames_proof.specs.pass_distances.Sums.{is_wide, on_number, start_instrs, start_value, sum_instrs, sum_value, way_instrs, widened, widening}
+use Rattle.pass_frames_proof.specs.pass_distances.Ways.{inner_type, inner_ways, ways_of}
+use Rattle.pass_frames_proof.specs.pass_distances.declared.way.Way.{Way}
+use Rattle.pass_frames_proof.specs.pass_fetch.Fetching.{fetch_of, fetches_by, fetches_of, fetches_of_all, next_after}
+use Rattle.pass_frames_proof.specs.pass_fetch.Instrs.{with_fetched}
+use Rattle.pass_frames_proof.specs.pass_fetch.declared.fetch.Fetch.{Fetch}
 use Rattle.pass_frames_prices.proofs.bounds.Lengths.{fetches_few, fetches_same, one_few, only_short}
 use Rattle.pass_frames_proof.proofs.layers.Grown.{both_becomes, both_grown}
 use Rattle.pass_frames_proof.specs.Layers.{Layer, becomes, both, each, grown, only}
 use Rattle.pass_frames_proof.specs.Passes.{fetching, unmarked_at}
-use Rattle.ir_model.specs.Ty.{Ty, int, ptr}
-use Rattle.ir_model.specs.declared.module.Block.{Block}
-use Rattle.ir_model.specs.declared.instr.Phi.{Phi}
-use Rattle.ir_model.specs.declared.module.Module.{Module}
-use Rattle.ir_model.specs.declared.module.Param.{Param}
-use Rattle.pass_proofs.specs.fetch.rules.Fetches.{AreUnfetched}
-use Rattle.run_laws.specs.changed.Changed.{Each}
+use Rattle.pass_frames_proof.specs.ir_model.Ty.{Ty, int, ptr}
+use Rattle.pass_frames_proof.specs.ir_model.declared.module.Block.{Block}
+use Rattle.pass_frames_proof.specs.ir_model.declared.instr.Phi.{Phi}
+use Rattle.pass_frames_proof.specs.ir_model.declared.module.Module.{Module}
+use Rattle.pass_frames_proof.specs.ir_model.declared.module.Param.{Param}
+use Rattle.pass_frames_proof.specs.pass_proofs.fetch.rules.Fetches.{AreUnfetched}
+use Rattle.pass_frames_proof.specs.run_laws.changed.Changed.{Each}
 
 -- what a distance costs more where it is loaded again, and what a kept value costs there
 abbrev pub slots_more : Option ℕ → ℕ

@@ -1,23 +1,23 @@
 -- What stands in front of a block to which a resume or destroy edge leads is short.
 use Rattle.std.proofs.Common.{◌≡◌, ◌≢◌, ◌⊎◌, inl, inr, ℕ, zero, suc, ◌+◌, ◌*◌, ◌≤◌, Bool, true, false, List, [], ◌∷◌, ◌++◌, length, refl, sym, ap, subst, arith}
 use Rattle.std.specs.Prelude.{None, Option, Some, if◌then◌else◌, replicate, slice_get, slice_set, take, ◌==◌}
-use Rattle.flow_solver.specs.Paths.{IsListed}
-use Rattle.frame_crossing.specs.Values.{values_of}
-use Rattle.ir_laws.proofs.facts.Lists.{set_other}
-use Rattle.ir_laws.proofs.facts.Truth.{equal_numbers, not_equal}
-use Rattle.ir_laws.proofs.facts.Members.{each_turns}
-use Rattle.ir_laws.specs.paths.woven_rules.Pairs.{AreDifferent}
-use Rattle.ir_model.specs.declared.instr.Instr.{Instr}
-use Rattle.ir_model.specs.declared.instr.Phi.{Phi}
-use Rattle.ir_model.specs.declared.operand.Operand.{Operand}
-use Rattle.ir_parts.specs.Contents.{instr_operands}
-use Rattle.pass_cells.specs.Kept.{entry, row_or, rows_from, rows_of, with_pair, with_row_of}
-use Rattle.pass_cells.specs.Moves.{again_values}
-use Rattle.pass_cells.specs.Written.{after_blocks as after_written, again_row, entry_front as cells_front, row_at, stored_phis}
-use Rattle.pass_cells.specs.declared.plan.KeptValue.{KeptValue}
-use Rattle.pass_copies.specs.BeginCopies.{entry_front as copies_front, puts}
-use Rattle.pass_copies.specs.Uses.{flag_at}
-use Rattle.pass_fetch.specs.Fetching.{fetch_of}
+use Rattle.pass_frames_proof.specs.flow_solver.Paths.{IsListed}
+use Rattle.pass_frames_proof.specs.frame_crossing.Values.{values_of}
+use Rattle.pass_frames_proof.proofs.ir_laws.facts.Lists.{set_other}
+use Rattle.pass_frames_proof.proofs.ir_laws.facts.Truth.{equal_numbers, not_equal}
+use Rattle.pass_frames_proof.proofs.ir_laws.facts.Members.{each_turns}
+use Rattle.pass_frames_proof.specs.ir_laws.paths.woven_rules.Pairs.{AreDifferent}
+use Rattle.pass_frames_proof.specs.ir_model.declared.instr.Instr.{Instr}
+use Rattle.pass_frames_proof.specs.ir_model.declared.instr.Phi.{Phi}
+use Rattle.pass_frames_proof.specs.ir_model.declared.operand.Operand.{Operand}
+use Rattle.pass_frames_proof.specs.ir_parts.Contents.{instr_operands}
+use Rattle.pass_frames_proof.specs.pass_cells.Kept.{entry, row_or, rows_from, rows_of, with_pair, with_row_of}
+use Rattle.pass_frames_proof.specs.pass_cells.Moves.{again_values}
+use Rattle.pass_frames_proof.specs.pass_cells.Written.{after_blocks as after_written, again_row, entry_front as cells_front, row_at, stored_phis}
+use Rattle.pass_frames_proof.specs.pass_cells.declared.plan.KeptValue.{KeptValue}
+use Rattle.pass_frames_proof.specs.pass_copies.BeginCopies.{entry_front as copies_front, puts}
+use Rattle.pass_frames_proof.specs.pass_copies.Uses.{flag_at}
+use Rattle.pass_frames_proof.specs.pass_fetch.Fetching.{fetch_of}
 use Rattle.pass_frames_prices.proofs.bounds.Codes.{T, addressed_short, all_kept_free, far_free, slots_free}
 use Rattle.pass_frames_prices.proofs.bounds.Once.{without, without_listed}
 use Rattle.pass_frames_prices.proofs.bounds.Parts.{again_more, again_weights, all_free, phis_short, puts_weights, row_more, slots_more, weights, weights_append}
@@ -30,9 +30,9 @@ use Rattle.pass_frames_proof.specs.Framings.{IsFraming}
 use Rattle.pass_frames_prices.specs.Numbers.{distances_of, one_distance}
 use Rattle.pass_frames_proof.specs.Passes.{block_at}
 use Rattle.pass_frames_proof.specs.Places.{Framing, addressing_layer, copies, copying_layer, edged, fetched, plan, writing_layer, written}
-use Rattle.pass_intrinsics.specs.Shapes.{suspends_of}
-use Rattle.pass_proofs.proofs.cells.rules.Totals.{all_rise}
-use Rattle.pass_proofs.specs.fetch.rules.Fetches.{AreUnfetched}
+use Rattle.pass_frames_proof.specs.pass_intrinsics.Shapes.{suspends_of}
+use Rattle.pass_frames_proof.proofs.pass_proofs.cells.rules.Totals.{all_rise}
+use Rattle.pass_frames_proof.specs.pass_proofs.fetch.rules.Fetches.{AreUnfetched}
 
 -- ---- sums over numbers that stand once
 

@@ -2,24 +2,24 @@
 use Rattle.std.proofs.Common.{◌≡◌, ◌⊎◌, inl, inr, ⊎_elim, ℕ, zero, suc, ◌+◌, ◌≤◌, Bool, true, false, List, [], ◌∷◌, ◌++◌, length, refl, sym, ap, ◌∙◌, subst, arith, append_assoc}
 use Rattle.std.proofs.lemmas.List.{length-append}
 use Rattle.std.specs.Prelude.{None, Option, Some, if◌then◌else◌, replicate, slice_get, slice_set, ◌==◌, ◌||◌}
-use Rattle.flow_solver.specs.Paths.{IsListed}
-use Rattle.frame_crossing.specs.Crossing.{AreCrossed, CrossedBy, LeftOut, More, NoMore, Nothing, Taken}
-use Rattle.frame_crossing.specs.Values.{all_defined, distinct, values_of, with_new}
-use Rattle.ir_laws.proofs.facts.Lists.{set_other}
-use Rattle.ir_laws.proofs.facts.Truth.{equal_numbers, not_equal}
-use Rattle.ir_laws.proofs.paths.edges.Lists.{joined_different}
-use Rattle.ir_laws.proofs.paths.source_rules.Locals.{listed_either}
-use Rattle.ir_laws.specs.paths.woven_rules.Pairs.{AreDifferent}
-use Rattle.ir_model.specs.declared.module.Function.{Function}
-use Rattle.ir_paths.specs.Slots.{has_name}
-use Rattle.ir_paths.specs.declared.point.Point.{Point}
-use Rattle.pass_cells.specs.Kept.{entry, row_or, rows_from, rows_of, with_pair, with_row_of}
-use Rattle.pass_cells.specs.Written.{row_at}
+use Rattle.pass_frames_proof.specs.flow_solver.Paths.{IsListed}
+use Rattle.pass_frames_proof.specs.frame_crossing.Crossing.{AreCrossed, CrossedBy, LeftOut, More, NoMore, Nothing, Taken}
+use Rattle.pass_frames_proof.specs.frame_crossing.Values.{all_defined, distinct, values_of, with_new}
+use Rattle.pass_frames_proof.proofs.ir_laws.facts.Lists.{set_other}
+use Rattle.pass_frames_proof.proofs.ir_laws.facts.Truth.{equal_numbers, not_equal}
+use Rattle.pass_frames_proof.proofs.ir_laws.paths.edges.Lists.{joined_different}
+use Rattle.pass_frames_proof.proofs.ir_laws.paths.source_rules.Locals.{listed_either}
+use Rattle.pass_frames_proof.specs.ir_laws.paths.woven_rules.Pairs.{AreDifferent}
+use Rattle.pass_frames_proof.specs.ir_model.declared.module.Function.{Function}
+use Rattle.pass_frames_proof.specs.ir_paths.Slots.{has_name}
+use Rattle.pass_frames_proof.specs.ir_paths.declared.point.Point.{Point}
+use Rattle.pass_frames_proof.specs.pass_cells.Kept.{entry, row_or, rows_from, rows_of, with_pair, with_row_of}
+use Rattle.pass_frames_proof.specs.pass_cells.Written.{row_at}
 use Rattle.pass_frames_prices.proofs.bounds.Once.{few_of}
 use Rattle.pass_frames_proof.proofs.code.Names.{Kept, count_is, keeping}
 use Rattle.pass_frames_proof.specs.Framings.{IsFraming}
 use Rattle.pass_frames_proof.specs.Places.{Framing, edged, plan}
-use Rattle.pass_intrinsics.specs.Shapes.{suspends_of}
+use Rattle.pass_frames_proof.specs.pass_intrinsics.Shapes.{suspends_of}
 
 -- ---- the values with a place that are paired with a suspend
 

@@ -2,16 +2,16 @@
 use Rattle.std.proofs.Common.{◌≡◌, ℕ, zero, suc, ◌+◌, ◌-◌, ◌≤◌, Bool, true, false, List, [], ◌∷◌, ◌++◌, length, refl, ap, ◌∙◌, arith}
 use Rattle.std.proofs.lemmas.List.{length-append}
 use Rattle.std.specs.Prelude.{None, Option, Some, drop, if◌then◌else◌, option_map, slice_get}
-use Rattle.ir_model.specs.Names.{first_where}
-use Rattle.ir_model.specs.declared.instr.Instr.{Instr}
-use Rattle.ir_model.specs.declared.module.Block.{Block}
+use Rattle.pass_frames_proof.specs.ir_model.Names.{first_where}
+use Rattle.pass_frames_proof.specs.ir_model.declared.instr.Instr.{Instr}
+use Rattle.pass_frames_proof.specs.ir_model.declared.module.Block.{Block}
 use Rattle.pass_frames_proof.proofs.entering.Stand.{all_counted, parts_between}
 use Rattle.pass_frames_proof.specs.Costs.{allocas_before, slot_cost}
 use Rattle.pass_frames_proof.specs.Entering.{allocas_up_to, front_allocas}
 use Rattle.pass_frames_proof.specs.Passes.{block_at}
 use Rattle.pass_frames_proof.specs.Places.{Framing, edged}
-use Rattle.pass_renewed_proof.specs.Prices.{slots_from, slots_in}
-use Rattle.pass_renewed_proof.specs.Renewed.{is_renewed, renewed_in}
+use Rattle.pass_frames_proof.specs.pass_renewed_proof.Prices.{slots_from, slots_in}
+use Rattle.pass_frames_proof.specs.pass_renewed_proof.Renewed.{is_renewed, renewed_in}
 
 drop_tail : (xs js : List Instr) (i : Instr) (k : ℕ) → drop k xs ≡ i ∷ js → drop (suc k) xs ≡ js
 drop_tail [] js i zero e = absurd (cc)

@@ -2,11 +2,11 @@
 use Rattle.std.proofs.Common.{◌≡◌, ℕ, zero, suc, ◌+◌, ◌-◌, ◌≤◌, Bool, true, false, List, [], ◌∷◌, ◌++◌, length, refl, ap, ◌∙◌, subst, arith}
 use Rattle.std.proofs.lemmas.List.{length-append}
 use Rattle.std.specs.Prelude.{None, Option, Some, option_to_list, slice_get, take, ◌==◌}
-use Rattle.ir_laws.proofs.facts.Truth.{equal_numbers}
-use Rattle.ir_model.specs.declared.instr.Instr.{Instr}
-use Rattle.ir_parts.specs.Contents.{instr_operands}
-use Rattle.ir_paths.specs.declared.point.Point.{Point}
-use Rattle.pass_cells.specs.Written.{row_at}
+use Rattle.pass_frames_proof.proofs.ir_laws.facts.Truth.{equal_numbers}
+use Rattle.pass_frames_proof.specs.ir_model.declared.instr.Instr.{Instr}
+use Rattle.pass_frames_proof.specs.ir_parts.Contents.{instr_operands}
+use Rattle.pass_frames_proof.specs.ir_paths.declared.point.Point.{Point}
+use Rattle.pass_frames_proof.specs.pass_cells.Written.{row_at}
 use Rattle.pass_frames_prices.proofs.bounds.Behind.{behind_short}
 use Rattle.pass_frames_prices.proofs.bounds.Codes.{codes_short}
 use Rattle.pass_frames_prices.proofs.bounds.Lengths.{only_short}
@@ -22,7 +22,7 @@ use Rattle.pass_frames_proof.specs.Layers.{Layer, becomes, before_of, behind_of 
 use Rattle.pass_frames_proof.specs.Meaning.{behind_at, own_cost}
 use Rattle.pass_frames_proof.specs.Passes.{allocas_led}
 use Rattle.pass_frames_proof.specs.Places.{Framing, entry_layer, instrs_at, is_return, own_place_by, place_by, placed_layer, plan}
-use Rattle.pass_front.specs.Front.{is_no_alloca}
+use Rattle.pass_frames_proof.specs.pass_front.Front.{is_no_alloca}
 
 take_none : (xs : List Instr) (at : ℕ) → slice_get xs at ≡ None → take (at + 1) xs ≡ take at xs
 take_none xs at e = let next : at + 1 ≡ suc at = omega arith in ap (λ (n : ℕ). take n xs) next ∙ on xs at e

@@ -2,15 +2,15 @@
 use Rattle.std.proofs.Common.{◌≡◌, ◌≢◌, ℕ, zero, suc, ◌+◌, ◌*◌, ◌≤◌, false, List, [], ◌∷◌, length, refl, arith}
 use Rattle.std.proofs.lemmas.List.{length-append}
 use Rattle.std.specs.Prelude.{None, Option, Some, slice_get, unwrap_or}
-use Rattle.ir_model.specs.declared.instr.Instr.{Instr}
-use Rattle.ir_model.specs.declared.instr.Phi.{Phi}
-use Rattle.ir_model.specs.declared.module.Block.{Block}
-use Rattle.ir_model.specs.declared.module.Function.{Function}
-use Rattle.pass_cells.specs.Cells.{fetched_function, fetches_of}
-use Rattle.pass_cells.specs.declared.plan.KeptValue.{KeptValue}
-use Rattle.pass_cells.specs.declared.plan.Plan.{Plan}
-use Rattle.pass_fetch.specs.Blocks.{fetched_blocks, fetched_phis, next_after_block, next_after_phi, next_after_phis}
-use Rattle.pass_fetch.specs.declared.fetch.Fetch.{Fetch}
+use Rattle.pass_frames_proof.specs.ir_model.declared.instr.Instr.{Instr}
+use Rattle.pass_frames_proof.specs.ir_model.declared.instr.Phi.{Phi}
+use Rattle.pass_frames_proof.specs.ir_model.declared.module.Block.{Block}
+use Rattle.pass_frames_proof.specs.ir_model.declared.module.Function.{Function}
+use Rattle.pass_frames_proof.specs.pass_cells.Cells.{fetched_function, fetches_of}
+use Rattle.pass_frames_proof.specs.pass_cells.declared.plan.KeptValue.{KeptValue}
+use Rattle.pass_frames_proof.specs.pass_cells.declared.plan.Plan.{Plan}
+use Rattle.pass_frames_proof.specs.pass_fetch.Blocks.{fetched_blocks, fetched_phis, next_after_block, next_after_phi, next_after_phis}
+use Rattle.pass_frames_proof.specs.pass_fetch.declared.fetch.Fetch.{Fetch}
 use Rattle.pass_frames_prices.proofs.bounds.Calls.{call_short}
 use Rattle.pass_frames_prices.proofs.bounds.Early.{early_few}
 use Rattle.pass_frames_prices.proofs.bounds.Lean.{allocas_few}

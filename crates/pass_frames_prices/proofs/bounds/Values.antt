@@ -2,25 +2,25 @@
 use Rattle.std.proofs.Common.{◌≡◌, inl, inr, ℕ, suc, ◌+◌, ◌≤◌, Bool, true, false, List, [], ◌∷◌, ◌++◌, length, refl, sym, ap, ◌∙◌, arith}
 use Rattle.std.proofs.lemmas.List.{length-append}
 use Rattle.std.specs.Prelude.{None, Option, Some, if◌then◌else◌, slice_get, ◌||◌}
-use Rattle.flow_solver.specs.Paths.{IsListed}
-use Rattle.frame_crossing.specs.Values.{all_defined, blocks_defined, distinct, instrs_defined, is_apart, is_token, is_token_result, params_defined, phis_defined, result_unless, unless, values_of, with_new}
-use Rattle.ir_laws.specs.paths.woven_rules.Pairs.{AreDifferent}
-use Rattle.ir_model.specs.declared.instr.Instr.{Instr}
-use Rattle.ir_model.specs.declared.instr.Phi.{Phi}
-use Rattle.ir_model.specs.declared.module.Block.{Block}
-use Rattle.ir_model.specs.declared.module.Function.{Function}
-use Rattle.ir_model.specs.declared.module.Param.{Param}
-use Rattle.ir_model.specs.declared.operand.Intrinsic.{Intrinsic}
-use Rattle.ir_parts.specs.Contents.{result_of}
-use Rattle.ir_paths.specs.Slots.{has_name}
-use Rattle.ir_paths.specs.Windows.{is_call_of}
-use Rattle.pass_cells.specs.Kept.{entry}
+use Rattle.pass_frames_proof.specs.flow_solver.Paths.{IsListed}
+use Rattle.pass_frames_proof.specs.frame_crossing.Values.{all_defined, blocks_defined, distinct, instrs_defined, is_apart, is_token, is_token_result, params_defined, phis_defined, result_unless, unless, values_of, with_new}
+use Rattle.pass_frames_proof.specs.ir_laws.paths.woven_rules.Pairs.{AreDifferent}
+use Rattle.pass_frames_proof.specs.ir_model.declared.instr.Instr.{Instr}
+use Rattle.pass_frames_proof.specs.ir_model.declared.instr.Phi.{Phi}
+use Rattle.pass_frames_proof.specs.ir_model.declared.module.Block.{Block}
+use Rattle.pass_frames_proof.specs.ir_model.declared.module.Function.{Function}
+use Rattle.pass_frames_proof.specs.ir_model.declared.module.Param.{Param}
+use Rattle.pass_frames_proof.specs.ir_model.declared.operand.Intrinsic.{Intrinsic}
+use Rattle.pass_frames_proof.specs.ir_parts.Contents.{result_of}
+use Rattle.pass_frames_proof.specs.ir_paths.Slots.{has_name}
+use Rattle.pass_frames_proof.specs.ir_paths.Windows.{is_call_of}
+use Rattle.pass_frames_proof.specs.pass_cells.Kept.{entry}
 use Rattle.pass_frames_prices.proofs.bounds.Once.{few_of}
 use Rattle.pass_frames_proof.proofs.code.Names.{First, Kept, count_is}
 use Rattle.pass_frames_proof.specs.Framings.{IsFraming}
 use Rattle.pass_frames_prices.specs.Numbers.{allocas_of_blocks, allocas_of_instrs, name_of_instr, names_of, names_of_blocks, names_of_instrs, one_alloca}
 use Rattle.pass_frames_proof.specs.Places.{Framing, edged, plan}
-use Rattle.pass_proofs.proofs.cells.rules.Keeping.{IsKeeping, keeping_is}
+use Rattle.pass_frames_proof.proofs.pass_proofs.cells.rules.Keeping.{IsKeeping, keeping_is}
 
 -- ---- of the names, those that may cross a suspend, and the allocas
 

@@ -1,35 +1,35 @@
 -- Allocas, each with the weight of its name: passes put none in but in front of an entry.
 use Rattle.std.proofs.Common.{◌≡◌, ℕ, ◌+◌, ◌≤◌, Bool, true, false, List, [], ◌∷◌, ◌++◌, length, refl, ap, arith}
 use Rattle.std.specs.Prelude.{None, Option, Some, if◌then◌else◌, map, option_to_list, replicate, take}
-use Rattle.ir_model.specs.declared.instr.Instr.{Instr}
-use Rattle.ir_model.specs.declared.module.Block.{Block}
-use Rattle.ir_model.specs.declared.module.Function.{Function}
-use Rattle.ir_model.specs.declared.module.Module.{Module}
-use Rattle.ir_model.specs.declared.operand.Callee.{Callee}
-use Rattle.ir_model.specs.declared.operand.Intrinsic.{Intrinsic}
-use Rattle.ir_parts.specs.Contents.{instr_operands, result_of}
-use Rattle.pass_addresses.specs.Placing.{lies_outside, slot_fetches, stays, without_promise_of}
-use Rattle.pass_cells.specs.Cells.{fetches_of}
-use Rattle.pass_cells.specs.Moves.{after_saved, again_values, saved_values}
-use Rattle.pass_cells.specs.Written.{after_blocks as after_written, again_row, distance_behind, entry_front, kept_allocas, link_allocas, save_row, stored_params, stored_phis, stored_result}
-use Rattle.pass_cells.specs.declared.plan.Plan.{Plan}
-use Rattle.pass_copies.specs.BeginCopies.{after_blocks as after_copied, begin_copies, entry_front as copies_front, first_fetched, is_fetched, put, puts, slot_allocas}
-use Rattle.pass_copies.specs.Uses.{flag_at, is_begin}
-use Rattle.pass_copies.specs.declared.copying.Copying.{Copying}
-use Rattle.pass_copies.specs.declared.slot.EarlySlot.{EarlySlot}
-use Rattle.pass_fetch.specs.Blocks.{end_at}
-use Rattle.pass_fetch.specs.Fetching.{fetch_into, fetches_of_all}
-use Rattle.pass_fetch.specs.Instrs.{term_operands, with_fetched}
-use Rattle.pass_fetch.specs.declared.fetch.Fetch.{Fetch}
-use Rattle.pass_frames.specs.Framed.{begin_of}
+use Rattle.pass_frames_proof.specs.ir_model.declared.instr.Instr.{Instr}
+use Rattle.pass_frames_proof.specs.ir_model.declared.module.Block.{Block}
+use Rattle.pass_frames_proof.specs.ir_model.declared.module.Function.{Function}
+use Rattle.pass_frames_proof.specs.ir_model.declared.module.Module.{Module}
+use Rattle.pass_frames_proof.specs.ir_model.declared.operand.Callee.{Callee}
+use Rattle.pass_frames_proof.specs.ir_model.declared.operand.Intrinsic.{Intrinsic}
+use Rattle.pass_frames_proof.specs.ir_parts.Contents.{instr_operands, result_of}
+use Rattle.pass_frames_proof.specs.pass_addresses.Placing.{lies_outside, slot_fetches, stays, without_promise_of}
+use Rattle.pass_frames_proof.specs.pass_cells.Cells.{fetches_of}
+use Rattle.pass_frames_proof.specs.pass_cells.Moves.{after_saved, again_values, saved_values}
+use Rattle.pass_frames_proof.specs.pass_cells.Written.{after_blocks as after_written, again_row, distance_behind, entry_front, kept_allocas, link_allocas, save_row, stored_params, stored_phis, stored_result}
+use Rattle.pass_frames_proof.specs.pass_cells.declared.plan.Plan.{Plan}
+use Rattle.pass_frames_proof.specs.pass_copies.BeginCopies.{after_blocks as after_copied, begin_copies, entry_front as copies_front, first_fetched, is_fetched, put, puts, slot_allocas}
+use Rattle.pass_frames_proof.specs.pass_copies.Uses.{flag_at, is_begin}
+use Rattle.pass_frames_proof.specs.pass_copies.declared.copying.Copying.{Copying}
+use Rattle.pass_frames_proof.specs.pass_copies.declared.slot.EarlySlot.{EarlySlot}
+use Rattle.pass_frames_proof.specs.pass_fetch.Blocks.{end_at}
+use Rattle.pass_frames_proof.specs.pass_fetch.Fetching.{fetch_into, fetches_of_all}
+use Rattle.pass_frames_proof.specs.pass_fetch.Instrs.{term_operands, with_fetched}
+use Rattle.pass_frames_proof.specs.pass_fetch.declared.fetch.Fetch.{Fetch}
+use Rattle.pass_frames_proof.specs.pass_frames.Framed.{begin_of}
 use Rattle.pass_frames_prices.proofs.bounds.Allocas.{again_none, distance_none, fetches_none, many, many_append, none, one, one_same, params_none, phis_none, result_none, saved_none}
 use Rattle.pass_frames_proof.proofs.code.Left.{blocks_by}
 use Rattle.pass_frames_proof.proofs.layers.Grown.{both_becomes}
 use Rattle.pass_frames_proof.specs.Layers.{Layer, becomes, both, each, grown, only, passed, woven}
 use Rattle.pass_frames_proof.specs.Passes.{block_at, copying, fetched_first, fetching, fetching_at, phi_ends, unmarked_at, writing}
 use Rattle.pass_frames_proof.specs.Places.{Framing, Placed, addressing_layer, before_labels, celled_layer, copied_layer, copies, copying_layer, edged, fetched, instrs_at, loading_layer, marked, named, offsets, placed_layer, plan, unmarked, unmarked_layer, writing_layer, written}
-use Rattle.pass_front.specs.Front.{is_no_alloca}
-use Rattle.pass_proofs.proofs.fetch.shape.Fetching.{no_rows}
+use Rattle.pass_frames_proof.specs.pass_front.Front.{is_no_alloca}
+use Rattle.pass_frames_proof.proofs.pass_proofs.fetch.shape.Fetching.{no_rows}
 
 into_none : (n : ℕ) (y : Fetch) → is_no_alloca (fetch_into n y) ≡ true
 into_none n (Fetch.Load ty cell) = refl

@@ -2,24 +2,24 @@
 -- or returns.
 use Rattle.std.proofs.Common.{◌≡◌, ℕ, Bool, true, false, List, Option, Some, None, Result, Ok, Err, refl, subst}
 use Rattle.std.specs.Prelude.{if◌then◌else◌, slice_get}
-use Rattle.ir_base.specs.declared.cause.Cause.{Cause}
-use Rattle.ir_base.specs.declared.ops.Pred.{Pred}
-use Rattle.ir_base.specs.declared.outcome.Word.{Word}
-use Rattle.ir_model.specs.Names.{declaration_named, function_named}
-use Rattle.ir_model.specs.Ty.{Ty, array, int, named, ptr, structure, token}
-use Rattle.ir_model.specs.declared.instr.Instr.{Instr}
-use Rattle.ir_model.specs.declared.operand.Allocator.{Allocator}
-use Rattle.ir_model.specs.declared.operand.Arg.{Arg}
-use Rattle.ir_model.specs.declared.operand.Callee.{Callee}
-use Rattle.ir_model.specs.declared.operand.Intrinsic.{Intrinsic}
+use Rattle.pass_frames_proof.specs.ir_base.declared.cause.Cause.{Cause}
+use Rattle.pass_frames_proof.specs.ir_base.declared.ops.Pred.{Pred}
+use Rattle.pass_frames_proof.specs.ir_base.declared.outcome.Word.{Word}
+use Rattle.pass_frames_proof.specs.ir_model.Names.{declaration_named, function_named}
+use Rattle.pass_frames_proof.specs.ir_model.Ty.{Ty, array, int, named, ptr, structure, token}
+use Rattle.pass_frames_proof.specs.ir_model.declared.instr.Instr.{Instr}
+use Rattle.pass_frames_proof.specs.ir_model.declared.operand.Allocator.{Allocator}
+use Rattle.pass_frames_proof.specs.ir_model.declared.operand.Arg.{Arg}
+use Rattle.pass_frames_proof.specs.ir_model.declared.operand.Callee.{Callee}
+use Rattle.pass_frames_proof.specs.ir_model.declared.operand.Intrinsic.{Intrinsic}
 use Rattle.pass_frames_prices.specs.Counts.{more_by}
-use Rattle.run_memory.specs.Memory.{compare}
-use Rattle.run_memory.specs.declared.pointer.Pointer.{Pointer}
-use Rattle.run_memory.specs.declared.pointer.Value.{Value}
-use Rattle.run_step.specs.Step.{Action, Context, Coro, Enter, GoTo, Return, Stuck, Work, allocator_call, compared}
-use Rattle.run_step.specs.Step.{copied_bytes, done, fits_function, if_alignment, indirect_call, instr_action}
-use Rattle.run_step.specs.Step.{intrinsic_call, is_alignment, named_call, observed, with_length, words_of}
-use Rattle.run_step.specs.Values.{address, arg_values, nth, value_in}
+use Rattle.pass_frames_proof.specs.run_memory.Memory.{compare}
+use Rattle.pass_frames_proof.specs.run_memory.declared.pointer.Pointer.{Pointer}
+use Rattle.pass_frames_proof.specs.run_memory.declared.pointer.Value.{Value}
+use Rattle.pass_frames_proof.specs.run_step.Step.{Action, Context, Coro, Enter, GoTo, Return, Stuck, Work, allocator_call, compared}
+use Rattle.pass_frames_proof.specs.run_step.Step.{copied_bytes, done, fits_function, if_alignment, indirect_call, instr_action}
+use Rattle.pass_frames_proof.specs.run_step.Step.{intrinsic_call, is_alignment, named_call, observed, with_length, words_of}
+use Rattle.pass_frames_proof.specs.run_step.Values.{address, arg_values, nth, value_in}
 
 -- what more is put in around an instruction, by what comes of it
 abbrev pub Adds : ℕ → Action → Type 0

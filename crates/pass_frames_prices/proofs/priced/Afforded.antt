@@ -1,17 +1,17 @@
 -- A jump is afforded: an ordinary one leaves the credit, and one from a block on a resume or destroy edge spends it.
 use Rattle.std.proofs.Common.{◌≡◌, ℕ, ◌+◌, ◌≤◌, Bool, true, false, length, Some, refl, arith}
 use Rattle.std.specs.Prelude.{if◌then◌else◌, not, slice_get, ◌&&◌, ◌==◌}
-use Rattle.flow_solver.specs.Paths.{IsListed}
-use Rattle.ir_laws.proofs.facts.Truth.{itself}
-use Rattle.ir_model.specs.Names.{position_of}
-use Rattle.ir_model.specs.declared.instr.Terminator.{Terminator}
-use Rattle.ir_paths.specs.Paths.{targets}
+use Rattle.pass_frames_proof.specs.flow_solver.Paths.{IsListed}
+use Rattle.pass_frames_proof.proofs.ir_laws.facts.Truth.{itself}
+use Rattle.pass_frames_proof.specs.ir_model.Names.{position_of}
+use Rattle.pass_frames_proof.specs.ir_model.declared.instr.Terminator.{Terminator}
+use Rattle.pass_frames_proof.specs.ir_paths.Paths.{targets}
 use Rattle.pass_frames_prices.proofs.priced.Left.{leads_away}
 use Rattle.pass_frames_prices.specs.FramePrices.{coroutine_price, credit, full_price, goes_on, price_by, returns_by}
 use Rattle.pass_frames_proof.specs.Framings.{IsFraming}
 use Rattle.pass_frames_proof.specs.Passes.{block_at}
 use Rattle.pass_frames_proof.specs.Places.{Framing, edged, instrs_at, is_return}
-use Rattle.rule_laws.specs.frames.rows.Returns.{HaveOwnReturns}
+use Rattle.pass_frames_proof.specs.rule_laws.frames.rows.Returns.{HaveOwnReturns}
 
 ordinary : (names operands : ℕ) (g r : Bool) → g ≡ true
     → price_by (full_price names operands) (credit names) false g + (if r then credit names else 0)

@@ -3,16 +3,16 @@ use Rattle.std.proofs.Common.{◌≡◌, ⊎_elim, ℕ, ◌+◌, ◌-◌, ◌*�
 use Rattle.std.proofs.Common.{refl}
 use Rattle.std.proofs.Common.{sym, ap, ◌∙◌, subst, arith}
 use Rattle.std.specs.Prelude.{option_map, slice_get, ◌∷◌}
-use Rattle.flow_solver.specs.Paths.{IsListed}
-use Rattle.ir_laws.proofs.paths.edges.Lists.{listed_at}
-use Rattle.ir_laws.proofs.paths.woven_rules.Unbroken.{of_listed}
-use Rattle.ir_model.specs.Names.{function_at, position_of}
-use Rattle.ir_model.specs.declared.instr.Instr.{Instr}
-use Rattle.ir_model.specs.declared.module.Block.{Block}
-use Rattle.ir_model.specs.declared.module.Function.{Function}
-use Rattle.ir_model.specs.declared.module.Module.{Module}
-use Rattle.ir_paths.specs.Paths.{targets}
-use Rattle.ir_paths.specs.declared.point.Point.{Point}
+use Rattle.pass_frames_proof.specs.flow_solver.Paths.{IsListed}
+use Rattle.pass_frames_proof.proofs.ir_laws.paths.edges.Lists.{listed_at}
+use Rattle.pass_frames_proof.proofs.ir_laws.paths.woven_rules.Unbroken.{of_listed}
+use Rattle.pass_frames_proof.specs.ir_model.Names.{function_at, position_of}
+use Rattle.pass_frames_proof.specs.ir_model.declared.instr.Instr.{Instr}
+use Rattle.pass_frames_proof.specs.ir_model.declared.module.Block.{Block}
+use Rattle.pass_frames_proof.specs.ir_model.declared.module.Function.{Function}
+use Rattle.pass_frames_proof.specs.ir_model.declared.module.Module.{Module}
+use Rattle.pass_frames_proof.specs.ir_paths.Paths.{targets}
+use Rattle.pass_frames_proof.specs.ir_paths.declared.point.Point.{Point}
 use Rattle.pass_frames_prices.proofs.bounds.Slots.{slots_paid}
 use Rattle.pass_frames_prices.proofs.bounds.Totals.{allocas_total}
 use Rattle.pass_frames_proof.proofs.code.Passes.{block_is}
@@ -23,16 +23,16 @@ use Rattle.pass_frames_prices.specs.FramePrices.{IsWithin, credit, first_flagged
 use Rattle.pass_frames_proof.specs.Framings.{IsFraming}
 use Rattle.pass_frames_proof.specs.Passes.{block_at}
 use Rattle.pass_frames_proof.specs.Places.{Framing, edged, instrs_at, is_return}
-use Rattle.pass_intrinsics.specs.Shapes.{suspends_of}
-use Rattle.pass_proofs.proofs.copies.begin_order.Early.{leads_again}
-use Rattle.pass_proofs.proofs.split.edges.Entered.{to_predecessors}
-use Rattle.pass_renewed_proof.specs.Prices.{slots_in}
-use Rattle.pass_renewed_proof.specs.Renewed.{Flags, renewed_in}
-use Rattle.rule_laws.proofs.frames.shape.Points.{point_from}
-use Rattle.rule_laws.proofs.rules.source_rules.Locals.{own_label}
-use Rattle.rule_laws.proofs.rules.threaded.Labels.{HasBlock, target_there}
-use Rattle.rule_laws.specs.frames.replaced.Splittable.{HasOwnEdges, IsLedToBy}
-use Rattle.rule_laws.specs.frames.rows.Returns.{HaveOwnReturns}
+use Rattle.pass_frames_proof.specs.pass_intrinsics.Shapes.{suspends_of}
+use Rattle.pass_frames_proof.proofs.pass_proofs.copies.begin_order.Early.{leads_again}
+use Rattle.pass_frames_proof.proofs.pass_proofs.split.edges.Entered.{to_predecessors}
+use Rattle.pass_frames_proof.specs.pass_renewed_proof.Prices.{slots_in}
+use Rattle.pass_frames_proof.specs.pass_renewed_proof.Renewed.{Flags, renewed_in}
+use Rattle.pass_frames_proof.proofs.rule_laws.frames.shape.Points.{point_from}
+use Rattle.pass_frames_proof.proofs.rule_laws.rules.source_rules.Locals.{own_label}
+use Rattle.pass_frames_proof.proofs.rule_laws.rules.threaded.Labels.{HasBlock, target_there}
+use Rattle.pass_frames_proof.specs.rule_laws.frames.replaced.Splittable.{HasOwnEdges, IsLedToBy}
+use Rattle.pass_frames_proof.specs.rule_laws.frames.rows.Returns.{HaveOwnReturns}
 
 -- ---- jumps
 

@@ -3,29 +3,29 @@ use Rattle.std.proofs.Common.{◌≡◌, ◌≢◌, ℕ, zero, suc, ◌+◌, ◌
 use Rattle.std.proofs.Common.{None, length, refl, ap, ◌∙◌, subst, arith}
 use Rattle.std.proofs.lemmas.List.{length-map}
 use Rattle.std.specs.Prelude.{map, not, slice_get, if◌then◌else◌, ◌&&◌, ◌||◌}
-use Rattle.frame_crossing.specs.Values.{is_token_result}
-use Rattle.ir_base.specs.declared.outcome.Place.{Place}
-use Rattle.ir_model.specs.Calls.{first_result}
-use Rattle.ir_model.specs.Ty.{Ty, array, int, named, ptr, structure, token}
-use Rattle.ir_model.specs.declared.instr.Instr.{Instr}
-use Rattle.ir_model.specs.declared.module.Block.{Block}
-use Rattle.ir_model.specs.declared.module.Function.{Function}
-use Rattle.ir_model.specs.declared.module.Module.{Module}
-use Rattle.ir_model.specs.declared.operand.Callee.{Callee}
-use Rattle.ir_model.specs.declared.operand.Intrinsic.{Intrinsic}
-use Rattle.ir_parts.specs.Parts.{OfInstr, instr_place, parts_of}
-use Rattle.pass_early.specs.BeginName.{if_unnamed, named_block, named_instr, with_begin_name}
-use Rattle.pass_early.specs.Early.{after_instrs, after_one, early_blocks, early_function, early_instrs, early_named}
-use Rattle.pass_early.specs.Early.{early_one, is_none, save_call, saved}
-use Rattle.pass_early.specs.Renaming.{renamed_instr, renamed_phi}
-use Rattle.pass_early.specs.declared.renaming.Renaming.{Renaming}
+use Rattle.pass_frames_proof.specs.frame_crossing.Values.{is_token_result}
+use Rattle.pass_frames_proof.specs.ir_base.declared.outcome.Place.{Place}
+use Rattle.pass_frames_proof.specs.ir_model.Calls.{first_result}
+use Rattle.pass_frames_proof.specs.ir_model.Ty.{Ty, array, int, named, ptr, structure, token}
+use Rattle.pass_frames_proof.specs.ir_model.declared.instr.Instr.{Instr}
+use Rattle.pass_frames_proof.specs.ir_model.declared.module.Block.{Block}
+use Rattle.pass_frames_proof.specs.ir_model.declared.module.Function.{Function}
+use Rattle.pass_frames_proof.specs.ir_model.declared.module.Module.{Module}
+use Rattle.pass_frames_proof.specs.ir_model.declared.operand.Callee.{Callee}
+use Rattle.pass_frames_proof.specs.ir_model.declared.operand.Intrinsic.{Intrinsic}
+use Rattle.pass_frames_proof.specs.ir_parts.Parts.{OfInstr, instr_place, parts_of}
+use Rattle.pass_frames_proof.specs.pass_early.BeginName.{if_unnamed, named_block, named_instr, with_begin_name}
+use Rattle.pass_frames_proof.specs.pass_early.Early.{after_instrs, after_one, early_blocks, early_function, early_instrs, early_named}
+use Rattle.pass_frames_proof.specs.pass_early.Early.{early_one, is_none, save_call, saved}
+use Rattle.pass_frames_proof.specs.pass_early.Renaming.{renamed_instr, renamed_phi}
+use Rattle.pass_frames_proof.specs.pass_early.declared.renaming.Renaming.{Renaming}
 use Rattle.pass_frames_prices.specs.Numbers.{name_of_instr, names_of, names_of_blocks, names_of_instrs}
-use Rattle.rule_laws.proofs.rules.path_rules.Holding.{of_parts}
-use Rattle.rule_laws.proofs.rules.renamed.Switches.{none_part}
-use Rattle.rule_types.specs.Signatures.{are_wanted, calls_otherwise, first_otherwise, is_result}
-use Rattle.rule_types.specs.Wants.{intrinsic_params, intrinsic_result}
-use Rattle.run_agreement.specs.Factor.{names_of_blocks as counted_blocks, names_of_functions}
-use Rattle.run_agreement.specs.Factor.{names_of_instr as counted, names_of_instrs as counted_instrs}
+use Rattle.pass_frames_proof.proofs.rule_laws.rules.path_rules.Holding.{of_parts}
+use Rattle.pass_frames_proof.proofs.rule_laws.rules.renamed.Switches.{none_part}
+use Rattle.pass_frames_proof.specs.rule_types.Signatures.{are_wanted, calls_otherwise, first_otherwise, is_result}
+use Rattle.pass_frames_proof.specs.rule_types.Wants.{intrinsic_params, intrinsic_result}
+use Rattle.pass_frames_proof.specs.run_agreement.Factor.{names_of_blocks as counted_blocks, names_of_functions}
+use Rattle.pass_frames_proof.specs.run_agreement.Factor.{names_of_instr as counted, names_of_instrs as counted_instrs}
 
 abbrev unless_one : Bool → ℕ
 unless_one b = if b then 0 else 1

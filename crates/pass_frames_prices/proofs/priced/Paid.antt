@@ -2,14 +2,14 @@
 use Rattle.std.proofs.Common.{◌≡◌, ◌≢◌, ⊎_elim, ℕ, ◌+◌, ◌-◌, ◌*◌, ◌≤◌, Bool, true, false, List, [], ◌∷◌, Option}
 use Rattle.std.proofs.Common.{Some, None, Result, Ok, Err, refl, sym, ap, ◌∙◌, subst, arith}
 use Rattle.std.specs.Prelude.{length, slice_get, unwrap_or, if◌then◌else◌, ◌==◌}
-use Rattle.ir_base.specs.declared.cause.Cause.{Cause}
-use Rattle.ir_laws.proofs.facts.Truth.{either}
-use Rattle.ir_model.specs.Names.{function_at, position_of}
-use Rattle.ir_model.specs.declared.instr.Instr.{Instr}
-use Rattle.ir_model.specs.declared.instr.Terminator.{Terminator}
-use Rattle.ir_model.specs.declared.module.Block.{Block}
-use Rattle.ir_model.specs.declared.module.Function.{Function}
-use Rattle.ir_model.specs.declared.operand.Intrinsic.{Intrinsic}
+use Rattle.pass_frames_proof.specs.ir_base.declared.cause.Cause.{Cause}
+use Rattle.pass_frames_proof.proofs.ir_laws.facts.Truth.{either}
+use Rattle.pass_frames_proof.specs.ir_model.Names.{function_at, position_of}
+use Rattle.pass_frames_proof.specs.ir_model.declared.instr.Instr.{Instr}
+use Rattle.pass_frames_proof.specs.ir_model.declared.instr.Terminator.{Terminator}
+use Rattle.pass_frames_proof.specs.ir_model.declared.module.Block.{Block}
+use Rattle.pass_frames_proof.specs.ir_model.declared.module.Function.{Function}
+use Rattle.pass_frames_proof.specs.ir_model.declared.operand.Intrinsic.{Intrinsic}
 use Rattle.pass_frames_prices.proofs.bounds.Paid.{none_cost}
 use Rattle.pass_frames_prices.proofs.priced.Acts.{added}
 use Rattle.pass_frames_prices.proofs.priced.Jumps.{leads}
@@ -27,19 +27,19 @@ use Rattle.pass_frames_proof.specs.Passes.{block_at, no_block}
 use Rattle.pass_frames_proof.specs.Places.{Framing, copies, edged, instrs_at, place, plan}
 use Rattle.pass_frames_proof.specs.Related.{Building, is_coroutine, point_of}
 use Rattle.pass_frames_proof.specs.Stepping.{AreGiven}
-use Rattle.pass_renewed_proof.specs.Prices.{Prices, coroutine_of, price_in, price_of, renewed_price, resumed_by}
-use Rattle.pass_renewed_proof.specs.Prices.{resumed_in}
-use Rattle.pass_renewed_proof.specs.Renewed.{RenewedGiven}
-use Rattle.rule_laws.proofs.rules.sources.Places.{IsEnd, term_there}
-use Rattle.rule_laws.specs.frames.rows.Returns.{HaveOwnReturns}
-use Rattle.run_source.specs.Source.{Sleeper, context_of, sleeper_at}
-use Rattle.run_source.specs.State.{function_of, work_of}
-use Rattle.run_source.specs.declared.state.Activation.{Activation}
-use Rattle.run_source.specs.declared.state.Mode.{Mode}
-use Rattle.run_source.specs.declared.state.State.{State}
-use Rattle.run_step.specs.Step.{Action, AtInstr, AtTerm, Context, Coro, Enter, Fetched, GoTo, Nowhere, Return, Work}
-use Rattle.run_step.specs.Step.{action_of, fetch, fetch_in, fetch_or}
-use Rattle.run_step.specs.Values.{arg_values, nth}
+use Rattle.pass_frames_proof.specs.pass_renewed_proof.Prices.{Prices, coroutine_of, price_in, price_of, renewed_price, resumed_by}
+use Rattle.pass_frames_proof.specs.pass_renewed_proof.Prices.{resumed_in}
+use Rattle.pass_frames_proof.specs.pass_renewed_proof.Renewed.{RenewedGiven}
+use Rattle.pass_frames_proof.proofs.rule_laws.rules.sources.Places.{IsEnd, term_there}
+use Rattle.pass_frames_proof.specs.rule_laws.frames.rows.Returns.{HaveOwnReturns}
+use Rattle.pass_frames_proof.specs.run_source.Source.{Sleeper, context_of, sleeper_at}
+use Rattle.pass_frames_proof.specs.run_source.State.{function_of, work_of}
+use Rattle.pass_frames_proof.specs.run_source.declared.state.Activation.{Activation}
+use Rattle.pass_frames_proof.specs.run_source.declared.state.Mode.{Mode}
+use Rattle.pass_frames_proof.specs.run_source.declared.state.State.{State}
+use Rattle.pass_frames_proof.specs.run_step.Step.{Action, AtInstr, AtTerm, Context, Coro, Enter, Fetched, GoTo, Nowhere, Return, Work}
+use Rattle.pass_frames_proof.specs.run_step.Step.{action_of, fetch, fetch_in, fetch_or}
+use Rattle.pass_frames_proof.specs.run_step.Values.{arg_values, nth}
 
 -- ---- sums
 

@@ -5,27 +5,27 @@ use Rattle.std.proofs.Common.{length, refl, subst, arith}
 use Rattle.std.proofs.Math.Nat.{le-max_left, le-max_right}
 use Rattle.std.proofs.lemmas.List.{length-map}
 use Rattle.std.specs.Prelude.{map, max, slice_get, unwrap_or, if◌then◌else◌}
-use Rattle.ir_laws.proofs.facts.Members.{at_each, each_joined}
-use Rattle.ir_model.specs.Calls.{first_result}
-use Rattle.ir_model.specs.declared.instr.Instr.{Instr}
-use Rattle.ir_model.specs.declared.module.Block.{Block}
-use Rattle.ir_model.specs.declared.module.Function.{Function}
-use Rattle.ir_model.specs.declared.operand.Arg.{Arg}
-use Rattle.ir_model.specs.declared.operand.Callee.{Callee}
-use Rattle.ir_model.specs.declared.operand.Intrinsic.{Intrinsic}
-use Rattle.ir_parts.specs.Contents.{instr_operands}
-use Rattle.pass_early.specs.BeginName.{if_unnamed, named_block, named_instr, with_begin_name}
-use Rattle.pass_early.specs.Early.{after_instrs, after_one, early_blocks, early_function, early_instrs, early_named}
-use Rattle.pass_early.specs.Early.{early_one, is_none, save_call, saved}
-use Rattle.pass_early.specs.Renaming.{renamed_arg, renamed_instr, renamed_phi}
-use Rattle.pass_early.specs.declared.renaming.Renaming.{Renaming}
-use Rattle.pass_edges.specs.EdgeBlocks.{edge_block, split_blocks, split_phi, with_edge_blocks}
-use Rattle.pass_edges.specs.Edges.{block_edges, edge_table, edges_at, edges_of, phi_flags}
-use Rattle.pass_edges.specs.declared.edge.Edge.{Edge}
+use Rattle.pass_frames_proof.proofs.ir_laws.facts.Members.{at_each, each_joined}
+use Rattle.pass_frames_proof.specs.ir_model.Calls.{first_result}
+use Rattle.pass_frames_proof.specs.ir_model.declared.instr.Instr.{Instr}
+use Rattle.pass_frames_proof.specs.ir_model.declared.module.Block.{Block}
+use Rattle.pass_frames_proof.specs.ir_model.declared.module.Function.{Function}
+use Rattle.pass_frames_proof.specs.ir_model.declared.operand.Arg.{Arg}
+use Rattle.pass_frames_proof.specs.ir_model.declared.operand.Callee.{Callee}
+use Rattle.pass_frames_proof.specs.ir_model.declared.operand.Intrinsic.{Intrinsic}
+use Rattle.pass_frames_proof.specs.ir_parts.Contents.{instr_operands}
+use Rattle.pass_frames_proof.specs.pass_early.BeginName.{if_unnamed, named_block, named_instr, with_begin_name}
+use Rattle.pass_frames_proof.specs.pass_early.Early.{after_instrs, after_one, early_blocks, early_function, early_instrs, early_named}
+use Rattle.pass_frames_proof.specs.pass_early.Early.{early_one, is_none, save_call, saved}
+use Rattle.pass_frames_proof.specs.pass_early.Renaming.{renamed_arg, renamed_instr, renamed_phi}
+use Rattle.pass_frames_proof.specs.pass_early.declared.renaming.Renaming.{Renaming}
+use Rattle.pass_frames_proof.specs.pass_edges.EdgeBlocks.{edge_block, split_blocks, split_phi, with_edge_blocks}
+use Rattle.pass_frames_proof.specs.pass_edges.Edges.{block_edges, edge_table, edges_at, edges_of, phi_flags}
+use Rattle.pass_frames_proof.specs.pass_edges.declared.edge.Edge.{Edge}
 use Rattle.pass_frames_proof.specs.Passes.{block_at, no_block}
-use Rattle.run_agreement.specs.Factor.{most_operands, most_operands_of_blocks, most_operands_of_functions, most_phis}
-use Rattle.run_agreement.specs.Factor.{most_phis_of_functions, operands_of_instr, operands_of_term}
-use Rattle.run_laws.specs.changed.Changed.{Each}
+use Rattle.pass_frames_proof.specs.run_agreement.Factor.{most_operands, most_operands_of_blocks, most_operands_of_functions, most_phis}
+use Rattle.pass_frames_proof.specs.run_agreement.Factor.{most_phis_of_functions, operands_of_instr, operands_of_term}
+use Rattle.pass_frames_proof.specs.run_laws.changed.Changed.{Each}
 
 -- ---- one instruction
 

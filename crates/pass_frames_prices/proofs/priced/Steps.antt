@@ -3,16 +3,16 @@ use Rattle.std.proofs.Common.{◌≡◌, ◌≢◌, ℕ, zero, suc, ◌+◌, ◌
 use Rattle.std.proofs.Common.{Option, Some, None, refl, sym, ap, ◌∙◌, subst, arith}
 use Rattle.std.proofs.lemmas.Option.{slice_get_within}
 use Rattle.std.specs.Prelude.{not, slice_get, unwrap_or, ◌&&◌, ◌==◌}
-use Rattle.flow_solver.specs.Paths.{IsListed}
-use Rattle.ir_laws.proofs.facts.Truth.{equal_numbers}
-use Rattle.ir_model.specs.Names.{position_of}
-use Rattle.ir_model.specs.declared.instr.Instr.{Instr}
-use Rattle.ir_model.specs.declared.instr.Phi.{Phi}
-use Rattle.ir_model.specs.declared.instr.Terminator.{Terminator}
-use Rattle.ir_model.specs.declared.module.Block.{Block}
-use Rattle.ir_model.specs.declared.module.Function.{Function}
-use Rattle.ir_paths.specs.Paths.{targets}
-use Rattle.ir_paths.specs.declared.point.Point.{Point}
+use Rattle.pass_frames_proof.specs.flow_solver.Paths.{IsListed}
+use Rattle.pass_frames_proof.proofs.ir_laws.facts.Truth.{equal_numbers}
+use Rattle.pass_frames_proof.specs.ir_model.Names.{position_of}
+use Rattle.pass_frames_proof.specs.ir_model.declared.instr.Instr.{Instr}
+use Rattle.pass_frames_proof.specs.ir_model.declared.instr.Phi.{Phi}
+use Rattle.pass_frames_proof.specs.ir_model.declared.instr.Terminator.{Terminator}
+use Rattle.pass_frames_proof.specs.ir_model.declared.module.Block.{Block}
+use Rattle.pass_frames_proof.specs.ir_model.declared.module.Function.{Function}
+use Rattle.pass_frames_proof.specs.ir_paths.Paths.{targets}
+use Rattle.pass_frames_proof.specs.ir_paths.declared.point.Point.{Point}
 use Rattle.pass_frames_prices.proofs.bounds.Ends.{end_cost_short}
 use Rattle.pass_frames_prices.proofs.bounds.Entry.{entry_unreturned}
 use Rattle.pass_frames_prices.proofs.bounds.Jumps.{other_jump, return_jump}
@@ -32,10 +32,10 @@ use Rattle.pass_frames_proof.specs.Meaning.{behind_at, own_cost}
 use Rattle.pass_frames_prices.specs.Numbers.{names_of, phis_of_blocks}
 use Rattle.pass_frames_proof.specs.Passes.{block_at, no_block}
 use Rattle.pass_frames_proof.specs.Places.{Framing, edged, instrs_at, is_return, place}
-use Rattle.rule_laws.proofs.frames.crossing.Entries.{none_enters}
-use Rattle.rule_laws.proofs.rules.sources.Places.{IsEnd}
-use Rattle.rule_laws.proofs.rules.threaded.Labels.{HasBlock, target_there}
-use Rattle.rule_laws.specs.frames.rows.Returns.{HaveOwnReturns}
+use Rattle.pass_frames_proof.proofs.rule_laws.frames.crossing.Entries.{none_enters}
+use Rattle.pass_frames_proof.proofs.rule_laws.rules.sources.Places.{IsEnd}
+use Rattle.pass_frames_proof.proofs.rule_laws.rules.threaded.Labels.{HasBlock, target_there}
+use Rattle.pass_frames_proof.specs.rule_laws.frames.rows.Returns.{HaveOwnReturns}
 
 -- ---- prices
 

@@ -1,15 +1,15 @@
 -- Where each step is afforded, a run is paid for. A place costs at most what is left there more than what is full.
 use Rattle.std.proofs.Common.{◌≡◌, ℕ, zero, suc, ◌+◌, ◌*◌, ◌<◌, ◌≤◌, Bool, true, false, subst, arith}
 use Rattle.std.specs.Prelude.{if◌then◌else◌, ◌&&◌, ◌==◌}
-use Rattle.ir_model.specs.declared.module.Module.{Module}
+use Rattle.pass_frames_proof.specs.ir_model.declared.module.Module.{Module}
 use Rattle.pass_frames_prices.specs.FramePrices.{IsAfforded, credit, frame_prices, full_price, goes_on, left_at}
 use Rattle.pass_frames_prices.specs.FramePrices.{price_by}
 use Rattle.pass_frames_proof.specs.Places.{is_return}
 use Rattle.pass_frames_proof.specs.Related.{Building, is_coroutine}
-use Rattle.pass_renewed_proof.specs.Renewed.{Flags}
-use Rattle.run_agreement.specs.Costs.{cost_at, cost_from}
-use Rattle.run_agreement.specs.Machines.{Machine, iterate, state_at}
-use Rattle.run_source.specs.declared.state.State.{State}
+use Rattle.pass_frames_proof.specs.pass_renewed_proof.Renewed.{Flags}
+use Rattle.pass_frames_proof.specs.run_agreement.Costs.{cost_at, cost_from}
+use Rattle.pass_frames_proof.specs.run_agreement.Machines.{Machine, iterate, state_at}
+use Rattle.pass_frames_proof.specs.run_source.declared.state.State.{State}
 
 one_more : (n full price left next cost last : ℕ) → price + next ≤ full + left → cost + last ≤ full * n + next
     → price + cost + last ≤ full * suc n + left

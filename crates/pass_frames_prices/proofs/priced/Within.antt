@@ -3,11 +3,11 @@ use Rattle.std.proofs.Common.{◌≡◌, ℕ, ◌+◌, ◌≤◌, true, false, O
 use Rattle.std.proofs.Common.{arith}
 use Rattle.std.specs.Prelude.{option_map, slice_get, unwrap_or}
 use Rattle.std.proofs.lemmas.Option.{slice_get-map}
-use Rattle.ir_model.specs.Names.{function_at, no_function}
-use Rattle.ir_model.specs.declared.module.Function.{Function}
-use Rattle.ir_model.specs.declared.module.Module.{Module}
-use Rattle.pass_early.specs.Early.{early_function, early_module}
-use Rattle.pass_edges.specs.EdgeBlocks.{with_edge_blocks}
+use Rattle.pass_frames_proof.specs.ir_model.Names.{function_at, no_function}
+use Rattle.pass_frames_proof.specs.ir_model.declared.module.Function.{Function}
+use Rattle.pass_frames_proof.specs.ir_model.declared.module.Module.{Module}
+use Rattle.pass_frames_proof.specs.pass_early.Early.{early_function, early_module}
+use Rattle.pass_frames_proof.specs.pass_edges.EdgeBlocks.{with_edge_blocks}
 use Rattle.pass_frames_prices.proofs.bounds.Edges.{edged_names}
 use Rattle.pass_frames_prices.proofs.priced.Names.{counted_both, counted_in, early_function_names, names_counted}
 use Rattle.pass_frames_prices.proofs.priced.Short.{IsShort, edged_short, operands_in, operands_low, phis_in, phis_low}
@@ -15,10 +15,10 @@ use Rattle.pass_frames_prices.specs.FramePrices.{AreWithin}
 use Rattle.pass_frames_prices.specs.Numbers.{names_of}
 use Rattle.pass_frames_proof.specs.Places.{edged}
 use Rattle.pass_frames_proof.specs.Related.{AreBuilt, Building, is_coroutine}
-use Rattle.rule_types.specs.Signatures.{first_otherwise}
-use Rattle.run_agreement.specs.Factor.{most_operands_of_functions, most_phis_of_functions}
-use Rattle.run_agreement.specs.Factor.{names_of_blocks as counted_blocks, names_of_functions}
-use Rattle.run_laws.specs.changed.Changed.{Each}
+use Rattle.pass_frames_proof.specs.rule_types.Signatures.{first_otherwise}
+use Rattle.pass_frames_proof.specs.run_agreement.Factor.{most_operands_of_functions, most_phis_of_functions}
+use Rattle.pass_frames_proof.specs.run_agreement.Factor.{names_of_blocks as counted_blocks, names_of_functions}
+use Rattle.pass_frames_proof.specs.run_laws.changed.Changed.{Each}
 
 module _ (b : Building) (m : Module) (built : AreBuilt b) (code : b.code ≡ early_module m)
     (calls : (k : ℕ) (f : Function) → slice_get m.functions k ≡ Some f → first_otherwise m k f ≡ None) where

@@ -1,21 +1,21 @@
 -- What stands in front of a block on a resume or destroy edge for one value, with the address of its field.
 use Rattle.std.proofs.Common.{◌≡◌, ⊎_elim, ℕ, ◌+◌, ◌<◌, ◌≤◌, Bool, true, false, List, [], ◌∷◌, ◌++◌, length, refl, sym, ap, ◌∙◌, arith}
 use Rattle.std.specs.Prelude.{None, Option, Some, replicate, slice_get, unwrap_or}
-use Rattle.frame_classes.specs.declared.class.SlotClass.{SlotClass}
-use Rattle.ir_model.specs.Ty.{Ty, ptr}
-use Rattle.ir_model.specs.declared.instr.Instr.{Instr}
-use Rattle.ir_model.specs.declared.operand.Operand.{Operand}
-use Rattle.ir_paths.specs.Slots.{allocas_of}
-use Rattle.pass_addresses.specs.Placing.{lies_outside, slot_fetches}
-use Rattle.pass_cells.specs.Kept.{flag_or_false, is_flagged}
-use Rattle.pass_cells.specs.Links.{bases_of}
-use Rattle.pass_cells.specs.Moves.{address_again, again_one, load_from, store_to}
-use Rattle.pass_cells.specs.declared.plan.KeptValue.{KeptValue}
-use Rattle.pass_copies.specs.Uses.{flag_at}
-use Rattle.pass_fetch.specs.Fetching.{fetch_of, fetches_by, next_by, operand_by, value_bytes}
-use Rattle.pass_fetch.specs.declared.fetch.Fetch.{Fetch}
-use Rattle.pass_frames.specs.Framed.{begin_of}
-use Rattle.pass_frames.specs.Tables.{is_of}
+use Rattle.pass_proofs.specs.frame_classes.declared.class.SlotClass.{SlotClass}
+use Rattle.pass_proofs.specs.ir_model.Ty.{Ty, ptr}
+use Rattle.pass_proofs.specs.ir_model.declared.instr.Instr.{Instr}
+use Rattle.pass_proofs.specs.ir_model.declared.operand.Operand.{Operand}
+use Rattle.pass_proofs.specs.ir_paths.Slots.{allocas_of}
+use Rattle.pass_proofs.specs.pass_addresses.Placing.{lies_outside, slot_fetches}
+use Rattle.pass_proofs.specs.pass_cells.Kept.{flag_or_false, is_flagged}
+use Rattle.pass_proofs.specs.pass_cells.Links.{bases_of}
+use Rattle.pass_proofs.specs.pass_cells.Moves.{address_again, again_one, load_from, store_to}
+use Rattle.pass_proofs.specs.pass_cells.declared.plan.KeptValue.{KeptValue}
+use Rattle.pass_proofs.specs.pass_copies.Uses.{flag_at}
+use Rattle.pass_proofs.specs.pass_fetch.Fetching.{fetch_of, fetches_by, next_by, operand_by, value_bytes}
+use Rattle.pass_proofs.specs.pass_fetch.declared.fetch.Fetch.{Fetch}
+use Rattle.pass_proofs.specs.pass_frames.Framed.{begin_of}
+use Rattle.pass_proofs.specs.pass_frames.Tables.{is_of}
 use Rattle.pass_frames_proof.proofs.agains.One.{loaded_there, slot_address}
 use Rattle.pass_frames_proof.proofs.code.Idle.{only_idle}
 use Rattle.pass_frames_proof.proofs.code.Left.{Far, addressed_idle, calm_addressed}
@@ -35,7 +35,7 @@ use Rattle.pass_proofs.proofs.frames.begin_order.Framed.{alloca_pointer, frame_a
 use Rattle.pass_proofs.proofs.frames.begin_order.Tables.{IsOfClass, slot_flagged}
 use Rattle.pass_proofs.specs.addresses.rules.Addresses.{lies_in_frame}
 use Rattle.pass_proofs.specs.frames.begin_order.Fields.{IsField}
-use Rattle.run_laws.specs.changed.Changed.{Each}
+use Rattle.pass_proofs.specs.run_laws.changed.Changed.{Each}
 
 -- ---- a local slot isn't in the frame
 

@@ -2,28 +2,28 @@
 use Rattle.std.proofs.Common.{◌≡◌, ◌≢◌, ◌<◌, ◌^◌, ◌∷◌, ◌++◌, ◌∙◌, [], if◌then◌else◌, Bool, List, Some, ap, arith, false, length, refl, subst, suc, sym, true, ℕ}
 use Rattle.std.proofs.lemmas.List.{length-replicate}
 use Rattle.std.specs.Prelude.{slice_get}
-use Rattle.ir_laws.proofs.facts.Lists.{get_within}
+use Rattle.pass_proofs.proofs.ir_laws.facts.Lists.{get_within}
 use Rattle.pass_frames_proof.proofs.allocating.Grown.{end_get, mates_more, still_get}
 use Rattle.pass_frames_proof.proofs.allocating.Rights.{frames_compare, outside_rights}
 use Rattle.pass_frames_proof.proofs.stepping.Rest.{got, seen_known}
 use Rattle.pass_frames_proof.specs.Related.{AreBuiltOf, AreMates, Building}
-use Rattle.run_framed.specs.Framed.{frame_rights}
-use Rattle.run_laws.proofs.memory.Written.{same_some}
-use Rattle.run_laws.proofs.transfer.Grown.{made_together}
-use Rattle.run_laws.proofs.transfer.Muted.{muted_length}
-use Rattle.run_laws.specs.changed.Changed.{Each}
-use Rattle.run_laws.specs.embedded.Making.{whole_home}
-use Rattle.run_laws.specs.memory.Pointers.{Home, home_of}
-use Rattle.run_laws.specs.memory.Standing.{HasBounds, blank_block}
-use Rattle.run_laws.specs.transfer.Muted.{muted}
-use Rattle.run_laws.specs.transfer.Places.{AreBothNew, AreStanding, AreThere, HasRoom}
-use Rattle.run_memory.specs.Memory.{Rights, end, ended, fresh, is_live, owner_rights, with_block}
-use Rattle.run_memory.specs.declared.block.Byte.{Byte}
-use Rattle.run_memory.specs.declared.block.Kind.{Kind}
-use Rattle.run_memory.specs.declared.block.Life.{Life}
-use Rattle.run_memory.specs.declared.block.MemoryBlock.{MemoryBlock}
-use Rattle.run_source.specs.declared.state.Instance.{Instance}
-use Rattle.run_source.specs.declared.state.State.{State}
+use Rattle.pass_proofs.specs.run_framed.Framed.{frame_rights}
+use Rattle.pass_proofs.proofs.run_laws.memory.Written.{same_some}
+use Rattle.pass_proofs.proofs.run_laws.transfer.Grown.{made_together}
+use Rattle.pass_proofs.proofs.run_laws.transfer.Muted.{muted_length}
+use Rattle.pass_proofs.specs.run_laws.changed.Changed.{Each}
+use Rattle.pass_proofs.specs.run_laws.embedded.Making.{whole_home}
+use Rattle.pass_proofs.specs.run_laws.memory.Pointers.{Home, home_of}
+use Rattle.pass_proofs.specs.run_laws.memory.Standing.{HasBounds, blank_block}
+use Rattle.pass_proofs.specs.run_laws.transfer.Muted.{muted}
+use Rattle.pass_proofs.specs.run_laws.transfer.Places.{AreBothNew, AreStanding, AreThere, HasRoom}
+use Rattle.pass_proofs.specs.run_memory.Memory.{Rights, end, ended, fresh, is_live, owner_rights, with_block}
+use Rattle.pass_proofs.specs.run_memory.declared.block.Byte.{Byte}
+use Rattle.pass_proofs.specs.run_memory.declared.block.Kind.{Kind}
+use Rattle.pass_proofs.specs.run_memory.declared.block.Life.{Life}
+use Rattle.pass_proofs.specs.run_memory.declared.block.MemoryBlock.{MemoryBlock}
+use Rattle.pass_proofs.specs.run_source.declared.state.Instance.{Instance}
+use Rattle.pass_proofs.specs.run_source.declared.state.State.{State}
 
 -- ---- a block at the end
 

@@ -3,12 +3,12 @@ use Rattle.std.proofs.Common.{◌≡◌, ◌≢◌, ◌⊎◌, ◌+◌, ◌<◌,
 use Rattle.std.proofs.lemmas.Bool.{cases_eq}
 use Rattle.std.specs.List.{Contains}
 use Rattle.std.specs.Prelude.{slice_get, slice_set}
-use Rattle.flow_solver.specs.Paths.{IsListed}
-use Rattle.ir_model.specs.Layout.{size_of}
-use Rattle.ir_model.specs.Ty.{Ty}
-use Rattle.ir_model.specs.declared.instr.Instr.{Instr}
-use Rattle.pass_copies.specs.declared.slot.EarlySlot.{EarlySlot}
-use Rattle.pass_frames.specs.Tables.{offset_at}
+use Rattle.pass_proofs.specs.flow_solver.Paths.{IsListed}
+use Rattle.pass_proofs.specs.ir_model.Layout.{size_of}
+use Rattle.pass_proofs.specs.ir_model.Ty.{Ty}
+use Rattle.pass_proofs.specs.ir_model.declared.instr.Instr.{Instr}
+use Rattle.pass_proofs.specs.pass_copies.declared.slot.EarlySlot.{EarlySlot}
+use Rattle.pass_proofs.specs.pass_frames.Tables.{offset_at}
 use Rattle.pass_frames_proof.proofs.allocating.Both.{new_block}
 use Rattle.pass_frames_proof.proofs.allocating.Grown.{first_or_more, home_new, in_all, in_below, mates_more, more_length}
 use Rattle.pass_frames_proof.proofs.allocating.Made.{instance_made}
@@ -30,27 +30,27 @@ use Rattle.pass_frames_proof.specs.Slotted.{HasListedSlots, HasSlotsApart, HasSl
 use Rattle.pass_frames_proof.specs.Stepping.{AreGiven}
 use Rattle.pass_proofs.specs.addresses.rules.Addresses.{lies_in_frame}
 use Rattle.pass_renewed_proof.specs.Renewed.{RenewedGiven}
-use Rattle.run_framed.specs.Framed.{frame_rights, layout_of}
-use Rattle.run_laws.proofs.memory.Written.{same_some}
-use Rattle.run_laws.proofs.transfer.Grown.{new_stands}
-use Rattle.run_laws.proofs.transfer.Muted.{muted_get, muted_length}
-use Rattle.run_laws.proofs.transfer.Places.{blank_room, showing_it, showing_others}
-use Rattle.run_laws.specs.embedded.Making.{whole_home}
-use Rattle.run_laws.specs.memory.Pointers.{Home, IsValue, home_of}
-use Rattle.run_laws.specs.memory.Standing.{HasBounds, Stands}
-use Rattle.run_laws.specs.transfer.Muted.{ended_if, muted}
-use Rattle.run_laws.specs.transfer.Places.{AreStanding, HasRoom, IsApartFrom, IsNewIn, showing}
-use Rattle.run_memory.specs.Memory.{Rights, is_live, owner_rights}
-use Rattle.run_memory.specs.declared.block.Kind.{Kind}
-use Rattle.run_memory.specs.declared.block.Life.{Life}
-use Rattle.run_memory.specs.declared.block.MemoryBlock.{MemoryBlock}
-use Rattle.run_source.specs.Source.{is_over}
-use Rattle.run_source.specs.declared.state.Activation.{Activation}
-use Rattle.run_source.specs.declared.state.Instance.{Instance}
-use Rattle.run_source.specs.declared.state.State.{State}
-use Rattle.run_step.specs.Step.{has_markers}
-use Rattle.run_step.specs.Values.{Env, pointer_to, value_in, with_value}
-use Rattle.run_step.specs.declared.world.Slot.{Slot}
+use Rattle.pass_proofs.specs.run_framed.Framed.{frame_rights, layout_of}
+use Rattle.pass_proofs.proofs.run_laws.memory.Written.{same_some}
+use Rattle.pass_proofs.proofs.run_laws.transfer.Grown.{new_stands}
+use Rattle.pass_proofs.proofs.run_laws.transfer.Muted.{muted_get, muted_length}
+use Rattle.pass_proofs.proofs.run_laws.transfer.Places.{blank_room, showing_it, showing_others}
+use Rattle.pass_proofs.specs.run_laws.embedded.Making.{whole_home}
+use Rattle.pass_proofs.specs.run_laws.memory.Pointers.{Home, IsValue, home_of}
+use Rattle.pass_proofs.specs.run_laws.memory.Standing.{HasBounds, Stands}
+use Rattle.pass_proofs.specs.run_laws.transfer.Muted.{ended_if, muted}
+use Rattle.pass_proofs.specs.run_laws.transfer.Places.{AreStanding, HasRoom, IsApartFrom, IsNewIn, showing}
+use Rattle.pass_proofs.specs.run_memory.Memory.{Rights, is_live, owner_rights}
+use Rattle.pass_proofs.specs.run_memory.declared.block.Kind.{Kind}
+use Rattle.pass_proofs.specs.run_memory.declared.block.Life.{Life}
+use Rattle.pass_proofs.specs.run_memory.declared.block.MemoryBlock.{MemoryBlock}
+use Rattle.pass_proofs.specs.run_source.Source.{is_over}
+use Rattle.pass_proofs.specs.run_source.declared.state.Activation.{Activation}
+use Rattle.pass_proofs.specs.run_source.declared.state.Instance.{Instance}
+use Rattle.pass_proofs.specs.run_source.declared.state.State.{State}
+use Rattle.pass_proofs.specs.run_step.Step.{has_markers}
+use Rattle.pass_proofs.specs.run_step.Values.{Env, pointer_to, value_in, with_value}
+use Rattle.pass_proofs.specs.run_step.declared.world.Slot.{Slot}
 
 module _ (b : Building) (g : RenewedGiven) (given : AreGiven b g) (s t : State) (r : AreBuiltOf b s t) (name : ℕ)
     (ty : Ty) (align : ℕ) (h : IsAtRampAlloca b g s name ty align) (mine : HasSlotsThere s)

@@ -3,22 +3,22 @@ use Rattle.std.proofs.Common.{◌≡◌, ◌≢◌, ◌⊎◌, ◌+◌, ◌<◌,
 use Rattle.std.proofs.lemmas.Bool.{cases_eq, cases_lt}
 use Rattle.std.specs.List.{Contains}
 use Rattle.std.specs.Prelude.{slice_get}
-use Rattle.flow_solver.specs.Paths.{IsListed}
-use Rattle.ir_laws.proofs.facts.Lists.{get_within}
+use Rattle.pass_proofs.specs.flow_solver.Paths.{IsListed}
+use Rattle.pass_proofs.proofs.ir_laws.facts.Lists.{get_within}
 use Rattle.pass_frames_proof.proofs.lines.Cells.{contained}
 use Rattle.pass_frames_proof.proofs.stepping.Rest.{seen_known}
 use Rattle.pass_frames_proof.specs.Related.{AreMates, IsFreeOf, all_slots, is_slot, slots_below}
-use Rattle.run_laws.proofs.memory.Written.{same_some}
-use Rattle.run_laws.proofs.transfer.Muted.{muted_length}
-use Rattle.run_laws.specs.embedded.Making.{whole_home}
-use Rattle.run_laws.specs.memory.Pointers.{Home, home_of}
-use Rattle.run_laws.specs.transfer.Muted.{ended_if, muted}
-use Rattle.run_memory.specs.Memory.{is_live}
-use Rattle.run_memory.specs.declared.block.Byte.{Byte}
-use Rattle.run_memory.specs.declared.block.MemoryBlock.{MemoryBlock}
-use Rattle.run_source.specs.declared.state.Activation.{Activation}
-use Rattle.run_source.specs.declared.state.State.{State}
-use Rattle.run_step.specs.declared.world.Slot.{Slot}
+use Rattle.pass_proofs.proofs.run_laws.memory.Written.{same_some}
+use Rattle.pass_proofs.proofs.run_laws.transfer.Muted.{muted_length}
+use Rattle.pass_proofs.specs.run_laws.embedded.Making.{whole_home}
+use Rattle.pass_proofs.specs.run_laws.memory.Pointers.{Home, home_of}
+use Rattle.pass_proofs.specs.run_laws.transfer.Muted.{ended_if, muted}
+use Rattle.pass_proofs.specs.run_memory.Memory.{is_live}
+use Rattle.pass_proofs.specs.run_memory.declared.block.Byte.{Byte}
+use Rattle.pass_proofs.specs.run_memory.declared.block.MemoryBlock.{MemoryBlock}
+use Rattle.pass_proofs.specs.run_source.declared.state.Activation.{Activation}
+use Rattle.pass_proofs.specs.run_source.declared.state.State.{State}
+use Rattle.pass_proofs.specs.run_step.declared.world.Slot.{Slot}
 
 -- ---- lists
 

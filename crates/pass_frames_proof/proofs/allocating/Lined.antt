@@ -1,10 +1,10 @@
 -- An alloca of a coroutine is put in front: nothing stands at its place.
 use Rattle.std.proofs.Common.{◌≡◌, ◌+◌, ◌∷◌, ◌++◌, ◌∙◌, [], if◌then◌else◌, Bool, List, None, Some, ap, arith, false, length, refl, subst, sym, take, true, ℕ}
 use Rattle.std.specs.Prelude.{filter, option_to_list, slice_get}
-use Rattle.ir_model.specs.Ty.{Ty}
-use Rattle.ir_model.specs.declared.instr.Instr.{Instr}
-use Rattle.pass_addresses.specs.Placing.{lies_outside}
-use Rattle.pass_cells.specs.Kept.{entry}
+use Rattle.pass_proofs.specs.ir_model.Ty.{Ty}
+use Rattle.pass_proofs.specs.ir_model.declared.instr.Instr.{Instr}
+use Rattle.pass_proofs.specs.pass_addresses.Placing.{lies_outside}
+use Rattle.pass_proofs.specs.pass_cells.Kept.{entry}
 use Rattle.pass_frames_proof.proofs.layers.Grown.{both_becomes, both_passed, grown_one}
 use Rattle.pass_frames_proof.proofs.layers.Standing.{place_next}
 use Rattle.pass_frames_proof.proofs.marking.Codes.{calm_becomes, unmarked_same}
@@ -15,7 +15,7 @@ use Rattle.pass_frames_proof.specs.Layers.{Layer, becomes, both, grown, only, pa
 use Rattle.pass_frames_proof.specs.Passes.{IsUnwritten, allocas_led, fetching_at}
 use Rattle.pass_frames_proof.specs.Places.{Framing, addressing_layer, entry_layer, instrs_at, is_return, offsets, place, placed_layer, plan, unmarked, place_by}
 use Rattle.pass_frames_proof.specs.Stepping.{state_in}
-use Rattle.pass_front.specs.Front.{is_alloca, is_no_alloca}
+use Rattle.pass_proofs.specs.pass_front.Front.{is_alloca, is_no_alloca}
 
 module _ {S : Type 0} (L : Layer S) (is : List Instr) (at : ℕ) (i : Instr) (code : List Instr)
     (code_is : becomes L (state_at L is at) i ≡ code) where

@@ -3,20 +3,20 @@ use Rattle.std.proofs.Common.{◌≡◌, ◌≢◌, ◌+◌, ◌-◌, ◌<◌, �
 use Rattle.std.proofs.lemmas.Bool.{and_from, and_parts, le-leb, leb-true, lt-ltb}
 use Rattle.std.specs.List.{list_any}
 use Rattle.std.specs.Prelude.{None, Option, Some, nat_le, option_and_then, option_map, slice_get}
-use Rattle.frame_layout.specs.declared.layout.Layout.{Layout}
-use Rattle.frame_layout.specs.declared.layout.PlacedField.{PlacedField}
+use Rattle.pass_proofs.specs.frame_layout.declared.layout.Layout.{Layout}
+use Rattle.pass_proofs.specs.frame_layout.declared.layout.PlacedField.{PlacedField}
 use Rattle.pass_frames_proof.specs.Slotted.{IsSlotField}
-use Rattle.run_framed.specs.Framed.{FramedGiven, covers, field_opens, frame_rights, is_open, is_open_byte, judge_of, layout_of, meets_in}
-use Rattle.run_laws.specs.changed.Changed.{Each}
-use Rattle.run_laws.specs.memory.Standing.{HasRights, IsAlignment}
-use Rattle.run_laws.specs.transfer.Places.{HasRoom}
-use Rattle.run_laws_worked.proofs.Frames.{no_judge}
-use Rattle.run_memory.specs.Memory.{is_live, may_compare_at, owner_rights, same_kind}
-use Rattle.run_memory.specs.declared.block.Kind.{Kind}
-use Rattle.run_memory.specs.declared.block.MemoryBlock.{MemoryBlock}
-use Rattle.run_memory.specs.declared.pointer.Offset.{Offset}
-use Rattle.run_source.specs.State.{last_from, numbered, or_else}
-use Rattle.run_source.specs.declared.state.Instance.{Instance}
+use Rattle.pass_proofs.specs.run_framed.Framed.{FramedGiven, covers, field_opens, frame_rights, is_open, is_open_byte, judge_of, layout_of, meets_in}
+use Rattle.pass_proofs.specs.run_laws.changed.Changed.{Each}
+use Rattle.pass_proofs.specs.run_laws.memory.Standing.{HasRights, IsAlignment}
+use Rattle.pass_proofs.specs.run_laws.transfer.Places.{HasRoom}
+use Rattle.run_access_worked.proofs.run_laws_worked.Frames.{no_judge}
+use Rattle.pass_proofs.specs.run_memory.Memory.{is_live, may_compare_at, owner_rights, same_kind}
+use Rattle.pass_proofs.specs.run_memory.declared.block.Kind.{Kind}
+use Rattle.pass_proofs.specs.run_memory.declared.block.MemoryBlock.{MemoryBlock}
+use Rattle.pass_proofs.specs.run_memory.declared.pointer.Offset.{Offset}
+use Rattle.pass_proofs.specs.run_source.State.{last_from, numbered, or_else}
+use Rattle.pass_proofs.specs.run_source.declared.state.Instance.{Instance}
 
 -- ---- frames let all pointers be compared
 

@@ -2,9 +2,9 @@
 use Rattle.std.proofs.Common.{◌≡◌, ◌≢◌, ◌+◌, ◌<◌, ◌≤◌, ◌||◌, ◌==◌, ◌∙◌, Bool, Some, ap, arith, false, length, not, refl, subst, sym, true, ℕ}
 use Rattle.std.specs.List.{Contains}
 use Rattle.std.specs.Prelude.{slice_get}
-use Rattle.ir_laws.proofs.facts.Lists.{get_within}
-use Rattle.frame_contents.specs.Held.{position_of}
-use Rattle.pass_frames.specs.Tables.{offset_at}
+use Rattle.pass_proofs.proofs.ir_laws.facts.Lists.{get_within}
+use Rattle.pass_proofs.specs.frame_contents.Held.{position_of}
+use Rattle.pass_proofs.specs.pass_frames.Tables.{offset_at}
 use Rattle.pass_frames_proof.proofs.allocating.Lives.{Early, Itself, Placed, WhoLives, shown_live, who_lives}
 use Rattle.pass_frames_proof.proofs.allocating.Rights.{frame_room}
 use Rattle.pass_frames_proof.proofs.followed.Assembly.{other_instance}
@@ -13,19 +13,19 @@ use Rattle.pass_frames_proof.specs.Related.{AreBuiltOf, AreInstances, Building, 
 use Rattle.pass_frames_proof.specs.Slotted.{AreRangesApart, HasFrameThere, HasListedSlots, HasOwnFrame, HasSlotsApart, IsSlotField, IsSlotInFrame}
 use Rattle.pass_frames_proof.specs.Stepping.{AreGiven}
 use Rattle.pass_renewed_proof.specs.Renewed.{RenewedGiven}
-use Rattle.run_framed.specs.Framed.{frame_rights, layout_of}
-use Rattle.run_laws.proofs.memory.Written.{same_some}
-use Rattle.run_laws.proofs.transfer.Muted.{muted_get}
-use Rattle.run_laws.specs.embedded.Making.{whole_home}
-use Rattle.run_laws.specs.memory.Pointers.{Home, home_of}
-use Rattle.run_laws.specs.memory.Standing.{AreApart, Stands}
-use Rattle.run_laws.specs.transfer.Muted.{muted}
-use Rattle.run_laws.specs.transfer.Places.{HasRoom, IsApartFrom}
-use Rattle.run_memory.specs.Memory.{Rights, is_below, is_killed, is_live, owner_rights}
-use Rattle.run_memory.specs.declared.block.MemoryBlock.{MemoryBlock}
-use Rattle.run_source.specs.declared.state.Instance.{Instance}
-use Rattle.run_source.specs.declared.state.State.{State}
-use Rattle.run_step.specs.declared.world.Slot.{Slot}
+use Rattle.pass_proofs.specs.run_framed.Framed.{frame_rights, layout_of}
+use Rattle.pass_proofs.proofs.run_laws.memory.Written.{same_some}
+use Rattle.pass_proofs.proofs.run_laws.transfer.Muted.{muted_get}
+use Rattle.pass_proofs.specs.run_laws.embedded.Making.{whole_home}
+use Rattle.pass_proofs.specs.run_laws.memory.Pointers.{Home, home_of}
+use Rattle.pass_proofs.specs.run_laws.memory.Standing.{AreApart, Stands}
+use Rattle.pass_proofs.specs.run_laws.transfer.Muted.{muted}
+use Rattle.pass_proofs.specs.run_laws.transfer.Places.{HasRoom, IsApartFrom}
+use Rattle.pass_proofs.specs.run_memory.Memory.{Rights, is_below, is_killed, is_live, owner_rights}
+use Rattle.pass_proofs.specs.run_memory.declared.block.MemoryBlock.{MemoryBlock}
+use Rattle.pass_proofs.specs.run_source.declared.state.Instance.{Instance}
+use Rattle.pass_proofs.specs.run_source.declared.state.State.{State}
+use Rattle.pass_proofs.specs.run_step.declared.world.Slot.{Slot}
 
 module _ (b : Building) (g : RenewedGiven) (given : AreGiven b g) (s t : State) (r : AreBuiltOf b s t) (number : ℕ)
     (x : Instance) (only : HasOwnFrame s number x) where

@@ -2,10 +2,10 @@
 use Rattle.std.proofs.Common.{◌≡◌, ◌∙◌, ◌+◌, ◌∷◌, ◌++◌, [], List, None, Some, ap, append_assoc, false, refl, suc, take, true, ℕ, Bool, if◌then◌else◌}
 use Rattle.std.proofs.lemmas.List.Elements.{filter-append}
 use Rattle.std.specs.Prelude.{drop, filter, not, option_to_list, slice_get}
-use Rattle.ir_model.specs.Ty.{Ty}
-use Rattle.ir_model.specs.declared.instr.Instr.{Instr}
-use Rattle.pass_addresses.specs.Placing.{lies_outside}
-use Rattle.pass_cells.specs.Kept.{entry}
+use Rattle.pass_proofs.specs.ir_model.Ty.{Ty}
+use Rattle.pass_proofs.specs.ir_model.declared.instr.Instr.{Instr}
+use Rattle.pass_proofs.specs.pass_addresses.Placing.{lies_outside}
+use Rattle.pass_proofs.specs.pass_cells.Kept.{entry}
 use Rattle.pass_frames_proof.proofs.allocating.Lined.{code_is}
 use Rattle.pass_frames_proof.proofs.layers.Grown.{grown_append}
 use Rattle.pass_frames_proof.proofs.layers.Standing.{split_at, up_to_next}
@@ -14,7 +14,7 @@ use Rattle.pass_frames_proof.specs.Framings.{IsFraming}
 use Rattle.pass_frames_proof.specs.Layers.{Layer, becomes, grown, passed, state_at, up_to, woven}
 use Rattle.pass_frames_proof.specs.Places.{Framing, instrs_at, offsets, placed_layer, plan}
 use Rattle.pass_frames_proof.specs.Waking.{StandsInFront}
-use Rattle.pass_front.specs.Front.{is_alloca}
+use Rattle.pass_proofs.specs.pass_front.Front.{is_alloca}
 use Rattle.pass_proofs.specs.addresses.rules.Addresses.{lies_in_frame}
 
 module _ {S : Type 0} (L : Layer S) (is : List Instr) (at : ℕ) (i : Instr) (there : slice_get is at ≡ Some i) where

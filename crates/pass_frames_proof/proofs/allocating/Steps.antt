@@ -2,11 +2,11 @@
 use Rattle.std.proofs.Common.{◌≡◌, ◌≢◌, ◌+◌, ◌&&◌, ◌==◌, ◌∷◌, ◌++◌, ◌∙◌, [], if◌then◌else◌, Bool, List, None, Option, Some, ap, false, length, not, refl, suc, sym, true, zero, ℕ}
 use Rattle.std.specs.List.{list_any}
 use Rattle.std.specs.Prelude.{option_and_then, option_map, slice_get, slice_set}
-use Rattle.ir_base.specs.declared.cause.Cause.{Cause}
-use Rattle.ir_model.specs.Layout.{size_of}
-use Rattle.ir_model.specs.Ty.{Ty}
-use Rattle.ir_model.specs.declared.instr.Instr.{Instr}
-use Rattle.ir_model.specs.declared.module.Function.{Function}
+use Rattle.pass_proofs.specs.ir_base.declared.cause.Cause.{Cause}
+use Rattle.pass_proofs.specs.ir_model.Layout.{size_of}
+use Rattle.pass_proofs.specs.ir_model.Ty.{Ty}
+use Rattle.pass_proofs.specs.ir_model.declared.instr.Instr.{Instr}
+use Rattle.pass_proofs.specs.ir_model.declared.module.Function.{Function}
 use Rattle.pass_frames_proof.proofs.allocating.Both.{end_block, made_memory, new_block}
 use Rattle.pass_frames_proof.proofs.allocating.Plain.{early_slot, new_slot_by}
 use Rattle.pass_frames_proof.proofs.stepping.Codes.{instr_there}
@@ -16,16 +16,16 @@ use Rattle.pass_frames_proof.specs.Places.{Framing, edged}
 use Rattle.pass_frames_proof.specs.Related.{Building}
 use Rattle.pass_frames_proof.specs.Stepping.{AreGiven, IsNotEntering}
 use Rattle.pass_renewed_proof.specs.Renewed.{RenewedGiven, renewed_slot, renewed_step}
-use Rattle.run_memory.specs.Memory.{killed, killed_block, start, started}
-use Rattle.run_memory.specs.declared.block.Kind.{Kind}
-use Rattle.run_memory.specs.declared.block.MemoryBlock.{MemoryBlock}
-use Rattle.run_source.specs.Source.{context_of, is_over, kill_late, new_slot, with_new_slots}
-use Rattle.run_source.specs.State.{function_of, own_facts, with_instance, with_memory, with_slots, work_of, numbered}
-use Rattle.run_source.specs.declared.state.Instance.{Instance}
-use Rattle.run_source.specs.declared.state.State.{State}
-use Rattle.run_step.specs.Step.{AtInstr, NewSlot, Stuck, Work, alloca, alloca_kind, fetch, has_markers, instr_action}
-use Rattle.run_step.specs.Values.{Env, pointer_to, with_value}
-use Rattle.run_step.specs.declared.world.Slot.{Slot}
+use Rattle.pass_proofs.specs.run_memory.Memory.{killed, killed_block, start, started}
+use Rattle.pass_proofs.specs.run_memory.declared.block.Kind.{Kind}
+use Rattle.pass_proofs.specs.run_memory.declared.block.MemoryBlock.{MemoryBlock}
+use Rattle.pass_proofs.specs.run_source.Source.{context_of, is_over, kill_late, new_slot, with_new_slots}
+use Rattle.pass_proofs.specs.run_source.State.{function_of, own_facts, with_instance, with_memory, with_slots, work_of, numbered}
+use Rattle.pass_proofs.specs.run_source.declared.state.Instance.{Instance}
+use Rattle.pass_proofs.specs.run_source.declared.state.State.{State}
+use Rattle.pass_proofs.specs.run_step.Step.{AtInstr, NewSlot, Stuck, Work, alloca, alloca_kind, fetch, has_markers, instr_action}
+use Rattle.pass_proofs.specs.run_step.Values.{Env, pointer_to, with_value}
+use Rattle.pass_proofs.specs.run_step.declared.world.Slot.{Slot}
 
 -- ---- the block that is made
 

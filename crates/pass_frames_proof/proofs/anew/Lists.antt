@@ -1,16 +1,16 @@
 -- Allocas of a line and of its parts, and values whose addresses are moved.
 use Rattle.std.proofs.Common.{◌≡◌, ◌∷◌, ◌++◌, ◌∙◌, [], List, None, Option, Some, ap, inl, inr, length, refl, subst, suc, sym, zero, ℕ}
 use Rattle.std.specs.Prelude.{slice_get}
-use Rattle.flow_solver.specs.Paths.{IsListed}
-use Rattle.ir_laws.proofs.paths.edges.Lists.{different_both}
-use Rattle.ir_laws.specs.paths.woven_rules.Pairs.{AreDifferent}
-use Rattle.ir_model.specs.Ty.{Ty}
-use Rattle.ir_model.specs.declared.instr.Instr.{Instr}
-use Rattle.ir_paths.specs.Slots.{allocas_in}
+use Rattle.pass_proofs.specs.flow_solver.Paths.{IsListed}
+use Rattle.pass_proofs.proofs.ir_laws.paths.edges.Lists.{different_both}
+use Rattle.pass_proofs.specs.ir_laws.paths.woven_rules.Pairs.{AreDifferent}
+use Rattle.pass_proofs.specs.ir_model.Ty.{Ty}
+use Rattle.pass_proofs.specs.ir_model.declared.instr.Instr.{Instr}
+use Rattle.pass_proofs.specs.ir_paths.Slots.{allocas_in}
 use Rattle.pass_renewed_proof.specs.Renewed.{in_new_slot, renewed_value, renewed_values}
-use Rattle.run_memory.specs.declared.pointer.Pointer.{Pointer}
-use Rattle.run_memory.specs.declared.pointer.Value.{Value}
-use Rattle.run_step.specs.Values.{Env, value_in, value_or_poison}
+use Rattle.pass_proofs.specs.run_memory.declared.pointer.Pointer.{Pointer}
+use Rattle.pass_proofs.specs.run_memory.declared.pointer.Value.{Value}
+use Rattle.pass_proofs.specs.run_step.Values.{Env, value_in, value_or_poison}
 
 -- ---- allocas
 

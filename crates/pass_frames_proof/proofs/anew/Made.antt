@@ -4,26 +4,26 @@ use Rattle.std.proofs.Common.{◌≡◌, ◌≢◌, ◌⊎◌, ◌+◌, ◌<◌,
 use Rattle.std.proofs.lemmas.Bool.{cases_eq}
 use Rattle.std.specs.List.{Contains}
 use Rattle.std.specs.Prelude.{slice_get}
-use Rattle.flow_solver.specs.Paths.{IsListed}
-use Rattle.ir_base.specs.declared.outcome.Outcome.{Outcome}
-use Rattle.ir_laws.proofs.facts.Lists.{get_before, get_within}
-use Rattle.ir_laws.proofs.facts.Members.{each_left, each_right}
-use Rattle.ir_laws.proofs.paths.crossing.Spots.{listed_or}
-use Rattle.ir_laws.proofs.paths.edges.Lists.{different_left, different_right}
-use Rattle.ir_laws.proofs.paths.source_rules.Locals.{listed_left, listed_right}
-use Rattle.ir_laws.specs.paths.woven_rules.Pairs.{AreDifferent}
-use Rattle.ir_model.specs.Layout.{size_of}
-use Rattle.ir_model.specs.Names.{function_at}
-use Rattle.ir_model.specs.Ty.{Ty}
-use Rattle.ir_model.specs.declared.instr.Instr.{Instr}
-use Rattle.ir_model.specs.declared.module.Function.{Function}
-use Rattle.ir_model.specs.declared.module.Module.{Module}
-use Rattle.ir_paths.specs.Slots.{allocas_in}
-use Rattle.ir_paths.specs.declared.point.Point.{Point}
-use Rattle.pass_cells.specs.Cells.{fetched_function}
-use Rattle.pass_cells.specs.Kept.{entry}
-use Rattle.pass_cells.specs.declared.plan.KeptValue.{KeptValue}
-use Rattle.pass_frames.specs.Framed.{begin_of, celled, copied, placed}
+use Rattle.pass_proofs.specs.flow_solver.Paths.{IsListed}
+use Rattle.pass_proofs.specs.ir_base.declared.outcome.Outcome.{Outcome}
+use Rattle.pass_proofs.proofs.ir_laws.facts.Lists.{get_before, get_within}
+use Rattle.pass_proofs.proofs.ir_laws.facts.Members.{each_left, each_right}
+use Rattle.pass_proofs.proofs.ir_laws.paths.crossing.Spots.{listed_or}
+use Rattle.pass_proofs.proofs.ir_laws.paths.edges.Lists.{different_left, different_right}
+use Rattle.pass_proofs.proofs.ir_laws.paths.source_rules.Locals.{listed_left, listed_right}
+use Rattle.pass_proofs.specs.ir_laws.paths.woven_rules.Pairs.{AreDifferent}
+use Rattle.pass_proofs.specs.ir_model.Layout.{size_of}
+use Rattle.pass_proofs.specs.ir_model.Names.{function_at}
+use Rattle.pass_proofs.specs.ir_model.Ty.{Ty}
+use Rattle.pass_proofs.specs.ir_model.declared.instr.Instr.{Instr}
+use Rattle.pass_proofs.specs.ir_model.declared.module.Function.{Function}
+use Rattle.pass_proofs.specs.ir_model.declared.module.Module.{Module}
+use Rattle.pass_proofs.specs.ir_paths.Slots.{allocas_in}
+use Rattle.pass_proofs.specs.ir_paths.declared.point.Point.{Point}
+use Rattle.pass_proofs.specs.pass_cells.Cells.{fetched_function}
+use Rattle.pass_proofs.specs.pass_cells.Kept.{entry}
+use Rattle.pass_proofs.specs.pass_cells.declared.plan.KeptValue.{KeptValue}
+use Rattle.pass_proofs.specs.pass_frames.Framed.{begin_of, celled, copied, placed}
 use Rattle.pass_frames_proof.proofs.allocating.Both.{mates_together, new_block, seen_below, stands_together}
 use Rattle.pass_frames_proof.proofs.allocating.Grown.{first_or_more, home_new, in_all, in_below, more_length}
 use Rattle.pass_frames_proof.proofs.allocating.Made.{fields_more, free_made, globals_made, hidden_made, instance_made, known_made, moves_made, over_made}
@@ -51,37 +51,37 @@ use Rattle.pass_frames_proof.specs.Slotted.{HasSlotsThere}
 use Rattle.pass_frames_proof.specs.Stepping.{AreGiven}
 use Rattle.pass_proofs.specs.addresses.rules.Addresses.{lies_in_frame}
 use Rattle.pass_renewed_proof.specs.Renewed.{RenewedGiven, renew_after, renewed_from, renewed_slot, renewed_step}
-use Rattle.run_framed.specs.Framed.{frame_rights}
-use Rattle.run_laws.proofs.access.Held.{grown_held}
-use Rattle.run_laws.proofs.memory.Homes.{append_extends, value_on}
-use Rattle.run_laws.proofs.transfer.Muted.{muted_length}
-use Rattle.run_laws.proofs.transfer.Places.{grown as target_grown, showing_it, showing_others}
-use Rattle.run_laws.proofs.transfer.Sets.{set_elsewhere}
-use Rattle.run_laws.specs.access.Lines.{Holds, StandAt}
-use Rattle.run_laws.specs.changed.Changed.{Each}
-use Rattle.run_laws.specs.embedded.Making.{whole_home}
-use Rattle.run_laws.specs.memory.Pointers.{Extends, Home, IsValue, home_of}
-use Rattle.run_laws.specs.memory.Standing.{blank_block}
-use Rattle.run_laws.specs.transfer.Muted.{ended_if, muted}
-use Rattle.run_laws.specs.transfer.Places.{AreStanding, AreThere, showing}
-use Rattle.run_laws.specs.transfer.Transfer.{AreOver}
-use Rattle.run_memory.specs.Memory.{Rights, decode, is_live, owner_rights}
-use Rattle.run_memory.specs.Pointers.{moved, offset_of}
-use Rattle.run_memory.specs.declared.block.Byte.{Byte}
-use Rattle.run_memory.specs.declared.block.Kind.{Kind}
-use Rattle.run_memory.specs.declared.block.Life.{Life}
-use Rattle.run_memory.specs.declared.block.MemoryBlock.{MemoryBlock}
-use Rattle.run_memory.specs.declared.pointer.Pointer.{Pointer}
-use Rattle.run_memory.specs.declared.pointer.Value.{Value}
-use Rattle.run_source.specs.State.{function_of}
-use Rattle.run_source.specs.declared.state.Activation.{Activation}
-use Rattle.run_source.specs.declared.state.Instance.{Instance}
-use Rattle.run_source.specs.declared.state.Mode.{Mode}
-use Rattle.run_source.specs.declared.state.State.{State}
-use Rattle.run_step.specs.Step.{alloca_kind, has_markers}
-use Rattle.run_step.specs.Values.{Env, access_of, pointer_to, value_in, with_value}
-use Rattle.run_step.specs.declared.world.Slot.{Slot}
-use Rattle.run_step.specs.declared.world.World.{World}
+use Rattle.pass_proofs.specs.run_framed.Framed.{frame_rights}
+use Rattle.pass_proofs.proofs.run_laws.access.Held.{grown_held}
+use Rattle.pass_proofs.proofs.run_laws.memory.Homes.{append_extends, value_on}
+use Rattle.pass_proofs.proofs.run_laws.transfer.Muted.{muted_length}
+use Rattle.pass_proofs.proofs.run_laws.transfer.Places.{grown as target_grown, showing_it, showing_others}
+use Rattle.pass_proofs.proofs.run_laws.transfer.Sets.{set_elsewhere}
+use Rattle.pass_proofs.specs.run_laws.access.Lines.{Holds, StandAt}
+use Rattle.pass_proofs.specs.run_laws.changed.Changed.{Each}
+use Rattle.pass_proofs.specs.run_laws.embedded.Making.{whole_home}
+use Rattle.pass_proofs.specs.run_laws.memory.Pointers.{Extends, Home, IsValue, home_of}
+use Rattle.pass_proofs.specs.run_laws.memory.Standing.{blank_block}
+use Rattle.pass_proofs.specs.run_laws.transfer.Muted.{ended_if, muted}
+use Rattle.pass_proofs.specs.run_laws.transfer.Places.{AreStanding, AreThere, showing}
+use Rattle.pass_proofs.specs.run_laws.transfer.Transfer.{AreOver}
+use Rattle.pass_proofs.specs.run_memory.Memory.{Rights, decode, is_live, owner_rights}
+use Rattle.pass_proofs.specs.run_memory.Pointers.{moved, offset_of}
+use Rattle.pass_proofs.specs.run_memory.declared.block.Byte.{Byte}
+use Rattle.pass_proofs.specs.run_memory.declared.block.Kind.{Kind}
+use Rattle.pass_proofs.specs.run_memory.declared.block.Life.{Life}
+use Rattle.pass_proofs.specs.run_memory.declared.block.MemoryBlock.{MemoryBlock}
+use Rattle.pass_proofs.specs.run_memory.declared.pointer.Pointer.{Pointer}
+use Rattle.pass_proofs.specs.run_memory.declared.pointer.Value.{Value}
+use Rattle.pass_proofs.specs.run_source.State.{function_of}
+use Rattle.pass_proofs.specs.run_source.declared.state.Activation.{Activation}
+use Rattle.pass_proofs.specs.run_source.declared.state.Instance.{Instance}
+use Rattle.pass_proofs.specs.run_source.declared.state.Mode.{Mode}
+use Rattle.pass_proofs.specs.run_source.declared.state.State.{State}
+use Rattle.pass_proofs.specs.run_step.Step.{alloca_kind, has_markers}
+use Rattle.pass_proofs.specs.run_step.Values.{Env, access_of, pointer_to, value_in, with_value}
+use Rattle.pass_proofs.specs.run_step.declared.world.Slot.{Slot}
+use Rattle.pass_proofs.specs.run_step.declared.world.World.{World}
 
 -- ---- what is shown where the framed run makes allocas
 

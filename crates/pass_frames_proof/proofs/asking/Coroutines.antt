@@ -1,8 +1,8 @@
 -- A coroutine asks for a value: its operands are fetched, what stands for the first run's value is given, and stored.
 use Rattle.std.proofs.Common.{◌≡◌, ◌+◌, ◌∙◌, Bool, List, Ok, Option, ap, refl, subst, ℕ}
-use Rattle.ir_model.specs.Ty.{Ty}
-use Rattle.ir_model.specs.declared.operand.Arg.{Arg}
-use Rattle.ir_model.specs.declared.operand.Intrinsic.{Intrinsic}
+use Rattle.pass_proofs.specs.ir_model.Ty.{Ty}
+use Rattle.pass_proofs.specs.ir_model.declared.operand.Arg.{Arg}
+use Rattle.pass_proofs.specs.ir_model.declared.operand.Intrinsic.{Intrinsic}
 use Rattle.pass_frames_proof.proofs.asking.Given.{asked}
 use Rattle.pass_frames_proof.proofs.asking.Others.{asks}
 use Rattle.pass_frames_proof.proofs.here.Intrinsics.{S, argument, intrinsic_followed, literal_there, now, us, vs, width}
@@ -15,11 +15,11 @@ use Rattle.pass_frames_proof.specs.Meaning.{coroutine_cost}
 use Rattle.pass_frames_proof.specs.Related.{AreBuiltOf, Building}
 use Rattle.pass_frames_proof.specs.Stepping.{AreGiven}
 use Rattle.pass_renewed_proof.specs.Renewed.{RenewedGiven, continue_renewed}
-use Rattle.run_framed.specs.Framed.{framed_coro}
-use Rattle.run_memory.specs.declared.pointer.Value.{Value}
-use Rattle.run_source.specs.declared.state.State.{State}
-use Rattle.run_step.specs.Step.{Context, Coro, Work, intrinsic_call}
-use Rattle.run_step.specs.Values.{value_in}
+use Rattle.pass_proofs.specs.run_framed.Framed.{framed_coro}
+use Rattle.pass_proofs.specs.run_memory.declared.pointer.Value.{Value}
+use Rattle.pass_proofs.specs.run_source.declared.state.State.{State}
+use Rattle.pass_proofs.specs.run_step.Step.{Context, Coro, Work, intrinsic_call}
+use Rattle.pass_proofs.specs.run_step.Values.{value_in}
 
 own_cost_of : (b : Building) (g : RenewedGiven) (s : State) (i : Intrinsic) → IsAsking i → (args : List Arg)
     (result : Option ℕ)

@@ -3,24 +3,24 @@ use Rattle.std.proofs.Common.{◌≡◌, ◌≢◌, ◌+◌, ◌==◌, ◌∷◌
 use Rattle.std.proofs.lemmas.Bool.{eq-eqb, eqb-true}
 use Rattle.std.specs.List.{list_any}
 use Rattle.std.specs.Prelude.{filter, option_to_list, slice_get, unwrap_or}
-use Rattle.ir_laws.proofs.facts.Members.{any_same, at_each}
-use Rattle.ir_laws.proofs.paths.alike_functions.Lists.{each_where}
-use Rattle.ir_model.specs.declared.instr.Instr.{Instr}
-use Rattle.ir_model.specs.declared.module.Block.{Block}
-use Rattle.ir_model.specs.declared.module.Function.{Function}
-use Rattle.ir_model.specs.declared.operand.Arg.{Arg}
-use Rattle.ir_model.specs.declared.operand.Callee.{Callee}
-use Rattle.ir_model.specs.declared.operand.Intrinsic.{Intrinsic}
-use Rattle.ir_model.specs.declared.operand.Operand.{Operand}
-use Rattle.ir_parts.specs.Contents.{callee_operands}
-use Rattle.ir_paths.specs.Windows.{call_operand, instr_at, instr_in, is_call_of, operand_at, points_where}
-use Rattle.ir_paths.specs.declared.point.Point.{Point}
-use Rattle.pass_addresses.specs.Placing.{lies_outside, stays, without_promise_of}
-use Rattle.pass_cells.specs.Cells.{fetches_of}
-use Rattle.pass_copies.specs.BeginCopies.{is_fetched}
-use Rattle.pass_fetch.specs.Fetching.{fetch_of, fetched_args, fetched_operand, next_after, next_after_all, operand_by}
-use Rattle.pass_fetch.specs.Instrs.{with_fetched}
-use Rattle.pass_fetch.specs.declared.fetch.Fetch.{Fetch}
+use Rattle.pass_proofs.proofs.ir_laws.facts.Members.{any_same, at_each}
+use Rattle.pass_proofs.proofs.ir_laws.paths.alike_functions.Lists.{each_where}
+use Rattle.pass_proofs.specs.ir_model.declared.instr.Instr.{Instr}
+use Rattle.pass_proofs.specs.ir_model.declared.module.Block.{Block}
+use Rattle.pass_proofs.specs.ir_model.declared.module.Function.{Function}
+use Rattle.pass_proofs.specs.ir_model.declared.operand.Arg.{Arg}
+use Rattle.pass_proofs.specs.ir_model.declared.operand.Callee.{Callee}
+use Rattle.pass_proofs.specs.ir_model.declared.operand.Intrinsic.{Intrinsic}
+use Rattle.pass_proofs.specs.ir_model.declared.operand.Operand.{Operand}
+use Rattle.pass_proofs.specs.ir_parts.Contents.{callee_operands}
+use Rattle.pass_proofs.specs.ir_paths.Windows.{call_operand, instr_at, instr_in, is_call_of, operand_at, points_where}
+use Rattle.pass_proofs.specs.ir_paths.declared.point.Point.{Point}
+use Rattle.pass_proofs.specs.pass_addresses.Placing.{lies_outside, stays, without_promise_of}
+use Rattle.pass_proofs.specs.pass_cells.Cells.{fetches_of}
+use Rattle.pass_proofs.specs.pass_copies.BeginCopies.{is_fetched}
+use Rattle.pass_proofs.specs.pass_fetch.Fetching.{fetch_of, fetched_args, fetched_operand, next_after, next_after_all, operand_by}
+use Rattle.pass_proofs.specs.pass_fetch.Instrs.{with_fetched}
+use Rattle.pass_proofs.specs.pass_fetch.declared.fetch.Fetch.{Fetch}
 use Rattle.pass_frames_proof.proofs.code.Framed.{entry_made, others_made}
 use Rattle.pass_frames_proof.proofs.layers.Grown.{both_passed}
 use Rattle.pass_frames_proof.proofs.layers.Standing.{one_stands}
@@ -32,12 +32,12 @@ use Rattle.pass_frames_proof.specs.Passes.{IsBlockMade, allocas_led, block_at, f
 use Rattle.pass_frames_proof.specs.Places.{Framing, Placed, addressing_layer, celled_layer, copied_layer, copies, copying_layer, edged, entry_layer, framed, instrs_at, loading_layer, marked, named, offsets, own_place, own_place_by, placed_layer, plan, unmarked, unmarked_layer, writing_layer}
 use Rattle.pass_frames_proof.specs.Related.{IsSuspendNumber}
 use Rattle.pass_frames_proof.specs.Stepping.{state_in}
-use Rattle.pass_front.specs.Front.{is_alloca, is_no_alloca}
+use Rattle.pass_proofs.specs.pass_front.Front.{is_alloca, is_no_alloca}
 use Rattle.pass_proofs.proofs.cells.crossing.Calls.{same_call}
-use Rattle.run_laws.specs.access.Lines.{StandAt}
-use Rattle.run_laws.specs.changed.Changed.{Each}
-use Rattle.run_source_tables.specs.Given.{has_final, is_final, is_final_call, is_true}
-use Rattle.run_step.specs.Step.{AtInstr, fetch, fetch_in, fetch_or}
+use Rattle.pass_proofs.specs.run_laws.access.Lines.{StandAt}
+use Rattle.pass_proofs.specs.run_laws.changed.Changed.{Each}
+use Rattle.pass_proofs.specs.run_source_tables.Given.{has_final, is_final, is_final_call, is_true}
+use Rattle.pass_proofs.specs.run_step.Step.{AtInstr, fetch, fetch_in, fetch_or}
 
 -- ---- instructions in whose places a layer leaves ones of which the same is said
 

@@ -2,26 +2,26 @@
 use Rattle.std.proofs.Common.{◌≡◌, ◌+◌, ◌<◌, ◌≤◌, ◌^◌, ◌%◌, ◌&&◌, ◌==◌, ◌∷◌, ◌∙◌, [], if◌then◌else◌, Bool, List, None, Ok, Option, Result, Some, ap, arith, length, refl, subst, suc, sym, true, ℕ}
 use Rattle.std.proofs.lemmas.Bool.{eq-eqb, eqb-true}
 use Rattle.std.specs.Prelude.{option_and_then, option_map, slice_get}
-use Rattle.ir_base.specs.declared.cause.Cause.{Cause}
-use Rattle.ir_laws.proofs.facts.Lists.{get_within, none_past}
-use Rattle.ir_laws.proofs.facts.Truth.{both_true, same_truth}
+use Rattle.pass_proofs.specs.ir_base.declared.cause.Cause.{Cause}
+use Rattle.pass_proofs.proofs.ir_laws.facts.Lists.{get_within, none_past}
+use Rattle.pass_proofs.proofs.ir_laws.facts.Truth.{both_true, same_truth}
 use Rattle.pass_frames_proof.proofs.followed.Assembly.{other_instance}
 use Rattle.pass_frames_proof.proofs.stepping.Rest.{seen_known}
 use Rattle.pass_frames_proof.specs.Asking.{AreFound, AreInstancesPlaced, IsSleeperBeside}
 use Rattle.pass_frames_proof.specs.Related.{AreBuiltOf, AreInstances, Building, IsStatus, own_place_of}
 use Rattle.pass_renewed_proof.proofs.Finishing.{found_in}
 use Rattle.pass_renewed_proof.proofs.Freeing.{found_passes}
-use Rattle.run_laws.specs.embedded.Making.{whole_home}
-use Rattle.run_laws.specs.memory.Pointers.{Home, IsValue, home_of}
-use Rattle.run_memory.specs.Pointers.{moved, offset_of}
-use Rattle.run_memory.specs.declared.pointer.Pointer.{Pointer}
-use Rattle.run_memory.specs.declared.pointer.Value.{Value}
-use Rattle.run_source.specs.Source.{Sleeper, frame_address, sleeper_at, sleeper_of}
-use Rattle.run_source.specs.State.{address_in, began_at, instance_at, last_from, last_where, numbered, or_else, own_instance}
-use Rattle.run_source.specs.declared.state.Instance.{Instance}
-use Rattle.run_source.specs.declared.state.State.{State}
-use Rattle.run_source.specs.declared.state.Status.{Status}
-use Rattle.run_step.specs.Results.{and_then, found}
+use Rattle.pass_proofs.specs.run_laws.embedded.Making.{whole_home}
+use Rattle.pass_proofs.specs.run_laws.memory.Pointers.{Home, IsValue, home_of}
+use Rattle.pass_proofs.specs.run_memory.Pointers.{moved, offset_of}
+use Rattle.pass_proofs.specs.run_memory.declared.pointer.Pointer.{Pointer}
+use Rattle.pass_proofs.specs.run_memory.declared.pointer.Value.{Value}
+use Rattle.pass_proofs.specs.run_source.Source.{Sleeper, frame_address, sleeper_at, sleeper_of}
+use Rattle.pass_proofs.specs.run_source.State.{address_in, began_at, instance_at, last_from, last_where, numbered, or_else, own_instance}
+use Rattle.pass_proofs.specs.run_source.declared.state.Instance.{Instance}
+use Rattle.pass_proofs.specs.run_source.declared.state.State.{State}
+use Rattle.pass_proofs.specs.run_source.declared.state.Status.{Status}
+use Rattle.pass_proofs.specs.run_step.Results.{and_then, found}
 
 -- ---- lists
 

@@ -2,9 +2,9 @@
 use Rattle.std.proofs.Common.{◌≡◌, ◌<◌, ◌||◌, ◌==◌, ◌∙◌, if◌then◌else◌, Bool, List, None, Ok, Option, Some, ap, arith, false, length, not, refl, subst, sym, true, ℕ}
 use Rattle.std.specs.Option.{option_map_or}
 use Rattle.std.specs.Prelude.{slice_set}
-use Rattle.ir_model.specs.Ty.{Ty}
-use Rattle.ir_model.specs.declared.operand.Arg.{Arg}
-use Rattle.ir_model.specs.declared.operand.Intrinsic.{Intrinsic}
+use Rattle.pass_proofs.specs.ir_model.Ty.{Ty}
+use Rattle.pass_proofs.specs.ir_model.declared.operand.Arg.{Arg}
+use Rattle.pass_proofs.specs.ir_model.declared.operand.Intrinsic.{Intrinsic}
 use Rattle.pass_frames_proof.proofs.asking.Found.{address_stands, own_found}
 use Rattle.pass_frames_proof.proofs.here.Intrinsics.{S, intrinsic_followed, now, same_world, us, width}
 use Rattle.pass_frames_proof.proofs.moved.Instances.{instance_stays, one_homes, one_related, set_same}
@@ -17,21 +17,21 @@ use Rattle.pass_frames_proof.specs.Related.{AreBuiltOf, AreInstances, Building, 
 use Rattle.pass_frames_proof.specs.Stepping.{AreGiven}
 use Rattle.pass_renewed_proof.specs.Renewed.{RenewedGiven, continue_renewed}
 use Rattle.run_access_worked.specs.Frames.{IsSameFrame}
-use Rattle.run_framed.specs.Framed.{framed_coro, freed_address, is_given}
-use Rattle.run_laws.specs.memory.Pointers.{Home, IsValue, home_of}
-use Rattle.run_memory.specs.Memory.{same_kind}
-use Rattle.run_memory.specs.declared.block.Kind.{Kind}
-use Rattle.run_memory.specs.declared.block.MemoryBlock.{MemoryBlock}
-use Rattle.run_memory.specs.declared.pointer.Pointer.{Pointer}
-use Rattle.run_memory.specs.declared.pointer.Value.{Value}
-use Rattle.run_source.specs.Source.{change_own, coro, frame_address, release}
-use Rattle.run_source.specs.State.{frame_address_of, gives, own_instance}
-use Rattle.run_source.specs.declared.state.Instance.{Instance}
-use Rattle.run_source.specs.declared.state.State.{State}
-use Rattle.run_source.specs.declared.state.Status.{Status}
-use Rattle.run_step.specs.Step.{Context, Coro, Work, intrinsic_call}
-use Rattle.run_step.specs.Values.{arg_values}
-use Rattle.run_step.specs.declared.world.World.{World}
+use Rattle.pass_proofs.specs.run_framed.Framed.{framed_coro, freed_address, is_given}
+use Rattle.pass_proofs.specs.run_laws.memory.Pointers.{Home, IsValue, home_of}
+use Rattle.pass_proofs.specs.run_memory.Memory.{same_kind}
+use Rattle.pass_proofs.specs.run_memory.declared.block.Kind.{Kind}
+use Rattle.pass_proofs.specs.run_memory.declared.block.MemoryBlock.{MemoryBlock}
+use Rattle.pass_proofs.specs.run_memory.declared.pointer.Pointer.{Pointer}
+use Rattle.pass_proofs.specs.run_memory.declared.pointer.Value.{Value}
+use Rattle.pass_proofs.specs.run_source.Source.{change_own, coro, frame_address, release}
+use Rattle.pass_proofs.specs.run_source.State.{frame_address_of, gives, own_instance}
+use Rattle.pass_proofs.specs.run_source.declared.state.Instance.{Instance}
+use Rattle.pass_proofs.specs.run_source.declared.state.State.{State}
+use Rattle.pass_proofs.specs.run_source.declared.state.Status.{Status}
+use Rattle.pass_proofs.specs.run_step.Step.{Context, Coro, Work, intrinsic_call}
+use Rattle.pass_proofs.specs.run_step.Values.{arg_values}
+use Rattle.pass_proofs.specs.run_step.declared.world.World.{World}
 
 -- ---- the instance is released
 

@@ -1,13 +1,13 @@
 -- Coro intrinsics that give a value give what stands for it in the framed run.
 use Rattle.std.proofs.Common.{◌≡◌, ◌∙◌, if◌then◌else◌, Bool, Err, List, Ok, Option, Result, ap, false, pos, refl, sym, true, ℕ}
-use Rattle.ir_base.specs.declared.cause.Cause.{Cause}
-use Rattle.ir_model.specs.Names.{function_at}
-use Rattle.ir_model.specs.declared.module.Frame.{Frame}
-use Rattle.ir_model.specs.declared.module.Function.{Function}
-use Rattle.ir_model.specs.declared.operand.Arg.{Arg}
-use Rattle.ir_model.specs.declared.operand.Intrinsic.{Intrinsic}
-use Rattle.ir_model.specs.declared.operand.Operand.{Operand}
-use Rattle.ir_paths.specs.Windows.{operand_at}
+use Rattle.pass_proofs.specs.ir_base.declared.cause.Cause.{Cause}
+use Rattle.pass_proofs.specs.ir_model.Names.{function_at}
+use Rattle.pass_proofs.specs.ir_model.declared.module.Frame.{Frame}
+use Rattle.pass_proofs.specs.ir_model.declared.module.Function.{Function}
+use Rattle.pass_proofs.specs.ir_model.declared.operand.Arg.{Arg}
+use Rattle.pass_proofs.specs.ir_model.declared.operand.Intrinsic.{Intrinsic}
+use Rattle.pass_proofs.specs.ir_model.declared.operand.Operand.{Operand}
+use Rattle.pass_proofs.specs.ir_paths.Windows.{operand_at}
 use Rattle.pass_frames_proof.proofs.asking.Finals.{final_same, has_final_same}
 use Rattle.pass_frames_proof.proofs.asking.Found.{address_stands, own_found, sleeper_found}
 use Rattle.pass_frames_proof.proofs.asking.Promises.{promised}
@@ -16,17 +16,17 @@ use Rattle.pass_frames_proof.specs.Places.{Framing, edged, framed}
 use Rattle.pass_frames_proof.specs.Related.{AreBuiltOf, Building}
 use Rattle.pass_frames_proof.specs.Stepping.{AreGiven}
 use Rattle.pass_renewed_proof.specs.Renewed.{RenewedGiven}
-use Rattle.run_framed.specs.Framed.{allocates, framed_coro, framed_frame_of_promise, framed_promise, framed_promise_of_frame}
-use Rattle.run_laws.specs.memory.Pointers.{IsValue}
-use Rattle.run_memory.specs.declared.pointer.Pointer.{Pointer}
-use Rattle.run_memory.specs.declared.pointer.Value.{Value}
-use Rattle.run_source.specs.Source.{Continues, Sleeper, coro, done_at, frame_address, promise, sleeper_at}
-use Rattle.run_source.specs.State.{gives, own_frame, own_instance}
-use Rattle.run_source.specs.declared.state.State.{State}
-use Rattle.run_source_tables.specs.Given.{Given, frame_of, has_final, is_final, is_true}
-use Rattle.run_step.specs.Results.{and_then, ok_if}
-use Rattle.run_step.specs.Values.{Env, integer, nth, truth_value}
-use Rattle.run_step.specs.declared.world.World.{World}
+use Rattle.pass_proofs.specs.run_framed.Framed.{allocates, framed_coro, framed_frame_of_promise, framed_promise, framed_promise_of_frame}
+use Rattle.pass_proofs.specs.run_laws.memory.Pointers.{IsValue}
+use Rattle.pass_proofs.specs.run_memory.declared.pointer.Pointer.{Pointer}
+use Rattle.pass_proofs.specs.run_memory.declared.pointer.Value.{Value}
+use Rattle.pass_proofs.specs.run_source.Source.{Continues, Sleeper, coro, done_at, frame_address, promise, sleeper_at}
+use Rattle.pass_proofs.specs.run_source.State.{gives, own_frame, own_instance}
+use Rattle.pass_proofs.specs.run_source.declared.state.State.{State}
+use Rattle.pass_proofs.specs.run_source_tables.Given.{Given, frame_of, has_final, is_final, is_true}
+use Rattle.pass_proofs.specs.run_step.Results.{and_then, ok_if}
+use Rattle.pass_proofs.specs.run_step.Values.{Env, integer, nth, truth_value}
+use Rattle.pass_proofs.specs.run_step.declared.world.World.{World}
 
 module _ (b : Building) (g : RenewedGiven) (given : AreGiven b g) (s t : State) (r : AreBuiltOf b s t)
     (may : MayAsk b g s) (w : World) (k a : ℕ) (env : Env) where

@@ -1,25 +1,25 @@
 -- coro.id names no promise in the framed form, and gives no value in either run.
 use Rattle.std.proofs.Common.{◌≡◌, ◌+◌, ◌-◌, ◌≤◌, ◌&&◌, ◌∷◌, ◌++◌, ◌∙◌, [], if◌then◌else◌, Bool, List, None, Option, Some, ap, arith, false, refl, subst, sym, true, ℕ}
 use Rattle.std.specs.Prelude.{slice_get}
-use Rattle.ir_model.specs.Names.{function_at}
-use Rattle.ir_model.specs.Ty.{Ty}
-use Rattle.ir_model.specs.declared.instr.Instr.{Instr}
-use Rattle.ir_model.specs.declared.module.Function.{Function}
-use Rattle.ir_model.specs.declared.operand.Arg.{Arg}
-use Rattle.ir_model.specs.declared.operand.Callee.{Callee}
-use Rattle.ir_model.specs.declared.operand.Intrinsic.{Intrinsic}
-use Rattle.ir_parts.specs.Contents.{instr_operands, result_of}
-use Rattle.pass_addresses.specs.Placing.{lies_outside, with_null, without_promise_of}
-use Rattle.pass_cells.specs.Cells.{fetches_of}
-use Rattle.pass_cells.specs.Kept.{entry}
-use Rattle.pass_cells.specs.Moves.{after_saved, saved_values}
-use Rattle.pass_cells.specs.Written.{distance_behind, save_row, stored_at, stored_result}
-use Rattle.pass_cells.specs.declared.plan.Plan.{Plan}
-use Rattle.pass_copies.specs.BeginCopies.{behind}
-use Rattle.pass_fetch.specs.Blocks.{end_at}
-use Rattle.pass_fetch.specs.Fetching.{fetches_of_all}
-use Rattle.pass_fetch.specs.Instrs.{with_fetched}
-use Rattle.pass_fetch.specs.declared.fetch.Fetch.{Fetch}
+use Rattle.pass_proofs.specs.ir_model.Names.{function_at}
+use Rattle.pass_proofs.specs.ir_model.Ty.{Ty}
+use Rattle.pass_proofs.specs.ir_model.declared.instr.Instr.{Instr}
+use Rattle.pass_proofs.specs.ir_model.declared.module.Function.{Function}
+use Rattle.pass_proofs.specs.ir_model.declared.operand.Arg.{Arg}
+use Rattle.pass_proofs.specs.ir_model.declared.operand.Callee.{Callee}
+use Rattle.pass_proofs.specs.ir_model.declared.operand.Intrinsic.{Intrinsic}
+use Rattle.pass_proofs.specs.ir_parts.Contents.{instr_operands, result_of}
+use Rattle.pass_proofs.specs.pass_addresses.Placing.{lies_outside, with_null, without_promise_of}
+use Rattle.pass_proofs.specs.pass_cells.Cells.{fetches_of}
+use Rattle.pass_proofs.specs.pass_cells.Kept.{entry}
+use Rattle.pass_proofs.specs.pass_cells.Moves.{after_saved, saved_values}
+use Rattle.pass_proofs.specs.pass_cells.Written.{distance_behind, save_row, stored_at, stored_result}
+use Rattle.pass_proofs.specs.pass_cells.declared.plan.Plan.{Plan}
+use Rattle.pass_proofs.specs.pass_copies.BeginCopies.{behind}
+use Rattle.pass_proofs.specs.pass_fetch.Blocks.{end_at}
+use Rattle.pass_proofs.specs.pass_fetch.Fetching.{fetches_of_all}
+use Rattle.pass_proofs.specs.pass_fetch.Instrs.{with_fetched}
+use Rattle.pass_proofs.specs.pass_fetch.declared.fetch.Fetch.{Fetch}
 use Rattle.pass_frames_proof.proofs.code.Idle.{fetches_idle, instr_same, only_idle}
 use Rattle.pass_frames_proof.proofs.code.Instrs.{instr_code}
 use Rattle.pass_frames_proof.proofs.code.Left.{parts_left}
@@ -46,11 +46,11 @@ use Rattle.pass_frames_proof.specs.Stepping.{AreGiven, StandsInPlace, placed_fro
 use Rattle.pass_proofs.proofs.fetch.shape.Fetching.{none_fetched}
 use Rattle.pass_proofs.specs.fetch.rules.Fetches.{AreUnfetched}
 use Rattle.pass_renewed_proof.specs.Renewed.{RenewedGiven, renewed_step}
-use Rattle.run_framed.specs.Framed.{frame_rights, framed_step}
-use Rattle.run_source.specs.Source.{context_of}
-use Rattle.run_source.specs.State.{function_of, next, work_of}
-use Rattle.run_source.specs.declared.state.State.{State}
-use Rattle.run_step.specs.Step.{AtInstr, Coro, action_of, fetch}
+use Rattle.pass_proofs.specs.run_framed.Framed.{frame_rights, framed_step}
+use Rattle.pass_proofs.specs.run_source.Source.{context_of}
+use Rattle.pass_proofs.specs.run_source.State.{function_of, next, work_of}
+use Rattle.pass_proofs.specs.run_source.declared.state.State.{State}
+use Rattle.pass_proofs.specs.run_step.Step.{AtInstr, Coro, action_of, fetch}
 
 -- ---- what it becomes
 

@@ -1,13 +1,13 @@
 -- A function that is no coroutine asks for a value: the framed run gives what stands for it.
 use Rattle.std.proofs.Common.{◌≡◌, ◌+◌, ◌&&◌, ◌∷◌, ◌∙◌, [], Bool, List, None, Option, Some, ap, false, refl, subst, suc, sym, zero, ℕ}
-use Rattle.ir_base.specs.declared.outcome.Outcome.{Outcome}
-use Rattle.ir_model.specs.Ty.{Ty}
-use Rattle.ir_model.specs.declared.instr.Instr.{Instr}
-use Rattle.ir_model.specs.declared.operand.Arg.{Arg}
-use Rattle.ir_model.specs.declared.operand.Callee.{Callee}
-use Rattle.ir_model.specs.declared.operand.Intrinsic.{Intrinsic}
-use Rattle.ir_paths.specs.Windows.{operand_at}
-use Rattle.ir_paths.specs.declared.point.Point.{Point}
+use Rattle.pass_proofs.specs.ir_base.declared.outcome.Outcome.{Outcome}
+use Rattle.pass_proofs.specs.ir_model.Ty.{Ty}
+use Rattle.pass_proofs.specs.ir_model.declared.instr.Instr.{Instr}
+use Rattle.pass_proofs.specs.ir_model.declared.operand.Arg.{Arg}
+use Rattle.pass_proofs.specs.ir_model.declared.operand.Callee.{Callee}
+use Rattle.pass_proofs.specs.ir_model.declared.operand.Intrinsic.{Intrinsic}
+use Rattle.pass_proofs.specs.ir_paths.Windows.{operand_at}
+use Rattle.pass_proofs.specs.ir_paths.declared.point.Point.{Point}
 use Rattle.pass_frames_proof.proofs.asking.Given.{asked}
 use Rattle.pass_frames_proof.proofs.lined.Lines.{framed_does}
 use Rattle.pass_frames_proof.proofs.stepping.Other.{AreStanding, cost_one, fetched_there, here_is, memory_left, one_followed, one_standing, operand_stands, related_left, stands}
@@ -18,14 +18,14 @@ use Rattle.pass_frames_proof.specs.Meaning.{other_cost}
 use Rattle.pass_frames_proof.specs.Related.{AreBuiltOf, Building, is_coroutine}
 use Rattle.pass_frames_proof.specs.Stepping.{AreGiven, IsNotEntering}
 use Rattle.pass_renewed_proof.specs.Renewed.{RenewedGiven, continue_renewed, is_flagged, renewed_step}
-use Rattle.run_framed.specs.Framed.{framed_context, framed_coro, framed_step}
-use Rattle.run_laws.specs.memory.Pointers.{IsValue}
-use Rattle.run_memory.specs.declared.pointer.Value.{Value}
-use Rattle.run_source.specs.Source.{context_of}
-use Rattle.run_source.specs.State.{gives, or_undefined, work_of}
-use Rattle.run_source.specs.declared.state.State.{State}
-use Rattle.run_step.specs.Step.{AtInstr, Context, Coro, Fetched, Work, action_of, intrinsic_call, is_lifetime}
-use Rattle.run_step.specs.Values.{arg_values, nth, with_result}
+use Rattle.pass_proofs.specs.run_framed.Framed.{framed_context, framed_coro, framed_step}
+use Rattle.pass_proofs.specs.run_laws.memory.Pointers.{IsValue}
+use Rattle.pass_proofs.specs.run_memory.declared.pointer.Value.{Value}
+use Rattle.pass_proofs.specs.run_source.Source.{context_of}
+use Rattle.pass_proofs.specs.run_source.State.{gives, or_undefined, work_of}
+use Rattle.pass_proofs.specs.run_source.declared.state.State.{State}
+use Rattle.pass_proofs.specs.run_step.Step.{AtInstr, Context, Coro, Fetched, Work, action_of, intrinsic_call, is_lifetime}
+use Rattle.pass_proofs.specs.run_step.Values.{arg_values, nth, with_result}
 
 -- ---- a value is given to a name
 

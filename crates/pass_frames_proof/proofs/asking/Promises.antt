@@ -4,16 +4,16 @@ use Rattle.std.proofs.lemmas.Bool.{eq-eqb, eqb-true}
 use Rattle.std.specs.List.{Contains}
 use Rattle.std.specs.Option.{option_map_or}
 use Rattle.std.specs.Prelude.{cond, find, option_and_then, option_map, slice_get}
-use Rattle.frame_contents.specs.Held.{position_of}
-use Rattle.frame_layout.specs.declared.layout.Layout.{Layout}
-use Rattle.frame_layout.specs.declared.layout.PlacedField.{PlacedField}
-use Rattle.ir_base.specs.declared.cause.Cause.{Cause}
-use Rattle.ir_laws.proofs.facts.Lists.{get_within}
-use Rattle.ir_laws.proofs.facts.Truth.{and_both, and_first}
-use Rattle.ir_model.specs.Names.{function_at}
-use Rattle.ir_model.specs.declared.operand.Operand.{Operand}
-use Rattle.ir_paths.specs.Slots.{promise_of}
-use Rattle.pass_frames.specs.Tables.{offset_at}
+use Rattle.pass_proofs.specs.frame_contents.Held.{position_of}
+use Rattle.pass_proofs.specs.frame_layout.declared.layout.Layout.{Layout}
+use Rattle.pass_proofs.specs.frame_layout.declared.layout.PlacedField.{PlacedField}
+use Rattle.pass_proofs.specs.ir_base.declared.cause.Cause.{Cause}
+use Rattle.pass_proofs.proofs.ir_laws.facts.Lists.{get_within}
+use Rattle.pass_proofs.proofs.ir_laws.facts.Truth.{and_both, and_first}
+use Rattle.pass_proofs.specs.ir_model.Names.{function_at}
+use Rattle.pass_proofs.specs.ir_model.declared.operand.Operand.{Operand}
+use Rattle.pass_proofs.specs.ir_paths.Slots.{promise_of}
+use Rattle.pass_proofs.specs.pass_frames.Tables.{offset_at}
 use Rattle.pass_frames_proof.proofs.asking.Found.{address_stands, instance_found, known_block}
 use Rattle.pass_frames_proof.proofs.followed.Assembly.{other_instance}
 use Rattle.pass_frames_proof.proofs.stepping.Rest.{got, seen_known}
@@ -23,25 +23,25 @@ use Rattle.pass_frames_proof.specs.Related.{AreBuiltOf, AreInstances, Building, 
 use Rattle.pass_frames_proof.specs.Stepping.{AreGiven}
 use Rattle.pass_renewed_proof.proofs.Listing.{contains_first, contains_more}
 use Rattle.pass_renewed_proof.specs.Renewed.{RenewedGiven}
-use Rattle.run_framed.specs.Framed.{is_over as framed_over, address_behind, framed_frame_of_promise, framed_promise, framed_promise_of_frame, is_promise_at, is_promise_kind, layout_of, promise_offset}
-use Rattle.run_laws.proofs.memory.Written.{same_some}
-use Rattle.run_laws.proofs.transfer.Muted.{muted_length}
-use Rattle.run_laws.specs.embedded.Making.{whole_home}
-use Rattle.run_laws.specs.memory.Pointers.{Home, IsValue, home_of}
-use Rattle.run_laws.specs.transfer.Muted.{muted}
-use Rattle.run_memory.specs.Pointers.{moved, offset_of}
-use Rattle.run_memory.specs.declared.pointer.Offset.{Offset}
-use Rattle.run_memory.specs.declared.pointer.Pointer.{Pointer}
-use Rattle.run_memory.specs.declared.pointer.Value.{Value}
-use Rattle.run_source.specs.Source.{block_of_slot, frame_of_promise, has_promise_at, is_live_at, is_over, promise, promise_block, promise_of_frame}
-use Rattle.run_source.specs.State.{frame_address_of, instance_at, is_finished, last_from, last_where, numbered, or_else}
-use Rattle.run_source.specs.declared.state.Instance.{Instance}
-use Rattle.run_source.specs.declared.state.State.{State}
-use Rattle.run_source.specs.declared.state.Status.{Status}
-use Rattle.run_source_tables.specs.Given.{is_true}
-use Rattle.run_step.specs.Results.{and_then, found, ok_if}
-use Rattle.run_step.specs.Values.{pointer_to}
-use Rattle.run_step.specs.declared.world.Slot.{Slot}
+use Rattle.pass_proofs.specs.run_framed.Framed.{is_over as framed_over, address_behind, framed_frame_of_promise, framed_promise, framed_promise_of_frame, is_promise_at, is_promise_kind, layout_of, promise_offset}
+use Rattle.pass_proofs.proofs.run_laws.memory.Written.{same_some}
+use Rattle.pass_proofs.proofs.run_laws.transfer.Muted.{muted_length}
+use Rattle.pass_proofs.specs.run_laws.embedded.Making.{whole_home}
+use Rattle.pass_proofs.specs.run_laws.memory.Pointers.{Home, IsValue, home_of}
+use Rattle.pass_proofs.specs.run_laws.transfer.Muted.{muted}
+use Rattle.pass_proofs.specs.run_memory.Pointers.{moved, offset_of}
+use Rattle.pass_proofs.specs.run_memory.declared.pointer.Offset.{Offset}
+use Rattle.pass_proofs.specs.run_memory.declared.pointer.Pointer.{Pointer}
+use Rattle.pass_proofs.specs.run_memory.declared.pointer.Value.{Value}
+use Rattle.pass_proofs.specs.run_source.Source.{block_of_slot, frame_of_promise, has_promise_at, is_live_at, is_over, promise, promise_block, promise_of_frame}
+use Rattle.pass_proofs.specs.run_source.State.{frame_address_of, instance_at, is_finished, last_from, last_where, numbered, or_else}
+use Rattle.pass_proofs.specs.run_source.declared.state.Instance.{Instance}
+use Rattle.pass_proofs.specs.run_source.declared.state.State.{State}
+use Rattle.pass_proofs.specs.run_source.declared.state.Status.{Status}
+use Rattle.pass_proofs.specs.run_source_tables.Given.{is_true}
+use Rattle.pass_proofs.specs.run_step.Results.{and_then, found, ok_if}
+use Rattle.pass_proofs.specs.run_step.Values.{pointer_to}
+use Rattle.pass_proofs.specs.run_step.declared.world.Slot.{Slot}
 
 -- ---- lists
 

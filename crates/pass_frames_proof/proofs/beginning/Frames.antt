@@ -3,11 +3,11 @@ use Rattle.std.proofs.Common.{◌≡◌, ◌≢◌, ◌+◌, ◌&&◌, ◌∷◌
 use Rattle.std.proofs.lemmas.Bool.{and_left, ne_eqb}
 use Rattle.std.specs.Prelude.{slice_get}
 use Rattle.run_access_worked.proofs.Begun.{judge_more}
-use Rattle.run_framed.specs.Framed.{FramedGiven, covers, frame_rights, is_open, is_open_byte, judge_of, meets_in}
-use Rattle.run_laws.specs.access.Lines.{Holds}
-use Rattle.run_memory.specs.declared.block.Byte.{Byte}
-use Rattle.run_memory.specs.declared.block.MemoryBlock.{MemoryBlock}
-use Rattle.run_source.specs.declared.state.Instance.{Instance}
+use Rattle.pass_proofs.specs.run_framed.Framed.{FramedGiven, covers, frame_rights, is_open, is_open_byte, judge_of, meets_in}
+use Rattle.pass_proofs.specs.run_laws.access.Lines.{Holds}
+use Rattle.pass_proofs.specs.run_memory.declared.block.Byte.{Byte}
+use Rattle.pass_proofs.specs.run_memory.declared.block.MemoryBlock.{MemoryBlock}
+use Rattle.pass_proofs.specs.run_source.declared.state.Instance.{Instance}
 
 module _ (g : FramedGiven) (ys : List Instance) (y : Instance) (B : ℕ) (elsewhere : y.block ≢ B) where
   abbrev more : List Instance

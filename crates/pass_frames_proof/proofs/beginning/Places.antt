@@ -4,15 +4,15 @@ use Rattle.std.proofs.lemmas.Bool.{and_parts, cases_eq, leb-true, ltb-false}
 use Rattle.std.proofs.lemmas.List.{length-set, map-append}
 use Rattle.std.specs.List.{Contains}
 use Rattle.std.specs.Prelude.{filter, is_some, slice_get, unwrap_or}
-use Rattle.flow_solver.specs.Paths.{IsListed}
-use Rattle.frame_contents.specs.Held.{position_of}
-use Rattle.ir_laws.proofs.facts.Lists.{get_within}
-use Rattle.ir_laws.proofs.paths.edges.Lists.{different_left}
-use Rattle.ir_laws.specs.paths.woven_rules.Pairs.{AreDifferent}
-use Rattle.ir_model.specs.Ty.{Ty}
-use Rattle.ir_model.specs.declared.operand.Arg.{Arg}
-use Rattle.pass_copies.specs.declared.slot.EarlySlot.{EarlySlot}
-use Rattle.pass_frames.specs.Tables.{offset_at}
+use Rattle.pass_proofs.specs.flow_solver.Paths.{IsListed}
+use Rattle.pass_proofs.specs.frame_contents.Held.{position_of}
+use Rattle.pass_proofs.proofs.ir_laws.facts.Lists.{get_within}
+use Rattle.pass_proofs.proofs.ir_laws.paths.edges.Lists.{different_left}
+use Rattle.pass_proofs.specs.ir_laws.paths.woven_rules.Pairs.{AreDifferent}
+use Rattle.pass_proofs.specs.ir_model.Ty.{Ty}
+use Rattle.pass_proofs.specs.ir_model.declared.operand.Arg.{Arg}
+use Rattle.pass_proofs.specs.pass_copies.declared.slot.EarlySlot.{EarlySlot}
+use Rattle.pass_proofs.specs.pass_frames.Tables.{offset_at}
 use Rattle.pass_frames_proof.proofs.allocating.Grown.{end_get, in_all, listed_in, listed_slot, other_get}
 use Rattle.pass_frames_proof.proofs.allocating.Lives.{Early, Itself, Placed, WhoLives, who_lives}
 use Rattle.pass_frames_proof.proofs.allocating.Rights.{frame_room, frames_compare}
@@ -25,29 +25,29 @@ use Rattle.pass_frames_proof.specs.Slotted.{HasListedSlots, HasSlotsThere, IsSlo
 use Rattle.pass_frames_proof.specs.Stepping.{AreGiven}
 use Rattle.pass_renewed_proof.specs.Renewed.{RenewedGiven}
 use Rattle.run_access_worked.proofs.Begun.{begun_stands}
-use Rattle.run_framed.specs.Framed.{frame_rights, layout_of}
-use Rattle.run_laws.proofs.embedded.Mirrors.{bounds_changed}
-use Rattle.run_laws.proofs.memory.Written.{changed_elsewhere, changed_here, same_some}
-use Rattle.run_laws.proofs.transfer.Muted.{muted_change, muted_get}
-use Rattle.run_laws.proofs.transfer.Places.{showing_others}
-use Rattle.run_laws.proofs.transfer.Ready.{ready_all, stood_at, stood_extends}
-use Rattle.run_laws.specs.changed.Changed.{Each}
-use Rattle.run_laws.specs.embedded.Making.{whole_home}
-use Rattle.run_laws.specs.embedded.Marks.{LivesAlone}
-use Rattle.run_laws.specs.memory.Pointers.{Extends, Home, home_of, nowhere}
-use Rattle.run_laws.specs.memory.Standing.{AreApart, AreBoundsKept, Embeds, Stands}
-use Rattle.run_laws.specs.transfer.Muted.{muted}
-use Rattle.run_laws.specs.transfer.Places.{AreStanding, IsApartFrom, showing}
-use Rattle.run_laws.specs.transfer.Ready.{ArePlaces, ArePlacesApart, AreTwoPlaces, Comes, IsPlace, IsSettled, Place, home_at, shown_of, stood}
-use Rattle.run_memory.specs.Memory.{Rights, is_below, is_live, may_be_owned, owned_to, owner_rights, same_kind, with_block}
-use Rattle.run_memory.specs.declared.block.Byte.{Byte}
-use Rattle.run_memory.specs.declared.block.Kind.{Kind}
-use Rattle.run_memory.specs.declared.block.MemoryBlock.{MemoryBlock}
-use Rattle.run_source.specs.Source.{new_instance}
-use Rattle.run_source.specs.State.{own_frame}
-use Rattle.run_source.specs.declared.state.Instance.{Instance}
-use Rattle.run_source.specs.declared.state.State.{State}
-use Rattle.run_step.specs.declared.world.Slot.{Slot}
+use Rattle.pass_proofs.specs.run_framed.Framed.{frame_rights, layout_of}
+use Rattle.pass_proofs.proofs.run_laws.embedded.Mirrors.{bounds_changed}
+use Rattle.pass_proofs.proofs.run_laws.memory.Written.{changed_elsewhere, changed_here, same_some}
+use Rattle.pass_proofs.proofs.run_laws.transfer.Muted.{muted_change, muted_get}
+use Rattle.pass_proofs.proofs.run_laws.transfer.Places.{showing_others}
+use Rattle.pass_proofs.proofs.run_laws.transfer.Ready.{ready_all, stood_at, stood_extends}
+use Rattle.pass_proofs.specs.run_laws.changed.Changed.{Each}
+use Rattle.pass_proofs.specs.run_laws.embedded.Making.{whole_home}
+use Rattle.pass_proofs.specs.run_laws.embedded.Marks.{LivesAlone}
+use Rattle.pass_proofs.specs.run_laws.memory.Pointers.{Extends, Home, home_of, nowhere}
+use Rattle.pass_proofs.specs.run_laws.memory.Standing.{AreApart, AreBoundsKept, Embeds, Stands}
+use Rattle.pass_proofs.specs.run_laws.transfer.Muted.{muted}
+use Rattle.pass_proofs.specs.run_laws.transfer.Places.{AreStanding, IsApartFrom, showing}
+use Rattle.pass_proofs.specs.run_laws.transfer.Ready.{ArePlaces, ArePlacesApart, AreTwoPlaces, Comes, IsPlace, IsSettled, Place, home_at, shown_of, stood}
+use Rattle.pass_proofs.specs.run_memory.Memory.{Rights, is_below, is_live, may_be_owned, owned_to, owner_rights, same_kind, with_block}
+use Rattle.pass_proofs.specs.run_memory.declared.block.Byte.{Byte}
+use Rattle.pass_proofs.specs.run_memory.declared.block.Kind.{Kind}
+use Rattle.pass_proofs.specs.run_memory.declared.block.MemoryBlock.{MemoryBlock}
+use Rattle.pass_proofs.specs.run_source.Source.{new_instance}
+use Rattle.pass_proofs.specs.run_source.State.{own_frame}
+use Rattle.pass_proofs.specs.run_source.declared.state.Instance.{Instance}
+use Rattle.pass_proofs.specs.run_source.declared.state.State.{State}
+use Rattle.pass_proofs.specs.run_step.declared.world.Slot.{Slot}
 
 -- ---- lists
 

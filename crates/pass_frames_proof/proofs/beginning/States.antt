@@ -3,16 +3,16 @@ use Rattle.std.proofs.Common.{◌≡◌, ◌≢◌, ◌⊎◌, ◌+◌, ◌<◌,
 use Rattle.std.proofs.lemmas.Bool.{cases_eq}
 use Rattle.std.specs.List.{Contains}
 use Rattle.std.specs.Prelude.{filter, option_map, slice_get}
-use Rattle.flow_solver.specs.Paths.{IsListed}
-use Rattle.ir_laws.proofs.facts.Lists.{get_within}
-use Rattle.ir_laws.proofs.paths.source_rules.Locals.{listed_right}
-use Rattle.ir_laws.specs.paths.woven_rules.Pairs.{AreDifferent}
-use Rattle.ir_model.specs.Ty.{Ty, int}
-use Rattle.ir_model.specs.declared.operand.Arg.{Arg}
-use Rattle.pass_cells.specs.Kept.{entry}
-use Rattle.pass_cells.specs.declared.plan.KeptValue.{KeptValue}
-use Rattle.pass_copies.specs.declared.slot.EarlySlot.{EarlySlot}
-use Rattle.pass_frames.specs.Tables.{offset_at}
+use Rattle.pass_proofs.specs.flow_solver.Paths.{IsListed}
+use Rattle.pass_proofs.proofs.ir_laws.facts.Lists.{get_within}
+use Rattle.pass_proofs.proofs.ir_laws.paths.source_rules.Locals.{listed_right}
+use Rattle.pass_proofs.specs.ir_laws.paths.woven_rules.Pairs.{AreDifferent}
+use Rattle.pass_proofs.specs.ir_model.Ty.{Ty, int}
+use Rattle.pass_proofs.specs.ir_model.declared.operand.Arg.{Arg}
+use Rattle.pass_proofs.specs.pass_cells.Kept.{entry}
+use Rattle.pass_proofs.specs.pass_cells.declared.plan.KeptValue.{KeptValue}
+use Rattle.pass_proofs.specs.pass_copies.declared.slot.EarlySlot.{EarlySlot}
+use Rattle.pass_proofs.specs.pass_frames.Tables.{offset_at}
 use Rattle.pass_frames_proof.proofs.allocating.Grown.{end_get, in_these, listed_in, more_length, other_get}
 use Rattle.pass_frames_proof.proofs.allocating.Made.{fields_more, right_more}
 use Rattle.pass_frames_proof.proofs.allocating.Ramp.{value_here}
@@ -43,31 +43,31 @@ use Rattle.pass_frames_proof.specs.Slotted.{HasListedSlots, HasSlotsThere}
 use Rattle.pass_frames_proof.specs.Stepping.{AreGiven}
 use Rattle.pass_proofs.specs.addresses.rules.Addresses.{lies_in_frame}
 use Rattle.pass_renewed_proof.specs.Renewed.{RenewedGiven}
-use Rattle.run_framed.specs.Framed.{frame_rights}
-use Rattle.run_laws.proofs.memory.Homes.{value_on}
-use Rattle.run_laws.proofs.memory.Written.{changed_elsewhere, changed_here, same_some}
-use Rattle.run_laws.proofs.transfer.Muted.{muted_get}
-use Rattle.run_laws.proofs.transfer.Places.{muted_at}
-use Rattle.run_laws.proofs.transfer.Ready.{still_hidden}
-use Rattle.run_laws.proofs.transfer.Sets.{set_elsewhere}
-use Rattle.run_laws.specs.access.Lines.{Holds}
-use Rattle.run_laws.specs.embedded.Making.{whole_home}
-use Rattle.run_laws.specs.memory.Pointers.{Extends, Home, IsValue, home_of}
-use Rattle.run_laws.specs.transfer.Muted.{ended_if, muted}
-use Rattle.run_laws.specs.transfer.Transfer.{AreOver}
-use Rattle.run_memory.specs.Memory.{Rights, is_live, owned_to, owner_rights, with_block}
-use Rattle.run_memory.specs.Pointers.{moved, offset_of}
-use Rattle.run_memory.specs.declared.block.Byte.{Byte}
-use Rattle.run_memory.specs.declared.block.MemoryBlock.{MemoryBlock}
-use Rattle.run_memory.specs.declared.pointer.Pointer.{Pointer}
-use Rattle.run_memory.specs.declared.pointer.Value.{Value}
-use Rattle.run_source.specs.Source.{is_among}
-use Rattle.run_source.specs.declared.state.Activation.{Activation}
-use Rattle.run_source.specs.declared.state.Instance.{Instance}
-use Rattle.run_source.specs.declared.state.State.{State}
-use Rattle.run_step.specs.Values.{Env, pointer_to, value_in, with_result}
-use Rattle.run_step.specs.declared.world.Slot.{Slot}
-use Rattle.run_step.specs.declared.world.World.{World}
+use Rattle.pass_proofs.specs.run_framed.Framed.{frame_rights}
+use Rattle.pass_proofs.proofs.run_laws.memory.Homes.{value_on}
+use Rattle.pass_proofs.proofs.run_laws.memory.Written.{changed_elsewhere, changed_here, same_some}
+use Rattle.pass_proofs.proofs.run_laws.transfer.Muted.{muted_get}
+use Rattle.pass_proofs.proofs.run_laws.transfer.Places.{muted_at}
+use Rattle.pass_proofs.proofs.run_laws.transfer.Ready.{still_hidden}
+use Rattle.pass_proofs.proofs.run_laws.transfer.Sets.{set_elsewhere}
+use Rattle.pass_proofs.specs.run_laws.access.Lines.{Holds}
+use Rattle.pass_proofs.specs.run_laws.embedded.Making.{whole_home}
+use Rattle.pass_proofs.specs.run_laws.memory.Pointers.{Extends, Home, IsValue, home_of}
+use Rattle.pass_proofs.specs.run_laws.transfer.Muted.{ended_if, muted}
+use Rattle.pass_proofs.specs.run_laws.transfer.Transfer.{AreOver}
+use Rattle.pass_proofs.specs.run_memory.Memory.{Rights, is_live, owned_to, owner_rights, with_block}
+use Rattle.pass_proofs.specs.run_memory.Pointers.{moved, offset_of}
+use Rattle.pass_proofs.specs.run_memory.declared.block.Byte.{Byte}
+use Rattle.pass_proofs.specs.run_memory.declared.block.MemoryBlock.{MemoryBlock}
+use Rattle.pass_proofs.specs.run_memory.declared.pointer.Pointer.{Pointer}
+use Rattle.pass_proofs.specs.run_memory.declared.pointer.Value.{Value}
+use Rattle.pass_proofs.specs.run_source.Source.{is_among}
+use Rattle.pass_proofs.specs.run_source.declared.state.Activation.{Activation}
+use Rattle.pass_proofs.specs.run_source.declared.state.Instance.{Instance}
+use Rattle.pass_proofs.specs.run_source.declared.state.State.{State}
+use Rattle.pass_proofs.specs.run_step.Values.{Env, pointer_to, value_in, with_result}
+use Rattle.pass_proofs.specs.run_step.declared.world.Slot.{Slot}
+use Rattle.pass_proofs.specs.run_step.declared.world.World.{World}
 
 -- ---- lists
 

@@ -1,23 +1,23 @@
 -- Both runs execute begin.
 use Rattle.std.proofs.Common.{◌≡◌, ◌+◌, ◌-◌, ◌≤◌, ◌∷◌, ◌++◌, ◌∙◌, [], if◌then◌else◌, Bool, List, None, Ok, Option, Some, ap, append-nil, arith, false, length, not, refl, subst, sym, true, ℕ}
 use Rattle.std.specs.Prelude.{filter, is_none, option_map, slice_get, slice_set, unwrap_or}
-use Rattle.flow_solver.specs.Paths.{IsListed}
-use Rattle.ir_base.specs.declared.cause.Cause.{Cause}
-use Rattle.ir_model.specs.Names.{function_at}
-use Rattle.ir_model.specs.Ty.{Ty}
-use Rattle.ir_model.specs.declared.instr.Instr.{Instr}
-use Rattle.ir_model.specs.declared.module.Frame.{Frame}
-use Rattle.ir_model.specs.declared.module.Function.{Function}
-use Rattle.ir_model.specs.declared.operand.Arg.{Arg}
-use Rattle.ir_model.specs.declared.operand.Intrinsic.{Intrinsic}
-use Rattle.ir_model.specs.declared.operand.Operand.{Operand}
-use Rattle.ir_paths.specs.declared.point.Point.{Point}
-use Rattle.pass_addresses.specs.Placing.{is_none as is_absent}
-use Rattle.pass_cells.specs.Kept.{entry, joined}
-use Rattle.pass_copies.specs.BeginCopies.{begin_copies}
-use Rattle.pass_fetch.specs.Fetching.{fetch_of}
-use Rattle.pass_fetch.specs.declared.fetch.Fetch.{Fetch}
-use Rattle.pass_frames.specs.Framed.{begin_of}
+use Rattle.pass_proofs.specs.flow_solver.Paths.{IsListed}
+use Rattle.pass_proofs.specs.ir_base.declared.cause.Cause.{Cause}
+use Rattle.pass_proofs.specs.ir_model.Names.{function_at}
+use Rattle.pass_proofs.specs.ir_model.Ty.{Ty}
+use Rattle.pass_proofs.specs.ir_model.declared.instr.Instr.{Instr}
+use Rattle.pass_proofs.specs.ir_model.declared.module.Frame.{Frame}
+use Rattle.pass_proofs.specs.ir_model.declared.module.Function.{Function}
+use Rattle.pass_proofs.specs.ir_model.declared.operand.Arg.{Arg}
+use Rattle.pass_proofs.specs.ir_model.declared.operand.Intrinsic.{Intrinsic}
+use Rattle.pass_proofs.specs.ir_model.declared.operand.Operand.{Operand}
+use Rattle.pass_proofs.specs.ir_paths.declared.point.Point.{Point}
+use Rattle.pass_proofs.specs.pass_addresses.Placing.{is_none as is_absent}
+use Rattle.pass_proofs.specs.pass_cells.Kept.{entry, joined}
+use Rattle.pass_proofs.specs.pass_copies.BeginCopies.{begin_copies}
+use Rattle.pass_proofs.specs.pass_fetch.Fetching.{fetch_of}
+use Rattle.pass_proofs.specs.pass_fetch.declared.fetch.Fetch.{Fetch}
+use Rattle.pass_proofs.specs.pass_frames.Framed.{begin_of}
 use Rattle.pass_frames_proof.proofs.allocating.Grown.{listed_in}
 use Rattle.pass_frames_proof.proofs.beginning.Places.{B, N, X, filter_all, filter_none, home_is, mate, own, size, ys}
 use Rattle.pass_frames_proof.proofs.lined.Lines.{framed_does, no_gift}
@@ -37,24 +37,24 @@ use Rattle.pass_frames_proof.specs.Related.{AreBuiltOf, AreCoroutines, Building,
 use Rattle.pass_frames_proof.specs.Slotted.{HasListedSlots, HasSlotsThere}
 use Rattle.pass_frames_proof.specs.Stepping.{AreGiven, IsNotEntering, StandsInPlace}
 use Rattle.pass_renewed_proof.specs.Renewed.{RenewedGiven, renewed_step}
-use Rattle.run_framed.specs.Framed.{frame_rights, framed_begin, framed_step}
-use Rattle.run_memory.specs.Memory.{check, may_be_owned, owned_to, with_block}
-use Rattle.run_memory.specs.declared.block.Kind.{Kind}
-use Rattle.run_memory.specs.declared.block.MemoryBlock.{MemoryBlock}
-use Rattle.run_memory.specs.declared.pointer.Value.{Value}
-use Rattle.run_source.specs.Source.{begin, begin_at, begun, context_of, is_among, new_instance}
-use Rattle.run_source.specs.State.{function_of, gives, or_undefined, own_facts, own_frame, with_memory, work_of}
-use Rattle.run_source.specs.declared.state.Activation.{Activation}
-use Rattle.run_source.specs.declared.state.Instance.{Instance}
-use Rattle.run_source.specs.declared.state.Mode.{Mode}
-use Rattle.run_source.specs.declared.state.State.{State}
-use Rattle.run_source.specs.declared.state.Status.{Status}
-use Rattle.run_source_tables.specs.Given.{Given, frame_of}
-use Rattle.run_step.specs.Results.{and_then, found, ok_if}
-use Rattle.run_step.specs.Step.{AtInstr, Coro, action_of, block_of, fetch}
-use Rattle.run_step.specs.Values.{pointer_to, value_in, with_result}
-use Rattle.run_step.specs.declared.world.Slot.{Slot}
-use Rattle.run_step.specs.declared.world.World.{World}
+use Rattle.pass_proofs.specs.run_framed.Framed.{frame_rights, framed_begin, framed_step}
+use Rattle.pass_proofs.specs.run_memory.Memory.{check, may_be_owned, owned_to, with_block}
+use Rattle.pass_proofs.specs.run_memory.declared.block.Kind.{Kind}
+use Rattle.pass_proofs.specs.run_memory.declared.block.MemoryBlock.{MemoryBlock}
+use Rattle.pass_proofs.specs.run_memory.declared.pointer.Value.{Value}
+use Rattle.pass_proofs.specs.run_source.Source.{begin, begin_at, begun, context_of, is_among, new_instance}
+use Rattle.pass_proofs.specs.run_source.State.{function_of, gives, or_undefined, own_facts, own_frame, with_memory, work_of}
+use Rattle.pass_proofs.specs.run_source.declared.state.Activation.{Activation}
+use Rattle.pass_proofs.specs.run_source.declared.state.Instance.{Instance}
+use Rattle.pass_proofs.specs.run_source.declared.state.Mode.{Mode}
+use Rattle.pass_proofs.specs.run_source.declared.state.State.{State}
+use Rattle.pass_proofs.specs.run_source.declared.state.Status.{Status}
+use Rattle.pass_proofs.specs.run_source_tables.Given.{Given, frame_of}
+use Rattle.pass_proofs.specs.run_step.Results.{and_then, found, ok_if}
+use Rattle.pass_proofs.specs.run_step.Step.{AtInstr, Coro, action_of, block_of, fetch}
+use Rattle.pass_proofs.specs.run_step.Values.{pointer_to, value_in, with_result}
+use Rattle.pass_proofs.specs.run_step.declared.world.Slot.{Slot}
+use Rattle.pass_proofs.specs.run_step.declared.world.World.{World}
 
 -- ---- lists
 

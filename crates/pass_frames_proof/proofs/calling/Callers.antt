@@ -1,14 +1,14 @@
 -- The caller of a function: its operands are fetched, and then the framed run enters the same function.
 use Rattle.std.proofs.Common.{◌≡◌, ℕ, suc, ◌+◌, ◌-◌, ◌<◌, Bool, true, false, List, ◌∷◌, length, refl, sym, ap, ◌∙◌, subst, arith}
 use Rattle.std.specs.Prelude.{None, Option, Some, if◌then◌else◌}
-use Rattle.ir_base.specs.declared.outcome.Outcome.{Outcome}
-use Rattle.ir_model.specs.Names.{function_at}
-use Rattle.ir_model.specs.declared.instr.Instr.{Instr}
-use Rattle.ir_model.specs.declared.module.Function.{Function}
-use Rattle.ir_model.specs.declared.module.Module.{Module}
-use Rattle.ir_model.specs.declared.operand.Callee.{Callee}
-use Rattle.ir_paths.specs.declared.point.Point.{Point}
-use Rattle.pass_cells.specs.Cells.{fetches_of}
+use Rattle.pass_proofs.specs.ir_base.declared.outcome.Outcome.{Outcome}
+use Rattle.pass_proofs.specs.ir_model.Names.{function_at}
+use Rattle.pass_proofs.specs.ir_model.declared.instr.Instr.{Instr}
+use Rattle.pass_proofs.specs.ir_model.declared.module.Function.{Function}
+use Rattle.pass_proofs.specs.ir_model.declared.module.Module.{Module}
+use Rattle.pass_proofs.specs.ir_model.declared.operand.Callee.{Callee}
+use Rattle.pass_proofs.specs.ir_paths.declared.point.Point.{Point}
+use Rattle.pass_proofs.specs.pass_cells.Cells.{fetches_of}
 use Rattle.pass_frames_proof.proofs.calling.Passed.{passed_on}
 use Rattle.pass_frames_proof.proofs.followed.Assembly.{shown_alike}
 use Rattle.pass_frames_proof.proofs.lined.Lines.{framed_does, no_gift}
@@ -31,28 +31,28 @@ use Rattle.pass_frames_proof.specs.Places.{Framing, Placed, framed, is_return, o
 use Rattle.pass_frames_proof.specs.Related.{AreBuiltOf, Building, all_slots, behind_place, below_place, is_coroutine, point_of}
 use Rattle.pass_frames_proof.specs.Returning.{IsSwitching}
 use Rattle.pass_frames_proof.specs.Stepping.{AreGiven, IsFunctionCall, IsNotEntering, placed_front, placed_instr, state_in}
-use Rattle.ir_model.specs.declared.operand.Operand.{Operand}
-use Rattle.pass_fetch.specs.Fetching.{callee_by, fetch_of, fetched_args, next_by}
-use Rattle.pass_fetch.specs.Instrs.{with_fetched}
-use Rattle.pass_fetch.specs.declared.fetch.Fetch.{Fetch}
+use Rattle.pass_proofs.specs.ir_model.declared.operand.Operand.{Operand}
+use Rattle.pass_proofs.specs.pass_fetch.Fetching.{callee_by, fetch_of, fetched_args, next_by}
+use Rattle.pass_proofs.specs.pass_fetch.Instrs.{with_fetched}
+use Rattle.pass_proofs.specs.pass_fetch.declared.fetch.Fetch.{Fetch}
 use Rattle.pass_renewed_proof.specs.Renewed.{RenewedGiven, renewed_step}
-use Rattle.run_agreement.specs.Machines.{iterate}
-use Rattle.run_framed.specs.Framed.{frame_rights, framed_context, framed_step}
-use Rattle.run_laws.proofs.memory.Itself.{owner_rights_fit}
-use Rattle.run_laws.proofs.transfer.Over.{step_over}
-use Rattle.run_laws.specs.changed.Changed.{callee_at}
-use Rattle.run_laws.specs.embedded.Related.{AreValues, HasBytes, HasNoSlot}
-use Rattle.run_laws.specs.memory.Pointers.{Home, IsValue}
-use Rattle.run_laws.specs.transfer.Transfer.{AreJoined, AreOver, AreSameDistances, GoesOver, IsTransferred, args_at, given_at, same_maps}
-use Rattle.run_laws_worked.proofs.Frames.{frame_rights_fit}
-use Rattle.run_memory.specs.Memory.{Rights, owner_rights}
-use Rattle.run_memory.specs.declared.pointer.Value.{Value}
-use Rattle.run_source.specs.Source.{called, context_of, enter, mode_of}
-use Rattle.run_source.specs.State.{function_of, work_of}
-use Rattle.run_source.specs.declared.state.State.{State}
-use Rattle.run_step.specs.Step.{Action, AtInstr, Context, Enter, Work, action_of, fetch, instr_action}
-use Rattle.run_step.specs.Values.{Env}
-use Rattle.run_step.specs.declared.world.World.{World}
+use Rattle.pass_proofs.specs.run_agreement.Machines.{iterate}
+use Rattle.pass_proofs.specs.run_framed.Framed.{frame_rights, framed_context, framed_step}
+use Rattle.pass_proofs.proofs.run_laws.memory.Itself.{owner_rights_fit}
+use Rattle.pass_proofs.proofs.run_laws.transfer.Over.{step_over}
+use Rattle.pass_proofs.specs.run_laws.changed.Changed.{callee_at}
+use Rattle.pass_proofs.specs.run_laws.embedded.Related.{AreValues, HasBytes, HasNoSlot}
+use Rattle.pass_proofs.specs.run_laws.memory.Pointers.{Home, IsValue}
+use Rattle.pass_proofs.specs.run_laws.transfer.Transfer.{AreJoined, AreOver, AreSameDistances, GoesOver, IsTransferred, args_at, given_at, same_maps}
+use Rattle.run_access_worked.proofs.run_laws_worked.Frames.{frame_rights_fit}
+use Rattle.pass_proofs.specs.run_memory.Memory.{Rights, owner_rights}
+use Rattle.pass_proofs.specs.run_memory.declared.pointer.Value.{Value}
+use Rattle.pass_proofs.specs.run_source.Source.{called, context_of, enter, mode_of}
+use Rattle.pass_proofs.specs.run_source.State.{function_of, work_of}
+use Rattle.pass_proofs.specs.run_source.declared.state.State.{State}
+use Rattle.pass_proofs.specs.run_step.Step.{Action, AtInstr, Context, Enter, Work, action_of, fetch, instr_action}
+use Rattle.pass_proofs.specs.run_step.Values.{Env}
+use Rattle.pass_proofs.specs.run_step.declared.world.World.{World}
 
 -- so many steps of the framed run, and then one that enters the function; the caller is related as if nothing had been
 -- done

@@ -1,25 +1,25 @@
 -- What stands at the ends and fronts of blocks, in a coroutine whose frame may be built.
 use Rattle.std.proofs.Common.{◌≡◌, ℕ, zero, suc, ◌+◌, ◌≤◌, Bool, true, false, List, [], ◌∷◌, ◌++◌, length, refl, ap, ◌∙◌, arith, append-nil}
 use Rattle.std.specs.Prelude.{None, Option, Some, map, replicate, slice_get, take, if◌then◌else◌, ◌==◌}
-use Rattle.ir_laws.proofs.facts.Members.{each_joined, each_turns}
-use Rattle.ir_model.specs.Ty.{Ty, int, ptr}
-use Rattle.ir_model.specs.declared.instr.Instr.{Instr}
-use Rattle.ir_model.specs.declared.instr.Phi.{Phi}
-use Rattle.ir_model.specs.declared.instr.Terminator.{Terminator}
-use Rattle.ir_model.specs.declared.module.Param.{Param}
-use Rattle.ir_model.specs.declared.operand.Operand.{Operand}
-use Rattle.pass_addresses.specs.Placing.{lies_outside, stays, without_promise_of}
-use Rattle.pass_cells.specs.Cells.{fetches_of}
-use Rattle.pass_cells.specs.Moves.{address_again, again_one, again_values, load_from, store_to}
-use Rattle.pass_cells.specs.Written.{after_blocks as after_written, again_row, distance_alloca, distance_allocas, entry_front as cells_front, kept_allocas, link_allocas, stored, stored_params, stored_phis}
-use Rattle.pass_cells.specs.declared.plan.KeptValue.{KeptValue}
-use Rattle.pass_copies.specs.BeginCopies.{block_front, entry_front as copies_front, put, puts, slot_allocas}
-use Rattle.pass_copies.specs.Uses.{flag_at}
-use Rattle.pass_copies.specs.declared.slot.EarlySlot.{EarlySlot}
-use Rattle.pass_fetch.specs.Blocks.{end_at}
-use Rattle.pass_fetch.specs.Fetching.{fetch_into, fetches_of_all}
-use Rattle.pass_fetch.specs.Instrs.{fetched_term, term_operands}
-use Rattle.pass_fetch.specs.declared.fetch.Fetch.{Fetch}
+use Rattle.pass_proofs.proofs.ir_laws.facts.Members.{each_joined, each_turns}
+use Rattle.pass_proofs.specs.ir_model.Ty.{Ty, int, ptr}
+use Rattle.pass_proofs.specs.ir_model.declared.instr.Instr.{Instr}
+use Rattle.pass_proofs.specs.ir_model.declared.instr.Phi.{Phi}
+use Rattle.pass_proofs.specs.ir_model.declared.instr.Terminator.{Terminator}
+use Rattle.pass_proofs.specs.ir_model.declared.module.Param.{Param}
+use Rattle.pass_proofs.specs.ir_model.declared.operand.Operand.{Operand}
+use Rattle.pass_proofs.specs.pass_addresses.Placing.{lies_outside, stays, without_promise_of}
+use Rattle.pass_proofs.specs.pass_cells.Cells.{fetches_of}
+use Rattle.pass_proofs.specs.pass_cells.Moves.{address_again, again_one, again_values, load_from, store_to}
+use Rattle.pass_proofs.specs.pass_cells.Written.{after_blocks as after_written, again_row, distance_alloca, distance_allocas, entry_front as cells_front, kept_allocas, link_allocas, stored, stored_params, stored_phis}
+use Rattle.pass_proofs.specs.pass_cells.declared.plan.KeptValue.{KeptValue}
+use Rattle.pass_proofs.specs.pass_copies.BeginCopies.{block_front, entry_front as copies_front, put, puts, slot_allocas}
+use Rattle.pass_proofs.specs.pass_copies.Uses.{flag_at}
+use Rattle.pass_proofs.specs.pass_copies.declared.slot.EarlySlot.{EarlySlot}
+use Rattle.pass_proofs.specs.pass_fetch.Blocks.{end_at}
+use Rattle.pass_proofs.specs.pass_fetch.Fetching.{fetch_into, fetches_of_all}
+use Rattle.pass_proofs.specs.pass_fetch.Instrs.{fetched_term, term_operands}
+use Rattle.pass_proofs.specs.pass_fetch.declared.fetch.Fetch.{Fetch}
 use Rattle.pass_frames_proof.proofs.code.Idle.{each_idle, only_idle}
 use Rattle.pass_frames_proof.proofs.code.Left.{AreFar, Far, IsCalm, all_by, blocks_by, calm_addressed, calm_copied, copied_idle, far_fetched, far_named, load_calm, load_unwritten, loads_calm, loads_unwritten, names_rise, other_copied, start_loads, start_writes, stored_calm, unmarked_idle, written_idle}
 use Rattle.pass_frames_proof.proofs.code.Names.{First, has_cells, new_unfetched}
@@ -31,7 +31,7 @@ use Rattle.pass_frames_proof.specs.Framings.{IsFraming}
 use Rattle.pass_frames_proof.specs.Layers.{IsIdle, each, grown, only, passed}
 use Rattle.pass_frames_proof.specs.Passes.{IsUnwritten, at_entry, block_at, phi_ends, unmarked_at}
 use Rattle.pass_frames_proof.specs.Places.{Framing, Placed, addressing_layer, celled_layer, copied_layer, copies, copying_layer, edged, fetched, instrs_at, marked, named, offsets, placed_layer, plan, unmarked, unmarked_layer, writing_layer, written}
-use Rattle.run_laws.specs.changed.Changed.{Each}
+use Rattle.pass_proofs.specs.run_laws.changed.Changed.{Each}
 
 -- ---- addresses stay
 

@@ -1,16 +1,16 @@
 -- The framed form of a coroutine is made, block by block, of the coroutine with blocks on edges.
 use Rattle.std.proofs.Common.{◌≡◌, ℕ, zero, suc, List, [], ◌∷◌, ◌++◌, refl, sym, ap, ◌∙◌, append_assoc, subst}
 use Rattle.std.specs.Prelude.{Some, codes, filter, slice_get, ◌≢◌}
-use Rattle.frame_layout.specs.declared.layout.Layout.{Layout}
-use Rattle.ir_model.specs.declared.module.Block.{Block}
-use Rattle.ir_model.specs.declared.module.Function.{Function}
-use Rattle.ir_model.specs.declared.module.Module.{Module}
-use Rattle.pass_addresses.specs.Placing.{turned_block}
-use Rattle.pass_cells.specs.Cells.{fetched_function, fetches_of}
-use Rattle.pass_cells.specs.Written.{entry_front as cells_front}
-use Rattle.pass_copies.specs.BeginCopies.{entry_front as copies_front, first_fetched}
-use Rattle.pass_frames.specs.Framed.{IsFramedCoroutine, begin_of, celled, copied, placed}
-use Rattle.pass_front.specs.Front.{allocas_first, is_alloca, is_no_alloca, with_allocas_first, with_front_allocas}
+use Rattle.pass_proofs.specs.frame_layout.declared.layout.Layout.{Layout}
+use Rattle.pass_proofs.specs.ir_model.declared.module.Block.{Block}
+use Rattle.pass_proofs.specs.ir_model.declared.module.Function.{Function}
+use Rattle.pass_proofs.specs.ir_model.declared.module.Module.{Module}
+use Rattle.pass_proofs.specs.pass_addresses.Placing.{turned_block}
+use Rattle.pass_proofs.specs.pass_cells.Cells.{fetched_function, fetches_of}
+use Rattle.pass_proofs.specs.pass_cells.Written.{entry_front as cells_front}
+use Rattle.pass_proofs.specs.pass_copies.BeginCopies.{entry_front as copies_front, first_fetched}
+use Rattle.pass_proofs.specs.pass_frames.Framed.{IsFramedCoroutine, begin_of, celled, copied, placed}
+use Rattle.pass_proofs.specs.pass_front.Front.{allocas_first, is_alloca, is_no_alloca, with_allocas_first, with_front_allocas}
 use Rattle.pass_frames_proof.proofs.code.Passes.{addressed, addressed_made, block_is, cells_made, copies_made, fetches_made, only_made, rows, unmarked_made}
 use Rattle.pass_frames_proof.proofs.layers.Grown.{both_made}
 use Rattle.pass_frames_proof.specs.Layers.{IsMadeBy, Layer, both, grown, only, passed, woven}

@@ -1,23 +1,23 @@
 -- Which instructions the passes that build frames leave as they are.
 use Rattle.std.proofs.Common.{◌≡◌, ℕ, Bool, true, false, List, [], ◌∷◌, ◌++◌, refl, ap, ◌∙◌}
 use Rattle.std.specs.Prelude.{None, Option, Some, option_to_list, ◌&&◌, if◌then◌else◌}
-use Rattle.ir_model.specs.declared.instr.Instr.{Instr}
-use Rattle.ir_model.specs.declared.module.Block.{Block}
-use Rattle.ir_model.specs.declared.module.Module.{Module}
-use Rattle.ir_model.specs.declared.operand.Arg.{Arg}
-use Rattle.ir_model.specs.declared.operand.Callee.{Callee}
-use Rattle.ir_model.specs.declared.operand.Operand.{Operand}
-use Rattle.ir_parts.specs.Contents.{arg_operands, instr_operands, result_of}
-use Rattle.pass_cells.specs.Kept.{entry}
-use Rattle.pass_cells.specs.Moves.{after_saved, saved_values}
-use Rattle.pass_cells.specs.Written.{after_distance, after_distance_into, distance_behind, distance_from, distance_into, stored_at, stored_result}
-use Rattle.pass_cells.specs.declared.plan.Plan.{Plan}
-use Rattle.pass_copies.specs.BeginCopies.{begin_copies, is_fetched}
-use Rattle.pass_copies.specs.Uses.{is_access, is_begin}
-use Rattle.pass_copies.specs.declared.copying.Copying.{Copying}
-use Rattle.pass_fetch.specs.Fetching.{callee_by, fetch_of, fetched_args, fetched_operand, fetches_of_all, next_after_all, next_by, operand_by}
-use Rattle.pass_fetch.specs.Instrs.{next_after_instr, with_fetched}
-use Rattle.pass_fetch.specs.declared.fetch.Fetch.{Fetch}
+use Rattle.pass_proofs.specs.ir_model.declared.instr.Instr.{Instr}
+use Rattle.pass_proofs.specs.ir_model.declared.module.Block.{Block}
+use Rattle.pass_proofs.specs.ir_model.declared.module.Module.{Module}
+use Rattle.pass_proofs.specs.ir_model.declared.operand.Arg.{Arg}
+use Rattle.pass_proofs.specs.ir_model.declared.operand.Callee.{Callee}
+use Rattle.pass_proofs.specs.ir_model.declared.operand.Operand.{Operand}
+use Rattle.pass_proofs.specs.ir_parts.Contents.{arg_operands, instr_operands, result_of}
+use Rattle.pass_proofs.specs.pass_cells.Kept.{entry}
+use Rattle.pass_proofs.specs.pass_cells.Moves.{after_saved, saved_values}
+use Rattle.pass_proofs.specs.pass_cells.Written.{after_distance, after_distance_into, distance_behind, distance_from, distance_into, stored_at, stored_result}
+use Rattle.pass_proofs.specs.pass_cells.declared.plan.Plan.{Plan}
+use Rattle.pass_proofs.specs.pass_copies.BeginCopies.{begin_copies, is_fetched}
+use Rattle.pass_proofs.specs.pass_copies.Uses.{is_access, is_begin}
+use Rattle.pass_proofs.specs.pass_copies.declared.copying.Copying.{Copying}
+use Rattle.pass_proofs.specs.pass_fetch.Fetching.{callee_by, fetch_of, fetched_args, fetched_operand, fetches_of_all, next_after_all, next_by, operand_by}
+use Rattle.pass_proofs.specs.pass_fetch.Instrs.{next_after_instr, with_fetched}
+use Rattle.pass_proofs.specs.pass_fetch.declared.fetch.Fetch.{Fetch}
 use Rattle.pass_proofs.proofs.fetch.shape.Fetching.{none_fetched}
 use Rattle.pass_frames_proof.specs.Layers.{IsIdle, Layer, each, only}
 use Rattle.pass_frames_proof.specs.Passes.{IsUnmeasured, IsUnwritten, copying, fetching, writing}

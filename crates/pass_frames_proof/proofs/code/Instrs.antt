@@ -1,13 +1,13 @@
 -- What each instruction becomes over all passes.
 use Rattle.std.proofs.Common.{◌≡◌, ℕ, List, [], ◌∷◌, ◌++◌, sym, ap, ◌∙◌, append_assoc, append-nil}
-use Rattle.ir_model.specs.declared.instr.Instr.{Instr}
+use Rattle.pass_proofs.specs.ir_model.declared.instr.Instr.{Instr}
 use Rattle.pass_frames_proof.proofs.layers.Grown.{both_becomes, grown_append}
 use Rattle.pass_frames_proof.proofs.layers.Idle.{all_stay, state_stays}
 use Rattle.pass_frames_proof.specs.Code.{ArePartsLeft, code_of, copied_there, loaded, loads, located, past_addressed, saved, stores, unmarked_one, wheres}
 use Rattle.pass_frames_proof.specs.Layers.{IsIdle, Layer, becomes, grown, passed}
 use Rattle.pass_frames_proof.specs.Passes.{unmarked_at}
 use Rattle.pass_frames_proof.specs.Places.{Framing, Placed, addressing_layer, celled_layer, copied_layer, copying_layer, loading_layer, marked, placed_layer, unmarked_layer, writing_layer}
-use Rattle.run_laws.specs.changed.Changed.{Each}
+use Rattle.pass_proofs.specs.run_laws.changed.Changed.{Each}
 
 -- ---- idle instructions in front and behind
 

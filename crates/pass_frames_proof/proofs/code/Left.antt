@@ -2,40 +2,40 @@
 use Rattle.std.proofs.Common.{◌≡◌, inl, inr, ℕ, ◌+◌, ◌*◌, ◌≤◌, Bool, true, false, List, [], ◌∷◌, ◌++◌, length, refl, sym, ◌∙◌, subst, arith, length-append}
 use Rattle.std.specs.List.{list_all}
 use Rattle.std.specs.Prelude.{None, Option, Some, codes, map, slice_get, take, unwrap_or, ◌&&◌, if◌then◌else◌}
-use Rattle.flow_solver.specs.Paths.{IsListed}
-use Rattle.frame_classes.specs.declared.class.SlotClass.{SlotClass}
-use Rattle.ir_base.specs.declared.name.Name.{Name}
-use Rattle.ir_base.specs.declared.ops.CastOp.{CastOp}
-use Rattle.ir_laws.proofs.facts.Members.{at_each, each_joined, each_turns}
-use Rattle.ir_laws.proofs.facts.Truth.{and_first, and_second}
-use Rattle.ir_model.specs.Ty.{Ty, int, ptr}
-use Rattle.ir_model.specs.declared.instr.Incoming.{Incoming}
-use Rattle.ir_model.specs.declared.instr.Instr.{Instr}
-use Rattle.ir_model.specs.declared.instr.Phi.{Phi}
-use Rattle.ir_model.specs.declared.module.Block.{Block}
-use Rattle.ir_model.specs.declared.module.Module.{Module}
-use Rattle.ir_model.specs.declared.operand.Arg.{Arg}
-use Rattle.ir_model.specs.declared.operand.Operand.{Operand}
-use Rattle.ir_parts.specs.Contents.{arg_operands, instr_operands, result_of}
-use Rattle.pass_addresses.specs.Placing.{lies_outside, slot_fetches, stays, without_promise_of}
-use Rattle.pass_cells.specs.Cells.{fetch_by, fetch_for, fetched_function, fetches_of}
-use Rattle.pass_cells.specs.Kept.{entry}
-use Rattle.pass_cells.specs.Moves.{after_saved, saved_one, saved_values}
-use Rattle.pass_cells.specs.Written.{after_blocks as after_written, after_one, again_row, distance_behind, distance_from, distance_into, entry_front as cells_front, save_row, stored, stored_at, stored_one, stored_result}
-use Rattle.pass_cells.specs.declared.plan.KeptValue.{KeptValue}
-use Rattle.pass_copies.specs.BeginCopies.{after_blocks as after_copied, begin_copies, copy, entry_front as copies_front, first_fetched, is_fetched, put}
-use Rattle.pass_copies.specs.Slots.{entry_instrs}
-use Rattle.pass_copies.specs.Uses.{is_access, is_begin, used_before}
-use Rattle.pass_copies.specs.declared.slot.EarlySlot.{EarlySlot}
-use Rattle.pass_distances.specs.Sums.{distance_instrs, is_wide, start_instrs, start_value, sum_instrs, way_instrs, widening}
-use Rattle.pass_distances.specs.Ways.{ways_of}
-use Rattle.pass_distances.specs.declared.way.Way.{Way}
-use Rattle.pass_fetch.specs.Blocks.{end_at, ends_of_blocks, ends_of_incoming, ends_of_phis, next_after_blocks, next_after_phi, next_after_phis, next_after_phis_by, numbered_names, with_end}
-use Rattle.pass_fetch.specs.Fetching.{fetch_into, fetch_of, fetched_args, fetched_operand, fetches_by, fetches_of as fetches_of_one, fetches_of_all, next_after, operand_by}
-use Rattle.pass_fetch.specs.Instrs.{next_after_instr, with_fetched}
-use Rattle.pass_fetch.specs.declared.fetch.Fetch.{Fetch}
-use Rattle.pass_frames.specs.Framed.{begin_of}
-use Rattle.pass_frames.specs.Tables.{class_flags, sizes_by_name}
+use Rattle.pass_proofs.specs.flow_solver.Paths.{IsListed}
+use Rattle.pass_proofs.specs.frame_classes.declared.class.SlotClass.{SlotClass}
+use Rattle.pass_proofs.specs.ir_base.declared.name.Name.{Name}
+use Rattle.pass_proofs.specs.ir_base.declared.ops.CastOp.{CastOp}
+use Rattle.pass_proofs.proofs.ir_laws.facts.Members.{at_each, each_joined, each_turns}
+use Rattle.pass_proofs.proofs.ir_laws.facts.Truth.{and_first, and_second}
+use Rattle.pass_proofs.specs.ir_model.Ty.{Ty, int, ptr}
+use Rattle.pass_proofs.specs.ir_model.declared.instr.Incoming.{Incoming}
+use Rattle.pass_proofs.specs.ir_model.declared.instr.Instr.{Instr}
+use Rattle.pass_proofs.specs.ir_model.declared.instr.Phi.{Phi}
+use Rattle.pass_proofs.specs.ir_model.declared.module.Block.{Block}
+use Rattle.pass_proofs.specs.ir_model.declared.module.Module.{Module}
+use Rattle.pass_proofs.specs.ir_model.declared.operand.Arg.{Arg}
+use Rattle.pass_proofs.specs.ir_model.declared.operand.Operand.{Operand}
+use Rattle.pass_proofs.specs.ir_parts.Contents.{arg_operands, instr_operands, result_of}
+use Rattle.pass_proofs.specs.pass_addresses.Placing.{lies_outside, slot_fetches, stays, without_promise_of}
+use Rattle.pass_proofs.specs.pass_cells.Cells.{fetch_by, fetch_for, fetched_function, fetches_of}
+use Rattle.pass_proofs.specs.pass_cells.Kept.{entry}
+use Rattle.pass_proofs.specs.pass_cells.Moves.{after_saved, saved_one, saved_values}
+use Rattle.pass_proofs.specs.pass_cells.Written.{after_blocks as after_written, after_one, again_row, distance_behind, distance_from, distance_into, entry_front as cells_front, save_row, stored, stored_at, stored_one, stored_result}
+use Rattle.pass_proofs.specs.pass_cells.declared.plan.KeptValue.{KeptValue}
+use Rattle.pass_proofs.specs.pass_copies.BeginCopies.{after_blocks as after_copied, begin_copies, copy, entry_front as copies_front, first_fetched, is_fetched, put}
+use Rattle.pass_proofs.specs.pass_copies.Slots.{entry_instrs}
+use Rattle.pass_proofs.specs.pass_copies.Uses.{is_access, is_begin, used_before}
+use Rattle.pass_proofs.specs.pass_copies.declared.slot.EarlySlot.{EarlySlot}
+use Rattle.pass_proofs.specs.pass_distances.Sums.{distance_instrs, is_wide, start_instrs, start_value, sum_instrs, way_instrs, widening}
+use Rattle.pass_proofs.specs.pass_distances.Ways.{ways_of}
+use Rattle.pass_proofs.specs.pass_distances.declared.way.Way.{Way}
+use Rattle.pass_proofs.specs.pass_fetch.Blocks.{end_at, ends_of_blocks, ends_of_incoming, ends_of_phis, next_after_blocks, next_after_phi, next_after_phis, next_after_phis_by, numbered_names, with_end}
+use Rattle.pass_proofs.specs.pass_fetch.Fetching.{fetch_into, fetch_of, fetched_args, fetched_operand, fetches_by, fetches_of as fetches_of_one, fetches_of_all, next_after, operand_by}
+use Rattle.pass_proofs.specs.pass_fetch.Instrs.{next_after_instr, with_fetched}
+use Rattle.pass_proofs.specs.pass_fetch.declared.fetch.Fetch.{Fetch}
+use Rattle.pass_proofs.specs.pass_frames.Framed.{begin_of}
+use Rattle.pass_proofs.specs.pass_frames.Tables.{class_flags, sizes_by_name}
 use Rattle.pass_frames_proof.proofs.code.Idle.{cells_idle, copies_idle, each_idle, fetches_idle, only_idle, other_idle}
 use Rattle.pass_frames_proof.proofs.code.Names.{Count, F, First, IsLeft, cell_left, count_is, distance_left, far_left, has_cells, kept_left, local, new_unfetched, new_unkept, number_left}
 use Rattle.pass_frames_proof.proofs.layers.Idle.{both_idle}
@@ -57,12 +57,12 @@ use Rattle.pass_frames_proof.specs.Layers.{IsIdle, becomes, each, only, passed, 
 use Rattle.pass_frames_proof.specs.Passes.{IsUnwritten, at_entry, block_at, fetched_first, fetching_at, no_block, phi_ends, unmarked_at}
 use Rattle.pass_frames_proof.specs.Places.{Framing, Placed, addressing_layer, before_labels, copies, copying_layer, edged, fetched, instrs_at, loading_layer, marked, named, offsets, placed_layer, plan, unmarked, writing_layer, written}
 use Rattle.pass_proofs.specs.fetch.rules.Fetches.{AreUnfetched}
-use Rattle.rule_values.specs.Fits.{fits, fits_integer, fits_kind, is_integer, is_tokenless}
-use Rattle.rule_values.specs.Geps.{indices_fit}
-use Rattle.rule_values.specs.Instrs.{fits_instr}
-use Rattle.rule_values.specs.Kinds.{value_kind}
-use Rattle.rule_values.specs.declared.kinds.Kind.{Kind}
-use Rattle.run_laws.specs.changed.Changed.{Each}
+use Rattle.pass_proofs.specs.rule_values.Fits.{fits, fits_integer, fits_kind, is_integer, is_tokenless}
+use Rattle.pass_proofs.specs.rule_values.Geps.{indices_fit}
+use Rattle.pass_proofs.specs.rule_values.Instrs.{fits_instr}
+use Rattle.pass_proofs.specs.rule_values.Kinds.{value_kind}
+use Rattle.pass_proofs.specs.rule_values.declared.kinds.Kind.{Kind}
+use Rattle.pass_proofs.specs.run_laws.changed.Changed.{Each}
 
 -- names behind others are more
 pub longer : (xs ys : List Name) → length xs ≤ length (xs ++ ys)

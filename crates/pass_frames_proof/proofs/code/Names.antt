@@ -2,30 +2,30 @@
 -- none of them.
 use Rattle.std.proofs.Common.{◌≡◌, ◌⊎◌, inl, inr, ⊎_elim, ℕ, ◌+◌, ◌*◌, ◌<◌, ◌≤◌, Bool, true, false, List, [], ◌∷◌, ◌++◌, length, refl, sym, ap, ◌∙◌, subst, arith}
 use Rattle.std.specs.Prelude.{None, Option, Some, is_some, replicate, slice_get, slice_set, if◌then◌else◌}
-use Rattle.flow_solver.specs.Paths.{IsListed}
-use Rattle.frame_classes.specs.declared.class.SlotClass.{SlotClass}
-use Rattle.ir_laws.proofs.facts.Lists.{get_within}
-use Rattle.ir_model.specs.declared.instr.Instr.{Instr}
-use Rattle.ir_model.specs.declared.module.Block.{Block}
-use Rattle.ir_model.specs.declared.module.Function.{Function}
-use Rattle.ir_model.specs.declared.operand.Arg.{Arg}
-use Rattle.ir_model.specs.declared.operand.Callee.{Callee}
-use Rattle.ir_model.specs.declared.operand.Intrinsic.{Intrinsic}
-use Rattle.ir_model.specs.declared.operand.Operand.{Operand}
-use Rattle.ir_paths.specs.Slots.{allocas_of}
-use Rattle.pass_addresses.specs.Placing.{slot_fetches}
-use Rattle.pass_cells.specs.Cells.{with_cells}
-use Rattle.pass_cells.specs.Kept.{entry, joined}
-use Rattle.pass_cells.specs.Links.{bases_of, links_from, marks_of, slots_of}
-use Rattle.pass_cells.specs.declared.keeping.Keeping.{Keeping}
-use Rattle.pass_cells.specs.declared.plan.KeptValue.{KeptValue}
-use Rattle.pass_copies.specs.Slots.{early_slot, early_slots, entry_instrs, fetches_of, slots_from}
-use Rattle.pass_copies.specs.Uses.{flag_at, mark, mark_addresses, mark_args, mark_blocks, mark_instr, mark_instrs, mark_operand, still_before, used_before}
-use Rattle.pass_copies.specs.declared.slot.EarlySlot.{EarlySlot}
-use Rattle.pass_fetch.specs.Fetching.{fetch_of}
-use Rattle.pass_fetch.specs.declared.fetch.Fetch.{Fetch}
-use Rattle.pass_frames.specs.Framed.{begin_of}
-use Rattle.pass_frames.specs.Tables.{class_flags, sizes_by_name}
+use Rattle.pass_proofs.specs.flow_solver.Paths.{IsListed}
+use Rattle.pass_proofs.specs.frame_classes.declared.class.SlotClass.{SlotClass}
+use Rattle.pass_proofs.proofs.ir_laws.facts.Lists.{get_within}
+use Rattle.pass_proofs.specs.ir_model.declared.instr.Instr.{Instr}
+use Rattle.pass_proofs.specs.ir_model.declared.module.Block.{Block}
+use Rattle.pass_proofs.specs.ir_model.declared.module.Function.{Function}
+use Rattle.pass_proofs.specs.ir_model.declared.operand.Arg.{Arg}
+use Rattle.pass_proofs.specs.ir_model.declared.operand.Callee.{Callee}
+use Rattle.pass_proofs.specs.ir_model.declared.operand.Intrinsic.{Intrinsic}
+use Rattle.pass_proofs.specs.ir_model.declared.operand.Operand.{Operand}
+use Rattle.pass_proofs.specs.ir_paths.Slots.{allocas_of}
+use Rattle.pass_proofs.specs.pass_addresses.Placing.{slot_fetches}
+use Rattle.pass_proofs.specs.pass_cells.Cells.{with_cells}
+use Rattle.pass_proofs.specs.pass_cells.Kept.{entry, joined}
+use Rattle.pass_proofs.specs.pass_cells.Links.{bases_of, links_from, marks_of, slots_of}
+use Rattle.pass_proofs.specs.pass_cells.declared.keeping.Keeping.{Keeping}
+use Rattle.pass_proofs.specs.pass_cells.declared.plan.KeptValue.{KeptValue}
+use Rattle.pass_proofs.specs.pass_copies.Slots.{early_slot, early_slots, entry_instrs, fetches_of, slots_from}
+use Rattle.pass_proofs.specs.pass_copies.Uses.{flag_at, mark, mark_addresses, mark_args, mark_blocks, mark_instr, mark_instrs, mark_operand, still_before, used_before}
+use Rattle.pass_proofs.specs.pass_copies.declared.slot.EarlySlot.{EarlySlot}
+use Rattle.pass_proofs.specs.pass_fetch.Fetching.{fetch_of}
+use Rattle.pass_proofs.specs.pass_fetch.declared.fetch.Fetch.{Fetch}
+use Rattle.pass_proofs.specs.pass_frames.Framed.{begin_of}
+use Rattle.pass_proofs.specs.pass_frames.Tables.{class_flags, sizes_by_name}
 use Rattle.pass_proofs.proofs.addresses.rules.Placed.{outside_unfetched}
 use Rattle.pass_proofs.proofs.cells.rules.Fronts.{HasCells, IsNumbered}
 use Rattle.pass_proofs.proofs.cells.rules.Keepable.{IsKeepable, blocks_tell, keeping_holds, once as names_once, params_tell}
@@ -42,11 +42,11 @@ use Rattle.pass_frames_proof.specs.Framings.{IsFraming}
 use Rattle.pass_frames_proof.specs.Places.{Framing, before_labels, copies, edged, offsets, plan, with_copies, written}
 use Rattle.pass_proofs.specs.cells.rules.Weaving.{cells_weaving}
 use Rattle.pass_proofs.specs.frames.begin_order.Fields.{IsField, values_kept}
-use Rattle.rule_laws.proofs.rules.counted.Slots.{alloca_sized}
-use Rattle.rule_laws.proofs.rules.woven_rules.Laid.{valued_old}
-use Rattle.rule_laws.proofs.rules.woven_rules.Once.{names_below}
-use Rattle.rule_values.specs.Kinds.{value_kind}
-use Rattle.rule_values.specs.declared.kinds.Kind.{Kind}
+use Rattle.pass_proofs.proofs.rule_laws.rules.counted.Slots.{alloca_sized}
+use Rattle.pass_proofs.proofs.rule_laws.rules.woven_rules.Laid.{valued_old}
+use Rattle.pass_proofs.proofs.rule_laws.rules.woven_rules.Once.{names_below}
+use Rattle.pass_proofs.specs.rule_values.Kinds.{value_kind}
+use Rattle.pass_proofs.specs.rule_values.declared.kinds.Kind.{Kind}
 
 -- ---- a slot that is used before begin is flagged
 

@@ -1,24 +1,24 @@
 -- Each pass that builds frames makes blocks instruction by instruction.
 use Rattle.std.proofs.Common.{◌≡◌, ℕ, zero, suc, Bool, true, false, List, [], ◌∷◌, ◌++◌, length, refl, sym, ap, ◌∙◌, subst, append_assoc, append-nil, arith}
 use Rattle.std.specs.Prelude.{None, Option, Some, filter, map, option_to_list, slice_get, take, unwrap_or, codes, if◌then◌else◌, ◌==◌}
-use Rattle.ir_laws.proofs.facts.local_rules.Woven.{other_number}
-use Rattle.ir_model.specs.declared.instr.Instr.{Instr}
-use Rattle.ir_model.specs.declared.module.Block.{Block}
-use Rattle.ir_model.specs.declared.module.Function.{Function}
-use Rattle.ir_model.specs.declared.module.Module.{Module}
-use Rattle.ir_parts.specs.Contents.{instr_operands, result_of}
-use Rattle.pass_addresses.specs.Placing.{lies_outside, slot_fetches, stays, turned_block, with_frame_addresses, without_markers, without_promise, without_promise_of, without_slots}
-use Rattle.pass_cells.specs.Cells.{written_function}
-use Rattle.pass_cells.specs.Moves.{after_again, after_saved, again_values, saved_values}
-use Rattle.pass_cells.specs.Written.{after_one, distance_behind, save_row, stored_result, after_block as after_written_block, after_blocks as after_written, again_row, entry_blocks, entry_front as cells_front, stored_phis, written_block, written_blocks, written_instrs}
-use Rattle.pass_cells.specs.declared.plan.Plan.{Plan}
-use Rattle.pass_copies.specs.BeginCopies.{after_block as after_copied_block, after_blocks as after_copied, after_instr, behind as behind_begin, block_front, copied_block, copied_blocks, copied_function, copied_instr, copied_instrs, entry_front as copies_front, first_fetched, is_fetched}
-use Rattle.pass_copies.specs.Uses.{flag_at, still_before}
-use Rattle.pass_copies.specs.declared.copying.Copying.{Copying}
-use Rattle.pass_fetch.specs.Blocks.{end_at, fetched_block, fetched_blocks, next_after_block, next_after_blocks, next_after_phis, next_after_phis_by, with_fetches}
-use Rattle.pass_fetch.specs.Fetching.{fetches_of_all}
-use Rattle.pass_fetch.specs.Instrs.{fetched_instr, fetched_instrs, fetched_term, next_after_instr, next_after_instrs, term_operands, with_fetched}
-use Rattle.pass_fetch.specs.declared.fetch.Fetch.{Fetch}
+use Rattle.pass_proofs.proofs.ir_laws.facts.local_rules.Woven.{other_number}
+use Rattle.pass_proofs.specs.ir_model.declared.instr.Instr.{Instr}
+use Rattle.pass_proofs.specs.ir_model.declared.module.Block.{Block}
+use Rattle.pass_proofs.specs.ir_model.declared.module.Function.{Function}
+use Rattle.pass_proofs.specs.ir_model.declared.module.Module.{Module}
+use Rattle.pass_proofs.specs.ir_parts.Contents.{instr_operands, result_of}
+use Rattle.pass_proofs.specs.pass_addresses.Placing.{lies_outside, slot_fetches, stays, turned_block, with_frame_addresses, without_markers, without_promise, without_promise_of, without_slots}
+use Rattle.pass_proofs.specs.pass_cells.Cells.{written_function}
+use Rattle.pass_proofs.specs.pass_cells.Moves.{after_again, after_saved, again_values, saved_values}
+use Rattle.pass_proofs.specs.pass_cells.Written.{after_one, distance_behind, save_row, stored_result, after_block as after_written_block, after_blocks as after_written, again_row, entry_blocks, entry_front as cells_front, stored_phis, written_block, written_blocks, written_instrs}
+use Rattle.pass_proofs.specs.pass_cells.declared.plan.Plan.{Plan}
+use Rattle.pass_proofs.specs.pass_copies.BeginCopies.{after_block as after_copied_block, after_blocks as after_copied, after_instr, behind as behind_begin, block_front, copied_block, copied_blocks, copied_function, copied_instr, copied_instrs, entry_front as copies_front, first_fetched, is_fetched}
+use Rattle.pass_proofs.specs.pass_copies.Uses.{flag_at, still_before}
+use Rattle.pass_proofs.specs.pass_copies.declared.copying.Copying.{Copying}
+use Rattle.pass_proofs.specs.pass_fetch.Blocks.{end_at, fetched_block, fetched_blocks, next_after_block, next_after_blocks, next_after_phis, next_after_phis_by, with_fetches}
+use Rattle.pass_proofs.specs.pass_fetch.Fetching.{fetches_of_all}
+use Rattle.pass_proofs.specs.pass_fetch.Instrs.{fetched_instr, fetched_instrs, fetched_term, next_after_instr, next_after_instrs, term_operands, with_fetched}
+use Rattle.pass_proofs.specs.pass_fetch.declared.fetch.Fetch.{Fetch}
 use Rattle.pass_frames_proof.proofs.layers.Grown.{both_made}
 use Rattle.pass_frames_proof.specs.Layers.{IsMadeBy, Layer, becomes, both, each, grown, only, passed}
 use Rattle.pass_frames_proof.specs.Passes.{IsBlockMade, addressed_at, at_entry, block_at, copying, copying_at, fetched_first, fetching, fetching_at, no_block, phi_ends, unmarked_at, writing, writing_at}

@@ -1,13 +1,13 @@
 -- A memcpy is followed, in a coroutine and in a function that is none.
 use Rattle.std.proofs.Common.{◌≡◌, ◌+◌, ◌≤◌, ◌&&◌, ◌∷◌, ◌∙◌, [], Bool, List, None, Option, ap, arith, false, length, refl, subst, sym, true, ℕ}
-use Rattle.ir_model.specs.Ty.{Ty}
-use Rattle.ir_model.specs.declared.instr.Instr.{Instr}
-use Rattle.ir_model.specs.declared.operand.Arg.{Arg}
-use Rattle.ir_model.specs.declared.operand.Callee.{Callee}
-use Rattle.ir_model.specs.declared.operand.Intrinsic.{Intrinsic}
-use Rattle.ir_paths.specs.Windows.{operand_at}
-use Rattle.pass_cells.specs.Cells.{fetches_of}
-use Rattle.pass_fetch.specs.Fetching.{fetched_args}
+use Rattle.pass_proofs.specs.ir_model.Ty.{Ty}
+use Rattle.pass_proofs.specs.ir_model.declared.instr.Instr.{Instr}
+use Rattle.pass_proofs.specs.ir_model.declared.operand.Arg.{Arg}
+use Rattle.pass_proofs.specs.ir_model.declared.operand.Callee.{Callee}
+use Rattle.pass_proofs.specs.ir_model.declared.operand.Intrinsic.{Intrinsic}
+use Rattle.pass_proofs.specs.ir_paths.Windows.{operand_at}
+use Rattle.pass_proofs.specs.pass_cells.Cells.{fetches_of}
+use Rattle.pass_proofs.specs.pass_fetch.Fetching.{fetched_args}
 use Rattle.pass_frames_proof.proofs.asking.Others.{gives_next}
 use Rattle.pass_frames_proof.proofs.copying.Over.{CopiesToo, IsMemcpy, copies_too, memcpy_of}
 use Rattle.pass_frames_proof.proofs.copying.Refilled.{refilled_related}
@@ -29,22 +29,22 @@ use Rattle.pass_frames_proof.specs.Places.{Framing, Placed, plan}
 use Rattle.pass_frames_proof.specs.Related.{AreBuiltOf, Building}
 use Rattle.pass_frames_proof.specs.Stepping.{AreFieldsSpared, AreGiven, placed_front, placed_instr, placed_line, state_in}
 use Rattle.pass_renewed_proof.specs.Renewed.{RenewedGiven, is_flagged, renewed_step}
-use Rattle.run_framed.specs.Framed.{framed_context, framed_step}
-use Rattle.run_laws.proofs.memory.Itself.{owner_rights_fit}
-use Rattle.run_laws.specs.access.Changed.{KeepsFree}
-use Rattle.run_laws.specs.memory.Pointers.{IsValue}
-use Rattle.run_laws.specs.transfer.Muted.{muted}
-use Rattle.run_laws.specs.transfer.Shapes.{ArgStays, Empty, Pair, Pairwise}
-use Rattle.run_laws.specs.transfer.Transfer.{AreOver, StandsFor}
-use Rattle.run_laws_worked.proofs.Frames.{frame_rights_fit}
-use Rattle.run_memory.specs.Memory.{owner_rights}
-use Rattle.run_memory.specs.declared.pointer.Value.{Value}
-use Rattle.run_source.specs.Source.{context_of}
-use Rattle.run_source.specs.State.{function_of, gives, settled, work_of}
-use Rattle.run_source.specs.declared.state.State.{State}
-use Rattle.run_step.specs.Step.{AtInstr, Context, Done, Fetched, Work, action_of, fetch, set_memory}
-use Rattle.run_step.specs.Values.{Env, arg_values}
-use Rattle.run_step.specs.declared.world.World.{World}
+use Rattle.pass_proofs.specs.run_framed.Framed.{framed_context, framed_step}
+use Rattle.pass_proofs.proofs.run_laws.memory.Itself.{owner_rights_fit}
+use Rattle.pass_proofs.specs.run_laws.access.Changed.{KeepsFree}
+use Rattle.pass_proofs.specs.run_laws.memory.Pointers.{IsValue}
+use Rattle.pass_proofs.specs.run_laws.transfer.Muted.{muted}
+use Rattle.pass_proofs.specs.run_laws.transfer.Shapes.{ArgStays, Empty, Pair, Pairwise}
+use Rattle.pass_proofs.specs.run_laws.transfer.Transfer.{AreOver, StandsFor}
+use Rattle.run_access_worked.proofs.run_laws_worked.Frames.{frame_rights_fit}
+use Rattle.pass_proofs.specs.run_memory.Memory.{owner_rights}
+use Rattle.pass_proofs.specs.run_memory.declared.pointer.Value.{Value}
+use Rattle.pass_proofs.specs.run_source.Source.{context_of}
+use Rattle.pass_proofs.specs.run_source.State.{function_of, gives, settled, work_of}
+use Rattle.pass_proofs.specs.run_source.declared.state.State.{State}
+use Rattle.pass_proofs.specs.run_step.Step.{AtInstr, Context, Done, Fetched, Work, action_of, fetch, set_memory}
+use Rattle.pass_proofs.specs.run_step.Values.{Env, arg_values}
+use Rattle.pass_proofs.specs.run_step.declared.world.World.{World}
 
 -- ---- in a function that is no coroutine
 

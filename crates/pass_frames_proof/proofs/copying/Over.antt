@@ -1,34 +1,34 @@
 -- A memcpy that is done in the first run is done in the framed one: both change bytes alone, and what is free there
 -- stays.
 use Rattle.std.proofs.Common.{◌≡◌, ◌∙◌, Bool, Err, List, None, Ok, Option, Result, ap, false, refl, subst, sym, true, ℕ}
-use Rattle.ir_base.specs.declared.cause.Cause.{Cause}
-use Rattle.ir_model.specs.Ty.{Ty}
-use Rattle.ir_model.specs.declared.instr.Instr.{Instr}
-use Rattle.ir_model.specs.declared.operand.Arg.{Arg}
-use Rattle.ir_model.specs.declared.operand.Callee.{Callee}
-use Rattle.ir_model.specs.declared.operand.Intrinsic.{Intrinsic}
+use Rattle.pass_proofs.specs.ir_base.declared.cause.Cause.{Cause}
+use Rattle.pass_proofs.specs.ir_model.Ty.{Ty}
+use Rattle.pass_proofs.specs.ir_model.declared.instr.Instr.{Instr}
+use Rattle.pass_proofs.specs.ir_model.declared.operand.Arg.{Arg}
+use Rattle.pass_proofs.specs.ir_model.declared.operand.Callee.{Callee}
+use Rattle.pass_proofs.specs.ir_model.declared.operand.Intrinsic.{Intrinsic}
 use Rattle.pass_frames_proof.proofs.here.Intrinsics.{pair_stands}
 use Rattle.pass_frames_proof.proofs.ordinary.Stores.{stands_shown}
 use Rattle.pass_frames_proof.specs.Copying.{IsCopying}
-use Rattle.run_laws.proofs.access.Touched.{free_untouched}
-use Rattle.run_laws.proofs.embedded.Refills.{step_only}
-use Rattle.run_laws.proofs.embedded.Values.{address_kept}
-use Rattle.run_laws.proofs.transfer.Muted.{copy_muted, muted_result, shown_address}
-use Rattle.run_laws.proofs.transfer.Over.{step_over}
-use Rattle.run_laws.specs.access.Changed.{IsDefined, KeepsFree, LeavesFree}
-use Rattle.run_laws.specs.access.Touched.{AreTouches, CopiesTo, Touch, intrinsic_touches, touch_of}
-use Rattle.run_laws.specs.embedded.Refilled.{AreRefilled, OnlyRefills}
-use Rattle.run_laws.specs.embedded.Related.{HasNoSlot}
-use Rattle.run_laws.specs.memory.Pointers.{Home, IsValue}
-use Rattle.run_laws.specs.memory.Standing.{AreByteRights}
-use Rattle.run_laws.specs.transfer.Muted.{IsShown, muted, muted_work}
-use Rattle.run_laws.specs.transfer.Shapes.{ArgStays, Call, Direct, InstrStays, Pairwise}
-use Rattle.run_laws.specs.transfer.Transfer.{AreJoined, AreOver, GoesOver, IsTransferred, StandsFor, given_at, looks_in, same_maps}
-use Rattle.run_memory.specs.Memory.{copy}
-use Rattle.run_memory.specs.declared.block.MemoryBlock.{MemoryBlock}
-use Rattle.run_memory.specs.declared.pointer.Value.{Value}
-use Rattle.run_step.specs.Step.{Action, AtInstr, Context, Done, Work, action_of, copied_bytes, done, instr_action, intrinsic_call, is_lifetime, set_memory, with_length}
-use Rattle.run_step.specs.Values.{address, arg_values, nth}
+use Rattle.pass_proofs.proofs.run_laws.access.Touched.{free_untouched}
+use Rattle.pass_proofs.proofs.run_laws.embedded.Refills.{step_only}
+use Rattle.pass_proofs.proofs.run_laws.embedded.Values.{address_kept}
+use Rattle.pass_proofs.proofs.run_laws.transfer.Muted.{copy_muted, muted_result, shown_address}
+use Rattle.pass_proofs.proofs.run_laws.transfer.Over.{step_over}
+use Rattle.pass_proofs.specs.run_laws.access.Changed.{IsDefined, KeepsFree, LeavesFree}
+use Rattle.pass_proofs.specs.run_laws.access.Touched.{AreTouches, CopiesTo, Touch, intrinsic_touches, touch_of}
+use Rattle.pass_proofs.specs.run_laws.embedded.Refilled.{AreRefilled, OnlyRefills}
+use Rattle.pass_proofs.specs.run_laws.embedded.Related.{HasNoSlot}
+use Rattle.pass_proofs.specs.run_laws.memory.Pointers.{Home, IsValue}
+use Rattle.pass_proofs.specs.run_laws.memory.Standing.{AreByteRights}
+use Rattle.pass_proofs.specs.run_laws.transfer.Muted.{IsShown, muted, muted_work}
+use Rattle.pass_proofs.specs.run_laws.transfer.Shapes.{ArgStays, Call, Direct, InstrStays, Pairwise}
+use Rattle.pass_proofs.specs.run_laws.transfer.Transfer.{AreJoined, AreOver, GoesOver, IsTransferred, StandsFor, given_at, looks_in, same_maps}
+use Rattle.pass_proofs.specs.run_memory.Memory.{copy}
+use Rattle.pass_proofs.specs.run_memory.declared.block.MemoryBlock.{MemoryBlock}
+use Rattle.pass_proofs.specs.run_memory.declared.pointer.Value.{Value}
+use Rattle.pass_proofs.specs.run_step.Step.{Action, AtInstr, Context, Done, Work, action_of, copied_bytes, done, instr_action, intrinsic_call, is_lifetime, set_memory, with_length}
+use Rattle.pass_proofs.specs.run_step.Values.{address, arg_values, nth}
 
 -- ---- what a memcpy is
 

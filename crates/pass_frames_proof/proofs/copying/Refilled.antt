@@ -1,7 +1,7 @@
 -- Where bytes are written alone the relation holds with the same activations: cells are free, and so are fields of
 -- suspended instances.
 use Rattle.std.proofs.Common.{◌≡◌, ◌∷◌, ◌∙◌, None, Some, inl, inr, refl, subst, sym, true, ℕ}
-use Rattle.flow_solver.specs.Paths.{IsListed}
+use Rattle.pass_proofs.specs.flow_solver.Paths.{IsListed}
 use Rattle.pass_frames_proof.proofs.moved.Rest.{instance_on, related_on, same_place}
 use Rattle.pass_frames_proof.proofs.stepping.Rest.{LeavesRest}
 use Rattle.pass_frames_proof.proofs.stepping.Stored.{ahead_kept, free_below, free_kept, free_on, store_left}
@@ -9,15 +9,15 @@ use Rattle.pass_frames_proof.specs.Framings.{IsFraming}
 use Rattle.pass_frames_proof.specs.Moved.{AreMoved, MovesRest}
 use Rattle.pass_frames_proof.specs.Related.{AreBuiltOf, Building, instance_in, is_coroutine, returned_from}
 use Rattle.pass_frames_proof.specs.Stepping.{AreFieldsSpared}
-use Rattle.run_framed.specs.Framed.{frame_rights}
-use Rattle.run_laws.specs.access.Changed.{KeepsFree}
-use Rattle.run_laws.specs.embedded.Refilled.{AreRefilled}
-use Rattle.run_laws.specs.transfer.Muted.{muted}
-use Rattle.run_laws.specs.transfer.Transfer.{AreOver}
-use Rattle.run_memory.specs.Memory.{owner_rights}
-use Rattle.run_source.specs.declared.state.Activation.{Activation}
-use Rattle.run_source.specs.declared.state.State.{State}
-use Rattle.run_step.specs.declared.world.World.{World}
+use Rattle.pass_proofs.specs.run_framed.Framed.{frame_rights}
+use Rattle.pass_proofs.specs.run_laws.access.Changed.{KeepsFree}
+use Rattle.pass_proofs.specs.run_laws.embedded.Refilled.{AreRefilled}
+use Rattle.pass_proofs.specs.run_laws.transfer.Muted.{muted}
+use Rattle.pass_proofs.specs.run_laws.transfer.Transfer.{AreOver}
+use Rattle.pass_proofs.specs.run_memory.Memory.{owner_rights}
+use Rattle.pass_proofs.specs.run_source.declared.state.Activation.{Activation}
+use Rattle.pass_proofs.specs.run_source.declared.state.State.{State}
+use Rattle.pass_proofs.specs.run_step.declared.world.World.{World}
 
 module _ (b : Building) (s t : State) (r : AreBuiltOf b s t) (w u : World)
     (framings : (func : ℕ) → is_coroutine b func ≡ true → IsFraming (b.framing func))

@@ -3,25 +3,25 @@ use Rattle.std.proofs.Common.{◌≡◌, ◌⊎◌, inl, inr, ℕ, ◌+◌, ◌<
 use Rattle.std.proofs.lemmas.Bool.{cases_lt}
 use Rattle.std.proofs.lemmas.List.{length-append}
 use Rattle.std.specs.Prelude.{None, Option, Some, slice_get, option_map, ◌≢◌}
-use Rattle.ir_laws.proofs.facts.Members.{each_joined, each_turns}
-use Rattle.ir_laws.proofs.facts.Truth.{is_number}
-use Rattle.ir_model.specs.Ty.{Ty}
-use Rattle.ir_model.specs.declared.instr.Instr.{Instr}
-use Rattle.ir_model.specs.declared.module.Module.{Module}
-use Rattle.ir_model.specs.declared.operand.Arg.{Arg}
-use Rattle.ir_model.specs.declared.operand.Operand.{Operand}
-use Rattle.ir_parts.specs.Contents.{instr_operands}
-use Rattle.pass_cells.specs.Cells.{fetches_of}
-use Rattle.pass_cells.specs.Kept.{entry}
-use Rattle.pass_cells.specs.Written.{distance_behind, distance_from, distance_into, stored, stored_at, stored_one}
-use Rattle.pass_cells.specs.declared.plan.KeptValue.{KeptValue}
-use Rattle.pass_distances.specs.Sums.{distance_instrs}
-use Rattle.pass_distances.specs.Ways.{ways_of}
-use Rattle.pass_distances.specs.declared.way.Way.{Way}
-use Rattle.pass_fetch.specs.Fetching.{fetch_of, fetches_of_all, next_after, next_after_all, operand_by}
-use Rattle.pass_fetch.specs.Instrs.{with_fetched}
-use Rattle.pass_fetch.specs.declared.fetch.Fetch.{Fetch}
-use Rattle.pass_frames.specs.Framed.{begin_of}
+use Rattle.pass_proofs.proofs.ir_laws.facts.Members.{each_joined, each_turns}
+use Rattle.pass_proofs.proofs.ir_laws.facts.Truth.{is_number}
+use Rattle.pass_proofs.specs.ir_model.Ty.{Ty}
+use Rattle.pass_proofs.specs.ir_model.declared.instr.Instr.{Instr}
+use Rattle.pass_proofs.specs.ir_model.declared.module.Module.{Module}
+use Rattle.pass_proofs.specs.ir_model.declared.operand.Arg.{Arg}
+use Rattle.pass_proofs.specs.ir_model.declared.operand.Operand.{Operand}
+use Rattle.pass_proofs.specs.ir_parts.Contents.{instr_operands}
+use Rattle.pass_proofs.specs.pass_cells.Cells.{fetches_of}
+use Rattle.pass_proofs.specs.pass_cells.Kept.{entry}
+use Rattle.pass_proofs.specs.pass_cells.Written.{distance_behind, distance_from, distance_into, stored, stored_at, stored_one}
+use Rattle.pass_proofs.specs.pass_cells.declared.plan.KeptValue.{KeptValue}
+use Rattle.pass_proofs.specs.pass_distances.Sums.{distance_instrs}
+use Rattle.pass_proofs.specs.pass_distances.Ways.{ways_of}
+use Rattle.pass_proofs.specs.pass_distances.declared.way.Way.{Way}
+use Rattle.pass_proofs.specs.pass_fetch.Fetching.{fetch_of, fetches_of_all, next_after, next_after_all, operand_by}
+use Rattle.pass_proofs.specs.pass_fetch.Instrs.{with_fetched}
+use Rattle.pass_proofs.specs.pass_fetch.declared.fetch.Fetch.{Fetch}
+use Rattle.pass_proofs.specs.pass_frames.Framed.{begin_of}
 use Rattle.pass_frames_proof.proofs.code.Idle.{instr_same}
 use Rattle.pass_frames_proof.proofs.code.Left.{Far, far_named}
 use Rattle.pass_frames_proof.proofs.code.Names.{far_left}
@@ -57,27 +57,27 @@ use Rattle.pass_frames_proof.specs.Ordinary.{MayFetch, StandsUnkept}
 use Rattle.pass_frames_proof.specs.Places.{Framing, Placed, edged, framed, named, offsets, plan, written}
 use Rattle.pass_frames_proof.specs.Related.{AreBuiltOf, AreCellsRight, Building, IsKeptValue}
 use Rattle.pass_frames_proof.specs.Stepping.{AreGiven, StandsInPlace, placed_front, placed_instr, state_in}
-use Rattle.pass_front.specs.Front.{is_no_alloca}
+use Rattle.pass_proofs.specs.pass_front.Front.{is_no_alloca}
 use Rattle.pass_proofs.proofs.fetch.rules.Puts.{fetch_rises}
 use Rattle.pass_proofs.proofs.fetch.shape.Fetching.{none_fetched}
 use Rattle.pass_proofs.specs.addresses.rules.Addresses.{lies_in_frame}
 use Rattle.pass_proofs.specs.fetch.rules.Fetches.{AreUnfetched}
 use Rattle.pass_renewed_proof.specs.Renewed.{RenewedGiven}
-use Rattle.run_framed.specs.Framed.{framed_context, frame_rights}
-use Rattle.run_laws.proofs.memory.Itself.{owner_rights_fit}
-use Rattle.run_laws.specs.access.Lines.{Runs}
-use Rattle.run_laws.specs.changed.Changed.{Each}
-use Rattle.run_laws.specs.memory.Pointers.{IsValue}
-use Rattle.run_laws.specs.transfer.Transfer.{AreOver}
-use Rattle.run_laws_worked.proofs.Frames.{frame_rights_fit}
-use Rattle.run_memory.specs.Memory.{Rights, owner_rights}
-use Rattle.run_memory.specs.declared.pointer.Value.{Value}
-use Rattle.run_source.specs.Source.{context_of}
-use Rattle.run_source.specs.State.{work_of}
-use Rattle.run_source.specs.declared.state.State.{State}
-use Rattle.run_step.specs.Step.{Context, Done, Work, instr_action}
-use Rattle.run_step.specs.Values.{distance, value_in}
-use Rattle.run_step.specs.declared.world.World.{World}
+use Rattle.pass_proofs.specs.run_framed.Framed.{framed_context, frame_rights}
+use Rattle.pass_proofs.proofs.run_laws.memory.Itself.{owner_rights_fit}
+use Rattle.pass_proofs.specs.run_laws.access.Lines.{Runs}
+use Rattle.pass_proofs.specs.run_laws.changed.Changed.{Each}
+use Rattle.pass_proofs.specs.run_laws.memory.Pointers.{IsValue}
+use Rattle.pass_proofs.specs.run_laws.transfer.Transfer.{AreOver}
+use Rattle.run_access_worked.proofs.run_laws_worked.Frames.{frame_rights_fit}
+use Rattle.pass_proofs.specs.run_memory.Memory.{Rights, owner_rights}
+use Rattle.pass_proofs.specs.run_memory.declared.pointer.Value.{Value}
+use Rattle.pass_proofs.specs.run_source.Source.{context_of}
+use Rattle.pass_proofs.specs.run_source.State.{work_of}
+use Rattle.pass_proofs.specs.run_source.declared.state.State.{State}
+use Rattle.pass_proofs.specs.run_step.Step.{Context, Done, Work, instr_action}
+use Rattle.pass_proofs.specs.run_step.Values.{distance, value_in}
+use Rattle.pass_proofs.specs.run_step.declared.world.World.{World}
 
 -- ---- operands that lie in no frame have no address made
 

@@ -1,24 +1,24 @@
 -- What sums a distance is arithmetic and loads, and then a store.
 use Rattle.std.proofs.Common.{◌≡◌, ℕ, ◌+◌, ◌<◌, ◌≤◌, Bool, true, false, List, [], ◌∷◌, ◌++◌, refl, sym, subst, arith}
 use Rattle.std.specs.Prelude.{None, Option, Some, pos, if◌then◌else◌}
-use Rattle.ir_base.specs.declared.ops.BinOp.{BinOp}
-use Rattle.ir_base.specs.declared.ops.CastOp.{CastOp}
-use Rattle.ir_laws.proofs.facts.Members.{each_joined, each_turns}
-use Rattle.ir_model.specs.Ty.{int}
-use Rattle.ir_model.specs.declared.instr.Instr.{Instr}
-use Rattle.ir_model.specs.declared.module.Module.{Module}
-use Rattle.ir_model.specs.declared.operand.Arg.{Arg}
-use Rattle.ir_model.specs.declared.operand.Operand.{Operand}
-use Rattle.ir_parts.specs.Contents.{result_of}
-use Rattle.pass_distances.specs.Sums.{distance_instrs, distance_next, is_wide, on_number, start_instrs, start_value, sum_instrs, sum_next, sum_value, way_instrs, widened, widening}
-use Rattle.pass_distances.specs.declared.way.Way.{Way}
+use Rattle.pass_proofs.specs.ir_base.declared.ops.BinOp.{BinOp}
+use Rattle.pass_proofs.specs.ir_base.declared.ops.CastOp.{CastOp}
+use Rattle.pass_proofs.proofs.ir_laws.facts.Members.{each_joined, each_turns}
+use Rattle.pass_proofs.specs.ir_model.Ty.{int}
+use Rattle.pass_proofs.specs.ir_model.declared.instr.Instr.{Instr}
+use Rattle.pass_proofs.specs.ir_model.declared.module.Module.{Module}
+use Rattle.pass_proofs.specs.ir_model.declared.operand.Arg.{Arg}
+use Rattle.pass_proofs.specs.ir_model.declared.operand.Operand.{Operand}
+use Rattle.pass_proofs.specs.ir_parts.Contents.{result_of}
+use Rattle.pass_proofs.specs.pass_distances.Sums.{distance_instrs, distance_next, is_wide, on_number, start_instrs, start_value, sum_instrs, sum_next, sum_value, way_instrs, widened, widening}
+use Rattle.pass_proofs.specs.pass_distances.declared.way.Way.{Way}
 use Rattle.pass_frames_proof.proofs.stepping.Calm.{IsCalm, IsWoven, calm_last}
 use Rattle.pass_frames_proof.specs.Led.{IsNotSet, RunsThrough}
 use Rattle.pass_frames_proof.specs.Lined.{GivesNone}
-use Rattle.pass_front.specs.Front.{is_no_alloca}
-use Rattle.run_laws.specs.access.Lines.{Runs}
-use Rattle.run_laws.specs.changed.Changed.{Each}
-use Rattle.run_step.specs.Step.{Context, Work}
+use Rattle.pass_proofs.specs.pass_front.Front.{is_no_alloca}
+use Rattle.pass_proofs.specs.run_laws.access.Lines.{Runs}
+use Rattle.pass_proofs.specs.run_laws.changed.Changed.{Each}
+use Rattle.pass_proofs.specs.run_step.Step.{Context, Work}
 
 -- ---- each instruction of a sum
 

@@ -1,9 +1,9 @@
 -- No two distances have one cell.
 use Rattle.std.proofs.Common.{◌≡◌, ℕ, zero, suc, ◌+◌, ◌<◌, ◌≤◌, Bool, true, false, List, [], ◌∷◌, refl, sym, ap, ◌∙◌, arith}
 use Rattle.std.specs.Prelude.{None, Option, Some, slice_get, ◌≢◌}
-use Rattle.ir_laws.proofs.facts.Lists.{get_within}
-use Rattle.pass_cells.specs.Kept.{entry}
-use Rattle.pass_cells.specs.Links.{bases_of, cells_from, distance_cell, distance_name, link_name, links_after, marks_of, slots_of}
+use Rattle.pass_proofs.proofs.ir_laws.facts.Lists.{get_within}
+use Rattle.pass_proofs.specs.pass_cells.Kept.{entry}
+use Rattle.pass_proofs.specs.pass_cells.Links.{bases_of, cells_from, distance_cell, distance_name, link_name, links_after, marks_of, slots_of}
 use Rattle.pass_frames_proof.proofs.code.Names.{Count, F, First, Kept, keeping, local}
 use Rattle.pass_frames_proof.specs.Framings.{IsFraming}
 use Rattle.pass_frames_proof.specs.Places.{Framing, plan}

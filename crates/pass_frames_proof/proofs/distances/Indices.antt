@@ -1,21 +1,21 @@
 -- Where indices stand for the source's the distance of a getelementptr is the same, if the source has one.
 use Rattle.std.proofs.Common.{◌≡◌, ◌⊎◌, inl, inr, ⊎_elim, ℕ, List, [], ◌∷◌, refl, sym, ap, ◌∙◌, subst}
 use Rattle.std.specs.Prelude.{None, Option, Some}
-use Rattle.ir_model.specs.Layout.{size_of, unnamed}
-use Rattle.ir_model.specs.Ty.{Ty, array, int, structure}
-use Rattle.ir_model.specs.declared.module.Module.{Module}
-use Rattle.ir_model.specs.declared.operand.Arg.{Arg}
-use Rattle.pass_distances.specs.Ways.{inner_type}
-use Rattle.pass_fetch.specs.Fetching.{fetched_arg, fetched_args, fetched_operand, next_after}
-use Rattle.pass_fetch.specs.declared.fetch.Fetch.{Fetch}
+use Rattle.pass_proofs.specs.ir_model.Layout.{size_of, unnamed}
+use Rattle.pass_proofs.specs.ir_model.Ty.{Ty, array, int, structure}
+use Rattle.pass_proofs.specs.ir_model.declared.module.Module.{Module}
+use Rattle.pass_proofs.specs.ir_model.declared.operand.Arg.{Arg}
+use Rattle.pass_proofs.specs.pass_distances.Ways.{inner_type}
+use Rattle.pass_proofs.specs.pass_fetch.Fetching.{fetched_arg, fetched_args, fetched_operand, next_after}
+use Rattle.pass_proofs.specs.pass_fetch.declared.fetch.Fetch.{Fetch}
 use Rattle.pass_frames_proof.proofs.distances.Ways.{IsSamePart, field_index, inner_none, plus_none, same_part}
 use Rattle.pass_frames_proof.specs.Distances.{AreFields, AreFieldsInside, IsField}
 use Rattle.pass_frames_proof.specs.Measured.{AreArgsStanding}
-use Rattle.run_laws.specs.embedded.Related.{IsSameDistance}
-use Rattle.run_laws.specs.memory.Pointers.{Home, IsValue}
-use Rattle.run_memory.specs.declared.pointer.Pointer.{Pointer}
-use Rattle.run_memory.specs.declared.pointer.Value.{Value}
-use Rattle.run_step.specs.Values.{Env, arg_value, capped, distance, index_of, indices_of, inner_distance, number_at, part_at, plus, times}
+use Rattle.pass_proofs.specs.run_laws.embedded.Related.{IsSameDistance}
+use Rattle.pass_proofs.specs.run_laws.memory.Pointers.{Home, IsValue}
+use Rattle.pass_proofs.specs.run_memory.declared.pointer.Pointer.{Pointer}
+use Rattle.pass_proofs.specs.run_memory.declared.pointer.Value.{Value}
+use Rattle.pass_proofs.specs.run_step.Values.{Env, arg_value, capped, distance, index_of, indices_of, inner_distance, number_at, part_at, plus, times}
 
 poison_index : (ty : Ty) → index_of (number_at ty Value.Poison) ≡ None
 poison_index (int w) = refl

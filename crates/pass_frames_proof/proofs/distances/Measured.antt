@@ -2,17 +2,17 @@
 use Rattle.std.proofs.Common.{◌≡◌, ◌⊎◌, inl, inr, ⊎_elim, ℕ, ◌+◌, ◌^◌, ◌<◌, ◌≤◌, List, [], ◌∷◌, ◌++◌, length, refl, sym, ap, ◌∙◌, subst, arith}
 use Rattle.std.specs.List.{Contains}
 use Rattle.std.specs.Prelude.{None, Option, Some}
-use Rattle.ir_laws.proofs.facts.Members.{each_turns}
-use Rattle.ir_laws.proofs.facts.Truth.{is_number}
-use Rattle.ir_model.specs.Ty.{Ty, int}
-use Rattle.ir_model.specs.declared.instr.Instr.{Instr}
-use Rattle.ir_model.specs.declared.operand.Arg.{Arg}
-use Rattle.ir_model.specs.declared.operand.Operand.{Operand}
-use Rattle.pass_cells.specs.Kept.{entry}
-use Rattle.pass_cells.specs.Written.{distance_from}
-use Rattle.pass_distances.specs.Sums.{distance_instrs, distance_next, start_instrs, start_value, sum_instrs, sum_value}
-use Rattle.pass_distances.specs.Ways.{ways_of}
-use Rattle.pass_distances.specs.declared.way.Way.{Way}
+use Rattle.pass_proofs.proofs.ir_laws.facts.Members.{each_turns}
+use Rattle.pass_proofs.proofs.ir_laws.facts.Truth.{is_number}
+use Rattle.pass_proofs.specs.ir_model.Ty.{Ty, int}
+use Rattle.pass_proofs.specs.ir_model.declared.instr.Instr.{Instr}
+use Rattle.pass_proofs.specs.ir_model.declared.operand.Arg.{Arg}
+use Rattle.pass_proofs.specs.ir_model.declared.operand.Operand.{Operand}
+use Rattle.pass_proofs.specs.pass_cells.Kept.{entry}
+use Rattle.pass_proofs.specs.pass_cells.Written.{distance_from}
+use Rattle.pass_proofs.specs.pass_distances.Sums.{distance_instrs, distance_next, start_instrs, start_value, sum_instrs, sum_value}
+use Rattle.pass_proofs.specs.pass_distances.Ways.{ways_of}
+use Rattle.pass_proofs.specs.pass_distances.declared.way.Way.{Way}
 use Rattle.pass_frames_proof.proofs.distances.Apart.{distances_differ}
 use Rattle.pass_frames_proof.proofs.distances.Sums.{literal_number, next_rises, set_from, sets_none, sets_on, sums_up, summed_same, value_set, ways_below}
 use Rattle.pass_frames_proof.proofs.distances.Ways.{distance_sum}
@@ -27,19 +27,19 @@ use Rattle.pass_frames_proof.specs.Lines.{IsCellOf, LoadsCell, RunsOver, at_work
 use Rattle.pass_frames_proof.specs.Measured.{IsBase, IsMoved, MayMeasure, Measures}
 use Rattle.pass_frames_proof.specs.Places.{Framing, named, plan}
 use Rattle.pass_frames_proof.specs.Related.{Anything, IsCell, IsDistanceOf, root_of}
-use Rattle.run_laws.proofs.access.Lines.{runs_append}
-use Rattle.run_laws.specs.access.Accessed.{Span}
-use Rattle.run_laws.specs.access.Lines.{Runs}
-use Rattle.run_laws.specs.memory.Pointers.{Home, IsValue}
-use Rattle.run_laws.specs.memory.Standing.{AreByteRights}
-use Rattle.run_memory.specs.Pointers.{moved, offset_of}
-use Rattle.run_memory.specs.declared.pointer.Access.{Access}
-use Rattle.run_memory.specs.declared.pointer.Offset.{Offset}
-use Rattle.run_memory.specs.declared.pointer.Pointer.{Pointer}
-use Rattle.run_memory.specs.declared.pointer.Value.{Value}
-use Rattle.run_source.specs.declared.state.Activation.{Activation}
-use Rattle.run_step.specs.Step.{Context, Work, set_value, value_at}
-use Rattle.run_step.specs.Values.{Env, distance, indices_of, plus, pointer_to, stored, value_in}
+use Rattle.pass_proofs.proofs.run_laws.access.Lines.{runs_append}
+use Rattle.pass_proofs.specs.run_laws.access.Accessed.{Span}
+use Rattle.pass_proofs.specs.run_laws.access.Lines.{Runs}
+use Rattle.pass_proofs.specs.run_laws.memory.Pointers.{Home, IsValue}
+use Rattle.pass_proofs.specs.run_laws.memory.Standing.{AreByteRights}
+use Rattle.pass_proofs.specs.run_memory.Pointers.{moved, offset_of}
+use Rattle.pass_proofs.specs.run_memory.declared.pointer.Access.{Access}
+use Rattle.pass_proofs.specs.run_memory.declared.pointer.Offset.{Offset}
+use Rattle.pass_proofs.specs.run_memory.declared.pointer.Pointer.{Pointer}
+use Rattle.pass_proofs.specs.run_memory.declared.pointer.Value.{Value}
+use Rattle.pass_proofs.specs.run_source.declared.state.Activation.{Activation}
+use Rattle.pass_proofs.specs.run_step.Step.{Context, Work, set_value, value_at}
+use Rattle.pass_proofs.specs.run_step.Values.{Env, distance, indices_of, plus, pointer_to, stored, value_in}
 
 below_start : (n : ℕ) (from : Option ℕ) → IsBelow (n + 1) (start_value n from)
 below_start n None = tt

@@ -4,28 +4,28 @@ use Rattle.std.proofs.lemmas.Bool.{lt-ltb, ltb-true}
 use Rattle.std.proofs.lemmas.Nat.{pow_pos}
 use Rattle.std.proofs.Math.Nat.{mod-eq_of_lt, mod-lt}
 use Rattle.std.specs.Prelude.{None, Option, Some, nat_lt, ◌&&◌, ◌==◌, if◌then◌else◌}
-use Rattle.ir_base.specs.declared.ops.BinOp.{BinOp}
-use Rattle.ir_base.specs.declared.ops.CastOp.{CastOp}
-use Rattle.ir_base.specs.declared.outcome.Word.{Word}
-use Rattle.ir_laws.proofs.facts.Lists.{set_here}
-use Rattle.ir_laws.proofs.facts.Truth.{and_first, and_second, equal_numbers}
-use Rattle.ir_model.specs.Ty.{Ty, array, int, named, ptr, structure, token}
-use Rattle.ir_model.specs.declared.instr.Instr.{Instr}
-use Rattle.ir_model.specs.declared.operand.Operand.{Operand}
-use Rattle.pass_distances.specs.Sums.{is_wide, on_number, sum_instrs, sum_next, sum_value, way_instrs, widened, widening}
-use Rattle.pass_distances.specs.declared.way.Way.{Way}
-use Rattle.pass_intrinsics.specs.Lowered.{no_flags}
+use Rattle.pass_proofs.specs.ir_base.declared.ops.BinOp.{BinOp}
+use Rattle.pass_proofs.specs.ir_base.declared.ops.CastOp.{CastOp}
+use Rattle.pass_proofs.specs.ir_base.declared.outcome.Word.{Word}
+use Rattle.pass_proofs.proofs.ir_laws.facts.Lists.{set_here}
+use Rattle.pass_proofs.proofs.ir_laws.facts.Truth.{and_first, and_second, equal_numbers}
+use Rattle.pass_proofs.specs.ir_model.Ty.{Ty, array, int, named, ptr, structure, token}
+use Rattle.pass_proofs.specs.ir_model.declared.instr.Instr.{Instr}
+use Rattle.pass_proofs.specs.ir_model.declared.operand.Operand.{Operand}
+use Rattle.pass_proofs.specs.pass_distances.Sums.{is_wide, on_number, sum_instrs, sum_next, sum_value, way_instrs, widened, widening}
+use Rattle.pass_proofs.specs.pass_distances.declared.way.Way.{Way}
+use Rattle.pass_proofs.specs.pass_intrinsics.Lowered.{no_flags}
 use Rattle.pass_frames_proof.specs.Distances.{AreWaysBelow, IsBelow, IsNumber, IsWayBelow, SetsFrom, SumsUp, added, summed}
-use Rattle.run_ints.proofs.Widths.{bits_of_below}
-use Rattle.run_ints.proofs.Wraps.{bits_of-signed}
-use Rattle.run_ints.specs.Numbers.{bits_of, cast, computed, signed_of}
-use Rattle.run_ints.specs.declared.num.Num.{Num}
-use Rattle.run_laws.proofs.access.Lines.{runs_append}
-use Rattle.run_laws.proofs.transfer.Sets.{set_elsewhere, set_length}
-use Rattle.run_laws.specs.access.Lines.{Runs}
-use Rattle.run_memory.specs.declared.pointer.Value.{Value}
-use Rattle.run_step.specs.Step.{Context, Work, cast_to, set_value, value_at}
-use Rattle.run_step.specs.Values.{arg_value, index_of, number_at, number_of_width, plus, times, value_in, value_of, value_or_poison}
+use Rattle.pass_proofs.proofs.run_ints.Widths.{bits_of_below}
+use Rattle.pass_proofs.proofs.run_ints.Wraps.{bits_of-signed}
+use Rattle.pass_proofs.specs.run_ints.Numbers.{bits_of, cast, computed, signed_of}
+use Rattle.pass_proofs.specs.run_ints.declared.num.Num.{Num}
+use Rattle.pass_proofs.proofs.run_laws.access.Lines.{runs_append}
+use Rattle.pass_proofs.proofs.run_laws.transfer.Sets.{set_elsewhere, set_length}
+use Rattle.pass_proofs.specs.run_laws.access.Lines.{Runs}
+use Rattle.pass_proofs.specs.run_memory.declared.pointer.Value.{Value}
+use Rattle.pass_proofs.specs.run_step.Step.{Context, Work, cast_to, set_value, value_at}
+use Rattle.pass_proofs.specs.run_step.Values.{arg_value, index_of, number_at, number_of_width, plus, times, value_in, value_of, value_or_poison}
 
 -- ---- numbers of 64 bits
 

@@ -3,17 +3,17 @@ use Rattle.std.proofs.Common.{◌≡◌, ◌⊎◌, inl, inr, ℕ, ◌-◌, ◌+
 use Rattle.std.proofs.lemmas.Bool.{lt-ltb}
 use Rattle.std.proofs.Math.Nat.{add-mod-mod, mod-add-mod, mod-eq_of_lt}
 use Rattle.std.specs.Prelude.{None, Option, Some, unwrap_or, if◌then◌else◌}
-use Rattle.ir_model.specs.Layout.{field_offset, field_type, size_of, unnamed}
-use Rattle.ir_model.specs.Ty.{Ty, array, int, named, ptr, structure, token}
-use Rattle.ir_model.specs.declared.module.Module.{Module}
-use Rattle.ir_model.specs.declared.operand.Arg.{Arg}
-use Rattle.ir_model.specs.declared.operand.Operand.{Operand}
-use Rattle.pass_distances.specs.Ways.{field_number, inner_type, inner_ways, way_at, ways_of}
+use Rattle.pass_proofs.specs.ir_model.Layout.{field_offset, field_type, size_of, unnamed}
+use Rattle.pass_proofs.specs.ir_model.Ty.{Ty, array, int, named, ptr, structure, token}
+use Rattle.pass_proofs.specs.ir_model.declared.module.Module.{Module}
+use Rattle.pass_proofs.specs.ir_model.declared.operand.Arg.{Arg}
+use Rattle.pass_proofs.specs.ir_model.declared.operand.Operand.{Operand}
+use Rattle.pass_proofs.specs.pass_distances.Ways.{field_number, inner_type, inner_ways, way_at, ways_of}
 use Rattle.pass_frames_proof.specs.Distances.{AreFields, AreFieldsInside, IsField, added, summed}
-use Rattle.run_ints.specs.Numbers.{bits_of}
-use Rattle.run_ints.specs.declared.num.Num.{Num}
-use Rattle.run_memory.specs.declared.pointer.Value.{Value}
-use Rattle.run_step.specs.Values.{Env, arg_value, capped, distance, index_of, indices_of, inner_distance, number_at, number_of_width, operand_value, part_at, plus, times}
+use Rattle.pass_proofs.specs.run_ints.Numbers.{bits_of}
+use Rattle.pass_proofs.specs.run_ints.declared.num.Num.{Num}
+use Rattle.pass_proofs.specs.run_memory.declared.pointer.Value.{Value}
+use Rattle.pass_proofs.specs.run_step.Values.{Env, arg_value, capped, distance, index_of, indices_of, inner_distance, number_at, number_of_width, operand_value, part_at, plus, times}
 
 -- sums that wrap go together either way
 wrapped_sums : (m a b c : ℕ) → ((a + b) % m + c) % m ≡ (a + (b + c) % m) % m

@@ -3,14 +3,14 @@ use Rattle.std.proofs.Common.{◌≡◌, ◌+◌, ◌≤◌, ◌∙◌, List, So
 use Rattle.std.proofs.lemmas.List.{get_or-set_same, length-set}
 use Rattle.std.specs.Prelude.{slice_get}
 use Rattle.pass_frames_proof.specs.Early.{IsCopiedTo, MayComeThere}
-use Rattle.run_laws.proofs.memory.Homes.{byte_on, move_extends}
-use Rattle.run_laws.proofs.transfer.Places.{seated}
-use Rattle.run_laws.specs.memory.Pointers.{Extends, Home, IsByte, home_of, nowhere}
-use Rattle.run_laws.specs.memory.Standing.{HasRights, Stands, byte_of}
-use Rattle.run_laws.specs.transfer.Places.{AreStanding, IsApartFrom, MayBeSeen}
-use Rattle.run_laws.specs.transfer.Ready.{Place, home_at}
-use Rattle.run_memory.specs.Memory.{Rights, is_live}
-use Rattle.run_memory.specs.declared.block.MemoryBlock.{MemoryBlock}
+use Rattle.pass_proofs.proofs.run_laws.memory.Homes.{byte_on, move_extends}
+use Rattle.pass_proofs.proofs.run_laws.transfer.Places.{seated}
+use Rattle.pass_proofs.specs.run_laws.memory.Pointers.{Extends, Home, IsByte, home_of, nowhere}
+use Rattle.pass_proofs.specs.run_laws.memory.Standing.{HasRights, Stands, byte_of}
+use Rattle.pass_proofs.specs.run_laws.transfer.Places.{AreStanding, IsApartFrom, MayBeSeen}
+use Rattle.pass_proofs.specs.run_laws.transfer.Ready.{Place, home_at}
+use Rattle.pass_proofs.specs.run_memory.Memory.{Rights, is_live}
+use Rattle.pass_proofs.specs.run_memory.declared.block.MemoryBlock.{MemoryBlock}
 
 module _ (rights target : Rights) (homes : List Home) (m n : List MemoryBlock) (p : Place)
     (h : MayComeThere rights target homes m n p) (st : AreStanding rights target homes m n) where

@@ -1,16 +1,16 @@
 -- Accesses before begin alone go by the cells of addresses.
 use Rattle.std.proofs.Common.{◌≡◌, ◌∙◌, [], Bool, List, None, Option, Some, ap, false, refl, true, ℕ}
 use Rattle.std.specs.Prelude.{if◌then◌else◌, ◌&&◌}
-use Rattle.ir_model.specs.declared.instr.Instr.{Instr}
-use Rattle.ir_model.specs.declared.operand.Callee.{Callee}
-use Rattle.ir_model.specs.declared.operand.Intrinsic.{Intrinsic}
-use Rattle.ir_model.specs.declared.operand.Operand.{Operand}
-use Rattle.ir_parts.specs.Contents.{callee_operands, instr_operands}
-use Rattle.pass_cells.specs.Cells.{fetches_of}
-use Rattle.pass_copies.specs.Uses.{is_access}
-use Rattle.pass_fetch.specs.Fetching.{callee_by, fetch_of, fetched_args, fetches_of_all, next_after_all}
-use Rattle.pass_fetch.specs.Instrs.{with_fetched}
-use Rattle.pass_fetch.specs.declared.fetch.Fetch.{Fetch}
+use Rattle.pass_proofs.specs.ir_model.declared.instr.Instr.{Instr}
+use Rattle.pass_proofs.specs.ir_model.declared.operand.Callee.{Callee}
+use Rattle.pass_proofs.specs.ir_model.declared.operand.Intrinsic.{Intrinsic}
+use Rattle.pass_proofs.specs.ir_model.declared.operand.Operand.{Operand}
+use Rattle.pass_proofs.specs.ir_parts.Contents.{callee_operands, instr_operands}
+use Rattle.pass_proofs.specs.pass_cells.Cells.{fetches_of}
+use Rattle.pass_proofs.specs.pass_copies.Uses.{is_access}
+use Rattle.pass_proofs.specs.pass_fetch.Fetching.{callee_by, fetch_of, fetched_args, fetches_of_all, next_after_all}
+use Rattle.pass_proofs.specs.pass_fetch.Instrs.{with_fetched}
+use Rattle.pass_proofs.specs.pass_fetch.declared.fetch.Fetch.{Fetch}
 use Rattle.pass_frames_proof.proofs.code.Idle.{instr_same}
 use Rattle.pass_frames_proof.specs.Code.{is_ahead, load_name, loaded, where_name}
 use Rattle.pass_frames_proof.specs.Places.{Framing, Placed, copies, plan}

@@ -1,22 +1,22 @@
 -- coro.end is followed: a resumed activation leads back to its resumer, and a ramp goes on behind it.
-use Rattle.run_step.specs.Values.{truth_value, with_result}
+use Rattle.pass_proofs.specs.run_step.Values.{truth_value, with_result}
 use Rattle.pass_frames_proof.proofs.returning.Results.{result_given}
 use Rattle.std.proofs.Common.{◌≡◌, ◌⊎◌, inl, inr, ⊎_elim, ℕ, suc, ◌+◌, ◌-◌, ◌<◌, ◌≤◌, Bool, true, false, List, [], ◌∷◌, length, refl, sym, ap, ◌∙◌, subst, arith}
 use Rattle.std.specs.Option.{option_map_or}
 use Rattle.std.specs.Prelude.{None, Ok, Option, Some, slice_get, slice_set, option_and_then, option_map, ◌&&◌, ◌==◌, if◌then◌else◌}
-use Rattle.flow_solver.specs.Paths.{IsListed}
-use Rattle.ir_laws.proofs.facts.Truth.{is_number}
+use Rattle.pass_proofs.specs.flow_solver.Paths.{IsListed}
+use Rattle.pass_proofs.proofs.ir_laws.facts.Truth.{is_number}
 use Rattle.pass_frames_proof.proofs.returning.Deaths.{WasThere, dead_there, is_among, kept_there, was_there}
-use Rattle.run_memory.specs.Memory.{is_killed, killed_block}
-use Rattle.ir_base.specs.declared.outcome.Outcome.{Outcome}
-use Rattle.ir_model.specs.Ty.{Ty}
-use Rattle.ir_model.specs.declared.instr.Instr.{Instr}
-use Rattle.ir_model.specs.declared.module.Function.{Function}
-use Rattle.ir_model.specs.declared.operand.Arg.{Arg}
-use Rattle.ir_model.specs.declared.operand.Intrinsic.{Intrinsic}
-use Rattle.ir_paths.specs.declared.point.Point.{Point}
-use Rattle.pass_cells.specs.Cells.{fetches_of}
-use Rattle.pass_fetch.specs.Fetching.{fetched_args}
+use Rattle.pass_proofs.specs.run_memory.Memory.{is_killed, killed_block}
+use Rattle.pass_proofs.specs.ir_base.declared.outcome.Outcome.{Outcome}
+use Rattle.pass_proofs.specs.ir_model.Ty.{Ty}
+use Rattle.pass_proofs.specs.ir_model.declared.instr.Instr.{Instr}
+use Rattle.pass_proofs.specs.ir_model.declared.module.Function.{Function}
+use Rattle.pass_proofs.specs.ir_model.declared.operand.Arg.{Arg}
+use Rattle.pass_proofs.specs.ir_model.declared.operand.Intrinsic.{Intrinsic}
+use Rattle.pass_proofs.specs.ir_paths.declared.point.Point.{Point}
+use Rattle.pass_proofs.specs.pass_cells.Cells.{fetches_of}
+use Rattle.pass_proofs.specs.pass_fetch.Fetching.{fetched_args}
 use Rattle.pass_frames_proof.proofs.ending.Finishing.{finished, over_now}
 use Rattle.pass_frames_proof.proofs.followed.Assembly.{other_instance}
 use Rattle.pass_frames_proof.proofs.lined.Lines.{framed_does}
@@ -40,21 +40,21 @@ use Rattle.pass_frames_proof.specs.Related.{AreBuiltOf, AreInstances, Building, 
 use Rattle.pass_frames_proof.specs.Returning.{HasOwnSlots, HasSlotKinds, HasSlotsListed, IsAmong, is_own_kind, IsGivenBehind, behind_state}
 use Rattle.pass_frames_proof.specs.Stepping.{AreGiven, placed_front, state_in}
 use Rattle.pass_renewed_proof.specs.Renewed.{RenewedGiven, renewed_step}
-use Rattle.run_agreement.specs.Machines.{iterate}
-use Rattle.run_framed.specs.Framed.{disown_given, framed_context, framed_finish, framed_step, is_stack_block}
-use Rattle.run_memory.specs.Memory.{disown, same_kind}
-use Rattle.run_memory.specs.declared.block.Kind.{Kind}
-use Rattle.run_memory.specs.declared.block.MemoryBlock.{MemoryBlock}
-use Rattle.run_source.specs.Source.{after_end, change_own, context_of, end_of, finish, slots_of}
-use Rattle.run_source.specs.State.{function_of, numbered, or_undefined, own_instance, with_memory, work_of, gives}
-use Rattle.run_source.specs.declared.state.Activation.{Activation}
-use Rattle.run_source.specs.declared.state.Instance.{Instance}
-use Rattle.run_source.specs.declared.state.Mode.{Mode}
-use Rattle.run_source.specs.declared.state.State.{State}
-use Rattle.run_source.specs.declared.state.Status.{Status}
-use Rattle.run_step.specs.Step.{AtInstr, Context, Coro, Work, action_of, fetch, without_slots}
-use Rattle.run_step.specs.declared.world.Slot.{Slot}
-use Rattle.run_step.specs.declared.world.World.{World}
+use Rattle.pass_proofs.specs.run_agreement.Machines.{iterate}
+use Rattle.pass_proofs.specs.run_framed.Framed.{disown_given, framed_context, framed_finish, framed_step, is_stack_block}
+use Rattle.pass_proofs.specs.run_memory.Memory.{disown, same_kind}
+use Rattle.pass_proofs.specs.run_memory.declared.block.Kind.{Kind}
+use Rattle.pass_proofs.specs.run_memory.declared.block.MemoryBlock.{MemoryBlock}
+use Rattle.pass_proofs.specs.run_source.Source.{after_end, change_own, context_of, end_of, finish, slots_of}
+use Rattle.pass_proofs.specs.run_source.State.{function_of, numbered, or_undefined, own_instance, with_memory, work_of, gives}
+use Rattle.pass_proofs.specs.run_source.declared.state.Activation.{Activation}
+use Rattle.pass_proofs.specs.run_source.declared.state.Instance.{Instance}
+use Rattle.pass_proofs.specs.run_source.declared.state.Mode.{Mode}
+use Rattle.pass_proofs.specs.run_source.declared.state.State.{State}
+use Rattle.pass_proofs.specs.run_source.declared.state.Status.{Status}
+use Rattle.pass_proofs.specs.run_step.Step.{AtInstr, Context, Coro, Work, action_of, fetch, without_slots}
+use Rattle.pass_proofs.specs.run_step.declared.world.Slot.{Slot}
+use Rattle.pass_proofs.specs.run_step.declared.world.World.{World}
 
 -- ---- what finishing is
 

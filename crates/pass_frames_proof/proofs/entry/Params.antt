@@ -1,11 +1,11 @@
 -- Parameters are stored into their cells, in which nothing is right before.
 use Rattle.std.proofs.Common.{◌≡◌, inl, ℕ, zero, suc, List, [], ◌∷◌, ◌++◌, length, refl, sym, ap, subst, arith}
 use Rattle.std.specs.Prelude.{None, replicate}
-use Rattle.ir_model.specs.Ty.{int}
-use Rattle.ir_model.specs.declared.instr.Instr.{Instr}
-use Rattle.ir_model.specs.declared.module.Param.{Param}
-use Rattle.pass_cells.specs.Written.{stored, stored_params}
-use Rattle.pass_cells.specs.declared.plan.Plan.{Plan}
+use Rattle.pass_proofs.specs.ir_model.Ty.{int}
+use Rattle.pass_proofs.specs.ir_model.declared.instr.Instr.{Instr}
+use Rattle.pass_proofs.specs.ir_model.declared.module.Param.{Param}
+use Rattle.pass_proofs.specs.pass_cells.Written.{stored, stored_params}
+use Rattle.pass_proofs.specs.pass_cells.declared.plan.Plan.{Plan}
 use Rattle.pass_frames_proof.proofs.lines.Cells.{cell_has}
 use Rattle.pass_frames_proof.proofs.lines.Stored.{names_stored}
 use Rattle.pass_frames_proof.specs.Framings.{IsFraming}
@@ -13,15 +13,15 @@ use Rattle.pass_frames_proof.specs.Lines.{HasOwnBlocks, at_work}
 use Rattle.pass_frames_proof.specs.Places.{Framing, edged, plan}
 use Rattle.pass_frames_proof.specs.Related.{Anything, AreCellsRight, AreCellsThere, IsDistanceOf}
 use Rattle.pass_frames_proof.specs.Stores.{AreNamesStored, IsNameGiven, given_params, stored_all}
-use Rattle.run_laws.specs.changed.Changed.{Each}
-use Rattle.run_laws.specs.memory.Pointers.{Home, IsValue}
-use Rattle.run_laws.specs.memory.Standing.{AreByteRights}
-use Rattle.run_memory.specs.Memory.{Rights}
-use Rattle.run_memory.specs.declared.block.MemoryBlock.{MemoryBlock}
-use Rattle.run_memory.specs.declared.pointer.Value.{Value}
-use Rattle.run_source.specs.declared.state.Activation.{Activation}
-use Rattle.run_step.specs.Step.{Context, Work, entry_values, with_all, with_params}
-use Rattle.run_step.specs.Values.{Env, value_in, with_value}
+use Rattle.pass_proofs.specs.run_laws.changed.Changed.{Each}
+use Rattle.pass_proofs.specs.run_laws.memory.Pointers.{Home, IsValue}
+use Rattle.pass_proofs.specs.run_laws.memory.Standing.{AreByteRights}
+use Rattle.pass_proofs.specs.run_memory.Memory.{Rights}
+use Rattle.pass_proofs.specs.run_memory.declared.block.MemoryBlock.{MemoryBlock}
+use Rattle.pass_proofs.specs.run_memory.declared.pointer.Value.{Value}
+use Rattle.pass_proofs.specs.run_source.declared.state.Activation.{Activation}
+use Rattle.pass_proofs.specs.run_step.Step.{Context, Work, entry_values, with_all, with_params}
+use Rattle.pass_proofs.specs.run_step.Values.{Env, value_in, with_value}
 
 none_there : (k v : ℕ) → value_in (replicate k None) v ≡ Value.Poison
 none_there zero v = refl

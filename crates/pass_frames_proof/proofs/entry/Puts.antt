@@ -2,25 +2,25 @@
 use Rattle.std.proofs.Common.{◌≡◌, inl, inr, ℕ, List, [], ◌∷◌, ◌++◌, refl, sym, ap, ◌∙◌, subst}
 use Rattle.std.specs.List.{Contains}
 use Rattle.std.specs.Prelude.{◌≢◌}
-use Rattle.flow_solver.specs.Paths.{IsListed}
-use Rattle.ir_laws.proofs.facts.Members.{each_joined, each_turns}
-use Rattle.ir_laws.specs.paths.woven_rules.Pairs.{AreDifferent}
-use Rattle.ir_model.specs.Ty.{ptr}
-use Rattle.pass_copies.specs.BeginCopies.{put}
-use Rattle.pass_copies.specs.declared.slot.EarlySlot.{EarlySlot}
+use Rattle.pass_proofs.specs.flow_solver.Paths.{IsListed}
+use Rattle.pass_proofs.proofs.ir_laws.facts.Members.{each_joined, each_turns}
+use Rattle.pass_proofs.specs.ir_laws.paths.woven_rules.Pairs.{AreDifferent}
+use Rattle.pass_proofs.specs.ir_model.Ty.{ptr}
+use Rattle.pass_proofs.specs.pass_copies.BeginCopies.{put}
+use Rattle.pass_proofs.specs.pass_copies.declared.slot.EarlySlot.{EarlySlot}
 use Rattle.pass_frames_proof.proofs.lines.Cells.{AreOf, cell_has, cell_on, cell_stays, cell_stores, inside_of, kept_type, other_block}
 use Rattle.pass_frames_proof.proofs.lines.Filled.{over_joined, over_none}
 use Rattle.pass_frames_proof.specs.Entry.{ArePut, MayPut, cells_of, puts_of}
 use Rattle.pass_frames_proof.specs.Lines.{HasOwnBlocks, StoresCell, at_work}
 use Rattle.pass_frames_proof.specs.Related.{Anything, IsCell}
-use Rattle.run_laws.specs.access.Accessed.{Span}
-use Rattle.run_laws.specs.changed.Changed.{Each}
-use Rattle.run_laws.specs.memory.Standing.{AreByteRights}
-use Rattle.run_memory.specs.declared.pointer.Access.{Access}
-use Rattle.run_memory.specs.declared.pointer.Value.{Value}
-use Rattle.run_source.specs.declared.state.Activation.{Activation}
-use Rattle.run_step.specs.Step.{Context, Work}
-use Rattle.run_step.specs.Values.{Env, stored, value_in}
+use Rattle.pass_proofs.specs.run_laws.access.Accessed.{Span}
+use Rattle.pass_proofs.specs.run_laws.changed.Changed.{Each}
+use Rattle.pass_proofs.specs.run_laws.memory.Standing.{AreByteRights}
+use Rattle.pass_proofs.specs.run_memory.declared.pointer.Access.{Access}
+use Rattle.pass_proofs.specs.run_memory.declared.pointer.Value.{Value}
+use Rattle.pass_proofs.specs.run_source.declared.state.Activation.{Activation}
+use Rattle.pass_proofs.specs.run_step.Step.{Context, Work}
+use Rattle.pass_proofs.specs.run_step.Values.{Env, stored, value_in}
 
 module _ (c : Context) (law : AreByteRights c.rights) (a : Activation) (own : HasOwnBlocks a) (address : EarlySlot → ℕ)
     (n : ℕ) where

@@ -1,22 +1,22 @@
 -- What fetches operands is executed one after another, each into a new name.
 use Rattle.std.proofs.Common.{◌≡◌, ℕ, ◌+◌, ◌<◌, ◌≤◌, List, [], ◌∷◌, ◌++◌, length, refl, sym, ap, ◌∙◌, subst, arith}
 use Rattle.std.specs.Prelude.{None, Option, Some}
-use Rattle.ir_model.specs.Ty.{Ty}
-use Rattle.ir_model.specs.declared.operand.Operand.{Operand}
-use Rattle.pass_fetch.specs.Fetching.{fetch_into, fetch_of, fetches_by, fetches_of_all, next_after, next_after_all, next_by, operand_by, value_bytes}
-use Rattle.pass_fetch.specs.declared.fetch.Fetch.{Fetch}
+use Rattle.pass_proofs.specs.ir_model.Ty.{Ty}
+use Rattle.pass_proofs.specs.ir_model.declared.operand.Operand.{Operand}
+use Rattle.pass_proofs.specs.pass_fetch.Fetching.{fetch_into, fetch_of, fetches_by, fetches_of_all, next_after, next_after_all, next_by, operand_by, value_bytes}
+use Rattle.pass_proofs.specs.pass_fetch.declared.fetch.Fetch.{Fetch}
 use Rattle.pass_frames_proof.proofs.distances.Sums.{more_below, set_from, sets_none, sets_on, value_set, value_stays}
 use Rattle.pass_proofs.proofs.fetch.rules.Puts.{fetch_rises}
 use Rattle.pass_proofs.proofs.addresses.numbers.Done.{address_done}
 use Rattle.pass_frames_proof.specs.Distances.{IsBelow, SetsFrom}
 use Rattle.pass_frames_proof.specs.Fetched.{AreFetched, AreSeenAs, CanFetch, IsGiven, given_of, seen_by, seen_of}
 use Rattle.pass_proofs.specs.fetch.rules.Fetches.{base_of}
-use Rattle.run_laws.proofs.access.Done.{load_done}
-use Rattle.run_laws.specs.access.Lines.{Holds, Runs}
-use Rattle.run_laws.specs.changed.Changed.{Each}
-use Rattle.run_memory.specs.declared.pointer.Value.{Value}
-use Rattle.run_step.specs.Step.{Context, Done, Work, instr_action, set_value, value_at}
-use Rattle.run_step.specs.declared.world.World.{World}
+use Rattle.pass_proofs.proofs.run_laws.access.Done.{load_done}
+use Rattle.pass_proofs.specs.run_laws.access.Lines.{Holds, Runs}
+use Rattle.pass_proofs.specs.run_laws.changed.Changed.{Each}
+use Rattle.pass_proofs.specs.run_memory.declared.pointer.Value.{Value}
+use Rattle.pass_proofs.specs.run_step.Step.{Context, Done, Work, instr_action, set_value, value_at}
+use Rattle.pass_proofs.specs.run_step.declared.world.World.{World}
 
 module _ (t : List (Option Fetch)) (given : ℕ → Value) (c : Context) where
   -- ---- one fetch

@@ -1,20 +1,20 @@
 -- What is fetched has the shape of what it was.
 use Rattle.std.proofs.Common.{ℕ, List, [], ◌∷◌, refl}
 use Rattle.std.specs.Prelude.{None, Option, Some}
-use Rattle.ir_model.specs.declared.instr.Case.{Case}
-use Rattle.ir_model.specs.declared.instr.Instr.{Instr}
-use Rattle.ir_model.specs.declared.instr.Terminator.{Terminator}
-use Rattle.ir_model.specs.declared.operand.Arg.{Arg}
-use Rattle.ir_model.specs.declared.operand.Callee.{Callee}
-use Rattle.ir_model.specs.declared.operand.Operand.{Operand}
-use Rattle.ir_parts.specs.Contents.{arg_operands, instr_operands}
-use Rattle.pass_fetch.specs.Fetching.{callee_by, fetch_of, fetched_arg, fetched_args, fetched_operand, next_after, operand_by}
-use Rattle.pass_fetch.specs.Instrs.{fetched_term, term_operands, with_fetched}
-use Rattle.pass_fetch.specs.declared.fetch.Fetch.{Fetch}
+use Rattle.pass_proofs.specs.ir_model.declared.instr.Case.{Case}
+use Rattle.pass_proofs.specs.ir_model.declared.instr.Instr.{Instr}
+use Rattle.pass_proofs.specs.ir_model.declared.instr.Terminator.{Terminator}
+use Rattle.pass_proofs.specs.ir_model.declared.operand.Arg.{Arg}
+use Rattle.pass_proofs.specs.ir_model.declared.operand.Callee.{Callee}
+use Rattle.pass_proofs.specs.ir_model.declared.operand.Operand.{Operand}
+use Rattle.pass_proofs.specs.ir_parts.Contents.{arg_operands, instr_operands}
+use Rattle.pass_proofs.specs.pass_fetch.Fetching.{callee_by, fetch_of, fetched_arg, fetched_args, fetched_operand, next_after, operand_by}
+use Rattle.pass_proofs.specs.pass_fetch.Instrs.{fetched_term, term_operands, with_fetched}
+use Rattle.pass_proofs.specs.pass_fetch.declared.fetch.Fetch.{Fetch}
 use Rattle.pass_frames_proof.specs.Fetched.{AreSeenAs, IsSeenAs}
-use Rattle.run_laws.specs.transfer.Shapes.{Alloca, ArgStays, Binary, Branch, Call, CalleeStays, CaseStays, Cast, Direct, Empty, Gep, Icmp, Indirect, InstrStays, Jump, Load, Pair, Pairwise, Return, ReturnVoid, Select, Store, Switch, TermStays, Unreachable}
-use Rattle.run_memory.specs.declared.pointer.Value.{Value}
-use Rattle.run_step.specs.Step.{Context, Work}
+use Rattle.pass_proofs.specs.run_laws.transfer.Shapes.{Alloca, ArgStays, Binary, Branch, Call, CalleeStays, CaseStays, Cast, Direct, Empty, Gep, Icmp, Indirect, InstrStays, Jump, Load, Pair, Pairwise, Return, ReturnVoid, Select, Store, Switch, TermStays, Unreachable}
+use Rattle.pass_proofs.specs.run_memory.declared.pointer.Value.{Value}
+use Rattle.pass_proofs.specs.run_step.Step.{Context, Work}
 
 -- what is fetched is related, by any relation, to what it was
 module _ (t : List (Option Fetch)) (R : Operand → Operand → Type 0) where

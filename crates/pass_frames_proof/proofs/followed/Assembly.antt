@@ -1,34 +1,34 @@
 -- Where each step of the run is followed the two runs agree by what their steps cost.
 use Rattle.std.proofs.Common.{◌≡◌, ℕ, zero, suc, ◌+◌, ◌<◌, ◌≤◌, inl, inr, ⊎_elim, List, [], ◌∷◌, map, length, refl, sym, ap, ◌∙◌, subst, arith}
 use Rattle.std.specs.Prelude.{ℤ, None, Option, Some, slice_get}
-use Rattle.frame_layout.specs.declared.layout.Layouts.{Layouts}
-use Rattle.ir_base.specs.declared.outcome.Event.{Event}
-use Rattle.ir_base.specs.declared.outcome.Outcome.{Outcome}
-use Rattle.ir_base.specs.declared.outcome.Word.{Word}
-use Rattle.ir_laws.proofs.facts.Lists.{get_within, none_past}
-use Rattle.ir_model.specs.declared.module.Declaration.{Declaration}
-use Rattle.ir_model.specs.declared.module.Frame.{Frame}
-use Rattle.ir_model.specs.declared.module.Module.{Module}
+use Rattle.pass_proofs.specs.frame_layout.declared.layout.Layouts.{Layouts}
+use Rattle.pass_proofs.specs.ir_base.declared.outcome.Event.{Event}
+use Rattle.pass_proofs.specs.ir_base.declared.outcome.Outcome.{Outcome}
+use Rattle.pass_proofs.specs.ir_base.declared.outcome.Word.{Word}
+use Rattle.pass_proofs.proofs.ir_laws.facts.Lists.{get_within, none_past}
+use Rattle.pass_proofs.specs.ir_model.declared.module.Declaration.{Declaration}
+use Rattle.pass_proofs.specs.ir_model.declared.module.Frame.{Frame}
+use Rattle.pass_proofs.specs.ir_model.declared.module.Module.{Module}
 use Rattle.pass_frames_proof.specs.Followed.{AreStepsFollowed, IsFollowed, IsGiven, IsOn, measure, renewed_state_at}
 use Rattle.pass_frames_proof.specs.Meaning.{KeepsFramedMeaning, PaysForFrames, step_cost}
 use Rattle.pass_frames_proof.specs.Related.{AreBuiltOf, AreInstances, AreShownAlike, Building}
-use Rattle.pass_kept_proof.specs.Kept.{Keep}
+use Rattle.pass_proofs.specs.pass_kept_proof.Kept.{Keep}
 use Rattle.pass_proofs.specs.edges.states.MovedState.{edges_split}
 use Rattle.pass_renewed_proof.specs.Prices.{renewed_machine}
 use Rattle.pass_renewed_proof.specs.Renewed.{Flags, RenewedGiven, Roots, renewed_advance, renewed_given, renewed_step}
-use Rattle.run_agreement.proofs.Costs.{weaken_by}
-use Rattle.run_agreement.proofs.PricedLockstep.{AdvanceBy, IsPassed, SimulatesBy, lockstep_by}
-use Rattle.run_agreement.proofs.Runs.{iterate-add}
-use Rattle.run_agreement.proofs.Shows.{ShowsSame}
-use Rattle.run_agreement.specs.Costs.{AgreesBy, cost_from}
-use Rattle.run_agreement.specs.Machines.{IsFine, IsRunning, Machine, SeenEvent, iterate}
-use Rattle.run_framed.specs.Framed.{FramedGiven, framed_advance, framed_given, framed_state_at, framed_step}
-use Rattle.run_laws.specs.embedded.Related.{moved_event}
-use Rattle.run_source.specs.Source.{first_state}
-use Rattle.run_source.specs.declared.state.Instance.{Instance}
-use Rattle.run_source.specs.declared.state.State.{State}
-use Rattle.run_states.specs.moved_states.Beside.{framed_machine}
-use Rattle.run_step.specs.Runs.{name_of_declaration, seen_event}
+use Rattle.pass_proofs.proofs.run_agreement.Costs.{weaken_by}
+use Rattle.pass_proofs.proofs.run_agreement.PricedLockstep.{AdvanceBy, IsPassed, SimulatesBy, lockstep_by}
+use Rattle.pass_proofs.proofs.run_agreement.Runs.{iterate-add}
+use Rattle.pass_proofs.proofs.run_agreement.Shows.{ShowsSame}
+use Rattle.pass_proofs.specs.run_agreement.Costs.{AgreesBy, cost_from}
+use Rattle.pass_proofs.specs.run_agreement.Machines.{IsFine, IsRunning, Machine, SeenEvent, iterate}
+use Rattle.pass_proofs.specs.run_framed.Framed.{FramedGiven, framed_advance, framed_given, framed_state_at, framed_step}
+use Rattle.pass_proofs.specs.run_laws.embedded.Related.{moved_event}
+use Rattle.pass_proofs.specs.run_source.Source.{first_state}
+use Rattle.pass_proofs.specs.run_source.declared.state.Instance.{Instance}
+use Rattle.pass_proofs.specs.run_source.declared.state.State.{State}
+use Rattle.pass_proofs.specs.run_states.moved_states.Beside.{framed_machine}
+use Rattle.pass_proofs.specs.run_step.Runs.{name_of_declaration, seen_event}
 
 -- ---- what related states show
 

@@ -1,10 +1,10 @@
 -- What the rules give of a coroutine is what is asked of it.
 use Rattle.std.proofs.Common.{◌≡◌, ℕ, List, length, refl, subst}
-use Rattle.frame_contents.specs.declared.contents.Contents.{Contents}
-use Rattle.frame_layout.specs.declared.layout.Layout.{Layout}
-use Rattle.ir_model.specs.declared.module.Function.{Function}
-use Rattle.ir_model.specs.declared.module.Module.{Module}
-use Rattle.pass_frames.specs.Framed.{celled, copied}
+use Rattle.pass_proofs.specs.frame_contents.declared.contents.Contents.{Contents}
+use Rattle.pass_proofs.specs.frame_layout.declared.layout.Layout.{Layout}
+use Rattle.pass_proofs.specs.ir_model.declared.module.Function.{Function}
+use Rattle.pass_proofs.specs.ir_model.declared.module.Module.{Module}
+use Rattle.pass_proofs.specs.pass_frames.Framed.{celled, copied}
 use Rattle.pass_frames_proof.specs.Framings.{IsFraming}
 use Rattle.pass_frames_proof.specs.Places.{Framing, with_copies}
 use Rattle.pass_proofs.proofs.frames.rules.Built.{frameable}

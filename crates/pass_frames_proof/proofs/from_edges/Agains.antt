@@ -1,20 +1,20 @@
 -- What loads values again fills cells alone, and sets no names but new ones.
 use Rattle.std.proofs.Common.{◌≡◌, ◌⊎◌, ◌+◌, ◌*◌, ◌<◌, ◌≤◌, ◌∷◌, ◌++◌, ◌∙◌, [], List, None, Option, Some, ap, arith, inl, inr, length, refl, subst, sym, ℕ, ⊎_elim}
 use Rattle.std.specs.Prelude.{slice_get}
-use Rattle.flow_solver.specs.Paths.{IsListed}
-use Rattle.ir_laws.proofs.facts.Members.{each_joined}
-use Rattle.ir_model.specs.Ty.{Ty, ptr}
-use Rattle.ir_model.specs.declared.instr.Instr.{Instr}
-use Rattle.ir_model.specs.declared.operand.Arg.{Arg}
-use Rattle.ir_model.specs.declared.operand.Operand.{Operand}
-use Rattle.ir_parts.specs.Contents.{result_of}
-use Rattle.pass_cells.specs.Kept.{entry, value_types}
-use Rattle.pass_cells.specs.Links.{bases_of, cell_name, field_name, slots_of}
-use Rattle.pass_cells.specs.Moves.{address_again, again_one, again_values}
-use Rattle.pass_cells.specs.Plan.{kept_value, type_at}
-use Rattle.pass_cells.specs.declared.plan.KeptValue.{KeptValue}
-use Rattle.pass_fetch.specs.Fetching.{address_behind, value_bytes}
-use Rattle.pass_frames.specs.Framed.{begin_of}
+use Rattle.pass_proofs.specs.flow_solver.Paths.{IsListed}
+use Rattle.pass_proofs.proofs.ir_laws.facts.Members.{each_joined}
+use Rattle.pass_proofs.specs.ir_model.Ty.{Ty, ptr}
+use Rattle.pass_proofs.specs.ir_model.declared.instr.Instr.{Instr}
+use Rattle.pass_proofs.specs.ir_model.declared.operand.Arg.{Arg}
+use Rattle.pass_proofs.specs.ir_model.declared.operand.Operand.{Operand}
+use Rattle.pass_proofs.specs.ir_parts.Contents.{result_of}
+use Rattle.pass_proofs.specs.pass_cells.Kept.{entry, value_types}
+use Rattle.pass_proofs.specs.pass_cells.Links.{bases_of, cell_name, field_name, slots_of}
+use Rattle.pass_proofs.specs.pass_cells.Moves.{address_again, again_one, again_values}
+use Rattle.pass_proofs.specs.pass_cells.Plan.{kept_value, type_at}
+use Rattle.pass_proofs.specs.pass_cells.declared.plan.KeptValue.{KeptValue}
+use Rattle.pass_proofs.specs.pass_fetch.Fetching.{address_behind, value_bytes}
+use Rattle.pass_proofs.specs.pass_frames.Framed.{begin_of}
 use Rattle.pass_frames_proof.proofs.agains.Lines.{A, again_code, behind_load, root_unfetched}
 use Rattle.pass_frames_proof.proofs.agains.One.{loaded_there, slot_address}
 use Rattle.pass_frames_proof.proofs.agains.Values.{kept_root}
@@ -35,13 +35,13 @@ use Rattle.pass_frames_proof.specs.Lines.{IsCellOf, at_work}
 use Rattle.pass_frames_proof.specs.Places.{Framing, edged, named, offsets, plan}
 use Rattle.pass_frames_proof.specs.Related.{Anything, AreCellsThere, IsCell, IsKeptValue}
 use Rattle.pass_proofs.proofs.cells.rules.Plans.{kept_of}
-use Rattle.run_laws.specs.access.Lines.{Runs}
-use Rattle.run_laws.specs.changed.Changed.{Each}
-use Rattle.run_memory.specs.Memory.{Rights}
-use Rattle.run_memory.specs.declared.block.MemoryBlock.{MemoryBlock}
-use Rattle.run_source.specs.declared.state.Activation.{Activation}
-use Rattle.run_step.specs.Step.{Context, Done, Work, instr_action}
-use Rattle.run_step.specs.Values.{Env, value_in}
+use Rattle.pass_proofs.specs.run_laws.access.Lines.{Runs}
+use Rattle.pass_proofs.specs.run_laws.changed.Changed.{Each}
+use Rattle.pass_proofs.specs.run_memory.Memory.{Rights}
+use Rattle.pass_proofs.specs.run_memory.declared.block.MemoryBlock.{MemoryBlock}
+use Rattle.pass_proofs.specs.run_source.declared.state.Activation.{Activation}
+use Rattle.pass_proofs.specs.run_step.Step.{Context, Done, Work, instr_action}
+use Rattle.pass_proofs.specs.run_step.Values.{Env, value_in}
 use Rattle.pass_frames_proof.proofs.stepping.Names.{cell_is_name}
 
 -- ---- the cell from which a field is filled, and into which it is loaded

@@ -1,26 +1,26 @@
 -- What a getelementptr gives, and what its loaded indices stand for.
 use Rattle.std.proofs.Common.{◌≡◌, ◌⊎◌, inl, inr, ℕ, ◌<◌, ◌≤◌, Bool, true, false, List, [], ◌∷◌, refl, sym, ap, ◌∙◌, subst, arith}
 use Rattle.std.specs.Prelude.{None, Option, Some, slice_get, not, ◌&&◌, ◌≢◌, if◌then◌else◌}
-use Rattle.ir_model.specs.Ty.{Ty}
-use Rattle.ir_model.specs.declared.module.Module.{Module}
-use Rattle.ir_model.specs.declared.operand.Arg.{Arg}
-use Rattle.ir_model.specs.declared.operand.Operand.{Operand}
-use Rattle.ir_parts.specs.Contents.{arg_operands}
-use Rattle.pass_fetch.specs.Fetching.{fetch_of, next_after, next_by, operand_by}
-use Rattle.pass_fetch.specs.declared.fetch.Fetch.{Fetch}
+use Rattle.pass_proofs.specs.ir_model.Ty.{Ty}
+use Rattle.pass_proofs.specs.ir_model.declared.module.Module.{Module}
+use Rattle.pass_proofs.specs.ir_model.declared.operand.Arg.{Arg}
+use Rattle.pass_proofs.specs.ir_model.declared.operand.Operand.{Operand}
+use Rattle.pass_proofs.specs.ir_parts.Contents.{arg_operands}
+use Rattle.pass_proofs.specs.pass_fetch.Fetching.{fetch_of, next_after, next_by, operand_by}
+use Rattle.pass_proofs.specs.pass_fetch.declared.fetch.Fetch.{Fetch}
 use Rattle.pass_frames_proof.specs.Fetched.{AreSeenAs}
 use Rattle.pass_frames_proof.specs.Geps.{IsNotName}
 use Rattle.pass_frames_proof.specs.Measured.{AreArgsStanding}
 use Rattle.pass_frames_proof.specs.Ordinary.{IsSeenFor}
-use Rattle.run_laws.specs.changed.Changed.{Each}
-use Rattle.run_laws.specs.memory.Pointers.{Home, IsValue}
-use Rattle.run_memory.specs.Pointers.{moved}
-use Rattle.run_memory.specs.declared.block.MemoryBlock.{MemoryBlock}
-use Rattle.run_memory.specs.declared.pointer.Offset.{Offset}
-use Rattle.run_memory.specs.declared.pointer.Pointer.{Pointer}
-use Rattle.run_memory.specs.declared.pointer.Value.{Value}
-use Rattle.run_step.specs.Step.{Context, Work}
-use Rattle.run_step.specs.Values.{Env, arg_value, element, is_in_bounds, operand_value, value_in}
+use Rattle.pass_proofs.specs.run_laws.changed.Changed.{Each}
+use Rattle.pass_proofs.specs.run_laws.memory.Pointers.{Home, IsValue}
+use Rattle.pass_proofs.specs.run_memory.Pointers.{moved}
+use Rattle.pass_proofs.specs.run_memory.declared.block.MemoryBlock.{MemoryBlock}
+use Rattle.pass_proofs.specs.run_memory.declared.pointer.Offset.{Offset}
+use Rattle.pass_proofs.specs.run_memory.declared.pointer.Pointer.{Pointer}
+use Rattle.pass_proofs.specs.run_memory.declared.pointer.Value.{Value}
+use Rattle.pass_proofs.specs.run_step.Step.{Context, Work}
+use Rattle.pass_proofs.specs.run_step.Values.{Env, arg_value, element, is_in_bounds, operand_value, value_in}
 
 -- ---- the address
 

@@ -2,19 +2,19 @@
 use Rattle.std.proofs.Common.{◌≡◌, inl, inr, ⊎_elim, ℕ, ◌<◌, ◌≤◌, Bool, List, ◌∷◌, ◌++◌, length, refl, sym, ap, ◌∙◌, subst, arith}
 use Rattle.std.specs.List.{Contains}
 use Rattle.std.specs.Prelude.{None, Option, Some, slice_get, ◌≢◌}
-use Rattle.ir_laws.proofs.facts.Members.{each_turns}
-use Rattle.ir_model.specs.Ty.{Ty, ptr}
-use Rattle.ir_model.specs.declared.instr.Instr.{Instr}
-use Rattle.ir_model.specs.declared.operand.Arg.{Arg}
-use Rattle.ir_model.specs.declared.operand.Operand.{Operand}
-use Rattle.ir_parts.specs.Contents.{instr_operands}
-use Rattle.pass_cells.specs.Cells.{fetches_of}
-use Rattle.pass_cells.specs.Written.{distance_from, distance_into, stored}
-use Rattle.pass_distances.specs.Sums.{distance_instrs}
-use Rattle.pass_distances.specs.Ways.{ways_of}
-use Rattle.pass_fetch.specs.Fetching.{fetch_of, fetched_operand, fetches_of_all, next_after, next_by}
-use Rattle.pass_fetch.specs.Instrs.{with_fetched}
-use Rattle.pass_fetch.specs.declared.fetch.Fetch.{Fetch}
+use Rattle.pass_proofs.proofs.ir_laws.facts.Members.{each_turns}
+use Rattle.pass_proofs.specs.ir_model.Ty.{Ty, ptr}
+use Rattle.pass_proofs.specs.ir_model.declared.instr.Instr.{Instr}
+use Rattle.pass_proofs.specs.ir_model.declared.operand.Arg.{Arg}
+use Rattle.pass_proofs.specs.ir_model.declared.operand.Operand.{Operand}
+use Rattle.pass_proofs.specs.ir_parts.Contents.{instr_operands}
+use Rattle.pass_proofs.specs.pass_cells.Cells.{fetches_of}
+use Rattle.pass_proofs.specs.pass_cells.Written.{distance_from, distance_into, stored}
+use Rattle.pass_proofs.specs.pass_distances.Sums.{distance_instrs}
+use Rattle.pass_proofs.specs.pass_distances.Ways.{ways_of}
+use Rattle.pass_proofs.specs.pass_fetch.Fetching.{fetch_of, fetched_operand, fetches_of_all, next_after, next_by}
+use Rattle.pass_proofs.specs.pass_fetch.Instrs.{with_fetched}
+use Rattle.pass_proofs.specs.pass_fetch.declared.fetch.Fetch.{Fetch}
 use Rattle.pass_frames_proof.proofs.distances.Indices.{same_distance}
 use Rattle.pass_frames_proof.proofs.distances.Measured.{distance_measured}
 use Rattle.pass_frames_proof.proofs.geps.Moved.{IsAddress, IsElement, args_stand, args_still_stand, is_element}
@@ -33,22 +33,22 @@ use Rattle.pass_frames_proof.specs.Loaded.{loaded_value}
 use Rattle.pass_frames_proof.specs.Measured.{AreArgsStanding, IsBase, IsMoved, Measures}
 use Rattle.pass_frames_proof.specs.Ordinary.{IsResultName, MayBeMade}
 use Rattle.pass_frames_proof.specs.Places.{Framing, edged, named, plan}
-use Rattle.run_laws.proofs.access.Lines.{runs_append}
-use Rattle.run_laws.specs.access.Accessed.{Span}
-use Rattle.run_laws.specs.access.Lines.{Runs}
-use Rattle.run_laws.specs.embedded.Related.{IsSameDistance}
-use Rattle.run_laws.specs.memory.Pointers.{Home, IsValue}
-use Rattle.run_laws.specs.memory.Standing.{AreByteRights}
-use Rattle.run_laws.specs.transfer.Transfer.{AreSet, same_maps}
-use Rattle.run_memory.specs.Pointers.{moved, offset_of}
-use Rattle.run_memory.specs.declared.block.MemoryBlock.{MemoryBlock}
-use Rattle.run_memory.specs.declared.pointer.Offset.{Offset}
-use Rattle.run_memory.specs.declared.pointer.Pointer.{Pointer}
-use Rattle.run_memory.specs.declared.pointer.Value.{Value}
-use Rattle.run_source.specs.declared.state.Activation.{Activation}
-use Rattle.run_step.specs.Step.{Context, Done, Work, instr_action, set_value, value_at}
-use Rattle.run_step.specs.declared.world.World.{World}
-use Rattle.run_step.specs.Values.{Env, distance, element, indices_of, value_in}
+use Rattle.pass_proofs.proofs.run_laws.access.Lines.{runs_append}
+use Rattle.pass_proofs.specs.run_laws.access.Accessed.{Span}
+use Rattle.pass_proofs.specs.run_laws.access.Lines.{Runs}
+use Rattle.pass_proofs.specs.run_laws.embedded.Related.{IsSameDistance}
+use Rattle.pass_proofs.specs.run_laws.memory.Pointers.{Home, IsValue}
+use Rattle.pass_proofs.specs.run_laws.memory.Standing.{AreByteRights}
+use Rattle.pass_proofs.specs.run_laws.transfer.Transfer.{AreSet, same_maps}
+use Rattle.pass_proofs.specs.run_memory.Pointers.{moved, offset_of}
+use Rattle.pass_proofs.specs.run_memory.declared.block.MemoryBlock.{MemoryBlock}
+use Rattle.pass_proofs.specs.run_memory.declared.pointer.Offset.{Offset}
+use Rattle.pass_proofs.specs.run_memory.declared.pointer.Pointer.{Pointer}
+use Rattle.pass_proofs.specs.run_memory.declared.pointer.Value.{Value}
+use Rattle.pass_proofs.specs.run_source.declared.state.Activation.{Activation}
+use Rattle.pass_proofs.specs.run_step.Step.{Context, Done, Work, instr_action, set_value, value_at}
+use Rattle.pass_proofs.specs.run_step.declared.world.World.{World}
+use Rattle.pass_proofs.specs.run_step.Values.{Env, distance, element, indices_of, value_in}
 
 -- the works on the way: behind the loads, the address itself, the store of its result, and all
 pub record MovesOn (x : Framing) (d : Context) (w y v : Work) (a : Activation) (n m r : ℕ) (inbounds : Bool) (ty : Ty)

@@ -2,21 +2,21 @@
 use Rattle.std.proofs.Common.{◌≡◌, ◌∙◌, if◌then◌else◌, Bool, List, ap, false, sym, true, ℕ}
 use Rattle.std.proofs.lemmas.List.{length-map}
 use Rattle.std.specs.Prelude.{ℤ}
-use Rattle.frame_layout.specs.declared.layout.Layouts.{Layouts}
-use Rattle.ir_model.specs.Names.{first_where, function_at, same_name}
-use Rattle.ir_model.specs.declared.module.Declaration.{Declaration}
-use Rattle.ir_model.specs.declared.module.Frame.{Frame}
-use Rattle.pass_edges.specs.EdgeBlocks.{with_edge_blocks}
+use Rattle.pass_proofs.specs.frame_layout.declared.layout.Layouts.{Layouts}
+use Rattle.pass_proofs.specs.ir_model.Names.{first_where, function_at, same_name}
+use Rattle.pass_proofs.specs.ir_model.declared.module.Declaration.{Declaration}
+use Rattle.pass_proofs.specs.ir_model.declared.module.Frame.{Frame}
+use Rattle.pass_proofs.specs.pass_edges.EdgeBlocks.{with_edge_blocks}
 use Rattle.pass_frames_proof.specs.Followed.{IsGiven}
 use Rattle.pass_frames_proof.specs.Framings.{IsFraming}
 use Rattle.pass_frames_proof.specs.Givens.{KeepsNames}
 use Rattle.pass_frames_proof.specs.Related.{AreBuilt, Building, is_coroutine}
 use Rattle.pass_frames_proof.specs.Stepping.{AreGiven}
-use Rattle.pass_kept_proof.specs.Kept.{Keep}
+use Rattle.pass_proofs.specs.pass_kept_proof.Kept.{Keep}
 use Rattle.pass_proofs.proofs.edges.states.Parts.{function_moved, named_moved}
 use Rattle.pass_proofs.specs.edges.states.MovedState.{edge_function, edges_split}
 use Rattle.pass_renewed_proof.specs.Renewed.{Flags, Roots, renewed_given}
-use Rattle.run_framed.specs.Framed.{FramedGiven}
+use Rattle.pass_proofs.specs.run_framed.Framed.{FramedGiven}
 
 -- a function whose edges have blocks, where it is a coroutine or not
 split_by : (b : Building) (func : ℕ) (c : Bool) → is_coroutine b func ≡ c

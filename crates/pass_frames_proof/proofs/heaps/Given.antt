@@ -1,13 +1,13 @@
 -- A step that gives a block back: in a function that is no coroutine, and in a coroutine, whose operands are fetched.
 use Rattle.std.proofs.Common.{◌≡◌, ◌+◌, ◌≤◌, ◌∷◌, ◌∙◌, List, None, Option, Bool, ap, arith, length, refl, subst, sym, true, ℕ}
-use Rattle.ir_model.specs.Ty.{Ty}
-use Rattle.ir_model.specs.declared.instr.Instr.{Instr}
-use Rattle.ir_model.specs.declared.operand.Allocator.{Allocator}
-use Rattle.ir_model.specs.declared.operand.Arg.{Arg}
-use Rattle.ir_model.specs.declared.operand.Callee.{Callee}
-use Rattle.pass_cells.specs.Cells.{fetches_of}
-use Rattle.pass_cells.specs.Written.{stored_result}
-use Rattle.pass_fetch.specs.Fetching.{fetched_args}
+use Rattle.pass_proofs.specs.ir_model.Ty.{Ty}
+use Rattle.pass_proofs.specs.ir_model.declared.instr.Instr.{Instr}
+use Rattle.pass_proofs.specs.ir_model.declared.operand.Allocator.{Allocator}
+use Rattle.pass_proofs.specs.ir_model.declared.operand.Arg.{Arg}
+use Rattle.pass_proofs.specs.ir_model.declared.operand.Callee.{Callee}
+use Rattle.pass_proofs.specs.pass_cells.Cells.{fetches_of}
+use Rattle.pass_proofs.specs.pass_cells.Written.{stored_result}
+use Rattle.pass_proofs.specs.pass_fetch.Fetching.{fetched_args}
 use Rattle.pass_frames_proof.proofs.asking.Others.{gives_next, nth_stands}
 use Rattle.pass_frames_proof.proofs.heaps.Steps.{value_back}
 use Rattle.pass_frames_proof.proofs.here.Giving.{given_followed, stand_right}
@@ -27,17 +27,17 @@ use Rattle.pass_frames_proof.specs.Places.{Framing, Placed, plan}
 use Rattle.pass_frames_proof.specs.Related.{AreBuiltOf, Building}
 use Rattle.pass_frames_proof.specs.Stepping.{AreGiven, placed_front, placed_instr, placed_line, state_in}
 use Rattle.pass_renewed_proof.specs.Renewed.{RenewedGiven, renewed_step}
-use Rattle.run_framed.specs.Framed.{framed_context, framed_step}
-use Rattle.run_laws.specs.memory.Pointers.{Home, IsValue}
-use Rattle.run_laws.specs.transfer.Transfer.{StandsFor}
-use Rattle.run_memory.specs.declared.pointer.Value.{Value}
-use Rattle.run_source.specs.Source.{context_of, deallocate}
-use Rattle.run_source.specs.State.{function_of, gives, or_undefined, settled, work_of}
-use Rattle.run_source.specs.declared.state.Activation.{Activation}
-use Rattle.run_source.specs.declared.state.State.{State}
-use Rattle.run_step.specs.Step.{AtInstr, Context, Deallocate, Fetched, Work, action_of, allocator_call, fetch}
-use Rattle.run_step.specs.Values.{address, arg_values, nth, with_result}
-use Rattle.run_step.specs.declared.world.World.{World}
+use Rattle.pass_proofs.specs.run_framed.Framed.{framed_context, framed_step}
+use Rattle.pass_proofs.specs.run_laws.memory.Pointers.{Home, IsValue}
+use Rattle.pass_proofs.specs.run_laws.transfer.Transfer.{StandsFor}
+use Rattle.pass_proofs.specs.run_memory.declared.pointer.Value.{Value}
+use Rattle.pass_proofs.specs.run_source.Source.{context_of, deallocate}
+use Rattle.pass_proofs.specs.run_source.State.{function_of, gives, or_undefined, settled, work_of}
+use Rattle.pass_proofs.specs.run_source.declared.state.Activation.{Activation}
+use Rattle.pass_proofs.specs.run_source.declared.state.State.{State}
+use Rattle.pass_proofs.specs.run_step.Step.{AtInstr, Context, Deallocate, Fetched, Work, action_of, allocator_call, fetch}
+use Rattle.pass_proofs.specs.run_step.Values.{address, arg_values, nth, with_result}
+use Rattle.pass_proofs.specs.run_step.declared.world.World.{World}
 
 pub address_same : (homes : List Home) (v u : Value) → IsValue homes v u → IsValue homes (address v) (address u)
 address_same homes (Value.Ptr p) u h = (h.0, ap address h.1)

@@ -3,8 +3,8 @@ use Rattle.std.proofs.Common.{◌≡◌, ◌⊎◌, ◌+◌, ◌<◌, ◌%◌, �
 use Rattle.std.proofs.lemmas.Bool.{eqb-true}
 use Rattle.std.specs.List.{Contains}
 use Rattle.std.specs.Prelude.{slice_get, slice_set}
-use Rattle.ir_base.specs.declared.cause.Cause.{Cause}
-use Rattle.ir_laws.proofs.facts.Truth.{both_true, is_number}
+use Rattle.pass_proofs.specs.ir_base.declared.cause.Cause.{Cause}
+use Rattle.pass_proofs.proofs.ir_laws.facts.Truth.{both_true, is_number}
 use Rattle.pass_frames_proof.proofs.asking.Found.{found_at, known_block}
 use Rattle.pass_frames_proof.proofs.followed.Assembly.{other_instance}
 use Rattle.pass_frames_proof.proofs.heaps.Killed.{WasThere, given_back, instance_left, slots_many, slots_were}
@@ -19,26 +19,26 @@ use Rattle.pass_renewed_proof.proofs.Freeing.{IsKilledAt, found_passes, killed_a
 use Rattle.pass_renewed_proof.proofs.Listing.{set_here, set_other}
 use Rattle.run_access_worked.proofs.Ended.{set_frames}
 use Rattle.run_access_worked.specs.Frames.{AreSameFrames}
-use Rattle.run_laws.proofs.memory.Written.{changed_here, same_some}
-use Rattle.run_laws.specs.embedded.Making.{whole_home}
-use Rattle.run_laws.specs.memory.Pointers.{Home, IsValue, home_of}
-use Rattle.run_memory.specs.Memory.{disown, disowned, is_killed, is_owned, is_unkilled, kill, killed, killed_block, same_kind, with_block}
-use Rattle.run_memory.specs.Pointers.{moved}
-use Rattle.run_memory.specs.declared.block.Byte.{Byte}
-use Rattle.run_memory.specs.declared.block.Kind.{Kind}
-use Rattle.run_memory.specs.declared.block.MemoryBlock.{MemoryBlock}
-use Rattle.run_memory.specs.declared.pointer.Offset.{Offset}
-use Rattle.run_memory.specs.declared.pointer.Pointer.{Pointer}
-use Rattle.run_memory.specs.declared.pointer.Value.{Value}
-use Rattle.run_source.specs.Source.{deallocate, if_let_go, let_go, may_be_freed}
-use Rattle.run_source.specs.State.{began_at, instance_at, is_suspended, last_from, last_where, next, with_instance, with_memory}
-use Rattle.run_source.specs.declared.state.Activation.{Activation}
-use Rattle.run_source.specs.declared.state.Instance.{Instance}
-use Rattle.run_source.specs.declared.state.State.{State}
-use Rattle.run_source.specs.declared.state.Status.{Status}
-use Rattle.run_step.specs.Results.{and_then}
-use Rattle.run_step.specs.Step.{deallocated, without_slots}
-use Rattle.run_step.specs.declared.world.Slot.{Slot}
+use Rattle.pass_proofs.proofs.run_laws.memory.Written.{changed_here, same_some}
+use Rattle.pass_proofs.specs.run_laws.embedded.Making.{whole_home}
+use Rattle.pass_proofs.specs.run_laws.memory.Pointers.{Home, IsValue, home_of}
+use Rattle.pass_proofs.specs.run_memory.Memory.{disown, disowned, is_killed, is_owned, is_unkilled, kill, killed, killed_block, same_kind, with_block}
+use Rattle.pass_proofs.specs.run_memory.Pointers.{moved}
+use Rattle.pass_proofs.specs.run_memory.declared.block.Byte.{Byte}
+use Rattle.pass_proofs.specs.run_memory.declared.block.Kind.{Kind}
+use Rattle.pass_proofs.specs.run_memory.declared.block.MemoryBlock.{MemoryBlock}
+use Rattle.pass_proofs.specs.run_memory.declared.pointer.Offset.{Offset}
+use Rattle.pass_proofs.specs.run_memory.declared.pointer.Pointer.{Pointer}
+use Rattle.pass_proofs.specs.run_memory.declared.pointer.Value.{Value}
+use Rattle.pass_proofs.specs.run_source.Source.{deallocate, if_let_go, let_go, may_be_freed}
+use Rattle.pass_proofs.specs.run_source.State.{began_at, instance_at, is_suspended, last_from, last_where, next, with_instance, with_memory}
+use Rattle.pass_proofs.specs.run_source.declared.state.Activation.{Activation}
+use Rattle.pass_proofs.specs.run_source.declared.state.Instance.{Instance}
+use Rattle.pass_proofs.specs.run_source.declared.state.State.{State}
+use Rattle.pass_proofs.specs.run_source.declared.state.Status.{Status}
+use Rattle.pass_proofs.specs.run_step.Results.{and_then}
+use Rattle.pass_proofs.specs.run_step.Step.{deallocated, without_slots}
+use Rattle.pass_proofs.specs.run_step.declared.world.Slot.{Slot}
 
 -- ---- what was executed
 

@@ -2,12 +2,12 @@
 use Rattle.std.proofs.Common.{◌≡◌, ◌∙◌, [], Bool, List, None, Option, Some, ap, inr, refl, subst, sym, true, ℕ, ⊎_elim}
 use Rattle.std.specs.List.{Contains}
 use Rattle.std.specs.Prelude.{slice_get}
-use Rattle.ir_laws.proofs.facts.Members.{each_turns}
-use Rattle.ir_laws.proofs.facts.Truth.{is_number}
-use Rattle.ir_model.specs.Ty.{int}
-use Rattle.pass_cells.specs.Kept.{entry}
-use Rattle.pass_cells.specs.Written.{stored, stored_result}
-use Rattle.pass_cells.specs.declared.plan.KeptValue.{KeptValue}
+use Rattle.pass_proofs.proofs.ir_laws.facts.Members.{each_turns}
+use Rattle.pass_proofs.proofs.ir_laws.facts.Truth.{is_number}
+use Rattle.pass_proofs.specs.ir_model.Ty.{int}
+use Rattle.pass_proofs.specs.pass_cells.Kept.{entry}
+use Rattle.pass_proofs.specs.pass_cells.Written.{stored, stored_result}
+use Rattle.pass_proofs.specs.pass_cells.declared.plan.KeptValue.{KeptValue}
 use Rattle.pass_frames_proof.proofs.led.Steps.{fills_elsewhere}
 use Rattle.pass_frames_proof.proofs.lines.Filled.{over_none, worlds_stand}
 use Rattle.pass_frames_proof.proofs.lines.Results.{result_stored}
@@ -17,19 +17,19 @@ use Rattle.pass_frames_proof.specs.Lines.{AreAway, AreInCells, HasOwnBlocks, IsC
 use Rattle.pass_frames_proof.specs.Ordinary.{IsPlainName}
 use Rattle.pass_frames_proof.specs.Places.{Framing, plan}
 use Rattle.pass_frames_proof.specs.Related.{AreCellsRight, IsCell, IsDistanceOf, IsFreeOf, IsKeptValue}
-use Rattle.run_laws.specs.access.Accessed.{Span}
-use Rattle.run_laws.specs.memory.Pointers.{Home, IsValue}
-use Rattle.run_laws.specs.memory.Standing.{AreByteRights, IsAway}
-use Rattle.run_laws.specs.transfer.Muted.{muted}
-use Rattle.run_laws.specs.transfer.Transfer.{AreOver, muted_world}
-use Rattle.run_memory.specs.Memory.{Rights, is_live}
-use Rattle.run_memory.specs.declared.block.MemoryBlock.{MemoryBlock}
-use Rattle.run_memory.specs.declared.pointer.Value.{Value}
-use Rattle.run_source.specs.declared.state.Activation.{Activation}
-use Rattle.run_step.specs.Step.{Context, Work}
-use Rattle.run_step.specs.Values.{Env, value_in}
-use Rattle.run_step.specs.declared.world.Slot.{Slot}
-use Rattle.run_step.specs.declared.world.World.{World}
+use Rattle.pass_proofs.specs.run_laws.access.Accessed.{Span}
+use Rattle.pass_proofs.specs.run_laws.memory.Pointers.{Home, IsValue}
+use Rattle.pass_proofs.specs.run_laws.memory.Standing.{AreByteRights, IsAway}
+use Rattle.pass_proofs.specs.run_laws.transfer.Muted.{muted}
+use Rattle.pass_proofs.specs.run_laws.transfer.Transfer.{AreOver, muted_world}
+use Rattle.pass_proofs.specs.run_memory.Memory.{Rights, is_live}
+use Rattle.pass_proofs.specs.run_memory.declared.block.MemoryBlock.{MemoryBlock}
+use Rattle.pass_proofs.specs.run_memory.declared.pointer.Value.{Value}
+use Rattle.pass_proofs.specs.run_source.declared.state.Activation.{Activation}
+use Rattle.pass_proofs.specs.run_step.Step.{Context, Work}
+use Rattle.pass_proofs.specs.run_step.Values.{Env, value_in}
+use Rattle.pass_proofs.specs.run_step.declared.world.Slot.{Slot}
+use Rattle.pass_proofs.specs.run_step.declared.world.World.{World}
 
 module _ (x : Framing) (is : IsFraming x) (homes : List Home) (hides : ℕ → Bool) (source : Rights) (d : Context)
     (law : AreByteRights source) (law' : AreByteRights d.rights) (a : Activation) (own : HasOwnBlocks a) (n : ℕ)

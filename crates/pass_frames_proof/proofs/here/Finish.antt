@@ -2,17 +2,17 @@
 use Rattle.std.proofs.Common.{◌≡◌, ◌⊎◌, ◌+◌, ◌<◌, ◌≤◌, ◌∙◌, List, None, Option, Some, ap, arith, false, inl, inr, length, refl, subst, sym, true, ℕ, ⊎_elim}
 use Rattle.std.proofs.lemmas.Bool.{cases_lt}
 use Rattle.std.specs.List.{Contains}
-use Rattle.ir_laws.proofs.facts.Members.{each_joined}
-use Rattle.ir_laws.proofs.facts.Truth.{is_number}
-use Rattle.ir_model.specs.Ty.{Ty}
-use Rattle.ir_model.specs.declared.instr.Instr.{Instr}
-use Rattle.ir_parts.specs.Contents.{instr_operands, result_of}
-use Rattle.pass_cells.specs.Cells.{fetches_of}
-use Rattle.pass_cells.specs.Kept.{entry}
-use Rattle.pass_copies.specs.declared.slot.EarlySlot.{EarlySlot}
-use Rattle.pass_fetch.specs.Fetching.{fetches_of_all, next_after_all}
-use Rattle.pass_fetch.specs.Instrs.{with_fetched}
-use Rattle.pass_fetch.specs.declared.fetch.Fetch.{Fetch}
+use Rattle.pass_proofs.proofs.ir_laws.facts.Members.{each_joined}
+use Rattle.pass_proofs.proofs.ir_laws.facts.Truth.{is_number}
+use Rattle.pass_proofs.specs.ir_model.Ty.{Ty}
+use Rattle.pass_proofs.specs.ir_model.declared.instr.Instr.{Instr}
+use Rattle.pass_proofs.specs.ir_parts.Contents.{instr_operands, result_of}
+use Rattle.pass_proofs.specs.pass_cells.Cells.{fetches_of}
+use Rattle.pass_proofs.specs.pass_cells.Kept.{entry}
+use Rattle.pass_proofs.specs.pass_copies.declared.slot.EarlySlot.{EarlySlot}
+use Rattle.pass_proofs.specs.pass_fetch.Fetching.{fetches_of_all, next_after_all}
+use Rattle.pass_proofs.specs.pass_fetch.Instrs.{with_fetched}
+use Rattle.pass_proofs.specs.pass_fetch.declared.fetch.Fetch.{Fetch}
 use Rattle.pass_frames_proof.proofs.here.State.{at_is, block_is, is, low, values}
 use Rattle.pass_frames_proof.proofs.stepping.After.{cells_turned, not_set, past_value, right_there, wheres_there, wheres_turned}
 use Rattle.pass_frames_proof.proofs.stepping.May.{not_returned}
@@ -31,17 +31,17 @@ use Rattle.pass_frames_proof.specs.Related.{AreActivations, AreAhead, AreBuiltOf
 use Rattle.pass_frames_proof.specs.Stepping.{StandsInPlace, placed_front, state_in}
 use Rattle.pass_proofs.proofs.fetch.rules.Puts.{fetch_rises}
 use Rattle.pass_proofs.specs.addresses.rules.Addresses.{lies_in_frame}
-use Rattle.run_framed.specs.Framed.{frame_rights}
-use Rattle.run_laws.specs.changed.Changed.{Each}
-use Rattle.run_laws.specs.memory.Pointers.{Home, IsValue}
-use Rattle.run_laws.specs.transfer.Transfer.{AreOver}
-use Rattle.run_memory.specs.Memory.{Rights, owner_rights}
-use Rattle.run_memory.specs.declared.pointer.Value.{Value}
-use Rattle.run_source.specs.State.{settled}
-use Rattle.run_source.specs.declared.state.Activation.{Activation}
-use Rattle.run_source.specs.declared.state.State.{State}
-use Rattle.run_step.specs.Step.{Work}
-use Rattle.run_step.specs.Values.{Env, value_in}
+use Rattle.pass_proofs.specs.run_framed.Framed.{frame_rights}
+use Rattle.pass_proofs.specs.run_laws.changed.Changed.{Each}
+use Rattle.pass_proofs.specs.run_laws.memory.Pointers.{Home, IsValue}
+use Rattle.pass_proofs.specs.run_laws.transfer.Transfer.{AreOver}
+use Rattle.pass_proofs.specs.run_memory.Memory.{Rights, owner_rights}
+use Rattle.pass_proofs.specs.run_memory.declared.pointer.Value.{Value}
+use Rattle.pass_proofs.specs.run_source.State.{settled}
+use Rattle.pass_proofs.specs.run_source.declared.state.Activation.{Activation}
+use Rattle.pass_proofs.specs.run_source.declared.state.State.{State}
+use Rattle.pass_proofs.specs.run_step.Step.{Work}
+use Rattle.pass_proofs.specs.run_step.Values.{Env, value_in}
 
 -- whether a name is the result
 pub is_result : (o : Option ℕ) (u : ℕ) → (o ≡ Some u) ⊎ (o ≡ Some u → ⊥)

@@ -1,17 +1,17 @@
 -- A coro intrinsic of a coroutine that gives a value: its operands are fetched, the framed run gives what stands for
 -- the first run's value, and it is stored.
 use Rattle.std.proofs.Common.{◌≡◌, ◌+◌, ◌≤◌, ◌∷◌, ◌∙◌, Bool, List, Ok, Option, Some, ap, arith, length, refl, subst, suc, sym, true, zero, ℕ}
-use Rattle.ir_model.specs.Ty.{Ty}
-use Rattle.ir_model.specs.declared.instr.Instr.{Instr}
-use Rattle.ir_model.specs.declared.operand.Arg.{Arg}
-use Rattle.ir_model.specs.declared.operand.Callee.{Callee}
-use Rattle.ir_model.specs.declared.operand.Intrinsic.{Intrinsic}
-use Rattle.ir_model.specs.declared.operand.Operand.{Operand}
-use Rattle.ir_paths.specs.Windows.{operand_at}
-use Rattle.pass_cells.specs.Cells.{fetches_of}
-use Rattle.pass_cells.specs.Written.{stored_result}
-use Rattle.pass_cells.specs.declared.plan.KeptValue.{KeptValue}
-use Rattle.pass_fetch.specs.Fetching.{fetched_args}
+use Rattle.pass_proofs.specs.ir_model.Ty.{Ty}
+use Rattle.pass_proofs.specs.ir_model.declared.instr.Instr.{Instr}
+use Rattle.pass_proofs.specs.ir_model.declared.operand.Arg.{Arg}
+use Rattle.pass_proofs.specs.ir_model.declared.operand.Callee.{Callee}
+use Rattle.pass_proofs.specs.ir_model.declared.operand.Intrinsic.{Intrinsic}
+use Rattle.pass_proofs.specs.ir_model.declared.operand.Operand.{Operand}
+use Rattle.pass_proofs.specs.ir_paths.Windows.{operand_at}
+use Rattle.pass_proofs.specs.pass_cells.Cells.{fetches_of}
+use Rattle.pass_proofs.specs.pass_cells.Written.{stored_result}
+use Rattle.pass_proofs.specs.pass_cells.declared.plan.KeptValue.{KeptValue}
+use Rattle.pass_proofs.specs.pass_fetch.Fetching.{fetched_args}
 use Rattle.pass_frames_proof.proofs.asking.Finals.{args_same}
 use Rattle.pass_frames_proof.proofs.here.Giving.{given_followed, stand_right}
 use Rattle.pass_frames_proof.proofs.here.Line.{never_idle}
@@ -30,19 +30,19 @@ use Rattle.pass_frames_proof.specs.Places.{Framing, Placed, plan}
 use Rattle.pass_frames_proof.specs.Related.{AreBuiltOf, Building, IsKeptValue}
 use Rattle.pass_frames_proof.specs.Stepping.{AreGiven, placed_front, placed_instr, placed_line, state_in}
 use Rattle.pass_renewed_proof.specs.Renewed.{RenewedGiven, continue_renewed, renewed_step}
-use Rattle.run_framed.specs.Framed.{framed_context, framed_coro, framed_step}
-use Rattle.run_laws.specs.memory.Pointers.{Home, IsValue}
-use Rattle.run_laws.specs.transfer.Shapes.{ArgStays, Call, Empty, InstrStays, Pair, Pairwise}
-use Rattle.run_laws.specs.transfer.Transfer.{StandsFor}
-use Rattle.run_memory.specs.declared.pointer.Value.{Value}
-use Rattle.run_source.specs.Source.{context_of, coro}
-use Rattle.run_source.specs.State.{function_of, gives, or_undefined, settled, work_of}
-use Rattle.run_source.specs.declared.state.Instance.{Instance}
-use Rattle.run_source.specs.declared.state.State.{State}
-use Rattle.run_source_tables.specs.Given.{is_true}
-use Rattle.run_step.specs.Step.{AtInstr, Context, Coro, Work, fetch, intrinsic_call}
-use Rattle.run_step.specs.Values.{Env, arg_value, arg_values, nth, operand_value, value_in, with_result}
-use Rattle.run_step.specs.declared.world.World.{World}
+use Rattle.pass_proofs.specs.run_framed.Framed.{framed_context, framed_coro, framed_step}
+use Rattle.pass_proofs.specs.run_laws.memory.Pointers.{Home, IsValue}
+use Rattle.pass_proofs.specs.run_laws.transfer.Shapes.{ArgStays, Call, Empty, InstrStays, Pair, Pairwise}
+use Rattle.pass_proofs.specs.run_laws.transfer.Transfer.{StandsFor}
+use Rattle.pass_proofs.specs.run_memory.declared.pointer.Value.{Value}
+use Rattle.pass_proofs.specs.run_source.Source.{context_of, coro}
+use Rattle.pass_proofs.specs.run_source.State.{function_of, gives, or_undefined, settled, work_of}
+use Rattle.pass_proofs.specs.run_source.declared.state.Instance.{Instance}
+use Rattle.pass_proofs.specs.run_source.declared.state.State.{State}
+use Rattle.pass_proofs.specs.run_source_tables.Given.{is_true}
+use Rattle.pass_proofs.specs.run_step.Step.{AtInstr, Context, Coro, Work, fetch, intrinsic_call}
+use Rattle.pass_proofs.specs.run_step.Values.{Env, arg_value, arg_values, nth, operand_value, value_in, with_result}
+use Rattle.pass_proofs.specs.run_step.declared.world.World.{World}
 
 -- ---- arguments that stand for the first run's
 

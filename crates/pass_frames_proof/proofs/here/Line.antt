@@ -2,22 +2,22 @@
 -- stored.
 use Rattle.std.proofs.Common.{◌≡◌, ◌∷◌, ◌++◌, ◌∙◌, [], Bool, List, None, Option, Some, ap, append-nil, append_assoc, false, refl, sym, true, ℕ}
 use Rattle.std.specs.Prelude.{slice_get}
-use Rattle.ir_laws.proofs.facts.Members.{each_joined, each_turns}
-use Rattle.ir_model.specs.declared.instr.Instr.{Instr}
-use Rattle.ir_model.specs.declared.module.Module.{Module}
-use Rattle.ir_model.specs.declared.operand.Callee.{Callee}
-use Rattle.ir_model.specs.declared.operand.Intrinsic.{Intrinsic}
-use Rattle.ir_parts.specs.Contents.{callee_operands, instr_operands, result_of}
-use Rattle.pass_addresses.specs.Placing.{lies_outside, stays, without_promise_of}
-use Rattle.pass_cells.specs.Cells.{fetches_of}
-use Rattle.pass_cells.specs.Kept.{entry}
-use Rattle.pass_cells.specs.Moves.{after_saved, saved_values}
-use Rattle.pass_cells.specs.Written.{distance_behind, distance_from, distance_into, save_row, stored_at, stored_one, stored_result}
-use Rattle.pass_cells.specs.declared.plan.KeptValue.{KeptValue}
-use Rattle.pass_copies.specs.BeginCopies.{behind}
-use Rattle.pass_fetch.specs.Fetching.{callee_by, fetch_of_callee, fetched_args, fetches_of_all, next_after_all}
-use Rattle.pass_fetch.specs.Instrs.{with_fetched}
-use Rattle.pass_fetch.specs.declared.fetch.Fetch.{Fetch}
+use Rattle.pass_proofs.proofs.ir_laws.facts.Members.{each_joined, each_turns}
+use Rattle.pass_proofs.specs.ir_model.declared.instr.Instr.{Instr}
+use Rattle.pass_proofs.specs.ir_model.declared.module.Module.{Module}
+use Rattle.pass_proofs.specs.ir_model.declared.operand.Callee.{Callee}
+use Rattle.pass_proofs.specs.ir_model.declared.operand.Intrinsic.{Intrinsic}
+use Rattle.pass_proofs.specs.ir_parts.Contents.{callee_operands, instr_operands, result_of}
+use Rattle.pass_proofs.specs.pass_addresses.Placing.{lies_outside, stays, without_promise_of}
+use Rattle.pass_proofs.specs.pass_cells.Cells.{fetches_of}
+use Rattle.pass_proofs.specs.pass_cells.Kept.{entry}
+use Rattle.pass_proofs.specs.pass_cells.Moves.{after_saved, saved_values}
+use Rattle.pass_proofs.specs.pass_cells.Written.{distance_behind, distance_from, distance_into, save_row, stored_at, stored_one, stored_result}
+use Rattle.pass_proofs.specs.pass_cells.declared.plan.KeptValue.{KeptValue}
+use Rattle.pass_proofs.specs.pass_copies.BeginCopies.{behind}
+use Rattle.pass_proofs.specs.pass_fetch.Fetching.{callee_by, fetch_of_callee, fetched_args, fetches_of_all, next_after_all}
+use Rattle.pass_proofs.specs.pass_fetch.Instrs.{with_fetched}
+use Rattle.pass_proofs.specs.pass_fetch.declared.fetch.Fetch.{Fetch}
 use Rattle.pass_frames_proof.proofs.code.Idle.{each_idle, only_idle}
 use Rattle.pass_frames_proof.proofs.layers.Grown.{both_becomes, grown_one}
 use Rattle.pass_frames_proof.proofs.layers.Idle.{all_stay, both_idle}
@@ -30,11 +30,11 @@ use Rattle.pass_frames_proof.specs.Lined.{GivesNone, gives_frame}
 use Rattle.pass_frames_proof.specs.Passes.{fetching_at, unmarked_at}
 use Rattle.pass_frames_proof.specs.Places.{Framing, Placed, addressing_layer, copies, marked, offsets, plan, unmarked}
 use Rattle.pass_frames_proof.specs.Stepping.{IsUnlocated, placed_front, placed_instr, placed_line}
-use Rattle.pass_front.specs.Front.{is_no_alloca}
+use Rattle.pass_proofs.specs.pass_front.Front.{is_no_alloca}
 use Rattle.pass_proofs.proofs.fetch.rules.Times.{with_result}
 use Rattle.pass_renewed_proof.specs.Renewed.{is_idle}
-use Rattle.run_laws.specs.changed.Changed.{Each}
-use Rattle.run_step.specs.Step.{AtInstr}
+use Rattle.pass_proofs.specs.run_laws.changed.Changed.{Each}
+use Rattle.pass_proofs.specs.run_step.Step.{AtInstr}
 
 -- ---- tests that an instruction on a line of its own passes, whatever its operands
 

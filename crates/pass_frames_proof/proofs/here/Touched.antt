@@ -2,11 +2,11 @@
 use Rattle.std.proofs.Common.{◌≡◌, ◌<◌, ◌≤◌, ◌∙◌, arith, length, map, refl, subst, sym, true, ℕ}
 use Rattle.std.specs.List.{Contains}
 use Rattle.std.specs.Prelude.{slice_get}
-use Rattle.flow_solver.specs.Paths.{IsListed}
-use Rattle.ir_model.specs.Ty.{Ty, ptr}
-use Rattle.ir_model.specs.declared.instr.Instr.{Instr}
-use Rattle.pass_copies.specs.declared.slot.EarlySlot.{EarlySlot}
-use Rattle.pass_fetch.specs.Fetching.{value_bytes}
+use Rattle.pass_proofs.specs.flow_solver.Paths.{IsListed}
+use Rattle.pass_proofs.specs.ir_model.Ty.{Ty, ptr}
+use Rattle.pass_proofs.specs.ir_model.declared.instr.Instr.{Instr}
+use Rattle.pass_proofs.specs.pass_copies.declared.slot.EarlySlot.{EarlySlot}
+use Rattle.pass_proofs.specs.pass_fetch.Fetching.{value_bytes}
 use Rattle.pass_frames_proof.proofs.here.State.{cell_name, free}
 use Rattle.pass_frames_proof.proofs.lines.Cells.{other_block}
 use Rattle.pass_frames_proof.proofs.stepping.May.{own_blocks}
@@ -19,12 +19,12 @@ use Rattle.pass_frames_proof.specs.Led.{SparesBlocks}
 use Rattle.pass_frames_proof.specs.Lines.{IsCellOf}
 use Rattle.pass_frames_proof.specs.Places.{Framing, copies, named, written}
 use Rattle.pass_frames_proof.specs.Related.{AreBuiltOf, AreWheresRight, Building, IsAhead, instance_in, is_coroutine, slots_below}
-use Rattle.run_framed.specs.Framed.{frame_rights}
-use Rattle.run_laws.specs.memory.Pointers.{home_of}
-use Rattle.run_memory.specs.Memory.{Rights}
-use Rattle.run_source.specs.declared.state.State.{State}
-use Rattle.run_step.specs.declared.world.Slot.{Slot}
-use Rattle.run_step.specs.declared.world.World.{World}
+use Rattle.pass_proofs.specs.run_framed.Framed.{frame_rights}
+use Rattle.pass_proofs.specs.run_laws.memory.Pointers.{home_of}
+use Rattle.pass_proofs.specs.run_memory.Memory.{Rights}
+use Rattle.pass_proofs.specs.run_source.declared.state.State.{State}
+use Rattle.pass_proofs.specs.run_step.declared.world.Slot.{Slot}
+use Rattle.pass_proofs.specs.run_step.declared.world.World.{World}
 
 module _ (b : Building) (s t : State) (r : AreBuiltOf b s t)
     (framings : (func : ℕ) → is_coroutine b func ≡ true → IsFraming (b.framing func)) (i : Instr)

@@ -2,8 +2,8 @@
 use Rattle.std.proofs.Common.{◌≡◌, ℕ, ◌≤◌, true, List, length, sym, subst, arith}
 use Rattle.std.specs.List.{Contains}
 use Rattle.std.specs.Prelude.{Option, slice_get}
-use Rattle.ir_model.specs.declared.instr.Instr.{Instr}
-use Rattle.ir_model.specs.declared.instr.Terminator.{Terminator}
+use Rattle.pass_proofs.specs.ir_model.declared.instr.Instr.{Instr}
+use Rattle.pass_proofs.specs.ir_model.declared.instr.Terminator.{Terminator}
 use Rattle.pass_frames_proof.proofs.code.Left.{Far, far_named}
 use Rattle.pass_frames_proof.proofs.jumping.Pairs.{AreAllSet, all_set}
 use Rattle.pass_frames_proof.proofs.stepping.May.{coroutine_values, not_returned}
@@ -13,12 +13,12 @@ use Rattle.pass_frames_proof.specs.Places.{Framing, edged, framed, named}
 use Rattle.pass_frames_proof.specs.Related.{AreBuiltOf, AreCellsRight, AreCoroutines, AreNamed, AreWheresRight, Building, HasCells, IsCellName, IsFreeOf, instance_in, is_coroutine}
 use Rattle.pass_frames_proof.specs.Stepping.{AreGiven}
 use Rattle.pass_renewed_proof.specs.Renewed.{RenewedGiven}
-use Rattle.run_framed.specs.Framed.{frame_rights}
-use Rattle.run_memory.specs.Memory.{Rights}
-use Rattle.run_source.specs.declared.state.State.{State}
-use Rattle.run_step.specs.Step.{label_of, phi_values, phis_of, with_all}
-use Rattle.run_step.specs.Values.{Env}
-use Rattle.run_step.specs.declared.world.Slot.{Slot}
+use Rattle.pass_proofs.specs.run_framed.Framed.{frame_rights}
+use Rattle.pass_proofs.specs.run_memory.Memory.{Rights}
+use Rattle.pass_proofs.specs.run_source.declared.state.State.{State}
+use Rattle.pass_proofs.specs.run_step.Step.{label_of, phi_values, phis_of, with_all}
+use Rattle.pass_proofs.specs.run_step.Values.{Env}
+use Rattle.pass_proofs.specs.run_step.declared.world.Slot.{Slot}
 
 module _ (b : Building) (g : RenewedGiven) (given : AreGiven b g) (s t : State) (r : AreBuiltOf b s t)
     (e other : Terminator) (label : ℕ) (line : List Instr) (h : IsAtJump b g s e label)

@@ -2,20 +2,20 @@
 use Rattle.std.proofs.Common.{◌≡◌, inr, ℕ, Bool, true, false, List, [], ◌∷◌, length, refl, sym, ap, ◌∙◌, subst, arith}
 use Rattle.std.specs.List.{Contains}
 use Rattle.std.specs.Prelude.{Err, None, Ok, Option, Result, Some, slice_get, if◌then◌else◌}
-use Rattle.ir_base.specs.declared.cause.Cause.{Cause}
-use Rattle.ir_laws.proofs.facts.Members.{each_joined, each_turns}
-use Rattle.ir_model.specs.Ty.{int, ptr}
-use Rattle.ir_model.specs.declared.instr.Instr.{Instr}
-use Rattle.ir_model.specs.declared.instr.Phi.{Phi}
-use Rattle.ir_model.specs.declared.instr.Terminator.{Terminator}
-use Rattle.ir_model.specs.declared.module.Module.{Module}
-use Rattle.ir_model.specs.declared.operand.Arg.{Arg}
-use Rattle.ir_model.specs.declared.operand.Operand.{Operand}
-use Rattle.pass_cells.specs.Kept.{entry}
-use Rattle.pass_cells.specs.Moves.{store_to}
-use Rattle.pass_cells.specs.Written.{stored, stored_at, stored_one, stored_phis}
-use Rattle.pass_cells.specs.declared.plan.KeptValue.{KeptValue}
-use Rattle.pass_fetch.specs.Fetching.{value_bytes}
+use Rattle.pass_proofs.specs.ir_base.declared.cause.Cause.{Cause}
+use Rattle.pass_proofs.proofs.ir_laws.facts.Members.{each_joined, each_turns}
+use Rattle.pass_proofs.specs.ir_model.Ty.{int, ptr}
+use Rattle.pass_proofs.specs.ir_model.declared.instr.Instr.{Instr}
+use Rattle.pass_proofs.specs.ir_model.declared.instr.Phi.{Phi}
+use Rattle.pass_proofs.specs.ir_model.declared.instr.Terminator.{Terminator}
+use Rattle.pass_proofs.specs.ir_model.declared.module.Module.{Module}
+use Rattle.pass_proofs.specs.ir_model.declared.operand.Arg.{Arg}
+use Rattle.pass_proofs.specs.ir_model.declared.operand.Operand.{Operand}
+use Rattle.pass_proofs.specs.pass_cells.Kept.{entry}
+use Rattle.pass_proofs.specs.pass_cells.Moves.{store_to}
+use Rattle.pass_proofs.specs.pass_cells.Written.{stored, stored_at, stored_one, stored_phis}
+use Rattle.pass_proofs.specs.pass_cells.declared.plan.KeptValue.{KeptValue}
+use Rattle.pass_proofs.specs.pass_fetch.Fetching.{value_bytes}
 use Rattle.pass_frames_proof.proofs.jumping.Before.{cells_before, enough, free_before}
 use Rattle.pass_frames_proof.proofs.jumping.Pairs.{AreAllSet, all_set}
 use Rattle.pass_frames_proof.proofs.led.Steps.{fills_elsewhere}
@@ -38,25 +38,25 @@ use Rattle.pass_frames_proof.specs.Related.{AreBuiltOf, AreCellsRight, Building,
 use Rattle.pass_frames_proof.specs.Stepping.{AreGiven}
 use Rattle.pass_frames_proof.specs.Stores.{AreNamesStored}
 use Rattle.pass_renewed_proof.specs.Renewed.{RenewedGiven}
-use Rattle.run_framed.specs.Framed.{frame_rights, framed_context}
-use Rattle.run_laws.proofs.access.Blocks.{others_left}
-use Rattle.run_laws.proofs.memory.Itself.{owner_rights_fit}
-use Rattle.run_laws.specs.access.Accessed.{Span, accessed, led_into}
-use Rattle.run_laws.specs.access.Changed.{ChangesOnly, IsNoneOf, LeavesOthers}
-use Rattle.run_laws.specs.access.Lines.{Runs}
-use Rattle.run_laws.specs.changed.Changed.{Each}
-use Rattle.run_laws.specs.memory.Pointers.{Home, IsValue}
-use Rattle.run_laws.specs.memory.Standing.{IsAway}
-use Rattle.run_laws.specs.transfer.Muted.{muted}
-use Rattle.run_laws.specs.transfer.Transfer.{AreOver, muted_world}
-use Rattle.run_laws_worked.proofs.Frames.{frame_rights_fit}
-use Rattle.run_memory.specs.Memory.{Rights, is_live, owner_rights, store}
-use Rattle.run_memory.specs.declared.block.MemoryBlock.{MemoryBlock}
-use Rattle.run_memory.specs.declared.pointer.Value.{Value}
-use Rattle.run_source.specs.declared.state.State.{State}
-use Rattle.run_step.specs.Step.{AtInstr, Context, Done, Stuck, Work, done, instr_action, is_alignment, label_of, phi_values, phis_of, set_memory, value_at, with_all}
-use Rattle.run_step.specs.Values.{Env, access_of, address, arg_value, pointer_to, stored as stored_value, value_in}
-use Rattle.run_step.specs.declared.world.World.{World}
+use Rattle.pass_proofs.specs.run_framed.Framed.{frame_rights, framed_context}
+use Rattle.pass_proofs.proofs.run_laws.access.Blocks.{others_left}
+use Rattle.pass_proofs.proofs.run_laws.memory.Itself.{owner_rights_fit}
+use Rattle.pass_proofs.specs.run_laws.access.Accessed.{Span, accessed, led_into}
+use Rattle.pass_proofs.specs.run_laws.access.Changed.{ChangesOnly, IsNoneOf, LeavesOthers}
+use Rattle.pass_proofs.specs.run_laws.access.Lines.{Runs}
+use Rattle.pass_proofs.specs.run_laws.changed.Changed.{Each}
+use Rattle.pass_proofs.specs.run_laws.memory.Pointers.{Home, IsValue}
+use Rattle.pass_proofs.specs.run_laws.memory.Standing.{IsAway}
+use Rattle.pass_proofs.specs.run_laws.transfer.Muted.{muted}
+use Rattle.pass_proofs.specs.run_laws.transfer.Transfer.{AreOver, muted_world}
+use Rattle.run_access_worked.proofs.run_laws_worked.Frames.{frame_rights_fit}
+use Rattle.pass_proofs.specs.run_memory.Memory.{Rights, is_live, owner_rights, store}
+use Rattle.pass_proofs.specs.run_memory.declared.block.MemoryBlock.{MemoryBlock}
+use Rattle.pass_proofs.specs.run_memory.declared.pointer.Value.{Value}
+use Rattle.pass_proofs.specs.run_source.declared.state.State.{State}
+use Rattle.pass_proofs.specs.run_step.Step.{AtInstr, Context, Done, Stuck, Work, done, instr_action, is_alignment, label_of, phi_values, phis_of, set_memory, value_at, with_all}
+use Rattle.pass_proofs.specs.run_step.Values.{Env, access_of, address, arg_value, pointer_to, stored as stored_value, value_in}
+use Rattle.pass_proofs.specs.run_step.declared.world.World.{World}
 
 -- ---- a store changes memory alone
 

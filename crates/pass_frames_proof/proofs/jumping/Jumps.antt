@@ -1,12 +1,12 @@
 -- A jump of a coroutine is followed.
 use Rattle.std.proofs.Common.{◌≡◌, ℕ, ◌+◌, ◌-◌, ◌<◌, Bool, List, length, refl, sym, ap, ◌∙◌, subst, arith}
 use Rattle.std.specs.Prelude.{Ok, slice_get, if◌then◌else◌}
-use Rattle.ir_base.specs.declared.outcome.Outcome.{Outcome}
-use Rattle.ir_model.specs.Names.{function_at, position_of}
-use Rattle.ir_model.specs.declared.instr.Instr.{Instr}
-use Rattle.ir_model.specs.declared.instr.Terminator.{Terminator}
-use Rattle.ir_model.specs.declared.module.Function.{Function}
-use Rattle.ir_paths.specs.declared.point.Point.{Point}
+use Rattle.pass_proofs.specs.ir_base.declared.outcome.Outcome.{Outcome}
+use Rattle.pass_proofs.specs.ir_model.Names.{function_at, position_of}
+use Rattle.pass_proofs.specs.ir_model.declared.instr.Instr.{Instr}
+use Rattle.pass_proofs.specs.ir_model.declared.instr.Terminator.{Terminator}
+use Rattle.pass_proofs.specs.ir_model.declared.module.Function.{Function}
+use Rattle.pass_proofs.specs.ir_paths.declared.point.Point.{Point}
 use Rattle.pass_frames_proof.proofs.jumping.Landed.{a', c', landed}
 use Rattle.pass_frames_proof.proofs.lined.Lines.{each_between, framed_does, line_leads}
 use Rattle.pass_frames_proof.proofs.stepping.Shown.{still_shown}
@@ -20,20 +20,20 @@ use Rattle.pass_frames_proof.specs.Places.{Framing, edged, framed, instrs_at, pl
 use Rattle.pass_frames_proof.specs.Related.{AreBuiltOf, Building, point_of}
 use Rattle.pass_frames_proof.specs.Stepping.{AreGiven}
 use Rattle.pass_renewed_proof.specs.Renewed.{RenewedGiven, renewed_step}
-use Rattle.run_agreement.specs.Machines.{iterate}
-use Rattle.run_framed.specs.Framed.{framed_context, framed_step}
-use Rattle.run_laws.specs.access.Lines.{StandAt}
-use Rattle.run_source.specs.Source.{context_of, enter_block, go_to}
-use Rattle.run_source.specs.State.{function_of, or_undefined, work_of}
-use Rattle.run_source.specs.declared.state.State.{State}
-use Rattle.run_step.specs.Step.{AtTerm, Context, GoTo, Work, action_of, fetch, label_of, values_in}
+use Rattle.pass_proofs.specs.run_agreement.Machines.{iterate}
+use Rattle.pass_proofs.specs.run_framed.Framed.{framed_context, framed_step}
+use Rattle.pass_proofs.specs.run_laws.access.Lines.{StandAt}
+use Rattle.pass_proofs.specs.run_source.Source.{context_of, enter_block, go_to}
+use Rattle.pass_proofs.specs.run_source.State.{function_of, or_undefined, work_of}
+use Rattle.pass_proofs.specs.run_source.declared.state.State.{State}
+use Rattle.pass_proofs.specs.run_step.Step.{AtTerm, Context, GoTo, Work, action_of, fetch, label_of, values_in}
 use Rattle.pass_frames_proof.proofs.leaving.Branches.{Branches, branches, changed_by}
 use Rattle.pass_frames_proof.proofs.leaving.Left.{left_by}
 use Rattle.pass_frames_proof.proofs.stepping.Landing.{spared_shown}
 use Rattle.pass_frames_proof.proofs.stepping.Onward.{EndsUp, onward_followed}
 use Rattle.pass_frames_proof.specs.Leaving.{IsBranch, further}
 use Rattle.pass_frames_proof.specs.Led.{RunsThrough}
-use Rattle.run_memory.specs.Memory.{Rights}
+use Rattle.pass_proofs.specs.run_memory.Memory.{Rights}
 
 module _ (b : Building) (g : RenewedGiven) (given : AreGiven b g) (s t : State) (r : AreBuiltOf b s t)
     (e other : Terminator) (label : ℕ) (line front : List Instr) (h : IsAtJump b g s e label)

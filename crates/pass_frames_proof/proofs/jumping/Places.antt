@@ -2,18 +2,18 @@
 use Rattle.std.proofs.Common.{◌≡◌, ℕ, ◌+◌, Bool, true, false, List, [], length, refl, sym, ap, ◌∙◌, subst, arith}
 use Rattle.std.proofs.lemmas.List.{append-nil, length-append}
 use Rattle.std.specs.Prelude.{Option, Some, filter, replicate, slice_get, unwrap_or, ◌==◌, ◌≢◌}
-use Rattle.ir_laws.proofs.facts.Members.{each_joined}
-use Rattle.ir_laws.proofs.facts.Truth.{equal_numbers}
-use Rattle.ir_model.specs.declared.instr.Instr.{Instr}
-use Rattle.ir_model.specs.declared.instr.Terminator.{Terminator}
-use Rattle.ir_model.specs.declared.module.Block.{Block}
-use Rattle.ir_model.specs.declared.module.Function.{Function}
-use Rattle.pass_cells.specs.Cells.{fetches_of}
-use Rattle.pass_cells.specs.Written.{stored_phis}
-use Rattle.pass_fetch.specs.Blocks.{end_at}
-use Rattle.pass_fetch.specs.Fetching.{fetch_into, fetches_of_all}
-use Rattle.pass_fetch.specs.Instrs.{term_operands}
-use Rattle.pass_fetch.specs.declared.fetch.Fetch.{Fetch}
+use Rattle.pass_proofs.proofs.ir_laws.facts.Members.{each_joined}
+use Rattle.pass_proofs.proofs.ir_laws.facts.Truth.{equal_numbers}
+use Rattle.pass_proofs.specs.ir_model.declared.instr.Instr.{Instr}
+use Rattle.pass_proofs.specs.ir_model.declared.instr.Terminator.{Terminator}
+use Rattle.pass_proofs.specs.ir_model.declared.module.Block.{Block}
+use Rattle.pass_proofs.specs.ir_model.declared.module.Function.{Function}
+use Rattle.pass_proofs.specs.pass_cells.Cells.{fetches_of}
+use Rattle.pass_proofs.specs.pass_cells.Written.{stored_phis}
+use Rattle.pass_proofs.specs.pass_fetch.Blocks.{end_at}
+use Rattle.pass_proofs.specs.pass_fetch.Fetching.{fetch_into, fetches_of_all}
+use Rattle.pass_proofs.specs.pass_fetch.Instrs.{term_operands}
+use Rattle.pass_proofs.specs.pass_fetch.declared.fetch.Fetch.{Fetch}
 use Rattle.pass_frames_proof.proofs.code.Ends.{back_is, front_is, last_far, term_is}
 use Rattle.pass_frames_proof.proofs.code.Framed.{entry_made, others_made}
 use Rattle.pass_frames_proof.proofs.code.Left.{all_by, blocks_by}
@@ -31,10 +31,10 @@ use Rattle.pass_frames_proof.specs.Layers.{IsMadeBy, Layer, both, grown, only, p
 use Rattle.pass_frames_proof.specs.Passes.{IsBlockMade, allocas_led, block_at, no_block, phi_ends}
 use Rattle.pass_frames_proof.specs.Phis.{IsOrdinaryBlock}
 use Rattle.pass_frames_proof.specs.Places.{Framing, Placed, edged, entry_layer, fetched, framed, instrs_at, is_return, named, place_by, placed_layer, plan, unmarked}
-use Rattle.pass_front.specs.Front.{is_alloca, is_no_alloca}
-use Rattle.run_laws.specs.access.Lines.{StandAt}
-use Rattle.run_laws.specs.changed.Changed.{Each}
-use Rattle.run_step.specs.Step.{AtTerm, fetch}
+use Rattle.pass_proofs.specs.pass_front.Front.{is_alloca, is_no_alloca}
+use Rattle.pass_proofs.specs.run_laws.access.Lines.{StandAt}
+use Rattle.pass_proofs.specs.run_laws.changed.Changed.{Each}
+use Rattle.pass_proofs.specs.run_step.Step.{AtTerm, fetch}
 
 not_zero : (k : ℕ) → k ≢ 0 → (k == 0) ≡ false
 not_zero k n = on (k == 0) refl

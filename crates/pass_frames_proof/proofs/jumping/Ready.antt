@@ -1,7 +1,7 @@
 -- What a jump asks of the code of the framed form comes of the passes.
 use Rattle.std.proofs.Common.{◌≡◌, ℕ, ap}
 use Rattle.std.specs.Prelude.{Some, slice_get}
-use Rattle.ir_model.specs.declared.instr.Terminator.{Terminator}
+use Rattle.pass_proofs.specs.ir_model.declared.instr.Terminator.{Terminator}
 use Rattle.pass_frames_proof.proofs.jumping.Goes.{goes_there}
 use Rattle.pass_frames_proof.proofs.jumping.Labels.{label_there, position_same}
 use Rattle.pass_frames_proof.proofs.jumping.Placed.{between_label, phis_placed}
@@ -12,8 +12,8 @@ use Rattle.pass_frames_proof.specs.Places.{edged}
 use Rattle.pass_frames_proof.specs.Related.{AreBuiltOf, Building}
 use Rattle.pass_frames_proof.specs.Stepping.{AreGiven}
 use Rattle.pass_renewed_proof.specs.Renewed.{RenewedGiven}
-use Rattle.run_source.specs.declared.state.State.{State}
-use Rattle.run_step.specs.Step.{label_of}
+use Rattle.pass_proofs.specs.run_source.declared.state.State.{State}
+use Rattle.pass_proofs.specs.run_step.Step.{label_of}
 
 pub may_jump : (b : Building) (g : RenewedGiven) → AreGiven b g → (s t : State) (r : AreBuiltOf b s t) (e : Terminator)
     (label : ℕ) → IsAtJump b g s e label

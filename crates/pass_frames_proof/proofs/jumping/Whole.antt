@@ -1,8 +1,8 @@
 -- A jump to an ordinary block is followed: over the end of its block, and the stores of phis in front of the next one.
 use Rattle.std.proofs.Common.{◌≡◌, length, ℕ}
 use Rattle.std.specs.Prelude.{Some, slice_get}
-use Rattle.ir_model.specs.declared.instr.Terminator.{Terminator}
-use Rattle.pass_cells.specs.Written.{stored_phis}
+use Rattle.pass_proofs.specs.ir_model.declared.instr.Terminator.{Terminator}
+use Rattle.pass_proofs.specs.pass_cells.Written.{stored_phis}
 use Rattle.pass_frames_proof.proofs.jumping.Ends.{ends_led}
 use Rattle.pass_frames_proof.proofs.jumping.Fronts.{front_led}
 use Rattle.pass_frames_proof.proofs.jumping.Jumps.{jump_followed}
@@ -18,7 +18,7 @@ use Rattle.pass_frames_proof.specs.Places.{edged, fetched, plan}
 use Rattle.pass_frames_proof.specs.Related.{AreBuiltOf, Building}
 use Rattle.pass_frames_proof.specs.Stepping.{AreGiven}
 use Rattle.pass_renewed_proof.specs.Renewed.{RenewedGiven}
-use Rattle.run_source.specs.declared.state.State.{State}
+use Rattle.pass_proofs.specs.run_source.declared.state.State.{State}
 
 pub whole_jump_followed : (b : Building) (g : RenewedGiven) → AreGiven b g → (s t : State) (r : AreBuiltOf b s t)
     (e : Terminator) (label : ℕ) → IsAtJump b g s e label

@@ -1,9 +1,9 @@
 -- What passes make of instructions, one list behind another and one pass behind another.
 use Rattle.std.proofs.Common.{◌≡◌, List, [], ◌∷◌, ◌++◌, refl, sym, ap, ◌∙◌, append_assoc, append-nil}
 use Rattle.std.specs.Prelude.{None, Option, Some, option_to_list}
-use Rattle.ir_model.specs.declared.instr.Instr.{Instr}
-use Rattle.ir_model.specs.declared.instr.Terminator.{Terminator}
-use Rattle.ir_model.specs.declared.module.Block.{Block}
+use Rattle.pass_proofs.specs.ir_model.declared.instr.Instr.{Instr}
+use Rattle.pass_proofs.specs.ir_model.declared.instr.Terminator.{Terminator}
+use Rattle.pass_proofs.specs.ir_model.declared.module.Block.{Block}
 use Rattle.pass_frames_proof.specs.Layers.{IsMadeBy, Layer, after_of, becomes, before_of, behind_of, both, ended, grown, here_of, met, passed, woven}
 
 module _ {S : Type 0} (L : Layer S) where

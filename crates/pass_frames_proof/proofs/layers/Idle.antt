@@ -1,9 +1,9 @@
 -- Instructions that passes leave as they are.
 use Rattle.std.proofs.Common.{◌≡◌, List, [], ◌∷◌, ◌++◌, refl, ap, ◌∙◌}
-use Rattle.ir_model.specs.declared.instr.Instr.{Instr}
+use Rattle.pass_proofs.specs.ir_model.declared.instr.Instr.{Instr}
 use Rattle.pass_frames_proof.proofs.layers.Grown.{both_becomes, grown_one}
 use Rattle.pass_frames_proof.specs.Layers.{IsIdle, Layer, both, grown, passed}
-use Rattle.run_laws.specs.changed.Changed.{Each}
+use Rattle.pass_proofs.specs.run_laws.changed.Changed.{Each}
 
 module _ {S : Type 0} (L : Layer S) where
   pub all_stay : (is : List Instr) → Each (IsIdle L) is → (s : S) → grown L s is ≡ is

@@ -2,15 +2,15 @@
 use Rattle.std.proofs.Common.{◌≡◌, ℕ, zero, suc, ◌+◌, List, [], ◌∷◌, ◌++◌, length, refl, sym, ap, ◌∙◌, subst, arith, append_assoc, append-nil}
 use Rattle.std.proofs.lemmas.List.{length-append}
 use Rattle.std.specs.Prelude.{None, Option, Some, drop, slice_get, take, ◌==◌}
-use Rattle.ir_laws.proofs.facts.Lists.{get_behind}
-use Rattle.ir_laws.proofs.facts.Truth.{itself}
-use Rattle.ir_model.specs.declared.instr.Instr.{Instr}
-use Rattle.ir_model.specs.declared.module.Block.{Block}
-use Rattle.ir_model.specs.declared.module.Function.{Function}
+use Rattle.pass_proofs.proofs.ir_laws.facts.Lists.{get_behind}
+use Rattle.pass_proofs.proofs.ir_laws.facts.Truth.{itself}
+use Rattle.pass_proofs.specs.ir_model.declared.instr.Instr.{Instr}
+use Rattle.pass_proofs.specs.ir_model.declared.module.Block.{Block}
+use Rattle.pass_proofs.specs.ir_model.declared.module.Function.{Function}
 use Rattle.pass_frames_proof.proofs.layers.Grown.{grown_append, grown_one, passed_append}
 use Rattle.pass_frames_proof.specs.Layers.{IsMadeBy, Layer, becomes, ended, grown, passed, place_in, state_at, up_to, woven}
-use Rattle.run_laws.specs.access.Lines.{StandAt}
-use Rattle.run_step.specs.Step.{AtInstr, AtTerm, fetch, fetch_in, fetch_or}
+use Rattle.pass_proofs.specs.run_laws.access.Lines.{StandAt}
+use Rattle.pass_proofs.specs.run_step.Step.{AtInstr, AtTerm, fetch, fetch_in, fetch_or}
 
 -- ---- lists
 

@@ -1,12 +1,12 @@
 -- Windows that a branch leaves in both runs are one to one.
 use Rattle.std.proofs.Common.{◌≡◌, ◌+◌, ◌==◌, ◌∷◌, ◌∙◌, [], if◌then◌else◌, Bool, List, ap, arith, false, inl, inr, length, refl, subst, sym, true, ℕ, ⊎_elim}
 use Rattle.std.specs.Prelude.{filter}
-use Rattle.flow_solver.specs.Paths.{IsListed}
-use Rattle.ir_model.specs.Names.{function_at}
-use Rattle.ir_paths.specs.Paths.{entry_point}
-use Rattle.ir_paths.specs.Windows.{leaves}
-use Rattle.ir_paths.specs.declared.point.Point.{Point}
-use Rattle.ir_paths.specs.declared.point.Window.{Window}
+use Rattle.pass_proofs.specs.flow_solver.Paths.{IsListed}
+use Rattle.pass_proofs.specs.ir_model.Names.{function_at}
+use Rattle.pass_proofs.specs.ir_paths.Paths.{entry_point}
+use Rattle.pass_proofs.specs.ir_paths.Windows.{leaves}
+use Rattle.pass_proofs.specs.ir_paths.declared.point.Point.{Point}
+use Rattle.pass_proofs.specs.ir_paths.declared.point.Window.{Window}
 use Rattle.pass_frames_proof.proofs.from_edges.Places.{return_there}
 use Rattle.pass_frames_proof.proofs.jumping.Places.{ends_there}
 use Rattle.pass_frames_proof.proofs.leaving.Branches.{none_left}
@@ -19,11 +19,11 @@ use Rattle.pass_frames_proof.specs.Passes.{block_at}
 use Rattle.pass_frames_proof.specs.Related.{AreBuiltOf, Building, point_of}
 use Rattle.pass_frames_proof.specs.Stepping.{AreGiven}
 use Rattle.pass_renewed_proof.specs.Renewed.{RenewedGiven}
-use Rattle.run_laws.specs.changed.Changed.{Each}
-use Rattle.run_source.specs.Source.{left_windows}
-use Rattle.run_source.specs.State.{function_of, own_facts, point_of as state_point}
-use Rattle.run_source.specs.declared.state.State.{State}
-use Rattle.run_source_tables.specs.Given.{facts_at}
+use Rattle.pass_proofs.specs.run_laws.changed.Changed.{Each}
+use Rattle.pass_proofs.specs.run_source.Source.{left_windows}
+use Rattle.pass_proofs.specs.run_source.State.{function_of, own_facts, point_of as state_point}
+use Rattle.pass_proofs.specs.run_source.declared.state.State.{State}
+use Rattle.pass_proofs.specs.run_source_tables.Given.{facts_at}
 
 -- ---- lists of windows
 

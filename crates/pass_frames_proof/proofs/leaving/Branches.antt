@@ -3,13 +3,13 @@ use Rattle.std.proofs.Common.{◌≡◌, ◌&&◌, ◌==◌, ◌∷◌, ◌∙�
 use Rattle.std.proofs.lemmas.Bool.{and_parts}
 use Rattle.std.specs.List.{list_all}
 use Rattle.std.specs.Prelude.{option_and_then, option_map, slice_get, slice_set}
-use Rattle.flow_solver.specs.Paths.{IsListed}
-use Rattle.ir_base.specs.declared.cause.Cause.{Cause}
-use Rattle.ir_laws.proofs.paths.counted.PartFacts.{all_listed}
-use Rattle.ir_paths.proofs.Search.{same_point-itself, same_point-same}
-use Rattle.ir_paths.specs.Paths.{same_point}
-use Rattle.ir_paths.specs.declared.point.Point.{Point}
-use Rattle.ir_paths.specs.declared.point.Window.{Window}
+use Rattle.pass_proofs.specs.flow_solver.Paths.{IsListed}
+use Rattle.pass_proofs.specs.ir_base.declared.cause.Cause.{Cause}
+use Rattle.pass_proofs.proofs.ir_laws.paths.counted.PartFacts.{all_listed}
+use Rattle.pass_proofs.proofs.ir_paths.Search.{same_point-itself, same_point-same}
+use Rattle.pass_proofs.specs.ir_paths.Paths.{same_point}
+use Rattle.pass_proofs.specs.ir_paths.declared.point.Point.{Point}
+use Rattle.pass_proofs.specs.ir_paths.declared.point.Window.{Window}
 use Rattle.pass_frames_proof.proofs.asking.Found.{own_found}
 use Rattle.pass_frames_proof.proofs.leaving.Left.{left_by, related_left}
 use Rattle.pass_frames_proof.proofs.moved.Instances.{one_related, set_same}
@@ -20,21 +20,21 @@ use Rattle.pass_frames_proof.specs.Places.{own_place}
 use Rattle.pass_frames_proof.specs.Related.{AreBelow, AreBuiltOf, AreInstances, Building, IsStatus, is_coroutine, moved_save, own_place_of}
 use Rattle.pass_renewed_proof.specs.Renewed.{RenewedGiven}
 use Rattle.run_access_worked.proofs.Ended.{rights_same}
-use Rattle.run_framed.specs.Framed.{frame_rights}
-use Rattle.run_laws.proofs.memory.Written.{same_some}
-use Rattle.run_laws.specs.changed.Changed.{Each}
-use Rattle.run_laws.specs.memory.Pointers.{Home}
-use Rattle.run_source.specs.Source.{branch_leaving, enter_block, go_to, is_save, leave, left_windows, may_leave}
-use Rattle.run_source.specs.State.{is_suspended, numbered, own_instance, with_left, with_status}
-use Rattle.run_source.specs.declared.state.Activation.{Activation}
-use Rattle.run_source.specs.declared.state.Instance.{Instance}
-use Rattle.run_source.specs.declared.state.Saved.{Saved}
-use Rattle.run_source.specs.declared.state.State.{State}
-use Rattle.run_source.specs.declared.state.Status.{Status}
-use Rattle.run_source_tables.specs.Given.{Given}
-use Rattle.run_step.specs.Results.{and_then, found, ok_if}
-use Rattle.run_step.specs.Values.{Env}
-use Rattle.run_step.specs.declared.world.World.{World}
+use Rattle.pass_proofs.specs.run_framed.Framed.{frame_rights}
+use Rattle.pass_proofs.proofs.run_laws.memory.Written.{same_some}
+use Rattle.pass_proofs.specs.run_laws.changed.Changed.{Each}
+use Rattle.pass_proofs.specs.run_laws.memory.Pointers.{Home}
+use Rattle.pass_proofs.specs.run_source.Source.{branch_leaving, enter_block, go_to, is_save, leave, left_windows, may_leave}
+use Rattle.pass_proofs.specs.run_source.State.{is_suspended, numbered, own_instance, with_left, with_status}
+use Rattle.pass_proofs.specs.run_source.declared.state.Activation.{Activation}
+use Rattle.pass_proofs.specs.run_source.declared.state.Instance.{Instance}
+use Rattle.pass_proofs.specs.run_source.declared.state.Saved.{Saved}
+use Rattle.pass_proofs.specs.run_source.declared.state.State.{State}
+use Rattle.pass_proofs.specs.run_source.declared.state.Status.{Status}
+use Rattle.pass_proofs.specs.run_source_tables.Given.{Given}
+use Rattle.pass_proofs.specs.run_step.Results.{and_then, found, ok_if}
+use Rattle.pass_proofs.specs.run_step.Values.{Env}
+use Rattle.pass_proofs.specs.run_step.declared.world.World.{World}
 
 -- a state in which some instances are others, and the activation on top has left or not
 abbrev pub changed_by : State → List Instance → Bool → State

@@ -1,24 +1,24 @@
 -- Where the operands of a getelementptr stand for the source's it goes as far, if the source's distance isn't poison.
 use Rattle.std.proofs.Common.{◌≡◌, ◌⊎◌, inl, inr, ⊎_elim, ℕ, true, List, ◌∷◌, refl, sym, ap, ◌∙◌, subst}
 use Rattle.std.specs.Prelude.{None, Option, Some}
-use Rattle.ir_model.specs.Layout.{size_of, unnamed}
-use Rattle.ir_model.specs.Ty.{Ty, array, structure}
-use Rattle.ir_model.specs.declared.instr.Instr.{Instr}
-use Rattle.ir_model.specs.declared.module.Module.{Module}
-use Rattle.ir_model.specs.declared.operand.Arg.{Arg}
-use Rattle.ir_model.specs.declared.operand.Operand.{Operand}
-use Rattle.pass_distances.specs.Ways.{inner_type}
+use Rattle.pass_proofs.specs.ir_model.Layout.{size_of, unnamed}
+use Rattle.pass_proofs.specs.ir_model.Ty.{Ty, array, structure}
+use Rattle.pass_proofs.specs.ir_model.declared.instr.Instr.{Instr}
+use Rattle.pass_proofs.specs.ir_model.declared.module.Module.{Module}
+use Rattle.pass_proofs.specs.ir_model.declared.operand.Arg.{Arg}
+use Rattle.pass_proofs.specs.ir_model.declared.operand.Operand.{Operand}
+use Rattle.pass_proofs.specs.pass_distances.Ways.{inner_type}
 use Rattle.pass_frames_proof.proofs.distances.Indices.{index_stands, itself, none_same}
 use Rattle.pass_frames_proof.proofs.distances.Ways.{IsSamePart, field_index, inner_none, plus_none, same_part}
 use Rattle.pass_frames_proof.specs.Related.{Building}
 use Rattle.pass_frames_proof.specs.Stepping.{GoesAsFar, HasFieldIndices}
 use Rattle.pass_frames_proof.specs.Distances.{AreFields, AreFieldsInside, IsField}
-use Rattle.run_laws.specs.embedded.Related.{IsSameDistance}
-use Rattle.run_laws.specs.memory.Pointers.{Home, IsValue}
-use Rattle.run_laws.specs.transfer.Shapes.{Alloca, ArgStays, Binary, Call, Cast, Empty, Gep, Icmp, InstrStays, Load, Pair, Pairwise, Select, Store}
-use Rattle.run_laws.specs.transfer.Transfer.{AreSameDistances, StandsFor}
-use Rattle.run_step.specs.Step.{AtInstr, Context}
-use Rattle.run_step.specs.Values.{Env, arg_value, capped, distance, index_of, indices_of, inner_distance, number_at, operand_value, part_at, plus, times}
+use Rattle.pass_proofs.specs.run_laws.embedded.Related.{IsSameDistance}
+use Rattle.pass_proofs.specs.run_laws.memory.Pointers.{Home, IsValue}
+use Rattle.pass_proofs.specs.run_laws.transfer.Shapes.{Alloca, ArgStays, Binary, Call, Cast, Empty, Gep, Icmp, InstrStays, Load, Pair, Pairwise, Select, Store}
+use Rattle.pass_proofs.specs.run_laws.transfer.Transfer.{AreSameDistances, StandsFor}
+use Rattle.pass_proofs.specs.run_step.Step.{AtInstr, Context}
+use Rattle.pass_proofs.specs.run_step.Values.{Env, arg_value, capped, distance, index_of, indices_of, inner_distance, number_at, operand_value, part_at, plus, times}
 
 module _ (homes : List Home) (m k : Module) (env other : Env) where
   abbrev R : Operand → Operand → Type 0

@@ -1,14 +1,14 @@
 -- Operands are fetched by one table and then by another, one behind the other.
 use Rattle.std.proofs.Common.{◌≡◌, ℕ, ◌<◌, ◌≤◌, Bool, true, false, List, [], ◌∷◌, length, refl, sym, ap, ◌∙◌, subst, arith}
 use Rattle.std.specs.Prelude.{None, Option, Some}
-use Rattle.ir_model.specs.Ty.{Ty}
-use Rattle.ir_model.specs.declared.instr.Instr.{Instr}
-use Rattle.ir_model.specs.declared.operand.Operand.{Operand}
-use Rattle.ir_parts.specs.Contents.{instr_operands}
-use Rattle.pass_fetch.specs.Fetching.{fetch_into, fetch_of, fetched_operand, fetches_of_all, next_after, next_after_all, next_by, operand_by}
-use Rattle.pass_fetch.specs.Instrs.{with_fetched}
-use Rattle.pass_fetch.specs.declared.fetch.Fetch.{Fetch}
-use Rattle.ir_laws.proofs.facts.Members.{each_joined}
+use Rattle.pass_proofs.specs.ir_model.Ty.{Ty}
+use Rattle.pass_proofs.specs.ir_model.declared.instr.Instr.{Instr}
+use Rattle.pass_proofs.specs.ir_model.declared.operand.Operand.{Operand}
+use Rattle.pass_proofs.specs.ir_parts.Contents.{instr_operands}
+use Rattle.pass_proofs.specs.pass_fetch.Fetching.{fetch_into, fetch_of, fetched_operand, fetches_of_all, next_after, next_after_all, next_by, operand_by}
+use Rattle.pass_proofs.specs.pass_fetch.Instrs.{with_fetched}
+use Rattle.pass_proofs.specs.pass_fetch.declared.fetch.Fetch.{Fetch}
+use Rattle.pass_proofs.proofs.ir_laws.facts.Members.{each_joined}
 use Rattle.pass_frames_proof.proofs.code.Left.{all_by}
 use Rattle.pass_frames_proof.proofs.distances.Sums.{more_below, sets_on, value_stays}
 use Rattle.pass_frames_proof.proofs.fetched.Runs.{fetched, given_stays}
@@ -18,14 +18,14 @@ use Rattle.pass_frames_proof.specs.Fetched.{AreFetched, AreSeenAs, CanFetch, IsS
 use Rattle.pass_frames_proof.specs.Led.{IsLed, IsStill, IsTwiceFor, MayBeLed, fetched_all, seen_twice, twice_by, twice_front}
 use Rattle.pass_proofs.proofs.fetch.rules.Puts.{fetch_rises}
 use Rattle.pass_proofs.specs.fetch.rules.Fetches.{base_of}
-use Rattle.run_laws.proofs.access.Lines.{runs_append}
-use Rattle.run_laws.specs.changed.Changed.{Each}
-use Rattle.run_laws.specs.memory.Pointers.{Home, IsValue}
-use Rattle.run_laws.specs.transfer.Shapes.{InstrStays}
-use Rattle.run_laws.specs.transfer.Transfer.{StandsFor, looks_at}
-use Rattle.run_memory.specs.declared.pointer.Value.{Value}
-use Rattle.run_step.specs.Step.{AtInstr, Context, Work, value_at}
-use Rattle.run_step.specs.Values.{operand_value}
+use Rattle.pass_proofs.proofs.run_laws.access.Lines.{runs_append}
+use Rattle.pass_proofs.specs.run_laws.changed.Changed.{Each}
+use Rattle.pass_proofs.specs.run_laws.memory.Pointers.{Home, IsValue}
+use Rattle.pass_proofs.specs.run_laws.transfer.Shapes.{InstrStays}
+use Rattle.pass_proofs.specs.run_laws.transfer.Transfer.{StandsFor, looks_at}
+use Rattle.pass_proofs.specs.run_memory.declared.pointer.Value.{Value}
+use Rattle.pass_proofs.specs.run_step.Step.{AtInstr, Context, Work, value_at}
+use Rattle.pass_proofs.specs.run_step.Values.{operand_value}
 
 -- what fetches leaves the world as it is
 fetch_still : (n : ℕ) (f : Fetch) → IsStill (fetch_into n f)

@@ -2,17 +2,17 @@
 use Rattle.std.proofs.Common.{◌≡◌, inl, inr, ⊎_elim, ℕ, zero, suc, ◌<◌, ◌≤◌, Bool, true, false, List, [], ◌∷◌, length, refl, sym, ap, ◌∙◌, subst, arith}
 use Rattle.std.specs.List.{Contains}
 use Rattle.std.specs.Prelude.{Err, None, Ok, Option, Result, Some, option_map, slice_get, if◌then◌else◌}
-use Rattle.ir_base.specs.declared.cause.Cause.{Cause}
-use Rattle.ir_laws.proofs.facts.Members.{each_turns}
-use Rattle.ir_laws.proofs.facts.Truth.{is_number}
-use Rattle.ir_model.specs.Ty.{int, ptr}
-use Rattle.ir_model.specs.declared.instr.Instr.{Instr}
-use Rattle.ir_model.specs.declared.operand.Callee.{Callee}
-use Rattle.ir_model.specs.declared.operand.Operand.{Operand}
-use Rattle.ir_parts.specs.Contents.{result_of}
-use Rattle.pass_cells.specs.Kept.{entry}
-use Rattle.pass_cells.specs.Written.{stored, stored_at, stored_one, stored_result}
-use Rattle.pass_cells.specs.declared.plan.KeptValue.{KeptValue}
+use Rattle.pass_proofs.specs.ir_base.declared.cause.Cause.{Cause}
+use Rattle.pass_proofs.proofs.ir_laws.facts.Members.{each_turns}
+use Rattle.pass_proofs.proofs.ir_laws.facts.Truth.{is_number}
+use Rattle.pass_proofs.specs.ir_model.Ty.{int, ptr}
+use Rattle.pass_proofs.specs.ir_model.declared.instr.Instr.{Instr}
+use Rattle.pass_proofs.specs.ir_model.declared.operand.Callee.{Callee}
+use Rattle.pass_proofs.specs.ir_model.declared.operand.Operand.{Operand}
+use Rattle.pass_proofs.specs.ir_parts.Contents.{result_of}
+use Rattle.pass_proofs.specs.pass_cells.Kept.{entry}
+use Rattle.pass_proofs.specs.pass_cells.Written.{stored, stored_at, stored_one, stored_result}
+use Rattle.pass_proofs.specs.pass_cells.declared.plan.KeptValue.{KeptValue}
 use Rattle.pass_frames_proof.proofs.led.Through.{one_through, through_joined}
 use Rattle.pass_frames_proof.proofs.lines.Cells.{cell_stays}
 use Rattle.pass_frames_proof.proofs.lines.Filled.{over_none, worlds_stand}
@@ -24,25 +24,25 @@ use Rattle.pass_frames_proof.specs.Led.{IsDoneLed, IsNotSet, IsOnWay, IsStill, L
 use Rattle.pass_frames_proof.specs.Lines.{AreAway, AreInCells, Fills, IsCellOf, LeavesCellsBut, NoneFilled, OneFilled, RunsOver, at_work}
 use Rattle.pass_frames_proof.specs.Places.{Framing, edged, named, plan}
 use Rattle.pass_frames_proof.specs.Related.{AreCellsRight, IsCell, IsDistanceOf}
-use Rattle.run_laws.proofs.transfer.Over.{step_over}
-use Rattle.run_laws.proofs.transfer.Sets.{set_elsewhere}
-use Rattle.run_laws.specs.access.Accessed.{Span}
-use Rattle.run_laws.specs.access.Lines.{Runs, refilled_at}
-use Rattle.run_laws.specs.changed.Changed.{Each, callee_at}
-use Rattle.run_laws.specs.embedded.Related.{HasNoSlot}
-use Rattle.run_laws.specs.memory.Pointers.{Home, IsValue}
-use Rattle.run_laws.specs.memory.Standing.{AreByteRights, IsAway}
-use Rattle.run_laws.specs.transfer.Muted.{muted}
-use Rattle.run_laws.specs.transfer.Shapes.{Alloca, Binary, Call, CalleeStays, Cast, Direct, Gep, Icmp, Indirect, InstrStays, Load, Select, Store}
-use Rattle.run_laws.specs.transfer.Transfer.{AreJoined, AreOver, AreSet, GoesOver, IsNamedAlike, IsTransferred, StandsFor, args_at, given_at, looks_at, muted_world, same_maps}
-use Rattle.run_memory.specs.Memory.{Rights, is_live, load, with_block, with_bytes}
-use Rattle.run_memory.specs.declared.block.Byte.{Byte}
-use Rattle.run_memory.specs.declared.block.MemoryBlock.{MemoryBlock}
-use Rattle.run_memory.specs.declared.pointer.Value.{Value}
-use Rattle.run_source.specs.declared.state.Activation.{Activation}
-use Rattle.run_step.specs.Step.{Action, AtInstr, Context, Done, Stuck, Work, done, instr_action, is_alignment, set_value, value_at}
-use Rattle.run_step.specs.Values.{Env, access_of, address, distance, element, indices_of, value_in}
-use Rattle.run_step.specs.declared.world.World.{World}
+use Rattle.pass_proofs.proofs.run_laws.transfer.Over.{step_over}
+use Rattle.pass_proofs.proofs.run_laws.transfer.Sets.{set_elsewhere}
+use Rattle.pass_proofs.specs.run_laws.access.Accessed.{Span}
+use Rattle.pass_proofs.specs.run_laws.access.Lines.{Runs, refilled_at}
+use Rattle.pass_proofs.specs.run_laws.changed.Changed.{Each, callee_at}
+use Rattle.pass_proofs.specs.run_laws.embedded.Related.{HasNoSlot}
+use Rattle.pass_proofs.specs.run_laws.memory.Pointers.{Home, IsValue}
+use Rattle.pass_proofs.specs.run_laws.memory.Standing.{AreByteRights, IsAway}
+use Rattle.pass_proofs.specs.run_laws.transfer.Muted.{muted}
+use Rattle.pass_proofs.specs.run_laws.transfer.Shapes.{Alloca, Binary, Call, CalleeStays, Cast, Direct, Gep, Icmp, Indirect, InstrStays, Load, Select, Store}
+use Rattle.pass_proofs.specs.run_laws.transfer.Transfer.{AreJoined, AreOver, AreSet, GoesOver, IsNamedAlike, IsTransferred, StandsFor, args_at, given_at, looks_at, muted_world, same_maps}
+use Rattle.pass_proofs.specs.run_memory.Memory.{Rights, is_live, load, with_block, with_bytes}
+use Rattle.pass_proofs.specs.run_memory.declared.block.Byte.{Byte}
+use Rattle.pass_proofs.specs.run_memory.declared.block.MemoryBlock.{MemoryBlock}
+use Rattle.pass_proofs.specs.run_memory.declared.pointer.Value.{Value}
+use Rattle.pass_proofs.specs.run_source.declared.state.Activation.{Activation}
+use Rattle.pass_proofs.specs.run_step.Step.{Action, AtInstr, Context, Done, Stuck, Work, done, instr_action, is_alignment, set_value, value_at}
+use Rattle.pass_proofs.specs.run_step.Values.{Env, access_of, address, distance, element, indices_of, value_in}
+use Rattle.pass_proofs.specs.run_step.declared.world.World.{World}
 
 -- ---- what leaves the world as it is
 

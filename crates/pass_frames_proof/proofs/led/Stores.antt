@@ -1,12 +1,12 @@
 -- A store behind a line that fetches its operands.
 use Rattle.std.proofs.Common.{◌≡◌, inr, ℕ, ◌<◌, ◌≤◌, Bool, true, List, [], ◌∷◌, ◌++◌, length, refl, sym, ap, ◌∙◌, subst, arith}
 use Rattle.std.specs.Prelude.{None}
-use Rattle.ir_model.specs.Ty.{int, ptr}
-use Rattle.ir_model.specs.declared.instr.Instr.{Instr}
-use Rattle.ir_model.specs.declared.operand.Arg.{Arg}
-use Rattle.ir_model.specs.declared.operand.Operand.{Operand}
-use Rattle.pass_fetch.specs.Fetching.{value_bytes}
-use Rattle.ir_model.specs.Ty.{Ty}
+use Rattle.pass_proofs.specs.ir_model.Ty.{int, ptr}
+use Rattle.pass_proofs.specs.ir_model.declared.instr.Instr.{Instr}
+use Rattle.pass_proofs.specs.ir_model.declared.operand.Arg.{Arg}
+use Rattle.pass_proofs.specs.ir_model.declared.operand.Operand.{Operand}
+use Rattle.pass_proofs.specs.pass_fetch.Fetching.{value_bytes}
+use Rattle.pass_proofs.specs.ir_model.Ty.{Ty}
 use Rattle.pass_frames_proof.proofs.led.Steps.{still_others, still_through}
 use Rattle.pass_frames_proof.proofs.led.Through.{through_joined}
 use Rattle.pass_frames_proof.proofs.lines.Names.{distance_of}
@@ -17,26 +17,26 @@ use Rattle.pass_frames_proof.specs.Led.{IsDoneLed, MayStepLed, RunsThrough, Stor
 use Rattle.pass_frames_proof.specs.Lines.{IsCellOf, at_work}
 use Rattle.pass_frames_proof.specs.Places.{Framing, named}
 use Rattle.pass_frames_proof.specs.Related.{AreCellsRight, IsCell, IsDistanceOf}
-use Rattle.run_laws.proofs.access.Done.{free_held}
-use Rattle.run_laws.proofs.access.Touched.{free_untouched}
-use Rattle.run_laws.proofs.embedded.Refills.{step_only}
-use Rattle.run_laws.proofs.embedded.Values.{address_kept}
-use Rattle.run_laws.proofs.transfer.Muted.{shown_address, store_muted}
-use Rattle.run_laws.proofs.transfer.Over.{step_over}
-use Rattle.run_laws.specs.access.Changed.{IsDefined, KeepsFree, LeavesFree}
-use Rattle.run_laws.specs.access.Touched.{AreTouches, WritesAt, touch_of}
-use Rattle.run_laws.specs.embedded.Refilled.{AreRefilled, OnlyRefills}
-use Rattle.run_laws.specs.memory.Pointers.{Home, IsValue}
-use Rattle.run_laws.specs.memory.Standing.{AreByteRights}
-use Rattle.run_laws.specs.transfer.Muted.{muted, muted_work}
-use Rattle.run_laws.specs.transfer.Shapes.{InstrStays, Store}
-use Rattle.run_laws.specs.transfer.Transfer.{AreJoined, AreOver, AreSet, GoesOver, IsTransferred, StandsFor, same_maps}
-use Rattle.run_memory.specs.Memory.{access_bytes, store}
-use Rattle.run_memory.specs.declared.pointer.Value.{Value}
-use Rattle.run_source.specs.declared.state.Activation.{Activation}
-use Rattle.run_step.specs.Step.{Action, AtInstr, Context, Done, Work, action_of, instr_action, is_alignment, value_at}
-use Rattle.run_step.specs.Values.{access_of, address, arg_value, stored, value_in}
-use Rattle.run_step.specs.declared.world.World.{World}
+use Rattle.pass_proofs.proofs.run_laws.access.Done.{free_held}
+use Rattle.pass_proofs.proofs.run_laws.access.Touched.{free_untouched}
+use Rattle.pass_proofs.proofs.run_laws.embedded.Refills.{step_only}
+use Rattle.pass_proofs.proofs.run_laws.embedded.Values.{address_kept}
+use Rattle.pass_proofs.proofs.run_laws.transfer.Muted.{shown_address, store_muted}
+use Rattle.pass_proofs.proofs.run_laws.transfer.Over.{step_over}
+use Rattle.pass_proofs.specs.run_laws.access.Changed.{IsDefined, KeepsFree, LeavesFree}
+use Rattle.pass_proofs.specs.run_laws.access.Touched.{AreTouches, WritesAt, touch_of}
+use Rattle.pass_proofs.specs.run_laws.embedded.Refilled.{AreRefilled, OnlyRefills}
+use Rattle.pass_proofs.specs.run_laws.memory.Pointers.{Home, IsValue}
+use Rattle.pass_proofs.specs.run_laws.memory.Standing.{AreByteRights}
+use Rattle.pass_proofs.specs.run_laws.transfer.Muted.{muted, muted_work}
+use Rattle.pass_proofs.specs.run_laws.transfer.Shapes.{InstrStays, Store}
+use Rattle.pass_proofs.specs.run_laws.transfer.Transfer.{AreJoined, AreOver, AreSet, GoesOver, IsTransferred, StandsFor, same_maps}
+use Rattle.pass_proofs.specs.run_memory.Memory.{access_bytes, store}
+use Rattle.pass_proofs.specs.run_memory.declared.pointer.Value.{Value}
+use Rattle.pass_proofs.specs.run_source.declared.state.Activation.{Activation}
+use Rattle.pass_proofs.specs.run_step.Step.{Action, AtInstr, Context, Done, Work, action_of, instr_action, is_alignment, value_at}
+use Rattle.pass_proofs.specs.run_step.Values.{access_of, address, arg_value, stored, value_in}
+use Rattle.pass_proofs.specs.run_step.declared.world.World.{World}
 
 -- a store in the place of a store
 pub record IsStore (R : Operand → Operand → Type 0) (given : Arg) (p : Operand) (j : Instr) : Type 0 where

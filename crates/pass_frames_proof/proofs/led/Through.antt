@@ -1,10 +1,10 @@
 -- Lines of which something holds at each instruction.
 use Rattle.std.proofs.Common.{ℕ, zero, suc, ◌<◌, ◌≤◌, List, [], ◌∷◌, ◌++◌, length, refl, subst, arith}
 use Rattle.std.specs.Prelude.{take}
-use Rattle.ir_model.specs.declared.instr.Instr.{Instr}
+use Rattle.pass_proofs.specs.ir_model.declared.instr.Instr.{Instr}
 use Rattle.pass_frames_proof.specs.Led.{RunsThrough}
-use Rattle.run_laws.specs.access.Lines.{Runs}
-use Rattle.run_step.specs.Step.{Context, Work}
+use Rattle.pass_proofs.specs.run_laws.access.Lines.{Runs}
+use Rattle.pass_proofs.specs.run_step.Step.{Context, Work}
 
 module _ (c : Context) (P : Work → Type 0) where
   pub runs_of : (line : List Instr) (w x : Work) → RunsThrough c P line w x → Runs c line w x

@@ -1,17 +1,17 @@
 -- What is fetched by one table and then by another has the shape of what it was.
 use Rattle.std.proofs.Common.{◌≡◌, ℕ, Bool, List, [], ◌∷◌, ◌++◌, refl, ap}
 use Rattle.std.specs.Prelude.{None, Option, Some}
-use Rattle.ir_model.specs.declared.instr.Instr.{Instr}
-use Rattle.ir_model.specs.declared.operand.Arg.{Arg}
-use Rattle.ir_model.specs.declared.operand.Callee.{Callee}
-use Rattle.ir_model.specs.declared.operand.Operand.{Operand}
-use Rattle.ir_model.specs.Ty.{Ty}
-use Rattle.ir_parts.specs.Contents.{arg_operands, callee_operands, instr_operands}
-use Rattle.pass_fetch.specs.Fetching.{callee_by, fetch_of, fetched_arg, fetched_args, fetched_callee, fetched_operand, next_after, next_by, operand_by}
-use Rattle.pass_fetch.specs.Instrs.{with_fetched}
-use Rattle.pass_fetch.specs.declared.fetch.Fetch.{Fetch}
+use Rattle.pass_proofs.specs.ir_model.declared.instr.Instr.{Instr}
+use Rattle.pass_proofs.specs.ir_model.declared.operand.Arg.{Arg}
+use Rattle.pass_proofs.specs.ir_model.declared.operand.Callee.{Callee}
+use Rattle.pass_proofs.specs.ir_model.declared.operand.Operand.{Operand}
+use Rattle.pass_proofs.specs.ir_model.Ty.{Ty}
+use Rattle.pass_proofs.specs.ir_parts.Contents.{arg_operands, callee_operands, instr_operands}
+use Rattle.pass_proofs.specs.pass_fetch.Fetching.{callee_by, fetch_of, fetched_arg, fetched_args, fetched_callee, fetched_operand, next_after, next_by, operand_by}
+use Rattle.pass_proofs.specs.pass_fetch.Instrs.{with_fetched}
+use Rattle.pass_proofs.specs.pass_fetch.declared.fetch.Fetch.{Fetch}
 use Rattle.pass_frames_proof.specs.Led.{fetched_all}
-use Rattle.run_laws.specs.transfer.Shapes.{Alloca, ArgStays, Binary, Call, CalleeStays, Cast, Direct, Empty, Gep, Icmp, Indirect, InstrStays, Load, Pair, Pairwise, Select, Store}
+use Rattle.pass_proofs.specs.run_laws.transfer.Shapes.{Alloca, ArgStays, Binary, Call, CalleeStays, Cast, Direct, Empty, Gep, Icmp, Indirect, InstrStays, Load, Pair, Pairwise, Select, Store}
 
 -- ---- the operands of what is fetched
 

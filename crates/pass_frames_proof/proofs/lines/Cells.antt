@@ -2,33 +2,33 @@
 use Rattle.std.proofs.Common.{◌≡◌, inl, inr, ℕ, zero, suc, ◌<◌, true, List, [], ◌∷◌, length, refl, sym, ap, ◌∙◌, subst, arith}
 use Rattle.std.specs.List.{Contains}
 use Rattle.std.specs.Prelude.{get_or, map, ◌≢◌}
-use Rattle.flow_solver.specs.Paths.{IsListed}
-use Rattle.ir_laws.proofs.facts.Members.{each_turns}
-use Rattle.ir_laws.specs.paths.woven_rules.Pairs.{AreDifferent}
-use Rattle.ir_model.specs.Ty.{Ty, int, ptr}
-use Rattle.ir_model.specs.declared.instr.Instr.{Instr}
-use Rattle.ir_model.specs.declared.operand.Operand.{Operand}
-use Rattle.pass_fetch.specs.Fetching.{value_bytes}
+use Rattle.pass_proofs.specs.flow_solver.Paths.{IsListed}
+use Rattle.pass_proofs.proofs.ir_laws.facts.Members.{each_turns}
+use Rattle.pass_proofs.specs.ir_laws.paths.woven_rules.Pairs.{AreDifferent}
+use Rattle.pass_proofs.specs.ir_model.Ty.{Ty, int, ptr}
+use Rattle.pass_proofs.specs.ir_model.declared.instr.Instr.{Instr}
+use Rattle.pass_proofs.specs.ir_model.declared.operand.Operand.{Operand}
+use Rattle.pass_proofs.specs.pass_fetch.Fetching.{value_bytes}
 use Rattle.pass_frames_proof.proofs.lines.Filled.{elsewhere_apart, others_stay}
 use Rattle.pass_frames_proof.specs.Lines.{AreElsewhere, AreInBlock, Fills, HasOwnBlocks, IsKeptType, LoadsCell, NoneFilled, OneFilled, RunsOver, StoresCell, at_work}
 use Rattle.pass_frames_proof.specs.Related.{IsCell}
-use Rattle.rule_laws.proofs.rules.counted.Types.{is_cell_type, width_cases}
-use Rattle.run_laws.proofs.access.Done.{load_done, store_done}
-use Rattle.run_laws.proofs.access.Loaded.{stored_back}
-use Rattle.run_laws.proofs.access.Ranges.{write_held}
-use Rattle.run_laws.specs.access.Accessed.{Span}
-use Rattle.run_laws.specs.access.Lines.{refilled_at}
-use Rattle.run_laws.specs.changed.Changed.{Each}
-use Rattle.run_laws.specs.memory.Standing.{AreByteRights}
-use Rattle.run_memory.proofs.Digits.{length-encode}
-use Rattle.run_memory.specs.Memory.{Rights, access_bytes, decode, encode}
-use Rattle.run_memory.specs.declared.block.Byte.{Byte}
-use Rattle.run_memory.specs.declared.block.MemoryBlock.{MemoryBlock}
-use Rattle.run_memory.specs.declared.pointer.Value.{Value}
-use Rattle.run_source.specs.declared.state.Activation.{Activation}
-use Rattle.run_step.specs.Step.{Context, Work, set_memory, value_at}
-use Rattle.run_step.specs.Values.{Env, access_of, stored, value_in}
-use Rattle.run_step.specs.declared.world.Slot.{Slot}
+use Rattle.pass_proofs.proofs.rule_laws.rules.counted.Types.{is_cell_type, width_cases}
+use Rattle.pass_proofs.proofs.run_laws.access.Done.{load_done, store_done}
+use Rattle.pass_proofs.proofs.run_laws.access.Loaded.{stored_back}
+use Rattle.pass_proofs.proofs.run_laws.access.Ranges.{write_held}
+use Rattle.pass_proofs.specs.run_laws.access.Accessed.{Span}
+use Rattle.pass_proofs.specs.run_laws.access.Lines.{refilled_at}
+use Rattle.pass_proofs.specs.run_laws.changed.Changed.{Each}
+use Rattle.pass_proofs.specs.run_laws.memory.Standing.{AreByteRights}
+use Rattle.pass_proofs.proofs.run_memory.Digits.{length-encode}
+use Rattle.pass_proofs.specs.run_memory.Memory.{Rights, access_bytes, decode, encode}
+use Rattle.pass_proofs.specs.run_memory.declared.block.Byte.{Byte}
+use Rattle.pass_proofs.specs.run_memory.declared.block.MemoryBlock.{MemoryBlock}
+use Rattle.pass_proofs.specs.run_memory.declared.pointer.Value.{Value}
+use Rattle.pass_proofs.specs.run_source.declared.state.Activation.{Activation}
+use Rattle.pass_proofs.specs.run_step.Step.{Context, Work, set_memory, value_at}
+use Rattle.pass_proofs.specs.run_step.Values.{Env, access_of, stored, value_in}
+use Rattle.pass_proofs.specs.run_step.declared.world.Slot.{Slot}
 
 -- ---- types of what is kept
 

@@ -1,24 +1,24 @@
 -- Ranges that are filled, and lines behind one another.
 use Rattle.std.proofs.Common.{◌≡◌, inl, ℕ, zero, suc, ◌≤◌, List, [], ◌∷◌, ◌++◌, length, refl, sym, ap, ◌∙◌, subst, arith}
 use Rattle.std.specs.Prelude.{None, Option, Some, slice_get, ◌≢◌}
-use Rattle.ir_laws.proofs.facts.Members.{each_turns}
-use Rattle.ir_model.specs.declared.instr.Instr.{Instr}
+use Rattle.pass_proofs.proofs.ir_laws.facts.Members.{each_turns}
+use Rattle.pass_proofs.specs.ir_model.declared.instr.Instr.{Instr}
 use Rattle.pass_frames_proof.specs.Distances.{SetsFrom}
 use Rattle.pass_frames_proof.specs.Lines.{AreAway, AreElsewhere, Fills, LiesApart, NoneFilled, OneFilled, RunsOver, with_memory}
-use Rattle.run_laws.proofs.access.Done.{other_held, write_away}
-use Rattle.run_laws.proofs.access.Lines.{runs_append}
-use Rattle.run_laws.proofs.embedded.Memories.{bounds_kept, nulls_kept, same_refills}
-use Rattle.run_laws.specs.access.Accessed.{Span}
-use Rattle.run_laws.specs.access.Lines.{AreDisjoint, Holds, Runs, refilled_at}
-use Rattle.run_laws.specs.embedded.Refilled.{AreRefilled, IsRefilled}
-use Rattle.run_laws.specs.embedded.Related.{AreWorlds}
-use Rattle.run_laws.specs.memory.Pointers.{Home}
-use Rattle.run_laws.specs.memory.Standing.{AreByteRights, Embeds, IsAway}
-use Rattle.run_memory.specs.Memory.{Rights, with_block, with_bytes}
-use Rattle.run_memory.specs.declared.block.Byte.{Byte}
-use Rattle.run_memory.specs.declared.block.MemoryBlock.{MemoryBlock}
-use Rattle.run_step.specs.Step.{Context, Work}
-use Rattle.run_step.specs.declared.world.World.{World}
+use Rattle.pass_proofs.proofs.run_laws.access.Done.{other_held, write_away}
+use Rattle.pass_proofs.proofs.run_laws.access.Lines.{runs_append}
+use Rattle.pass_proofs.proofs.run_laws.embedded.Memories.{bounds_kept, nulls_kept, same_refills}
+use Rattle.pass_proofs.specs.run_laws.access.Accessed.{Span}
+use Rattle.pass_proofs.specs.run_laws.access.Lines.{AreDisjoint, Holds, Runs, refilled_at}
+use Rattle.pass_proofs.specs.run_laws.embedded.Refilled.{AreRefilled, IsRefilled}
+use Rattle.pass_proofs.specs.run_laws.embedded.Related.{AreWorlds}
+use Rattle.pass_proofs.specs.run_laws.memory.Pointers.{Home}
+use Rattle.pass_proofs.specs.run_laws.memory.Standing.{AreByteRights, Embeds, IsAway}
+use Rattle.pass_proofs.specs.run_memory.Memory.{Rights, with_block, with_bytes}
+use Rattle.pass_proofs.specs.run_memory.declared.block.Byte.{Byte}
+use Rattle.pass_proofs.specs.run_memory.declared.block.MemoryBlock.{MemoryBlock}
+use Rattle.pass_proofs.specs.run_step.Step.{Context, Work}
+use Rattle.pass_proofs.specs.run_step.declared.world.World.{World}
 
 -- ---- what holds elsewhere stays
 

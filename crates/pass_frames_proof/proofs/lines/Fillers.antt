@@ -1,18 +1,18 @@
 -- The cells from which fields are filled, and the code that fills them.
-use Rattle.ir_model.specs.Ty.{Ty, int}
-use Rattle.ir_model.specs.declared.instr.Instr.{Instr}
-use Rattle.ir_model.specs.declared.operand.Operand.{Operand}
-use Rattle.pass_addresses.specs.Placing.{lies_outside, slot_fetches}
-use Rattle.pass_cells.specs.Kept.{entry}
-use Rattle.pass_cells.specs.Kept.{value_types}
-use Rattle.pass_cells.specs.Links.{bases_of, marks_of, slots_of}
-use Rattle.pass_cells.specs.Links.{cell_name, field_name}
-use Rattle.pass_cells.specs.Moves.{load_from, saved_one, store_to}
-use Rattle.pass_cells.specs.Plan.{kept_value, type_at}
-use Rattle.pass_cells.specs.declared.plan.KeptValue.{KeptValue}
-use Rattle.pass_fetch.specs.Fetching.{address_behind, fetch_at, fetch_of, fetches_by, next_by, operand_by, value_bytes}
-use Rattle.pass_fetch.specs.declared.fetch.Fetch.{Fetch}
-use Rattle.pass_frames.specs.Framed.{begin_of}
+use Rattle.pass_proofs.specs.ir_model.Ty.{Ty, int}
+use Rattle.pass_proofs.specs.ir_model.declared.instr.Instr.{Instr}
+use Rattle.pass_proofs.specs.ir_model.declared.operand.Operand.{Operand}
+use Rattle.pass_proofs.specs.pass_addresses.Placing.{lies_outside, slot_fetches}
+use Rattle.pass_proofs.specs.pass_cells.Kept.{entry}
+use Rattle.pass_proofs.specs.pass_cells.Kept.{value_types}
+use Rattle.pass_proofs.specs.pass_cells.Links.{bases_of, marks_of, slots_of}
+use Rattle.pass_proofs.specs.pass_cells.Links.{cell_name, field_name}
+use Rattle.pass_proofs.specs.pass_cells.Moves.{load_from, saved_one, store_to}
+use Rattle.pass_proofs.specs.pass_cells.Plan.{kept_value, type_at}
+use Rattle.pass_proofs.specs.pass_cells.declared.plan.KeptValue.{KeptValue}
+use Rattle.pass_proofs.specs.pass_fetch.Fetching.{address_behind, fetch_at, fetch_of, fetches_by, next_by, operand_by, value_bytes}
+use Rattle.pass_proofs.specs.pass_fetch.declared.fetch.Fetch.{Fetch}
+use Rattle.pass_proofs.specs.pass_frames.Framed.{begin_of}
 use Rattle.pass_frames_proof.proofs.code.Idle.{only_idle}
 use Rattle.pass_frames_proof.proofs.code.Left.{Far, calm_addressed}
 use Rattle.pass_frames_proof.proofs.code.Names.{Count, F, First, IsLeft, Kept, cell_left, distance_left, far_left, keeping, local}
@@ -26,13 +26,13 @@ use Rattle.pass_frames_proof.specs.Places.{Framing, addressing_layer, edged, off
 use Rattle.pass_frames_proof.specs.Related.{AreCellsRight, IsCell, IsDistanceOf, IsKeptAs, IsKeptValue}
 use Rattle.pass_proofs.proofs.cells.rules.Links.{distance_there, marks_have}
 use Rattle.pass_proofs.proofs.cells.rules.Plans.{kept_of}
-use Rattle.run_ints.specs.declared.num.Num.{Num}
-use Rattle.run_laws.specs.memory.Pointers.{Home, IsValue}
-use Rattle.run_memory.specs.declared.pointer.Access.{Access}
-use Rattle.run_memory.specs.declared.pointer.Value.{Value}
-use Rattle.run_source.specs.declared.state.Activation.{Activation}
-use Rattle.run_step.specs.Step.{Context, Work}
-use Rattle.run_step.specs.Values.{Env, stored, value_in, value_of}
+use Rattle.pass_proofs.specs.run_ints.declared.num.Num.{Num}
+use Rattle.pass_proofs.specs.run_laws.memory.Pointers.{Home, IsValue}
+use Rattle.pass_proofs.specs.run_memory.declared.pointer.Access.{Access}
+use Rattle.pass_proofs.specs.run_memory.declared.pointer.Value.{Value}
+use Rattle.pass_proofs.specs.run_source.declared.state.Activation.{Activation}
+use Rattle.pass_proofs.specs.run_step.Step.{Context, Work}
+use Rattle.pass_proofs.specs.run_step.Values.{Env, stored, value_in, value_of}
 use Rattle.std.proofs.Common.{◌≡◌, inl, inr, ℕ, ◌+◌, ◌^◌, ◌<◌, ◌≤◌, Bool, List, [], ◌∷◌, ◌++◌, refl, sym, ap, ◌∙◌, subst}
 use Rattle.std.proofs.lemmas.Bool.{lt-ltb}
 use Rattle.std.proofs.lemmas.Option.{slice_get-map}

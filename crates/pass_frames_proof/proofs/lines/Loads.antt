@@ -1,11 +1,11 @@
 -- Loads of kept values give what stands for them.
 use Rattle.std.proofs.Common.{◌≡◌, ℕ, ◌+◌, ◌<◌, ◌≤◌, List, length, sym, ap, ◌∙◌, subst, arith}
-use Rattle.ir_laws.proofs.facts.Lists.{get_within}
-use Rattle.ir_model.specs.declared.operand.Operand.{Operand}
-use Rattle.pass_cells.specs.Cells.{fetches_of}
-use Rattle.pass_cells.specs.declared.plan.KeptValue.{KeptValue}
-use Rattle.pass_fetch.specs.Fetching.{value_bytes}
-use Rattle.pass_fetch.specs.declared.fetch.Fetch.{Fetch}
+use Rattle.pass_proofs.proofs.ir_laws.facts.Lists.{get_within}
+use Rattle.pass_proofs.specs.ir_model.declared.operand.Operand.{Operand}
+use Rattle.pass_proofs.specs.pass_cells.Cells.{fetches_of}
+use Rattle.pass_proofs.specs.pass_cells.declared.plan.KeptValue.{KeptValue}
+use Rattle.pass_proofs.specs.pass_fetch.Fetching.{value_bytes}
+use Rattle.pass_proofs.specs.pass_fetch.declared.fetch.Fetch.{Fetch}
 use Rattle.pass_frames_proof.proofs.code.Left.{Far, far_named, fetch_found}
 use Rattle.pass_frames_proof.proofs.code.Names.{Count, First, count_is, has_cells, numbered}
 use Rattle.pass_frames_proof.proofs.lines.Cells.{kept_type}
@@ -17,14 +17,14 @@ use Rattle.pass_frames_proof.specs.Loaded.{load_at, load_of, loaded_value, or_po
 use Rattle.pass_frames_proof.specs.Places.{Framing, named, plan}
 use Rattle.pass_frames_proof.specs.Related.{AreCellsRight, IsCell, IsKeptValue}
 use Rattle.pass_proofs.specs.fetch.rules.Fetches.{base_of}
-use Rattle.run_laws.proofs.access.Ranges.{load_held}
-use Rattle.run_laws.proofs.embedded.Values.{alignment_is}
-use Rattle.run_laws.specs.memory.Pointers.{Home, IsValue}
-use Rattle.run_memory.specs.Memory.{decode, load}
-use Rattle.run_memory.specs.declared.pointer.Value.{Value}
-use Rattle.run_source.specs.declared.state.Activation.{Activation}
-use Rattle.run_step.specs.Step.{Context, Work}
-use Rattle.run_step.specs.Values.{Env, access_of, address, value_in}
+use Rattle.pass_proofs.proofs.run_laws.access.Ranges.{load_held}
+use Rattle.pass_proofs.proofs.run_laws.embedded.Values.{alignment_is}
+use Rattle.pass_proofs.specs.run_laws.memory.Pointers.{Home, IsValue}
+use Rattle.pass_proofs.specs.run_memory.Memory.{decode, load}
+use Rattle.pass_proofs.specs.run_memory.declared.pointer.Value.{Value}
+use Rattle.pass_proofs.specs.run_source.declared.state.Activation.{Activation}
+use Rattle.pass_proofs.specs.run_step.Step.{Context, Work}
+use Rattle.pass_proofs.specs.run_step.Values.{Env, access_of, address, value_in}
 
 module _ (x : Framing) (is : IsFraming x) (homes : List Home) (c : Context) (env : Env) (a : Activation) (w : Work)
     (right : AreCellsRight x homes c.rights w.world.memory env (at_work a w)) where

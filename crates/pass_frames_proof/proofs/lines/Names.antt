@@ -1,10 +1,10 @@
 -- Names of cells lie below the new ones.
-use Rattle.ir_base.specs.declared.name.Name.{Name}
-use Rattle.ir_laws.proofs.facts.Lists.{get_within}
-use Rattle.pass_cells.specs.Kept.{entry}
-use Rattle.pass_cells.specs.Links.{bases_of, marks_of, slots_of}
-use Rattle.pass_cells.specs.declared.plan.KeptValue.{KeptValue}
-use Rattle.pass_fetch.specs.Blocks.{numbered_names}
+use Rattle.pass_proofs.specs.ir_base.declared.name.Name.{Name}
+use Rattle.pass_proofs.proofs.ir_laws.facts.Lists.{get_within}
+use Rattle.pass_proofs.specs.pass_cells.Kept.{entry}
+use Rattle.pass_proofs.specs.pass_cells.Links.{bases_of, marks_of, slots_of}
+use Rattle.pass_proofs.specs.pass_cells.declared.plan.KeptValue.{KeptValue}
+use Rattle.pass_proofs.specs.pass_fetch.Blocks.{numbered_names}
 use Rattle.pass_frames_proof.proofs.code.Names.{Count, F, First, Kept, count_is, keeping, local, numbered}
 use Rattle.pass_frames_proof.specs.Framings.{IsFraming}
 use Rattle.pass_frames_proof.specs.Lines.{IsCellOf}

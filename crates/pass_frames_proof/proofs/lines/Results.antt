@@ -2,14 +2,14 @@
 use Rattle.std.proofs.Common.{◌≡◌, ⊎_elim, ℕ, ◌+◌, ◌*◌, ◌<◌, ◌≤◌, Bool, List, [], ◌∷◌, length, refl, sym, ap, ◌∙◌, subst, arith}
 use Rattle.std.specs.List.{Contains}
 use Rattle.std.specs.Prelude.{None, Option, Some, slice_get, ◌≢◌}
-use Rattle.ir_laws.proofs.facts.Lists.{get_within}
-use Rattle.ir_laws.proofs.facts.Members.{each_turns}
-use Rattle.ir_laws.proofs.facts.Truth.{is_number}
-use Rattle.ir_model.specs.Ty.{Ty, int}
-use Rattle.pass_cells.specs.Kept.{entry}
-use Rattle.pass_cells.specs.Moves.{store_to}
-use Rattle.pass_cells.specs.Written.{stored as stored_by, stored_at, stored_one}
-use Rattle.pass_cells.specs.declared.plan.KeptValue.{KeptValue}
+use Rattle.pass_proofs.proofs.ir_laws.facts.Lists.{get_within}
+use Rattle.pass_proofs.proofs.ir_laws.facts.Members.{each_turns}
+use Rattle.pass_proofs.proofs.ir_laws.facts.Truth.{is_number}
+use Rattle.pass_proofs.specs.ir_model.Ty.{Ty, int}
+use Rattle.pass_proofs.specs.pass_cells.Kept.{entry}
+use Rattle.pass_proofs.specs.pass_cells.Moves.{store_to}
+use Rattle.pass_proofs.specs.pass_cells.Written.{stored as stored_by, stored_at, stored_one}
+use Rattle.pass_proofs.specs.pass_cells.declared.plan.KeptValue.{KeptValue}
 use Rattle.pass_frames_proof.proofs.code.Left.{Far, far_named}
 use Rattle.pass_frames_proof.proofs.code.Names.{Count, First, Kept, count_is, has_cells, keeping, local, numbered}
 use Rattle.pass_frames_proof.proofs.lines.Cells.{cell_has, cell_stores, kept_type, others_kept}
@@ -17,20 +17,20 @@ use Rattle.pass_frames_proof.proofs.lines.Filled.{over_none}
 use Rattle.pass_proofs.proofs.cells.rules.Fronts.{IsNumbered}
 use Rattle.pass_proofs.proofs.cells.rules.Links.{distance_there, marks_have}
 use Rattle.pass_proofs.proofs.frames.begin_order.Fields.{distance_far}
-use Rattle.pass_cells.specs.Links.{bases_of, links_from, marks_of, slots_of}
+use Rattle.pass_proofs.specs.pass_cells.Links.{bases_of, links_from, marks_of, slots_of}
 use Rattle.pass_frames_proof.specs.Framings.{IsFraming}
-use Rattle.ir_model.specs.declared.instr.Instr.{Instr}
+use Rattle.pass_proofs.specs.ir_model.declared.instr.Instr.{Instr}
 use Rattle.pass_frames_proof.specs.Lines.{DifferAt, HasOwnBlocks, IsCellOf, IsNoRoot, IsStorable, LeavesCellsBut, StoresCell, at_work}
 use Rattle.pass_frames_proof.specs.Places.{Framing, edged, named, plan}
 use Rattle.pass_frames_proof.specs.Related.{Anything, AreCellsRight, IsCell, IsDistanceOf, IsKeptValue, root_of}
-use Rattle.run_laws.specs.access.Accessed.{Span}
-use Rattle.run_laws.specs.memory.Pointers.{Home, IsValue, moved_pointer}
-use Rattle.run_laws.specs.memory.Standing.{AreByteRights}
-use Rattle.run_memory.specs.declared.pointer.Pointer.{Pointer}
-use Rattle.run_memory.specs.declared.pointer.Value.{Value}
-use Rattle.run_source.specs.declared.state.Activation.{Activation}
-use Rattle.run_step.specs.Step.{Context, Work}
-use Rattle.run_step.specs.Values.{Env, access_of, stored, value_in}
+use Rattle.pass_proofs.specs.run_laws.access.Accessed.{Span}
+use Rattle.pass_proofs.specs.run_laws.memory.Pointers.{Home, IsValue, moved_pointer}
+use Rattle.pass_proofs.specs.run_laws.memory.Standing.{AreByteRights}
+use Rattle.pass_proofs.specs.run_memory.declared.pointer.Pointer.{Pointer}
+use Rattle.pass_proofs.specs.run_memory.declared.pointer.Value.{Value}
+use Rattle.pass_proofs.specs.run_source.declared.state.Activation.{Activation}
+use Rattle.pass_proofs.specs.run_step.Step.{Context, Work}
+use Rattle.pass_proofs.specs.run_step.Values.{Env, access_of, stored, value_in}
 
 -- the type of a pointer that may be stored is ptr, so any pointer may be
 pointer_stays : (ty : Ty) (p : Pointer) → stored (access_of ty) (Value.Ptr p) ≡ Value.Ptr p → (q : Pointer)

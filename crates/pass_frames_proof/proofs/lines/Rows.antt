@@ -3,19 +3,19 @@ use Rattle.std.proofs.Common.{◌≡◌, inl, inr, ⊎_elim, ℕ, ◌+◌, ◌<�
 use Rattle.std.proofs.lemmas.List.{length-replicate}
 use Rattle.std.specs.List.{Contains}
 use Rattle.std.specs.Prelude.{None, Option, Some, get_or, replicate, slice_get, slice_set}
-use Rattle.flow_solver.specs.Paths.{IsListed}
-use Rattle.frame_contents.specs.Held.{position_of}
-use Rattle.ir_laws.proofs.facts.Lists.{get_within, set_here, set_length, set_other}
-use Rattle.ir_laws.proofs.facts.Truth.{is_number}
-use Rattle.ir_laws.proofs.paths.source_rules.Locals.{listed_left, listed_right}
-use Rattle.pass_cells.specs.Kept.{entry, row_or, rows_from, with_pair, with_row_of}
-use Rattle.pass_cells.specs.Links.{field_name}
-use Rattle.pass_cells.specs.Written.{row_at}
-use Rattle.pass_cells.specs.declared.plan.KeptValue.{KeptValue}
-use Rattle.pass_copies.specs.Slots.{slot_names}
-use Rattle.pass_fetch.specs.Fetching.{value_bytes}
-use Rattle.pass_frames.specs.Tables.{offset_at}
-use Rattle.pass_intrinsics.specs.Shapes.{suspends_of}
+use Rattle.pass_proofs.specs.flow_solver.Paths.{IsListed}
+use Rattle.pass_proofs.specs.frame_contents.Held.{position_of}
+use Rattle.pass_proofs.proofs.ir_laws.facts.Lists.{get_within, set_here, set_length, set_other}
+use Rattle.pass_proofs.proofs.ir_laws.facts.Truth.{is_number}
+use Rattle.pass_proofs.proofs.ir_laws.paths.source_rules.Locals.{listed_left, listed_right}
+use Rattle.pass_proofs.specs.pass_cells.Kept.{entry, row_or, rows_from, with_pair, with_row_of}
+use Rattle.pass_proofs.specs.pass_cells.Links.{field_name}
+use Rattle.pass_proofs.specs.pass_cells.Written.{row_at}
+use Rattle.pass_proofs.specs.pass_cells.declared.plan.KeptValue.{KeptValue}
+use Rattle.pass_proofs.specs.pass_copies.Slots.{slot_names}
+use Rattle.pass_proofs.specs.pass_fetch.Fetching.{value_bytes}
+use Rattle.pass_proofs.specs.pass_frames.Tables.{offset_at}
+use Rattle.pass_proofs.specs.pass_intrinsics.Shapes.{suspends_of}
 use Rattle.pass_frames_proof.proofs.code.Left.{Far, far_written, longer}
 use Rattle.pass_frames_proof.proofs.code.Names.{Count, First, Kept, keeping, numbered}
 use Rattle.pass_frames_proof.proofs.lines.Cells.{contained}
@@ -25,12 +25,12 @@ use Rattle.pass_frames_proof.specs.Framings.{IsFraming}
 use Rattle.pass_frames_proof.specs.Places.{Framing, copies, edged, offsets, plan, with_copies, written}
 use Rattle.pass_frames_proof.specs.Related.{AreFieldsRight, IsKeptAs, IsKeptValue}
 use Rattle.pass_frames_proof.specs.Saves.{HoldsField}
-use Rattle.run_laws.specs.access.Lines.{Holds}
-use Rattle.run_laws.specs.memory.Pointers.{Home}
-use Rattle.run_memory.specs.Memory.{Rights, decode}
-use Rattle.run_memory.specs.declared.block.Byte.{Byte}
-use Rattle.run_memory.specs.declared.block.MemoryBlock.{MemoryBlock}
-use Rattle.run_step.specs.Values.{Env, access_of}
+use Rattle.pass_proofs.specs.run_laws.access.Lines.{Holds}
+use Rattle.pass_proofs.specs.run_laws.memory.Pointers.{Home}
+use Rattle.pass_proofs.specs.run_memory.Memory.{Rights, decode}
+use Rattle.pass_proofs.specs.run_memory.declared.block.Byte.{Byte}
+use Rattle.pass_proofs.specs.run_memory.declared.block.MemoryBlock.{MemoryBlock}
+use Rattle.pass_proofs.specs.run_step.Values.{Env, access_of}
 
 -- ---- rows
 

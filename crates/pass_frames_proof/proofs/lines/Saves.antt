@@ -1,15 +1,15 @@
 -- Before a save a value that crosses goes from its cell, or from that of its distance, to its field.
-use Rattle.ir_model.specs.Ty.{Ty, int}
-use Rattle.ir_model.specs.declared.operand.Operand.{Operand}
-use Rattle.pass_cells.specs.Kept.{entry}
-use Rattle.pass_cells.specs.Kept.{value_types}
-use Rattle.pass_cells.specs.Links.{bases_of, marks_of, slots_of}
-use Rattle.pass_cells.specs.Links.{cell_name, field_name}
-use Rattle.pass_cells.specs.Moves.{load_from}
-use Rattle.pass_cells.specs.Plan.{kept_value, type_at}
-use Rattle.pass_cells.specs.declared.plan.KeptValue.{KeptValue}
-use Rattle.pass_fetch.specs.Fetching.{value_bytes}
-use Rattle.pass_frames.specs.Framed.{begin_of}
+use Rattle.pass_proofs.specs.ir_model.Ty.{Ty, int}
+use Rattle.pass_proofs.specs.ir_model.declared.operand.Operand.{Operand}
+use Rattle.pass_proofs.specs.pass_cells.Kept.{entry}
+use Rattle.pass_proofs.specs.pass_cells.Kept.{value_types}
+use Rattle.pass_proofs.specs.pass_cells.Links.{bases_of, marks_of, slots_of}
+use Rattle.pass_proofs.specs.pass_cells.Links.{cell_name, field_name}
+use Rattle.pass_proofs.specs.pass_cells.Moves.{load_from}
+use Rattle.pass_proofs.specs.pass_cells.Plan.{kept_value, type_at}
+use Rattle.pass_proofs.specs.pass_cells.declared.plan.KeptValue.{KeptValue}
+use Rattle.pass_proofs.specs.pass_fetch.Fetching.{value_bytes}
+use Rattle.pass_proofs.specs.pass_frames.Framed.{begin_of}
 use Rattle.pass_frames_proof.proofs.code.Names.{Count, F, First, Kept, has_cells, local}
 use Rattle.pass_frames_proof.proofs.distances.Sums.{value_set}
 use Rattle.pass_frames_proof.proofs.lines.Cells.{cell_loads, cell_stays, kept_type}
@@ -26,23 +26,23 @@ use Rattle.pass_frames_proof.specs.Saves.{AreCellsElsewhere, AreStorable, HoldsF
 use Rattle.pass_proofs.proofs.addresses.numbers.Done.{address_done}
 use Rattle.pass_proofs.proofs.cells.rules.Links.{distance_there, marks_have}
 use Rattle.pass_proofs.proofs.cells.rules.Plans.{kept_of}
-use Rattle.run_laws.proofs.access.Done.{store_done}
-use Rattle.run_laws.proofs.access.Loaded.{stored_back}
-use Rattle.run_laws.proofs.access.Ranges.{write_held}
-use Rattle.run_laws.proofs.transfer.Sets.{set_elsewhere, set_length}
-use Rattle.run_laws.specs.access.Accessed.{Span}
-use Rattle.run_laws.specs.access.Lines.{AreDisjoint, pointer_at, refilled_at}
-use Rattle.run_laws.specs.memory.Pointers.{Home, IsValue}
-use Rattle.run_laws.specs.memory.Standing.{AreByteRights}
-use Rattle.run_memory.proofs.Digits.{length-encode}
-use Rattle.run_memory.specs.Memory.{access_bytes, encode}
-use Rattle.run_memory.specs.declared.block.Byte.{Byte}
-use Rattle.run_memory.specs.declared.block.MemoryBlock.{MemoryBlock}
-use Rattle.run_memory.specs.declared.pointer.Value.{Value}
-use Rattle.run_source.specs.declared.state.Activation.{Activation}
-use Rattle.run_step.specs.Step.{Context, Work, set_memory, set_value}
-use Rattle.run_step.specs.Values.{Env, access_of, stored, value_in}
-use Rattle.run_step.specs.declared.world.Slot.{Slot}
+use Rattle.pass_proofs.proofs.run_laws.access.Done.{store_done}
+use Rattle.pass_proofs.proofs.run_laws.access.Loaded.{stored_back}
+use Rattle.pass_proofs.proofs.run_laws.access.Ranges.{write_held}
+use Rattle.pass_proofs.proofs.run_laws.transfer.Sets.{set_elsewhere, set_length}
+use Rattle.pass_proofs.specs.run_laws.access.Accessed.{Span}
+use Rattle.pass_proofs.specs.run_laws.access.Lines.{AreDisjoint, pointer_at, refilled_at}
+use Rattle.pass_proofs.specs.run_laws.memory.Pointers.{Home, IsValue}
+use Rattle.pass_proofs.specs.run_laws.memory.Standing.{AreByteRights}
+use Rattle.pass_proofs.proofs.run_memory.Digits.{length-encode}
+use Rattle.pass_proofs.specs.run_memory.Memory.{access_bytes, encode}
+use Rattle.pass_proofs.specs.run_memory.declared.block.Byte.{Byte}
+use Rattle.pass_proofs.specs.run_memory.declared.block.MemoryBlock.{MemoryBlock}
+use Rattle.pass_proofs.specs.run_memory.declared.pointer.Value.{Value}
+use Rattle.pass_proofs.specs.run_source.declared.state.Activation.{Activation}
+use Rattle.pass_proofs.specs.run_step.Step.{Context, Work, set_memory, set_value}
+use Rattle.pass_proofs.specs.run_step.Values.{Env, access_of, stored, value_in}
+use Rattle.pass_proofs.specs.run_step.declared.world.Slot.{Slot}
 use Rattle.std.proofs.Common.{◌≡◌, ℕ, ◌+◌, ◌<◌, ◌≤◌, Bool, List, [], ◌∷◌, length, refl, sym, ◌∙◌, subst, arith}
 use Rattle.std.specs.Prelude.{None, Option, Some}
 

@@ -1,11 +1,11 @@
 -- Names are stored into their cells one after another.
 use Rattle.std.proofs.Common.{◌≡◌, ⊎_elim, ℕ, zero, suc, List, [], ◌∷◌, ◌++◌, refl, sym, ap, ◌∙◌, subst}
 use Rattle.std.specs.Prelude.{None, Some}
-use Rattle.ir_laws.proofs.facts.Members.{each_joined, each_turns}
-use Rattle.ir_laws.proofs.facts.Truth.{is_number}
-use Rattle.ir_model.specs.Ty.{Ty, int}
-use Rattle.pass_cells.specs.Kept.{entry}
-use Rattle.pass_cells.specs.Written.{stored as stored_by}
+use Rattle.pass_proofs.proofs.ir_laws.facts.Members.{each_joined, each_turns}
+use Rattle.pass_proofs.proofs.ir_laws.facts.Truth.{is_number}
+use Rattle.pass_proofs.specs.ir_model.Ty.{Ty, int}
+use Rattle.pass_proofs.specs.pass_cells.Kept.{entry}
+use Rattle.pass_proofs.specs.pass_cells.Written.{stored as stored_by}
 use Rattle.pass_frames_proof.proofs.lines.Filled.{over_joined, over_none}
 use Rattle.pass_frames_proof.proofs.lines.Results.{result_stored}
 use Rattle.pass_frames_proof.specs.Framings.{IsFraming}
@@ -13,14 +13,14 @@ use Rattle.pass_frames_proof.specs.Lines.{HasOwnBlocks, IsStorable, LeavesCellsB
 use Rattle.pass_frames_proof.specs.Places.{Framing, plan}
 use Rattle.pass_frames_proof.specs.Related.{AreCellsRight}
 use Rattle.pass_frames_proof.specs.Stores.{AreNamesStored, IsNameGiven, stored_all}
-use Rattle.run_laws.proofs.transfer.Sets.{set_elsewhere}
-use Rattle.run_laws.specs.changed.Changed.{Each}
-use Rattle.run_laws.specs.memory.Pointers.{Home, IsValue}
-use Rattle.run_laws.specs.memory.Standing.{AreByteRights}
-use Rattle.run_memory.specs.declared.pointer.Value.{Value}
-use Rattle.run_source.specs.declared.state.Activation.{Activation}
-use Rattle.run_step.specs.Step.{Context, Work, with_all}
-use Rattle.run_step.specs.Values.{Env, access_of, stored, value_in, with_value}
+use Rattle.pass_proofs.proofs.run_laws.transfer.Sets.{set_elsewhere}
+use Rattle.pass_proofs.specs.run_laws.changed.Changed.{Each}
+use Rattle.pass_proofs.specs.run_laws.memory.Pointers.{Home, IsValue}
+use Rattle.pass_proofs.specs.run_laws.memory.Standing.{AreByteRights}
+use Rattle.pass_proofs.specs.run_memory.declared.pointer.Value.{Value}
+use Rattle.pass_proofs.specs.run_source.declared.state.Activation.{Activation}
+use Rattle.pass_proofs.specs.run_step.Step.{Context, Work, with_all}
+use Rattle.pass_proofs.specs.run_step.Values.{Env, access_of, stored, value_in, with_value}
 
 -- a name that is set has its value, or the names end before it
 pub set_or_none : (P : Value → Type 0) (env : Env) (v : ℕ) (u : Value) → P u → P Value.Poison

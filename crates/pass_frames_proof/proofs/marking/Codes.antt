@@ -2,17 +2,17 @@
 -- saves and accesses nothing: it alone, or nothing.
 use Rattle.std.proofs.Common.{◌≡◌, ◌&&◌, ◌∷◌, ◌++◌, ◌∙◌, [], if◌then◌else◌, Bool, List, None, Option, Some, ap, append-nil, false, refl, true, ℕ}
 use Rattle.std.specs.Prelude.{option_to_list, slice_get}
-use Rattle.ir_model.specs.declared.instr.Instr.{Instr}
-use Rattle.ir_parts.specs.Contents.{instr_operands, result_of}
-use Rattle.pass_addresses.specs.Placing.{lies_outside, stays, without_promise_of}
-use Rattle.pass_cells.specs.Cells.{fetches_of}
-use Rattle.pass_cells.specs.Moves.{after_saved, saved_values}
-use Rattle.pass_cells.specs.Written.{distance_behind, save_row, stored_result}
-use Rattle.pass_copies.specs.BeginCopies.{behind as behind_begin}
-use Rattle.pass_copies.specs.Uses.{is_access}
-use Rattle.pass_fetch.specs.Fetching.{fetches_of_all}
-use Rattle.pass_fetch.specs.Instrs.{with_fetched}
-use Rattle.pass_fetch.specs.declared.fetch.Fetch.{Fetch}
+use Rattle.pass_proofs.specs.ir_model.declared.instr.Instr.{Instr}
+use Rattle.pass_proofs.specs.ir_parts.Contents.{instr_operands, result_of}
+use Rattle.pass_proofs.specs.pass_addresses.Placing.{lies_outside, stays, without_promise_of}
+use Rattle.pass_proofs.specs.pass_cells.Cells.{fetches_of}
+use Rattle.pass_proofs.specs.pass_cells.Moves.{after_saved, saved_values}
+use Rattle.pass_proofs.specs.pass_cells.Written.{distance_behind, save_row, stored_result}
+use Rattle.pass_proofs.specs.pass_copies.BeginCopies.{behind as behind_begin}
+use Rattle.pass_proofs.specs.pass_copies.Uses.{is_access}
+use Rattle.pass_proofs.specs.pass_fetch.Fetching.{fetches_of_all}
+use Rattle.pass_proofs.specs.pass_fetch.Instrs.{with_fetched}
+use Rattle.pass_proofs.specs.pass_fetch.declared.fetch.Fetch.{Fetch}
 use Rattle.pass_frames_proof.proofs.code.Idle.{each_idle, fetches_idle, instr_same, not_measured, not_stored, only_idle}
 use Rattle.pass_frames_proof.proofs.code.Instrs.{instr_code}
 use Rattle.pass_frames_proof.proofs.code.Left.{parts_left}
@@ -21,7 +21,7 @@ use Rattle.pass_frames_proof.proofs.layers.Idle.{all_stay, both_idle}
 use Rattle.pass_frames_proof.specs.Code.{address_state, addressed, code_of, copied_there, is_ahead, load_name, loaded, loads, located, past_addressed, saved, slot_table, stores, unmarked_one, where_name, wheres, write_name}
 use Rattle.pass_frames_proof.specs.Framings.{IsFraming}
 use Rattle.pass_frames_proof.specs.Layers.{becomes, each, grown, only}
-use Rattle.pass_fetch.specs.Blocks.{end_at}
+use Rattle.pass_proofs.specs.pass_fetch.Blocks.{end_at}
 use Rattle.pass_frames_proof.specs.Passes.{IsUnwritten, block_at, fetching_at, phi_ends, unmarked_at}
 use Rattle.pass_frames_proof.specs.Places.{Framing, Placed, addressing_layer, copies, instrs_at, marked, offsets, placed_layer, plan, unmarked}
 use Rattle.pass_frames_proof.specs.Stepping.{state_in}

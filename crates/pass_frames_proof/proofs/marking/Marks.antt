@@ -2,27 +2,27 @@
 use Rattle.std.proofs.Common.{◌≡◌, ◌≢◌, ◌⊎◌, ◌+◌, ◌<◌, ◌≤◌, ◌∙◌, if◌then◌else◌, Bool, List, Option, Some, ap, arith, false, inr, length, refl, replicate, subst, sym, true, ℕ, ⊎_elim}
 use Rattle.std.proofs.lemmas.Bool.{cases_eq}
 use Rattle.std.specs.Prelude.{slice_get}
-use Rattle.ir_laws.proofs.facts.Lists.{get_within}
+use Rattle.pass_proofs.proofs.ir_laws.facts.Lists.{get_within}
 use Rattle.pass_frames_proof.proofs.marking.Changed.{changed_length, free_changed, hiding_same, mates_changed, muted_others}
 use Rattle.pass_frames_proof.proofs.stepping.Rest.{got}
 use Rattle.pass_frames_proof.specs.Related.{AreMates, IsFreeOf, is_slot}
-use Rattle.run_laws.proofs.memory.Written.{changed_elsewhere, changed_here, same_some}
-use Rattle.run_laws.proofs.transfer.Muted.{muted_get}
-use Rattle.run_laws.proofs.transfer.Places.{blank_room, fewer_stand, hidden_stand, seated}
-use Rattle.run_laws.specs.embedded.Making.{whole_home}
-use Rattle.run_laws.specs.memory.Pointers.{Home, home_of}
-use Rattle.run_laws.specs.memory.Standing.{Stands}
-use Rattle.run_laws.specs.transfer.Muted.{muted}
-use Rattle.run_laws.specs.transfer.Places.{AreStanding, HasRoom, IsApartFrom, IsBlank}
-use Rattle.run_memory.specs.Memory.{Rights, end, ended, is_killed, is_live, may_compare_at, same_kind, start, started, with_block}
-use Rattle.run_memory.specs.declared.block.Byte.{Byte}
-use Rattle.run_memory.specs.declared.block.Kind.{Kind}
-use Rattle.run_memory.specs.declared.block.Life.{Life}
-use Rattle.run_memory.specs.declared.block.MemoryBlock.{MemoryBlock}
-use Rattle.run_memory.specs.declared.pointer.Offset.{Offset}
-use Rattle.run_memory.specs.declared.pointer.Value.{Value}
-use Rattle.run_step.specs.Step.{block_of, on_block}
-use Rattle.run_step.specs.Values.{pointer_to}
+use Rattle.pass_proofs.proofs.run_laws.memory.Written.{changed_elsewhere, changed_here, same_some}
+use Rattle.pass_proofs.proofs.run_laws.transfer.Muted.{muted_get}
+use Rattle.pass_proofs.proofs.run_laws.transfer.Places.{blank_room, fewer_stand, hidden_stand, seated}
+use Rattle.pass_proofs.specs.run_laws.embedded.Making.{whole_home}
+use Rattle.pass_proofs.specs.run_laws.memory.Pointers.{Home, home_of}
+use Rattle.pass_proofs.specs.run_laws.memory.Standing.{Stands}
+use Rattle.pass_proofs.specs.run_laws.transfer.Muted.{muted}
+use Rattle.pass_proofs.specs.run_laws.transfer.Places.{AreStanding, HasRoom, IsApartFrom, IsBlank}
+use Rattle.pass_proofs.specs.run_memory.Memory.{Rights, end, ended, is_killed, is_live, may_compare_at, same_kind, start, started, with_block}
+use Rattle.pass_proofs.specs.run_memory.declared.block.Byte.{Byte}
+use Rattle.pass_proofs.specs.run_memory.declared.block.Kind.{Kind}
+use Rattle.pass_proofs.specs.run_memory.declared.block.Life.{Life}
+use Rattle.pass_proofs.specs.run_memory.declared.block.MemoryBlock.{MemoryBlock}
+use Rattle.pass_proofs.specs.run_memory.declared.pointer.Offset.{Offset}
+use Rattle.pass_proofs.specs.run_memory.declared.pointer.Value.{Value}
+use Rattle.pass_proofs.specs.run_step.Step.{block_of, on_block}
+use Rattle.pass_proofs.specs.run_step.Values.{pointer_to}
 
 abbrev pub mark : Bool → MemoryBlock → MemoryBlock
 mark true x = started x

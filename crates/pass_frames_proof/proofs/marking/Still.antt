@@ -1,10 +1,10 @@
 -- An instruction of which nothing stands in the framed form: the framed run takes no step, and stands where it stood.
 use Rattle.std.proofs.Common.{◌≡◌, ◌+◌, ◌-◌, ◌<◌, ◌≤◌, ◌∙◌, Option, Some, ap, arith, false, inr, length, refl, subst, sym, true, ℕ}
 use Rattle.std.specs.Prelude.{slice_get}
-use Rattle.ir_laws.proofs.facts.Lists.{get_within}
-use Rattle.ir_model.specs.Ty.{Ty}
-use Rattle.ir_model.specs.declared.instr.Instr.{Instr}
-use Rattle.ir_model.specs.declared.module.Function.{Function}
+use Rattle.pass_proofs.proofs.ir_laws.facts.Lists.{get_within}
+use Rattle.pass_proofs.specs.ir_model.Ty.{Ty}
+use Rattle.pass_proofs.specs.ir_model.declared.instr.Instr.{Instr}
+use Rattle.pass_proofs.specs.ir_model.declared.module.Function.{Function}
 use Rattle.pass_frames_proof.proofs.stepping.After.{right_there, wheres_there}
 use Rattle.pass_frames_proof.proofs.stepping.Codes.{block_there}
 use Rattle.pass_frames_proof.proofs.stepping.May.{coroutine_values, not_returned}
@@ -18,13 +18,13 @@ use Rattle.pass_frames_proof.specs.Places.{Framing, edged, instrs_at, is_return,
 use Rattle.pass_frames_proof.specs.Related.{AreActivations, AreAhead, AreBuiltOf, AreCellsRight, AreCoroutines, AreMates, AreWheresRight, Building, HasCells, IsAhead, IsFreeOf, instance_in, is_coroutine, is_first, point_of, top_place}
 use Rattle.pass_frames_proof.specs.Stepping.{AreGiven, IsNotEntering}
 use Rattle.pass_renewed_proof.specs.Renewed.{RenewedGiven, renewed_step}
-use Rattle.run_framed.specs.Framed.{frame_rights}
-use Rattle.run_laws.specs.transfer.Transfer.{AreOver}
-use Rattle.run_memory.specs.Memory.{Rights, owner_rights}
-use Rattle.run_source.specs.State.{function_of}
-use Rattle.run_source.specs.declared.state.Activation.{Activation}
-use Rattle.run_source.specs.declared.state.State.{State}
-use Rattle.run_step.specs.declared.world.World.{World}
+use Rattle.pass_proofs.specs.run_framed.Framed.{frame_rights}
+use Rattle.pass_proofs.specs.run_laws.transfer.Transfer.{AreOver}
+use Rattle.pass_proofs.specs.run_memory.Memory.{Rights, owner_rights}
+use Rattle.pass_proofs.specs.run_source.State.{function_of}
+use Rattle.pass_proofs.specs.run_source.declared.state.Activation.{Activation}
+use Rattle.pass_proofs.specs.run_source.declared.state.State.{State}
+use Rattle.pass_proofs.specs.run_step.declared.world.World.{World}
 
 -- ---- the source's memory changes where the target's stays
 

@@ -2,15 +2,15 @@
 -- right where the ranges in which it stands do.
 use Rattle.std.proofs.Common.{◌≡◌, ◌+◌, ◌&&◌, ◌∷◌, ◌∙◌, [], Bool, List, None, Option, Some, ap, false, inl, inr, length, refl, subst, sym, true, ℕ}
 use Rattle.std.specs.List.{Contains}
-use Rattle.flow_solver.specs.Paths.{IsListed}
-use Rattle.frame_contents.specs.Held.{position_of}
-use Rattle.ir_model.specs.Ty.{Ty, int, ptr}
-use Rattle.ir_paths.specs.declared.point.Point.{Point}
-use Rattle.pass_cells.specs.Kept.{entry}
-use Rattle.pass_cells.specs.declared.plan.KeptValue.{KeptValue}
-use Rattle.pass_copies.specs.declared.slot.EarlySlot.{EarlySlot}
-use Rattle.pass_fetch.specs.Fetching.{value_bytes}
-use Rattle.pass_frames.specs.Tables.{offset_at}
+use Rattle.pass_proofs.specs.flow_solver.Paths.{IsListed}
+use Rattle.pass_proofs.specs.frame_contents.Held.{position_of}
+use Rattle.pass_proofs.specs.ir_model.Ty.{Ty, int, ptr}
+use Rattle.pass_proofs.specs.ir_paths.declared.point.Point.{Point}
+use Rattle.pass_proofs.specs.pass_cells.Kept.{entry}
+use Rattle.pass_proofs.specs.pass_cells.declared.plan.KeptValue.{KeptValue}
+use Rattle.pass_proofs.specs.pass_copies.declared.slot.EarlySlot.{EarlySlot}
+use Rattle.pass_proofs.specs.pass_fetch.Fetching.{value_bytes}
+use Rattle.pass_proofs.specs.pass_frames.Tables.{offset_at}
 use Rattle.pass_frames_proof.proofs.lines.Names.{distance_of}
 use Rattle.pass_frames_proof.proofs.lines.Results.{kept_is_cell}
 use Rattle.pass_frames_proof.proofs.stepping.Names.{cell_is_name, where_is_name}
@@ -19,23 +19,23 @@ use Rattle.pass_frames_proof.specs.Moved.{AreMoved, IsSamePlace, IsTopMoved, Mov
 use Rattle.pass_frames_proof.specs.Places.{Framing, offsets, plan}
 use Rattle.pass_frames_proof.specs.Related.{Anything, AreActivations, AreAhead, AreAllAhead, AreBelow, AreBuiltOf, AreCellsRight, AreCellsThere, AreFieldsRight, AreFreeCells, AreInstances, AreMade, AreWheresRight, AreWheresThere, Building, HasCells, HasFields, HasValues, IsCell, IsCellName, IsHeldAs, IsKeptAs, IsKeptValue, IsSlotBy, IsStatus, IsSuspendNumber, IsWhere, below_place, instance_in, is_coroutine, returned_from, top_place}
 use Rattle.pass_proofs.specs.addresses.rules.Addresses.{lies_in_frame}
-use Rattle.run_framed.specs.Framed.{frame_rights}
-use Rattle.run_laws.proofs.memory.Homes.{value_on}
-use Rattle.run_laws.specs.access.Lines.{Holds}
-use Rattle.run_laws.specs.memory.Pointers.{Extends, Home, IsValue, home_of}
-use Rattle.run_memory.specs.Memory.{Rights}
-use Rattle.run_memory.specs.declared.block.Byte.{Byte}
-use Rattle.run_memory.specs.declared.block.MemoryBlock.{MemoryBlock}
-use Rattle.run_memory.specs.declared.pointer.Value.{Value}
-use Rattle.run_source.specs.State.{address_in}
-use Rattle.run_source.specs.declared.state.Activation.{Activation}
-use Rattle.run_source.specs.declared.state.Instance.{Instance}
-use Rattle.run_source.specs.declared.state.Mode.{Mode}
-use Rattle.run_source.specs.declared.state.State.{State}
-use Rattle.run_source.specs.declared.state.Status.{Status}
-use Rattle.run_step.specs.Values.{Env, value_in}
-use Rattle.run_step.specs.declared.world.Slot.{Slot}
-use Rattle.run_step.specs.declared.world.World.{World}
+use Rattle.pass_proofs.specs.run_framed.Framed.{frame_rights}
+use Rattle.pass_proofs.proofs.run_laws.memory.Homes.{value_on}
+use Rattle.pass_proofs.specs.run_laws.access.Lines.{Holds}
+use Rattle.pass_proofs.specs.run_laws.memory.Pointers.{Extends, Home, IsValue, home_of}
+use Rattle.pass_proofs.specs.run_memory.Memory.{Rights}
+use Rattle.pass_proofs.specs.run_memory.declared.block.Byte.{Byte}
+use Rattle.pass_proofs.specs.run_memory.declared.block.MemoryBlock.{MemoryBlock}
+use Rattle.pass_proofs.specs.run_memory.declared.pointer.Value.{Value}
+use Rattle.pass_proofs.specs.run_source.State.{address_in}
+use Rattle.pass_proofs.specs.run_source.declared.state.Activation.{Activation}
+use Rattle.pass_proofs.specs.run_source.declared.state.Instance.{Instance}
+use Rattle.pass_proofs.specs.run_source.declared.state.Mode.{Mode}
+use Rattle.pass_proofs.specs.run_source.declared.state.State.{State}
+use Rattle.pass_proofs.specs.run_source.declared.state.Status.{Status}
+use Rattle.pass_proofs.specs.run_step.Values.{Env, value_in}
+use Rattle.pass_proofs.specs.run_step.declared.world.Slot.{Slot}
+use Rattle.pass_proofs.specs.run_step.declared.world.World.{World}
 
 -- ---- what is kept, over more homes
 

@@ -1,15 +1,15 @@
 -- What the table of offsets tells of slots and of the fields of kept values.
 use Rattle.std.proofs.Common.{◌≡◌, ℕ, zero, suc, ◌+◌, ◌<◌, Bool, true, false, List, [], ◌∷◌, length, refl, sym, ap, ◌∙◌, arith}
 use Rattle.std.specs.Prelude.{None, Option, Some, get_or, replicate, slice_get, slice_set, if◌then◌else◌}
-use Rattle.frame_contents.specs.declared.contents.Contents.{Contents}
-use Rattle.frame_contents.specs.declared.held.Holding.{Holding}
-use Rattle.frame_layout.specs.declared.layout.Layout.{Layout}
-use Rattle.ir_laws.proofs.facts.Lists.{blank_length, set_here, set_length, set_other}
-use Rattle.ir_model.specs.declared.module.Function.{Function}
-use Rattle.pass_cells.specs.Links.{field_name}
-use Rattle.pass_edges.specs.EdgeBlocks.{with_edge_blocks}
-use Rattle.pass_frames.specs.Framed.{kept_of, offsets_of}
-use Rattle.pass_frames.specs.Tables.{is_slot_kind, offset_at, with_field_offset, with_field_offsets, with_slot_offset, with_slot_offsets}
+use Rattle.pass_proofs.specs.frame_contents.declared.contents.Contents.{Contents}
+use Rattle.pass_proofs.specs.frame_contents.declared.held.Holding.{Holding}
+use Rattle.pass_proofs.specs.frame_layout.declared.layout.Layout.{Layout}
+use Rattle.pass_proofs.proofs.ir_laws.facts.Lists.{blank_length, set_here, set_length, set_other}
+use Rattle.pass_proofs.specs.ir_model.declared.module.Function.{Function}
+use Rattle.pass_proofs.specs.pass_cells.Links.{field_name}
+use Rattle.pass_proofs.specs.pass_edges.EdgeBlocks.{with_edge_blocks}
+use Rattle.pass_proofs.specs.pass_frames.Framed.{kept_of, offsets_of}
+use Rattle.pass_proofs.specs.pass_frames.Tables.{is_slot_kind, offset_at, with_field_offset, with_field_offsets, with_slot_offset, with_slot_offsets}
 use Rattle.pass_proofs.proofs.frames.begin_order.Tables.{offsets_length}
 use Rattle.pass_frames_proof.specs.Offsets.{AreHeldOnce}
 

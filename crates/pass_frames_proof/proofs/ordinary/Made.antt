@@ -1,25 +1,25 @@
 -- Operands are fetched, and then the instruction does what it does in the source.
 use Rattle.std.proofs.Common.{ℕ, ◌≤◌, Bool, true, false, List, [], ◌∷◌, length, sym, subst}
 use Rattle.std.specs.Prelude.{Option}
-use Rattle.ir_model.specs.declared.instr.Instr.{Instr}
-use Rattle.ir_model.specs.declared.operand.Operand.{Operand}
-use Rattle.ir_parts.specs.Contents.{instr_operands}
-use Rattle.pass_fetch.specs.Fetching.{fetched_operand, next_after}
-use Rattle.pass_fetch.specs.Instrs.{with_fetched}
-use Rattle.pass_fetch.specs.declared.fetch.Fetch.{Fetch}
+use Rattle.pass_proofs.specs.ir_model.declared.instr.Instr.{Instr}
+use Rattle.pass_proofs.specs.ir_model.declared.operand.Operand.{Operand}
+use Rattle.pass_proofs.specs.ir_parts.Contents.{instr_operands}
+use Rattle.pass_proofs.specs.pass_fetch.Fetching.{fetched_operand, next_after}
+use Rattle.pass_proofs.specs.pass_fetch.Instrs.{with_fetched}
+use Rattle.pass_proofs.specs.pass_fetch.declared.fetch.Fetch.{Fetch}
 use Rattle.pass_frames_proof.proofs.fetched.Runs.{fetched}
 use Rattle.pass_frames_proof.proofs.fetched.Shapes.{AreStayed, instr_related}
 use Rattle.pass_frames_proof.specs.Fetched.{AreFetched, AreSeenAs, IsSeenAs}
 use Rattle.pass_frames_proof.specs.Ordinary.{IsMade, IsSeenFor, MayBeMade}
-use Rattle.run_laws.proofs.transfer.Over.{step_over}
-use Rattle.run_laws.specs.changed.Changed.{Each}
-use Rattle.run_laws.specs.memory.Pointers.{Home, IsValue}
-use Rattle.run_laws.specs.memory.Standing.{AreByteRights}
-use Rattle.run_laws.specs.transfer.Transfer.{AreJoined, AreOver, IsTransferred, Maps, StandsFor, looks_at}
-use Rattle.run_memory.specs.declared.pointer.Value.{Value}
-use Rattle.run_step.specs.Step.{AtInstr, Context, Work}
-use Rattle.run_step.specs.Values.{operand_value}
-use Rattle.run_step.specs.declared.world.World.{World}
+use Rattle.pass_proofs.proofs.run_laws.transfer.Over.{step_over}
+use Rattle.pass_proofs.specs.run_laws.changed.Changed.{Each}
+use Rattle.pass_proofs.specs.run_laws.memory.Pointers.{Home, IsValue}
+use Rattle.pass_proofs.specs.run_laws.memory.Standing.{AreByteRights}
+use Rattle.pass_proofs.specs.run_laws.transfer.Transfer.{AreJoined, AreOver, IsTransferred, Maps, StandsFor, looks_at}
+use Rattle.pass_proofs.specs.run_memory.declared.pointer.Value.{Value}
+use Rattle.pass_proofs.specs.run_step.Step.{AtInstr, Context, Work}
+use Rattle.pass_proofs.specs.run_step.Values.{operand_value}
+use Rattle.pass_proofs.specs.run_step.declared.world.World.{World}
 
 module _ (homes : List Home) (hides : ℕ → Bool) (maps : Maps) (t : List (Option Fetch)) (given : ℕ → Value)
     (c d : Context) (law : AreByteRights c.rights) (law' : AreByteRights d.rights) (w y : Work) (n : ℕ) (i : Instr)

@@ -1,18 +1,18 @@
 -- Operands of which kept ones are loaded from their cells.
 use Rattle.std.proofs.Common.{◌≡◌, ℕ, Bool, List, refl, sym, ap, ◌∙◌}
 use Rattle.std.specs.Prelude.{None, Option, Some, slice_get}
-use Rattle.ir_laws.proofs.facts.Members.{each_all, each_turns}
-use Rattle.ir_model.specs.Ty.{Ty}
-use Rattle.ir_model.specs.declared.instr.Instr.{Instr}
-use Rattle.ir_model.specs.declared.operand.Operand.{Operand}
-use Rattle.ir_parts.specs.Contents.{instr_operands}
-use Rattle.pass_cells.specs.Cells.{fetch_by, fetch_for, fetches_of}
-use Rattle.pass_cells.specs.Kept.{entry, value_types}
-use Rattle.pass_cells.specs.Links.{bases_of, slots_of}
-use Rattle.pass_cells.specs.declared.plan.KeptValue.{KeptValue}
-use Rattle.pass_fetch.specs.Fetching.{fetch_of}
-use Rattle.pass_fetch.specs.Instrs.{with_fetched}
-use Rattle.pass_fetch.specs.declared.fetch.Fetch.{Fetch}
+use Rattle.pass_proofs.proofs.ir_laws.facts.Members.{each_all, each_turns}
+use Rattle.pass_proofs.specs.ir_model.Ty.{Ty}
+use Rattle.pass_proofs.specs.ir_model.declared.instr.Instr.{Instr}
+use Rattle.pass_proofs.specs.ir_model.declared.operand.Operand.{Operand}
+use Rattle.pass_proofs.specs.ir_parts.Contents.{instr_operands}
+use Rattle.pass_proofs.specs.pass_cells.Cells.{fetch_by, fetch_for, fetches_of}
+use Rattle.pass_proofs.specs.pass_cells.Kept.{entry, value_types}
+use Rattle.pass_proofs.specs.pass_cells.Links.{bases_of, slots_of}
+use Rattle.pass_proofs.specs.pass_cells.declared.plan.KeptValue.{KeptValue}
+use Rattle.pass_proofs.specs.pass_fetch.Fetching.{fetch_of}
+use Rattle.pass_proofs.specs.pass_fetch.Instrs.{with_fetched}
+use Rattle.pass_proofs.specs.pass_fetch.declared.fetch.Fetch.{Fetch}
 use Rattle.pass_frames_proof.proofs.code.Left.{fetch_found}
 use Rattle.pass_frames_proof.proofs.code.Names.{Count, F, First, Kept, keeping, local}
 use Rattle.pass_frames_proof.proofs.lines.Loads.{can_load, loaded_stands}
@@ -24,14 +24,14 @@ use Rattle.pass_frames_proof.specs.Ordinary.{IsSeenFor, MayBeMade, MayFetch, Sta
 use Rattle.pass_frames_proof.specs.Places.{Framing, edged, plan}
 use Rattle.pass_proofs.proofs.cells.rules.Planned.{fetch_there}
 use Rattle.pass_proofs.proofs.cells.rules.Plans.{kept_as, kept_at}
-use Rattle.run_laws.specs.changed.Changed.{Each}
-use Rattle.run_laws.specs.embedded.Related.{HasNoSlot}
-use Rattle.run_laws.specs.memory.Pointers.{Home, IsValue}
-use Rattle.run_laws.specs.transfer.Transfer.{AreSameDistances, IsPointedAlike, same_maps}
-use Rattle.run_memory.specs.declared.pointer.Value.{Value}
-use Rattle.run_source.specs.declared.state.Activation.{Activation}
-use Rattle.run_step.specs.Step.{AtInstr, Context, Work}
-use Rattle.run_step.specs.Values.{value_in}
+use Rattle.pass_proofs.specs.run_laws.changed.Changed.{Each}
+use Rattle.pass_proofs.specs.run_laws.embedded.Related.{HasNoSlot}
+use Rattle.pass_proofs.specs.run_laws.memory.Pointers.{Home, IsValue}
+use Rattle.pass_proofs.specs.run_laws.transfer.Transfer.{AreSameDistances, IsPointedAlike, same_maps}
+use Rattle.pass_proofs.specs.run_memory.declared.pointer.Value.{Value}
+use Rattle.pass_proofs.specs.run_source.declared.state.Activation.{Activation}
+use Rattle.pass_proofs.specs.run_step.Step.{AtInstr, Context, Work}
+use Rattle.pass_proofs.specs.run_step.Values.{value_in}
 
 module _ (x : Framing) (is : IsFraming x) (homes : List Home) (hides : ℕ → Bool) (c d : Context) (w y : Work)
     (a : Activation) (n : ℕ) (i : Instr) (m : MayFetch x homes hides c d w y a n i) where

@@ -1,20 +1,20 @@
 -- Arithmetic, loads and calls of outside functions: no memory changes but for the cell of the result.
 use Rattle.std.proofs.Common.{◌≡◌, ⊎_elim, ℕ, Bool, true, false, List, [], ◌∷◌, refl, sym, ap, ◌∙◌, subst}
 use Rattle.std.specs.Prelude.{Err, None, Ok, Option, Result, Some, option_map, if◌then◌else◌}
-use Rattle.ir_base.specs.declared.cause.Cause.{Cause}
-use Rattle.ir_base.specs.declared.outcome.Word.{Word}
-use Rattle.ir_laws.proofs.facts.Truth.{is_number}
-use Rattle.ir_model.specs.Names.{declaration_named, function_named}
-use Rattle.ir_model.specs.Ty.{Ty, int, ptr}
-use Rattle.ir_model.specs.declared.instr.Instr.{Instr}
-use Rattle.ir_model.specs.declared.operand.Callee.{Callee}
-use Rattle.ir_parts.specs.Contents.{instr_operands, result_of}
-use Rattle.pass_cells.specs.Cells.{fetches_of}
-use Rattle.pass_cells.specs.Kept.{entry}
-use Rattle.pass_cells.specs.Written.{stored, stored_result}
-use Rattle.pass_fetch.specs.Fetching.{fetches_of_all}
-use Rattle.pass_fetch.specs.Instrs.{with_fetched}
-use Rattle.pass_fetch.specs.declared.fetch.Fetch.{Fetch}
+use Rattle.pass_proofs.specs.ir_base.declared.cause.Cause.{Cause}
+use Rattle.pass_proofs.specs.ir_base.declared.outcome.Word.{Word}
+use Rattle.pass_proofs.proofs.ir_laws.facts.Truth.{is_number}
+use Rattle.pass_proofs.specs.ir_model.Names.{declaration_named, function_named}
+use Rattle.pass_proofs.specs.ir_model.Ty.{Ty, int, ptr}
+use Rattle.pass_proofs.specs.ir_model.declared.instr.Instr.{Instr}
+use Rattle.pass_proofs.specs.ir_model.declared.operand.Callee.{Callee}
+use Rattle.pass_proofs.specs.ir_parts.Contents.{instr_operands, result_of}
+use Rattle.pass_proofs.specs.pass_cells.Cells.{fetches_of}
+use Rattle.pass_proofs.specs.pass_cells.Kept.{entry}
+use Rattle.pass_proofs.specs.pass_cells.Written.{stored, stored_result}
+use Rattle.pass_proofs.specs.pass_fetch.Fetching.{fetches_of_all}
+use Rattle.pass_proofs.specs.pass_fetch.Instrs.{with_fetched}
+use Rattle.pass_proofs.specs.pass_fetch.declared.fetch.Fetch.{Fetch}
 use Rattle.pass_frames_proof.proofs.lines.Filled.{over_none}
 use Rattle.pass_frames_proof.proofs.ordinary.Behind.{GoesBehind, done_is, done_over, done_work, over_line, result_behind, right_behind, values_set}
 use Rattle.pass_frames_proof.proofs.ordinary.Made.{made}
@@ -25,20 +25,20 @@ use Rattle.pass_frames_proof.specs.Loaded.{loaded_value}
 use Rattle.pass_frames_proof.specs.Ordinary.{IsMade, IsQuiet, MayStep, Steps}
 use Rattle.pass_frames_proof.specs.Places.{Framing, plan}
 use Rattle.pass_frames_proof.specs.Related.{AreCellsRight, IsCell, IsDistanceOf}
-use Rattle.run_ints.specs.Numbers.{binary, icmp}
-use Rattle.run_ints.specs.declared.num.Num.{Num}
-use Rattle.run_laws.proofs.access.Lines.{runs_append}
-use Rattle.run_laws.specs.access.Accessed.{Span}
-use Rattle.run_laws.specs.changed.Changed.{callee_at}
-use Rattle.run_laws.specs.embedded.Related.{HasNoSlot}
-use Rattle.run_laws.specs.memory.Pointers.{Home, IsValue}
-use Rattle.run_laws.specs.memory.Standing.{AreByteRights}
-use Rattle.run_laws.specs.transfer.Transfer.{AreSameDistances, AreSet, IsNamedAlike, IsPointedAlike, given_at, same_maps}
-use Rattle.run_memory.specs.Memory.{compare, load}
-use Rattle.run_memory.specs.declared.pointer.Value.{Value}
-use Rattle.run_source.specs.declared.state.Activation.{Activation}
-use Rattle.run_step.specs.Step.{AtInstr, Context, Done, Stuck, Work, answer, by_pred, cast_to, chosen, compared, done, instr_action, is_alignment, named_call, observed, risen, set_value, value_at, with_event, words_of}
-use Rattle.run_step.specs.Values.{Env, access_of, address, arg_value, arg_values, literal, number_at, number_of_width, truth_value, value_in, value_of, with_result}
+use Rattle.pass_proofs.specs.run_ints.Numbers.{binary, icmp}
+use Rattle.pass_proofs.specs.run_ints.declared.num.Num.{Num}
+use Rattle.pass_proofs.proofs.run_laws.access.Lines.{runs_append}
+use Rattle.pass_proofs.specs.run_laws.access.Accessed.{Span}
+use Rattle.pass_proofs.specs.run_laws.changed.Changed.{callee_at}
+use Rattle.pass_proofs.specs.run_laws.embedded.Related.{HasNoSlot}
+use Rattle.pass_proofs.specs.run_laws.memory.Pointers.{Home, IsValue}
+use Rattle.pass_proofs.specs.run_laws.memory.Standing.{AreByteRights}
+use Rattle.pass_proofs.specs.run_laws.transfer.Transfer.{AreSameDistances, AreSet, IsNamedAlike, IsPointedAlike, given_at, same_maps}
+use Rattle.pass_proofs.specs.run_memory.Memory.{compare, load}
+use Rattle.pass_proofs.specs.run_memory.declared.pointer.Value.{Value}
+use Rattle.pass_proofs.specs.run_source.declared.state.Activation.{Activation}
+use Rattle.pass_proofs.specs.run_step.Step.{AtInstr, Context, Done, Stuck, Work, answer, by_pred, cast_to, chosen, compared, done, instr_action, is_alignment, named_call, observed, risen, set_value, value_at, with_event, words_of}
+use Rattle.pass_proofs.specs.run_step.Values.{Env, access_of, address, arg_value, arg_values, literal, number_at, number_of_width, truth_value, value_in, value_of, with_result}
 
 -- ---- what quiet instructions are
 

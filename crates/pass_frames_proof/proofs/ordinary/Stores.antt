@@ -1,16 +1,16 @@
 -- A store leaves the cells as they are.
 use Rattle.std.proofs.Common.{◌≡◌, inr, ℕ, ◌<◌, ◌≤◌, Bool, true, false, List, [], ◌∷◌, length, refl, sym, ◌∙◌, subst, arith}
 use Rattle.std.specs.Prelude.{Err, None, Ok, Option, Result, if◌then◌else◌}
-use Rattle.ir_base.specs.declared.cause.Cause.{Cause}
-use Rattle.ir_model.specs.Ty.{Ty, int, ptr}
-use Rattle.ir_model.specs.declared.instr.Instr.{Instr}
-use Rattle.ir_model.specs.declared.operand.Arg.{Arg}
-use Rattle.ir_model.specs.declared.operand.Operand.{Operand}
-use Rattle.ir_parts.specs.Contents.{instr_operands}
-use Rattle.pass_cells.specs.Cells.{fetches_of}
-use Rattle.pass_fetch.specs.Fetching.{fetched_operand, fetches_of_all, next_after}
-use Rattle.pass_fetch.specs.Instrs.{with_fetched}
-use Rattle.pass_fetch.specs.declared.fetch.Fetch.{Fetch}
+use Rattle.pass_proofs.specs.ir_base.declared.cause.Cause.{Cause}
+use Rattle.pass_proofs.specs.ir_model.Ty.{Ty, int, ptr}
+use Rattle.pass_proofs.specs.ir_model.declared.instr.Instr.{Instr}
+use Rattle.pass_proofs.specs.ir_model.declared.operand.Arg.{Arg}
+use Rattle.pass_proofs.specs.ir_model.declared.operand.Operand.{Operand}
+use Rattle.pass_proofs.specs.ir_parts.Contents.{instr_operands}
+use Rattle.pass_proofs.specs.pass_cells.Cells.{fetches_of}
+use Rattle.pass_proofs.specs.pass_fetch.Fetching.{fetched_operand, fetches_of_all, next_after}
+use Rattle.pass_proofs.specs.pass_fetch.Instrs.{with_fetched}
+use Rattle.pass_proofs.specs.pass_fetch.declared.fetch.Fetch.{Fetch}
 use Rattle.pass_frames_proof.proofs.lines.Results.{kept_is_cell}
 use Rattle.pass_frames_proof.proofs.lines.Names.{distance_of}
 use Rattle.pass_frames_proof.proofs.ordinary.Made.{first, joined, transferred}
@@ -22,28 +22,28 @@ use Rattle.pass_frames_proof.specs.Loaded.{loaded_value}
 use Rattle.pass_frames_proof.specs.Ordinary.{MayBeMade, MayStep, Steps}
 use Rattle.pass_frames_proof.specs.Places.{Framing, named, plan}
 use Rattle.pass_frames_proof.specs.Related.{AreCellsRight, IsCell, IsDistanceOf}
-use Rattle.pass_fetch.specs.Fetching.{value_bytes}
-use Rattle.run_laws.proofs.access.Done.{free_held}
-use Rattle.run_laws.proofs.access.Lines.{runs_append}
-use Rattle.run_laws.proofs.access.Touched.{free_untouched}
-use Rattle.run_laws.proofs.embedded.Values.{address_kept}
-use Rattle.run_laws.proofs.transfer.Muted.{muted_result, shown_address, store_muted}
-use Rattle.run_laws.proofs.transfer.Over.{step_over}
-use Rattle.run_laws.specs.access.Changed.{IsDefined, KeepsFree, LeavesFree}
-use Rattle.run_laws.specs.access.Lines.{Holds}
-use Rattle.run_laws.specs.access.Touched.{AreTouches, touch_of}
-use Rattle.run_laws.specs.memory.Pointers.{Home, IsValue, home_of}
-use Rattle.run_laws.specs.memory.Standing.{AreByteRights}
-use Rattle.run_laws.specs.transfer.Muted.{IsShown, muted, muted_work}
-use Rattle.run_laws.specs.transfer.Transfer.{AreJoined, AreSet, GoesOver, IsTransferred, same_maps}
-use Rattle.run_memory.specs.Memory.{store}
-use Rattle.run_memory.specs.declared.block.MemoryBlock.{MemoryBlock}
-use Rattle.run_memory.specs.declared.pointer.Pointer.{Pointer}
-use Rattle.run_memory.specs.declared.pointer.Value.{Value}
-use Rattle.run_source.specs.declared.state.Activation.{Activation}
-use Rattle.run_step.specs.Step.{Action, AtInstr, Context, Done, Stuck, Work, action_of, done, instr_action, is_alignment, set_memory, value_at}
-use Rattle.run_step.specs.Values.{access_of, address, arg_value, stored, value_in}
-use Rattle.run_step.specs.declared.world.World.{World}
+use Rattle.pass_proofs.specs.pass_fetch.Fetching.{value_bytes}
+use Rattle.pass_proofs.proofs.run_laws.access.Done.{free_held}
+use Rattle.pass_proofs.proofs.run_laws.access.Lines.{runs_append}
+use Rattle.pass_proofs.proofs.run_laws.access.Touched.{free_untouched}
+use Rattle.pass_proofs.proofs.run_laws.embedded.Values.{address_kept}
+use Rattle.pass_proofs.proofs.run_laws.transfer.Muted.{muted_result, shown_address, store_muted}
+use Rattle.pass_proofs.proofs.run_laws.transfer.Over.{step_over}
+use Rattle.pass_proofs.specs.run_laws.access.Changed.{IsDefined, KeepsFree, LeavesFree}
+use Rattle.pass_proofs.specs.run_laws.access.Lines.{Holds}
+use Rattle.pass_proofs.specs.run_laws.access.Touched.{AreTouches, touch_of}
+use Rattle.pass_proofs.specs.run_laws.memory.Pointers.{Home, IsValue, home_of}
+use Rattle.pass_proofs.specs.run_laws.memory.Standing.{AreByteRights}
+use Rattle.pass_proofs.specs.run_laws.transfer.Muted.{IsShown, muted, muted_work}
+use Rattle.pass_proofs.specs.run_laws.transfer.Transfer.{AreJoined, AreSet, GoesOver, IsTransferred, same_maps}
+use Rattle.pass_proofs.specs.run_memory.Memory.{store}
+use Rattle.pass_proofs.specs.run_memory.declared.block.MemoryBlock.{MemoryBlock}
+use Rattle.pass_proofs.specs.run_memory.declared.pointer.Pointer.{Pointer}
+use Rattle.pass_proofs.specs.run_memory.declared.pointer.Value.{Value}
+use Rattle.pass_proofs.specs.run_source.declared.state.Activation.{Activation}
+use Rattle.pass_proofs.specs.run_step.Step.{Action, AtInstr, Context, Done, Stuck, Work, action_of, done, instr_action, is_alignment, set_memory, value_at}
+use Rattle.pass_proofs.specs.run_step.Values.{access_of, address, arg_value, stored, value_in}
+use Rattle.pass_proofs.specs.run_step.declared.world.World.{World}
 
 -- ---- a store is defined where some blocks count as dead
 

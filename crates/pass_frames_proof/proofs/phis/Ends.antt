@@ -2,18 +2,18 @@
 use Rattle.std.proofs.Common.{◌≡◌, ⊎_elim, ℕ, zero, suc, ◌<◌, ◌≤◌, List, [], ◌∷◌, ◌++◌, length, refl, sym, ap, ◌∙◌, subst, arith}
 use Rattle.std.proofs.lemmas.List.{length-replicate}
 use Rattle.std.specs.Prelude.{None, Option, Some, map, replicate, unwrap_or}
-use Rattle.ir_laws.proofs.facts.Lists.{set_here, set_length, set_other}
-use Rattle.ir_laws.proofs.facts.Truth.{is_number}
-use Rattle.ir_model.specs.Ty.{Ty}
-use Rattle.ir_model.specs.declared.instr.Incoming.{Incoming}
-use Rattle.ir_model.specs.declared.instr.Instr.{Instr}
-use Rattle.ir_model.specs.declared.instr.Phi.{Phi}
-use Rattle.ir_model.specs.declared.module.Block.{Block}
-use Rattle.ir_model.specs.declared.module.Function.{Function}
-use Rattle.ir_model.specs.declared.operand.Operand.{Operand}
-use Rattle.pass_fetch.specs.Blocks.{end_at, ends_of_blocks, ends_of_incoming, ends_of_phis, next_after_phi, next_after_phis, next_after_phis_by, with_end}
-use Rattle.pass_fetch.specs.Fetching.{fetch_into, fetch_of, fetched_operand, next_after, next_after_all, next_by, operand_by}
-use Rattle.pass_fetch.specs.declared.fetch.Fetch.{Fetch}
+use Rattle.pass_proofs.proofs.ir_laws.facts.Lists.{set_here, set_length, set_other}
+use Rattle.pass_proofs.proofs.ir_laws.facts.Truth.{is_number}
+use Rattle.pass_proofs.specs.ir_model.Ty.{Ty}
+use Rattle.pass_proofs.specs.ir_model.declared.instr.Incoming.{Incoming}
+use Rattle.pass_proofs.specs.ir_model.declared.instr.Instr.{Instr}
+use Rattle.pass_proofs.specs.ir_model.declared.instr.Phi.{Phi}
+use Rattle.pass_proofs.specs.ir_model.declared.module.Block.{Block}
+use Rattle.pass_proofs.specs.ir_model.declared.module.Function.{Function}
+use Rattle.pass_proofs.specs.ir_model.declared.operand.Operand.{Operand}
+use Rattle.pass_proofs.specs.pass_fetch.Blocks.{end_at, ends_of_blocks, ends_of_incoming, ends_of_phis, next_after_phi, next_after_phis, next_after_phis_by, with_end}
+use Rattle.pass_proofs.specs.pass_fetch.Fetching.{fetch_into, fetch_of, fetched_operand, next_after, next_after_all, next_by, operand_by}
+use Rattle.pass_proofs.specs.pass_fetch.declared.fetch.Fetch.{Fetch}
 use Rattle.pass_frames_proof.proofs.distances.Sums.{more_below, set_from, sets_none, sets_on, value_set, value_stays}
 use Rattle.pass_frames_proof.proofs.fetched.Runs.{can_one, fetch_done, given_stays}
 use Rattle.pass_frames_proof.specs.Distances.{IsBelow, SetsFrom}
@@ -21,11 +21,11 @@ use Rattle.pass_frames_proof.specs.Fetched.{CanFetch, IsSeenAs, given_of, seen_b
 use Rattle.pass_frames_proof.specs.Phis.{AreBlocksSeen, AreIncomingSeen, ArePhisFetched, ArePhisSeen, CanAllComeFrom, CanComeFrom}
 use Rattle.pass_proofs.proofs.fetch.rules.Ends.{blocks_rise, phis_rise}
 use Rattle.pass_proofs.proofs.fetch.rules.Puts.{fetch_rises}
-use Rattle.run_laws.proofs.access.Lines.{runs_append}
-use Rattle.run_laws.specs.access.Lines.{Runs}
-use Rattle.run_laws.specs.changed.Changed.{Each}
-use Rattle.run_memory.specs.declared.pointer.Value.{Value}
-use Rattle.run_step.specs.Step.{Context, Work, set_value, value_at}
+use Rattle.pass_proofs.proofs.run_laws.access.Lines.{runs_append}
+use Rattle.pass_proofs.specs.run_laws.access.Lines.{Runs}
+use Rattle.pass_proofs.specs.run_laws.changed.Changed.{Each}
+use Rattle.pass_proofs.specs.run_memory.declared.pointer.Value.{Value}
+use Rattle.pass_proofs.specs.run_step.Step.{Context, Work, set_value, value_at}
 
 abbrev Rows : Type 0
 Rows = List (List Instr)

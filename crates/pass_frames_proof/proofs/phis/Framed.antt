@@ -1,20 +1,20 @@
 -- No pass but those that fetch operands changes a phi.
 use Rattle.std.proofs.Common.{◌≡◌, ℕ, zero, suc, List, [], ◌∷◌, length, refl, sym, ap, ◌∙◌}
 use Rattle.std.specs.Prelude.{Some, codes, filter, map, slice_get, take}
-use Rattle.ir_model.specs.declared.module.Block.{Block}
-use Rattle.ir_model.specs.declared.module.Function.{Function}
-use Rattle.pass_addresses.specs.Placing.{lies_outside, stays, turned_block, without_markers, without_promise_of}
-use Rattle.pass_cells.specs.Written.{after_blocks as after_written, entry_front as cells_front, written_block}
-use Rattle.pass_copies.specs.BeginCopies.{after_blocks as after_copied, copied_block, entry_front as copies_front, first_fetched}
-use Rattle.pass_fetch.specs.Blocks.{with_fetches}
-use Rattle.pass_frames.specs.Framed.{begin_of}
-use Rattle.pass_front.specs.Front.{with_allocas_first}
+use Rattle.pass_proofs.specs.ir_model.declared.module.Block.{Block}
+use Rattle.pass_proofs.specs.ir_model.declared.module.Function.{Function}
+use Rattle.pass_proofs.specs.pass_addresses.Placing.{lies_outside, stays, turned_block, without_markers, without_promise_of}
+use Rattle.pass_proofs.specs.pass_cells.Written.{after_blocks as after_written, entry_front as cells_front, written_block}
+use Rattle.pass_proofs.specs.pass_copies.BeginCopies.{after_blocks as after_copied, copied_block, entry_front as copies_front, first_fetched}
+use Rattle.pass_proofs.specs.pass_fetch.Blocks.{with_fetches}
+use Rattle.pass_proofs.specs.pass_frames.Framed.{begin_of}
+use Rattle.pass_proofs.specs.pass_front.Front.{with_allocas_first}
 use Rattle.pass_frames_proof.proofs.code.Framed.{framed_is}
 use Rattle.pass_frames_proof.proofs.code.Passes.{addressed, copied_there, entry_there, turned_there}
 use Rattle.pass_frames_proof.specs.Code.{slot_table}
 use Rattle.pass_frames_proof.specs.Passes.{at_entry}
 use Rattle.pass_frames_proof.specs.Places.{Framing, before_labels, copies, fetched, framed, marked, offsets, plan, unmarked, with_copies, written}
-use Rattle.run_step.specs.Step.{phis_of}
+use Rattle.pass_proofs.specs.run_step.Step.{phis_of}
 
 module _ (x : Framing) where
   -- the passes between the two that fetch

@@ -2,10 +2,10 @@
 use Rattle.std.proofs.Common.{◌≡◌, ℕ, Bool, true, false, refl, List, [], ap, ◌∙◌, ◌++◌}
 use Rattle.std.specs.Prelude.{if◌then◌else◌, ◌==◌, length, take}
 use Rattle.std.proofs.lemmas.Bool.{eqb-true}
-use Rattle.ir_model.specs.declared.instr.Instr.{Instr}
-use Rattle.pass_cells.specs.Moves.{again_values}
-use Rattle.pass_cells.specs.Written.{after_blocks as after_written, entry_front as cells_front, row_at, stored_phis}
-use Rattle.pass_copies.specs.BeginCopies.{entry_front as copies_front, puts}
+use Rattle.pass_proofs.specs.ir_model.declared.instr.Instr.{Instr}
+use Rattle.pass_proofs.specs.pass_cells.Moves.{again_values}
+use Rattle.pass_proofs.specs.pass_cells.Written.{after_blocks as after_written, entry_front as cells_front, row_at, stored_phis}
+use Rattle.pass_proofs.specs.pass_copies.BeginCopies.{entry_front as copies_front, puts}
 use Rattle.pass_frames_proof.proofs.code.Ends.{phis_each}
 use Rattle.pass_frames_proof.proofs.code.Left.{calm_addressed}
 use Rattle.pass_frames_proof.proofs.layers.Idle.{all_stay}

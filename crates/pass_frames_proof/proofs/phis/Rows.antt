@@ -1,12 +1,12 @@
 -- What stands at the end of a block is executed in a row.
 use Rattle.std.proofs.Common.{◌≡◌, ℕ, ◌<◌, ◌≤◌, List, ◌++◌, length, arith}
 use Rattle.std.specs.Prelude.{Option}
-use Rattle.ir_model.specs.declared.instr.Instr.{Instr}
-use Rattle.ir_model.specs.declared.module.Function.{Function}
-use Rattle.ir_model.specs.declared.operand.Operand.{Operand}
-use Rattle.pass_fetch.specs.Blocks.{end_at, next_after_phis_by}
-use Rattle.pass_fetch.specs.Fetching.{fetches_of_all, next_after_all}
-use Rattle.pass_fetch.specs.declared.fetch.Fetch.{Fetch}
+use Rattle.pass_proofs.specs.ir_model.declared.instr.Instr.{Instr}
+use Rattle.pass_proofs.specs.ir_model.declared.module.Function.{Function}
+use Rattle.pass_proofs.specs.ir_model.declared.operand.Operand.{Operand}
+use Rattle.pass_proofs.specs.pass_fetch.Blocks.{end_at, next_after_phis_by}
+use Rattle.pass_proofs.specs.pass_fetch.Fetching.{fetches_of_all, next_after_all}
+use Rattle.pass_proofs.specs.pass_fetch.declared.fetch.Fetch.{Fetch}
 use Rattle.pass_frames_proof.proofs.distances.Sums.{sets_on}
 use Rattle.pass_frames_proof.proofs.fetched.Runs.{fetched}
 use Rattle.pass_frames_proof.proofs.phis.Ends.{blocks_stay, phis_fetched}
@@ -17,10 +17,10 @@ use Rattle.pass_frames_proof.specs.Passes.{phi_ends}
 use Rattle.pass_frames_proof.specs.Phis.{AreBlocksSeen, ArePhisFetched}
 use Rattle.pass_proofs.proofs.fetch.rules.Ends.{blocks_rise}
 use Rattle.pass_proofs.proofs.fetch.rules.Puts.{fetch_rises}
-use Rattle.run_laws.proofs.access.Lines.{runs_append}
-use Rattle.run_laws.specs.access.Lines.{Runs}
-use Rattle.run_memory.specs.declared.pointer.Value.{Value}
-use Rattle.run_step.specs.Step.{Context, Work}
+use Rattle.pass_proofs.proofs.run_laws.access.Lines.{runs_append}
+use Rattle.pass_proofs.specs.run_laws.access.Lines.{Runs}
+use Rattle.pass_proofs.specs.run_memory.declared.pointer.Value.{Value}
+use Rattle.pass_proofs.specs.run_step.Step.{Context, Work}
 
 module _ (T S : List (Option Fetch)) (given reached : ℕ → Value) (c : Context) (f h : Function) (label n p : ℕ)
     (xs ys : List Operand) (w : Work) (m : MayEnd T S given reached c f h label n p xs ys w) where

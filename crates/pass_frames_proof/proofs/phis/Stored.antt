@@ -1,9 +1,9 @@
 -- Phis are stored into their cells.
 use Rattle.std.proofs.Common.{◌≡◌, ℕ, List, [], ◌∷◌, ◌++◌, refl, ap, sym, subst}
-use Rattle.ir_model.specs.declared.instr.Instr.{Instr}
-use Rattle.ir_model.specs.declared.instr.Phi.{Phi}
-use Rattle.pass_cells.specs.Written.{stored, stored_phis}
-use Rattle.pass_cells.specs.declared.plan.Plan.{Plan}
+use Rattle.pass_proofs.specs.ir_model.declared.instr.Instr.{Instr}
+use Rattle.pass_proofs.specs.ir_model.declared.instr.Phi.{Phi}
+use Rattle.pass_proofs.specs.pass_cells.Written.{stored, stored_phis}
+use Rattle.pass_proofs.specs.pass_cells.declared.plan.Plan.{Plan}
 use Rattle.pass_frames_proof.proofs.lines.Stored.{names_stored}
 use Rattle.pass_frames_proof.specs.Framings.{IsFraming}
 use Rattle.pass_frames_proof.specs.Lines.{HasOwnBlocks, at_work}
@@ -11,13 +11,13 @@ use Rattle.pass_frames_proof.specs.Phis.{given_phis}
 use Rattle.pass_frames_proof.specs.Places.{Framing, plan}
 use Rattle.pass_frames_proof.specs.Related.{AreCellsRight}
 use Rattle.pass_frames_proof.specs.Stores.{AreNamesStored, IsNameGiven, stored_all}
-use Rattle.run_laws.specs.changed.Changed.{Each}
-use Rattle.run_laws.specs.memory.Pointers.{Home}
-use Rattle.run_laws.specs.memory.Standing.{AreByteRights}
-use Rattle.run_memory.specs.declared.pointer.Value.{Value}
-use Rattle.run_source.specs.declared.state.Activation.{Activation}
-use Rattle.run_step.specs.Step.{Context, Work, with_all}
-use Rattle.run_step.specs.Values.{Env}
+use Rattle.pass_proofs.specs.run_laws.changed.Changed.{Each}
+use Rattle.pass_proofs.specs.run_laws.memory.Pointers.{Home}
+use Rattle.pass_proofs.specs.run_laws.memory.Standing.{AreByteRights}
+use Rattle.pass_proofs.specs.run_memory.declared.pointer.Value.{Value}
+use Rattle.pass_proofs.specs.run_source.declared.state.Activation.{Activation}
+use Rattle.pass_proofs.specs.run_step.Step.{Context, Work, with_all}
+use Rattle.pass_proofs.specs.run_step.Values.{Env}
 
 phis_line : (p : Plan) (value : Phi → Value) (ps : List Phi) → stored_phis p ps ≡ stored_all p (given_phis value ps)
 phis_line p value [] = refl

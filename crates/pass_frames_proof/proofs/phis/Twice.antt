@@ -3,17 +3,17 @@
 -- two tables.
 use Rattle.std.proofs.Common.{◌≡◌, ℕ, zero, suc, ◌≤◌, Bool, true, false, List, [], ◌∷◌, length, refl, sym, ap, ◌∙◌, arith}
 use Rattle.std.specs.Prelude.{None, Option, Some, map, slice_get, if◌then◌else◌, ◌==◌}
-use Rattle.ir_laws.proofs.facts.Truth.{equal_numbers}
-use Rattle.ir_model.specs.Ty.{Ty}
-use Rattle.ir_model.specs.declared.instr.Incoming.{Incoming}
-use Rattle.ir_model.specs.declared.instr.Instr.{Instr}
-use Rattle.ir_model.specs.declared.instr.Phi.{Phi}
-use Rattle.ir_model.specs.declared.module.Block.{Block}
-use Rattle.ir_model.specs.declared.module.Function.{Function}
-use Rattle.ir_model.specs.declared.operand.Operand.{Operand}
-use Rattle.pass_fetch.specs.Blocks.{fetched_blocks, fetched_incoming, fetched_phis, next_after_block, next_after_phi, next_after_phis, next_after_phis_by, with_fetches}
-use Rattle.pass_fetch.specs.Fetching.{fetch_of, fetched_operand, next_after, operand_by}
-use Rattle.pass_fetch.specs.declared.fetch.Fetch.{Fetch}
+use Rattle.pass_proofs.proofs.ir_laws.facts.Truth.{equal_numbers}
+use Rattle.pass_proofs.specs.ir_model.Ty.{Ty}
+use Rattle.pass_proofs.specs.ir_model.declared.instr.Incoming.{Incoming}
+use Rattle.pass_proofs.specs.ir_model.declared.instr.Instr.{Instr}
+use Rattle.pass_proofs.specs.ir_model.declared.instr.Phi.{Phi}
+use Rattle.pass_proofs.specs.ir_model.declared.module.Block.{Block}
+use Rattle.pass_proofs.specs.ir_model.declared.module.Function.{Function}
+use Rattle.pass_proofs.specs.ir_model.declared.operand.Operand.{Operand}
+use Rattle.pass_proofs.specs.pass_fetch.Blocks.{fetched_blocks, fetched_incoming, fetched_phis, next_after_block, next_after_phi, next_after_phis, next_after_phis_by, with_fetches}
+use Rattle.pass_proofs.specs.pass_fetch.Fetching.{fetch_of, fetched_operand, next_after, operand_by}
+use Rattle.pass_proofs.specs.pass_fetch.declared.fetch.Fetch.{Fetch}
 use Rattle.pass_frames_proof.proofs.phis.Values.{phis_seen}
 use Rattle.pass_frames_proof.specs.Fetched.{seen_by, seen_of}
 use Rattle.pass_frames_proof.specs.Passes.{phi_ends}
@@ -21,12 +21,12 @@ use Rattle.pass_frames_proof.specs.Phis.{AreBlocksSeen, AreIncomingSeen, ArePhis
 use Rattle.pass_frames_proof.specs.Ends.{IsPhiTwice, phis_twice}
 use Rattle.pass_frames_proof.specs.Led.{seen_twice, twice_by}
 use Rattle.pass_frames_proof.specs.Edges.{ArePairs}
-use Rattle.run_laws.specs.changed.Changed.{Each}
-use Rattle.run_laws.specs.memory.Pointers.{Home}
+use Rattle.pass_proofs.specs.run_laws.changed.Changed.{Each}
+use Rattle.pass_proofs.specs.run_laws.memory.Pointers.{Home}
 use Rattle.pass_proofs.proofs.fetch.rules.Ends.{phis_rise}
 use Rattle.pass_proofs.proofs.fetch.rules.Puts.{fetch_rises}
-use Rattle.run_memory.specs.declared.pointer.Value.{Value}
-use Rattle.run_step.specs.Step.{Context, Work, incoming_from, phi_values, phis_of, value_at}
+use Rattle.pass_proofs.specs.run_memory.declared.pointer.Value.{Value}
+use Rattle.pass_proofs.specs.run_step.Step.{Context, Work, incoming_from, phi_values, phis_of, value_at}
 
 module _ (t u : List (Option Fetch)) (far : ℕ) (new : (n : ℕ) → far ≤ n → fetch_of u (Operand.Local n) ≡ None)
     (given reached : ℕ → Value) (c : Context) (w y : Work) (label : ℕ) where

@@ -1,21 +1,21 @@
 -- What phis get where their operands are fetched.
 use Rattle.std.proofs.Common.{◌≡◌, ℕ, zero, suc, Bool, true, false, List, [], ◌∷◌, length, refl, sym, ap, ◌∙◌}
 use Rattle.std.specs.Prelude.{Option, Some, slice_get, if◌then◌else◌, ◌==◌}
-use Rattle.ir_laws.proofs.facts.Truth.{equal_numbers}
-use Rattle.ir_model.specs.Ty.{Ty}
-use Rattle.ir_model.specs.declared.instr.Incoming.{Incoming}
-use Rattle.ir_model.specs.declared.instr.Instr.{Instr}
-use Rattle.ir_model.specs.declared.instr.Phi.{Phi}
-use Rattle.ir_model.specs.declared.module.Block.{Block}
-use Rattle.ir_model.specs.declared.module.Function.{Function}
-use Rattle.pass_fetch.specs.Blocks.{fetched_blocks, fetched_incoming, fetched_phis, next_after_block, next_after_phi, next_after_phis, next_after_phis_by, with_fetches}
-use Rattle.pass_fetch.specs.Fetching.{fetched_operand, next_after}
-use Rattle.pass_fetch.specs.declared.fetch.Fetch.{Fetch}
+use Rattle.pass_proofs.proofs.ir_laws.facts.Truth.{equal_numbers}
+use Rattle.pass_proofs.specs.ir_model.Ty.{Ty}
+use Rattle.pass_proofs.specs.ir_model.declared.instr.Incoming.{Incoming}
+use Rattle.pass_proofs.specs.ir_model.declared.instr.Instr.{Instr}
+use Rattle.pass_proofs.specs.ir_model.declared.instr.Phi.{Phi}
+use Rattle.pass_proofs.specs.ir_model.declared.module.Block.{Block}
+use Rattle.pass_proofs.specs.ir_model.declared.module.Function.{Function}
+use Rattle.pass_proofs.specs.pass_fetch.Blocks.{fetched_blocks, fetched_incoming, fetched_phis, next_after_block, next_after_phi, next_after_phis, next_after_phis_by, with_fetches}
+use Rattle.pass_proofs.specs.pass_fetch.Fetching.{fetched_operand, next_after}
+use Rattle.pass_proofs.specs.pass_fetch.declared.fetch.Fetch.{Fetch}
 use Rattle.pass_frames_proof.specs.Fetched.{seen_of}
 use Rattle.pass_frames_proof.specs.Passes.{phi_ends}
 use Rattle.pass_frames_proof.specs.Phis.{AreBlocksSeen, AreIncomingSeen, ArePhisSeen, seen_phis}
-use Rattle.run_memory.specs.declared.pointer.Value.{Value}
-use Rattle.run_step.specs.Step.{Context, Work, incoming_from, phi_values, phis_of, value_at}
+use Rattle.pass_proofs.specs.run_memory.declared.pointer.Value.{Value}
+use Rattle.pass_proofs.specs.run_step.Step.{Context, Work, incoming_from, phi_values, phis_of, value_at}
 
 module _ (t : List (Option Fetch)) (given : ℕ → Value) (c : Context) (w x : Work) (label : ℕ) where
   incoming_value : (is : List Incoming) (n : ℕ) (ty : Ty) → AreIncomingSeen t given c w x label n is

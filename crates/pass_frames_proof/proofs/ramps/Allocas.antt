@@ -3,29 +3,29 @@ use Rattle.std.proofs.Common.{◌≡◌, ◌+◌, ◌<◌, ◌≤◌, ◌++◌, 
 use Rattle.std.proofs.lemmas.Bool.{cases_eq}
 use Rattle.std.specs.List.{Contains}
 use Rattle.std.specs.Prelude.{if◌then◌else◌, option_map, option_to_list, slice_get, unwrap_or, ◌&&◌}
-use Rattle.flow_solver.specs.Paths.{IsListed}
-use Rattle.ir_laws.proofs.paths.source_rules.Locals.{listed_left, listed_right}
-use Rattle.ir_laws.specs.paths.woven_rules.Pairs.{AreDifferent}
-use Rattle.ir_model.specs.Ty.{Ty, int, ptr}
-use Rattle.ir_model.specs.declared.instr.Instr.{Instr}
-use Rattle.ir_model.specs.declared.module.Block.{Block}
-use Rattle.pass_addresses.specs.Placing.{is_none as is_absent, lies_outside}
-use Rattle.pass_cells.specs.Kept.{entry, joined, value_types}
-use Rattle.pass_cells.specs.Links.{bases_of, cell_name, distance_name, field_name, link_name, marks_of, slots_of}
-use Rattle.pass_cells.specs.Moves.{cell_alloca}
-use Rattle.pass_cells.specs.Plan.{kept_value, type_at}
-use Rattle.pass_cells.specs.Written.{distance_allocas, entry_front as cells_front, kept_allocas, link_allocas, stored_params}
-use Rattle.pass_cells.specs.declared.plan.KeptValue.{KeptValue}
-use Rattle.pass_copies.specs.BeginCopies.{entry_front as copies_front, slot_allocas}
-use Rattle.pass_copies.specs.Slots.{entry_instrs}
-use Rattle.pass_copies.specs.Uses.{used_before}
-use Rattle.pass_copies.specs.declared.slot.EarlySlot.{EarlySlot}
-use Rattle.pass_fetch.specs.Blocks.{end_at}
-use Rattle.pass_fetch.specs.Fetching.{value_bytes}
-use Rattle.pass_fetch.specs.declared.fetch.Fetch.{Fetch}
-use Rattle.pass_frames.specs.Framed.{begin_of}
-use Rattle.pass_frames.specs.Tables.{class_flags, sizes_by_name}
-use Rattle.frame_classes.specs.declared.class.SlotClass.{SlotClass}
+use Rattle.pass_proofs.specs.flow_solver.Paths.{IsListed}
+use Rattle.pass_proofs.proofs.ir_laws.paths.source_rules.Locals.{listed_left, listed_right}
+use Rattle.pass_proofs.specs.ir_laws.paths.woven_rules.Pairs.{AreDifferent}
+use Rattle.pass_proofs.specs.ir_model.Ty.{Ty, int, ptr}
+use Rattle.pass_proofs.specs.ir_model.declared.instr.Instr.{Instr}
+use Rattle.pass_proofs.specs.ir_model.declared.module.Block.{Block}
+use Rattle.pass_proofs.specs.pass_addresses.Placing.{is_none as is_absent, lies_outside}
+use Rattle.pass_proofs.specs.pass_cells.Kept.{entry, joined, value_types}
+use Rattle.pass_proofs.specs.pass_cells.Links.{bases_of, cell_name, distance_name, field_name, link_name, marks_of, slots_of}
+use Rattle.pass_proofs.specs.pass_cells.Moves.{cell_alloca}
+use Rattle.pass_proofs.specs.pass_cells.Plan.{kept_value, type_at}
+use Rattle.pass_proofs.specs.pass_cells.Written.{distance_allocas, entry_front as cells_front, kept_allocas, link_allocas, stored_params}
+use Rattle.pass_proofs.specs.pass_cells.declared.plan.KeptValue.{KeptValue}
+use Rattle.pass_proofs.specs.pass_copies.BeginCopies.{entry_front as copies_front, slot_allocas}
+use Rattle.pass_proofs.specs.pass_copies.Slots.{entry_instrs}
+use Rattle.pass_proofs.specs.pass_copies.Uses.{used_before}
+use Rattle.pass_proofs.specs.pass_copies.declared.slot.EarlySlot.{EarlySlot}
+use Rattle.pass_proofs.specs.pass_fetch.Blocks.{end_at}
+use Rattle.pass_proofs.specs.pass_fetch.Fetching.{value_bytes}
+use Rattle.pass_proofs.specs.pass_fetch.declared.fetch.Fetch.{Fetch}
+use Rattle.pass_proofs.specs.pass_frames.Framed.{begin_of}
+use Rattle.pass_proofs.specs.pass_frames.Tables.{class_flags, sizes_by_name}
+use Rattle.pass_proofs.specs.frame_classes.declared.class.SlotClass.{SlotClass}
 use Rattle.pass_frames_proof.proofs.beginning.Places.{filter_in}
 use Rattle.pass_frames_proof.proofs.code.Ends.{front_is}
 use Rattle.pass_frames_proof.proofs.code.Instrs.{instr_code}
@@ -47,7 +47,7 @@ use Rattle.pass_frames_proof.specs.Passes.{block_at, fetched_first, fetching, ph
 use Rattle.pass_frames_proof.specs.Places.{Framing, Placed, addressing_layer, before_labels, copies, edged, instrs_at, named, offsets, placed_layer, plan, unmarked, written}
 use Rattle.pass_frames_proof.specs.Ramps.{HasAllocasInFront, IsPlainEntry}
 use Rattle.pass_frames_proof.specs.Related.{IsKeptValue}
-use Rattle.pass_front.specs.Front.{is_alloca}
+use Rattle.pass_proofs.specs.pass_front.Front.{is_alloca}
 use Rattle.pass_proofs.proofs.cells.rules.Links.{IsDistanceCell, OfLink, OfValue, distance_there}
 use Rattle.pass_proofs.proofs.cells.rules.Plans.{kept_at}
 use Rattle.pass_proofs.proofs.copies.rules.Slots.{AreNumbered, numbered}

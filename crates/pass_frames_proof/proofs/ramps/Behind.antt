@@ -3,23 +3,23 @@ use Rattle.std.proofs.Common.{◌≡◌, ◌<◌, ◌∙◌, ◌∷◌, [], List
 use Rattle.std.proofs.lemmas.List.{length-replicate}
 use Rattle.std.specs.List.{Contains}
 use Rattle.std.specs.Prelude.{if◌then◌else◌, slice_get}
-use Rattle.flow_solver.specs.Paths.{IsListed}
-use Rattle.ir_laws.proofs.facts.Members.{each_joined, each_turns}
-use Rattle.ir_laws.specs.paths.woven_rules.Pairs.{AreDifferent}
-use Rattle.ir_model.specs.Layout.{size_of}
-use Rattle.ir_model.specs.Ty.{Ty, int, ptr}
-use Rattle.ir_model.specs.declared.instr.Instr.{Instr}
-use Rattle.ir_model.specs.declared.module.Function.{Function}
-use Rattle.ir_model.specs.declared.module.Module.{Module}
-use Rattle.ir_model.specs.declared.module.Param.{Param}
-use Rattle.ir_model.specs.declared.operand.Operand.{Operand}
-use Rattle.pass_cells.specs.Cells.{fetched_function}
-use Rattle.pass_cells.specs.Kept.{entry}
-use Rattle.pass_cells.specs.Written.{stored, stored_at, stored_one, stored_params}
-use Rattle.pass_cells.specs.declared.plan.KeptValue.{KeptValue}
-use Rattle.pass_copies.specs.declared.slot.EarlySlot.{EarlySlot}
-use Rattle.pass_fetch.specs.Fetching.{value_bytes}
-use Rattle.pass_intrinsics.specs.Lowered.{pointer_arg}
+use Rattle.pass_proofs.specs.flow_solver.Paths.{IsListed}
+use Rattle.pass_proofs.proofs.ir_laws.facts.Members.{each_joined, each_turns}
+use Rattle.pass_proofs.specs.ir_laws.paths.woven_rules.Pairs.{AreDifferent}
+use Rattle.pass_proofs.specs.ir_model.Layout.{size_of}
+use Rattle.pass_proofs.specs.ir_model.Ty.{Ty, int, ptr}
+use Rattle.pass_proofs.specs.ir_model.declared.instr.Instr.{Instr}
+use Rattle.pass_proofs.specs.ir_model.declared.module.Function.{Function}
+use Rattle.pass_proofs.specs.ir_model.declared.module.Module.{Module}
+use Rattle.pass_proofs.specs.ir_model.declared.module.Param.{Param}
+use Rattle.pass_proofs.specs.ir_model.declared.operand.Operand.{Operand}
+use Rattle.pass_proofs.specs.pass_cells.Cells.{fetched_function}
+use Rattle.pass_proofs.specs.pass_cells.Kept.{entry}
+use Rattle.pass_proofs.specs.pass_cells.Written.{stored, stored_at, stored_one, stored_params}
+use Rattle.pass_proofs.specs.pass_cells.declared.plan.KeptValue.{KeptValue}
+use Rattle.pass_proofs.specs.pass_copies.declared.slot.EarlySlot.{EarlySlot}
+use Rattle.pass_proofs.specs.pass_fetch.Fetching.{value_bytes}
+use Rattle.pass_proofs.specs.pass_intrinsics.Lowered.{pointer_arg}
 use Rattle.pass_frames_proof.proofs.code.Framed.{framed_is}
 use Rattle.pass_frames_proof.proofs.code.Names.{has_cells}
 use Rattle.pass_frames_proof.proofs.entered.Allocas.{each_there}
@@ -36,19 +36,19 @@ use Rattle.pass_frames_proof.specs.Places.{Framing, copies, edged, framed, plan}
 use Rattle.pass_frames_proof.specs.Ramps.{HasAllocasInFront, entry_stores}
 use Rattle.pass_frames_proof.specs.Related.{Anything, AreCellsThere, Building, IsCell, IsKeptValue}
 use Rattle.pass_frames_proof.specs.Saving.{HasLowAllocas}
-use Rattle.rule_laws.proofs.rules.counted.Types.{is_cell_type, width_cases}
-use Rattle.run_framed.specs.Framed.{frame_rights}
-use Rattle.run_laws.specs.changed.Changed.{Each}
-use Rattle.run_memory.specs.Pointers.{offset_of}
-use Rattle.run_memory.specs.declared.block.Byte.{Byte}
-use Rattle.run_memory.specs.declared.block.Kind.{Kind}
-use Rattle.run_memory.specs.declared.block.Life.{Life}
-use Rattle.run_memory.specs.declared.block.MemoryBlock.{MemoryBlock}
-use Rattle.run_memory.specs.declared.pointer.Pointer.{Pointer}
-use Rattle.run_source.specs.declared.state.Activation.{Activation}
-use Rattle.run_source.specs.declared.state.Instance.{Instance}
-use Rattle.run_step.specs.Step.{has_markers}
-use Rattle.run_step.specs.Values.{Env, value_in}
+use Rattle.pass_proofs.proofs.rule_laws.rules.counted.Types.{is_cell_type, width_cases}
+use Rattle.pass_proofs.specs.run_framed.Framed.{frame_rights}
+use Rattle.pass_proofs.specs.run_laws.changed.Changed.{Each}
+use Rattle.pass_proofs.specs.run_memory.Pointers.{offset_of}
+use Rattle.pass_proofs.specs.run_memory.declared.block.Byte.{Byte}
+use Rattle.pass_proofs.specs.run_memory.declared.block.Kind.{Kind}
+use Rattle.pass_proofs.specs.run_memory.declared.block.Life.{Life}
+use Rattle.pass_proofs.specs.run_memory.declared.block.MemoryBlock.{MemoryBlock}
+use Rattle.pass_proofs.specs.run_memory.declared.pointer.Pointer.{Pointer}
+use Rattle.pass_proofs.specs.run_source.declared.state.Activation.{Activation}
+use Rattle.pass_proofs.specs.run_source.declared.state.Instance.{Instance}
+use Rattle.pass_proofs.specs.run_step.Step.{has_markers}
+use Rattle.pass_proofs.specs.run_step.Values.{Env, value_in}
 
 -- ---- the framed form is a coroutine, with the parameters that it had
 

@@ -1,14 +1,14 @@
 -- A slot of a ramp lies in no frame, and its name is one of the coroutine's.
 use Rattle.std.proofs.Common.{◌≡◌, ◌+◌, ◌<◌, ◌≤◌, ◌∙◌, Bool, None, Option, Some, ap, arith, false, length, refl, replicate, sym, true, ℕ, ⊎_elim}
 use Rattle.std.specs.Prelude.{slice_get}
-use Rattle.frame_classes.specs.declared.class.SlotClass.{SlotClass}
-use Rattle.ir_paths.specs.Slots.{allocas_of}
-use Rattle.ir_model.specs.declared.operand.Operand.{Operand}
-use Rattle.pass_addresses.specs.Placing.{slot_fetches}
-use Rattle.pass_copies.specs.Uses.{flag_at}
-use Rattle.pass_fetch.specs.Fetching.{fetch_of}
-use Rattle.pass_frames.specs.Framed.{begin_of}
-use Rattle.pass_frames.specs.Tables.{is_of}
+use Rattle.pass_proofs.specs.frame_classes.declared.class.SlotClass.{SlotClass}
+use Rattle.pass_proofs.specs.ir_paths.Slots.{allocas_of}
+use Rattle.pass_proofs.specs.ir_model.declared.operand.Operand.{Operand}
+use Rattle.pass_proofs.specs.pass_addresses.Placing.{slot_fetches}
+use Rattle.pass_proofs.specs.pass_copies.Uses.{flag_at}
+use Rattle.pass_proofs.specs.pass_fetch.Fetching.{fetch_of}
+use Rattle.pass_proofs.specs.pass_frames.Framed.{begin_of}
+use Rattle.pass_proofs.specs.pass_frames.Tables.{is_of}
 use Rattle.pass_frames_proof.proofs.code.Names.{Count, First}
 use Rattle.pass_frames_proof.specs.Framings.{IsFraming}
 use Rattle.pass_frames_proof.specs.Places.{Framing, marked, offsets, with_copies}

@@ -2,20 +2,20 @@
 use Rattle.std.proofs.Common.{◌≡◌, ◌≤◌, ◌++◌, ◌∙◌, ◌∷◌, [], Bool, List, None, Some, ap, append-nil, arith, false, inl, inr, length, refl, subst, true, ℕ}
 use Rattle.std.specs.List.{Contains}
 use Rattle.std.specs.Prelude.{Option, option_to_list, if◌then◌else◌}
-use Rattle.flow_solver.specs.Paths.{IsListed}
-use Rattle.ir_laws.proofs.facts.Members.{each_joined, each_turns}
-use Rattle.ir_model.specs.Ty.{Ty}
-use Rattle.ir_model.specs.declared.instr.Instr.{Instr}
-use Rattle.ir_model.specs.declared.module.Block.{Block}
-use Rattle.ir_model.specs.declared.module.Param.{Param}
-use Rattle.pass_addresses.specs.Placing.{lies_outside}
-use Rattle.pass_cells.specs.Moves.{again_values}
-use Rattle.pass_cells.specs.Written.{after_blocks as after_written, entry_front as cells_front, kept_allocas, link_allocas, row_at, stored, stored_params, stored_phis}
-use Rattle.pass_cells.specs.declared.plan.KeptValue.{KeptValue}
-use Rattle.pass_copies.specs.BeginCopies.{entry_front as copies_front, puts, slot_allocas}
-use Rattle.pass_copies.specs.declared.slot.EarlySlot.{EarlySlot}
-use Rattle.pass_fetch.specs.Blocks.{end_at}
-use Rattle.pass_fetch.specs.declared.fetch.Fetch.{Fetch}
+use Rattle.pass_proofs.specs.flow_solver.Paths.{IsListed}
+use Rattle.pass_proofs.proofs.ir_laws.facts.Members.{each_joined, each_turns}
+use Rattle.pass_proofs.specs.ir_model.Ty.{Ty}
+use Rattle.pass_proofs.specs.ir_model.declared.instr.Instr.{Instr}
+use Rattle.pass_proofs.specs.ir_model.declared.module.Block.{Block}
+use Rattle.pass_proofs.specs.ir_model.declared.module.Param.{Param}
+use Rattle.pass_proofs.specs.pass_addresses.Placing.{lies_outside}
+use Rattle.pass_proofs.specs.pass_cells.Moves.{again_values}
+use Rattle.pass_proofs.specs.pass_cells.Written.{after_blocks as after_written, entry_front as cells_front, kept_allocas, link_allocas, row_at, stored, stored_params, stored_phis}
+use Rattle.pass_proofs.specs.pass_cells.declared.plan.KeptValue.{KeptValue}
+use Rattle.pass_proofs.specs.pass_copies.BeginCopies.{entry_front as copies_front, puts, slot_allocas}
+use Rattle.pass_proofs.specs.pass_copies.declared.slot.EarlySlot.{EarlySlot}
+use Rattle.pass_proofs.specs.pass_fetch.Blocks.{end_at}
+use Rattle.pass_proofs.specs.pass_fetch.declared.fetch.Fetch.{Fetch}
 use Rattle.pass_frames_proof.proofs.code.Ends.{front_is, kept_each, links_each, slots_each}
 use Rattle.pass_frames_proof.proofs.code.Framed.{entry_made}
 use Rattle.pass_frames_proof.proofs.code.Left.{Far, IsCalm, IsMove, calm_addressed, far_named, stored_calm}
@@ -37,9 +37,9 @@ use Rattle.pass_frames_proof.specs.Layers.{IsIdle, Layer, both, grown, only, pas
 use Rattle.pass_frames_proof.specs.Passes.{block_at, fetched_first, fetching, phi_ends}
 use Rattle.pass_frames_proof.specs.Places.{Framing, addressing_layer, copies, edged, entry_layer, fetched, framed, instrs_at, named, offsets, place_by, placed_layer, plan, unmarked, written}
 use Rattle.pass_frames_proof.specs.Ramps.{HasEntryFront, IsPlainEntry, entry_stores}
-use Rattle.pass_front.specs.Front.{is_no_alloca}
-use Rattle.run_laws.specs.access.Lines.{StandAt}
-use Rattle.run_laws.specs.changed.Changed.{Each}
+use Rattle.pass_proofs.specs.pass_front.Front.{is_no_alloca}
+use Rattle.pass_proofs.specs.run_laws.access.Lines.{StandAt}
+use Rattle.pass_proofs.specs.run_laws.changed.Changed.{Each}
 
 -- ---- what is no alloca, of what a layer makes of a list
 

@@ -1,7 +1,7 @@
 -- The framed run's memory has grown, and its new blocks have other bytes: what is shown, and where the source stands.
 use Rattle.std.proofs.Common.{◌≡◌, ◌<◌, ◌≤◌, ◌++◌, ◌∙◌, ◌∷◌, [], List, None, Option, Some, ap, arith, length, refl, subst, suc, sym, true, ℕ}
 use Rattle.std.specs.Prelude.{slice_get}
-use Rattle.ir_base.specs.declared.outcome.Outcome.{Outcome}
+use Rattle.pass_proofs.specs.ir_base.declared.outcome.Outcome.{Outcome}
 use Rattle.pass_frames_proof.proofs.calling.Push.{grown_left}
 use Rattle.pass_frames_proof.proofs.followed.Assembly.{events_same, other_instance}
 use Rattle.pass_frames_proof.proofs.moved.Rest.{same_place}
@@ -12,13 +12,13 @@ use Rattle.pass_frames_proof.specs.Framings.{IsFraming}
 use Rattle.pass_frames_proof.specs.Moved.{IsSamePlace}
 use Rattle.pass_frames_proof.specs.Related.{AreBuiltOf, Building, IsFreeOf, all_slots, instance_in, is_coroutine}
 use Rattle.pass_frames_proof.specs.Returning.{IsAmong}
-use Rattle.run_framed.specs.Framed.{frame_rights}
-use Rattle.run_laws.specs.transfer.Transfer.{AreOver}
-use Rattle.run_memory.specs.Memory.{owner_rights}
-use Rattle.run_memory.specs.declared.block.MemoryBlock.{MemoryBlock}
-use Rattle.run_source.specs.declared.state.Activation.{Activation}
-use Rattle.run_source.specs.declared.state.State.{State}
-use Rattle.run_step.specs.declared.world.World.{World}
+use Rattle.pass_proofs.specs.run_framed.Framed.{frame_rights}
+use Rattle.pass_proofs.specs.run_laws.transfer.Transfer.{AreOver}
+use Rattle.pass_proofs.specs.run_memory.Memory.{owner_rights}
+use Rattle.pass_proofs.specs.run_memory.declared.block.MemoryBlock.{MemoryBlock}
+use Rattle.pass_proofs.specs.run_source.declared.state.Activation.{Activation}
+use Rattle.pass_proofs.specs.run_source.declared.state.State.{State}
+use Rattle.pass_proofs.specs.run_step.declared.world.World.{World}
 
 -- a memory that keeps the blocks of another is that one with blocks behind it
 pub split_grown : (m k : List MemoryBlock) → ((e : ℕ) → e < length m → slice_get k e ≡ slice_get m e)

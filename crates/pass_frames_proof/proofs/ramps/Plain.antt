@@ -1,13 +1,13 @@
 -- There is an entry, since there is a begin, and it has no phis, as it had none before blocks were put on edges.
 use Rattle.std.proofs.Common.{◌≡◌, ◌∙◌, ◌∷◌, [], Bool, List, Option, Some, ap, length, refl, subst, sym, ℕ}
 use Rattle.std.specs.Prelude.{slice_get, unwrap_or}
-use Rattle.ir_laws.specs.facts.spelled.Filled.{HasNoEntryPhis}
-use Rattle.ir_model.specs.Calls.{first_result_by}
-use Rattle.ir_model.specs.declared.module.Block.{Block}
-use Rattle.ir_model.specs.declared.operand.Intrinsic.{Intrinsic}
-use Rattle.pass_edges.specs.EdgeBlocks.{split_block, split_blocks}
-use Rattle.pass_edges.specs.Edges.{edge_table, edges_of, phi_flags}
-use Rattle.pass_edges.specs.declared.edge.Edge.{Edge}
+use Rattle.pass_proofs.specs.ir_laws.facts.spelled.Filled.{HasNoEntryPhis}
+use Rattle.pass_proofs.specs.ir_model.Calls.{first_result_by}
+use Rattle.pass_proofs.specs.ir_model.declared.module.Block.{Block}
+use Rattle.pass_proofs.specs.ir_model.declared.operand.Intrinsic.{Intrinsic}
+use Rattle.pass_proofs.specs.pass_edges.EdgeBlocks.{split_block, split_blocks}
+use Rattle.pass_proofs.specs.pass_edges.Edges.{edge_table, edges_of, phi_flags}
+use Rattle.pass_proofs.specs.pass_edges.declared.edge.Edge.{Edge}
 use Rattle.pass_frames_proof.specs.Framings.{IsFraming}
 use Rattle.pass_frames_proof.specs.Passes.{block_at, no_block}
 use Rattle.pass_frames_proof.specs.Places.{Framing, edged}

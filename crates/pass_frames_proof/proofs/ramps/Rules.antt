@@ -1,19 +1,19 @@
 -- What the rules say of the allocas in front of an entry: each has a name of its own, which is no parameter's.
 use Rattle.std.proofs.Common.{◌≡◌, ◌+◌, ◌<◌, ◌≤◌, ◌∙◌, ◌∷◌, [], Bool, List, None, Option, Some, ap, arith, false, inl, inr, length, refl, subst, suc, sym, true, zero, ℕ}
 use Rattle.std.specs.Prelude.{map, slice_get, ◌==◌}
-use Rattle.flow_solver.specs.Paths.{IsListed}
-use Rattle.ir_laws.proofs.facts.Members.{each_turns}
-use Rattle.ir_laws.specs.paths.woven_rules.Pairs.{AreDifferent}
-use Rattle.ir_model.specs.Layout.{extent_of, extent_or}
-use Rattle.ir_model.specs.declared.instr.Instr.{Instr}
-use Rattle.ir_model.specs.declared.instr.Terminator.{Terminator}
-use Rattle.ir_model.specs.declared.module.Block.{Block}
-use Rattle.ir_model.specs.declared.module.Function.{Function}
-use Rattle.ir_model.specs.declared.module.Module.{Module}
-use Rattle.ir_model.specs.declared.module.Param.{Param}
-use Rattle.ir_model.specs.declared.module.TypeItem.{TypeItem}
-use Rattle.ir_paths.specs.Windows.{instr_at, instr_in}
-use Rattle.ir_paths.specs.declared.point.Point.{Point}
+use Rattle.pass_proofs.specs.flow_solver.Paths.{IsListed}
+use Rattle.pass_proofs.proofs.ir_laws.facts.Members.{each_turns}
+use Rattle.pass_proofs.specs.ir_laws.paths.woven_rules.Pairs.{AreDifferent}
+use Rattle.pass_proofs.specs.ir_model.Layout.{extent_of, extent_or}
+use Rattle.pass_proofs.specs.ir_model.declared.instr.Instr.{Instr}
+use Rattle.pass_proofs.specs.ir_model.declared.instr.Terminator.{Terminator}
+use Rattle.pass_proofs.specs.ir_model.declared.module.Block.{Block}
+use Rattle.pass_proofs.specs.ir_model.declared.module.Function.{Function}
+use Rattle.pass_proofs.specs.ir_model.declared.module.Module.{Module}
+use Rattle.pass_proofs.specs.ir_model.declared.module.Param.{Param}
+use Rattle.pass_proofs.specs.ir_model.declared.module.TypeItem.{TypeItem}
+use Rattle.pass_proofs.specs.ir_paths.Windows.{instr_at, instr_in}
+use Rattle.pass_proofs.specs.ir_paths.declared.point.Point.{Point}
 use Rattle.pass_frames_proof.proofs.code.Framed.{entry_made}
 use Rattle.pass_frames_proof.proofs.ramps.Aligned.{all_aligned, are_allocas}
 use Rattle.pass_frames_proof.proofs.ramps.Behind.{AreEntryAllocas, framed_params}
@@ -30,12 +30,12 @@ use Rattle.pass_frames_proof.specs.Passes.{block_at}
 use Rattle.pass_frames_proof.specs.Places.{Framing, edged, framed, instrs_at, placed_layer}
 use Rattle.pass_frames_proof.specs.Ramps.{HasEntryAllocas, IsPlainEntry, entry_stores}
 use Rattle.pass_frames_proof.specs.Saving.{HasLowAllocas}
-use Rattle.rule_laws.proofs.rules.source_rules.Locals.{no_param, result_below, same_result}
-use Rattle.rule_laws.specs.rules.function_rules.Kept.{KeepsFunctionRules}
-use Rattle.rule_uses.specs.Undefined.{params_of}
-use Rattle.run_laws.specs.access.Lines.{StandAt}
-use Rattle.run_laws.specs.changed.Changed.{Each, result_of}
-use Rattle.run_step.specs.Step.{AtInstr, fetch_in, fetch_or}
+use Rattle.pass_proofs.proofs.rule_laws.rules.source_rules.Locals.{no_param, result_below, same_result}
+use Rattle.pass_proofs.specs.rule_laws.rules.function_rules.Kept.{KeepsFunctionRules}
+use Rattle.pass_proofs.specs.rule_uses.Undefined.{params_of}
+use Rattle.pass_proofs.specs.run_laws.access.Lines.{StandAt}
+use Rattle.pass_proofs.specs.run_laws.changed.Changed.{Each, result_of}
+use Rattle.pass_proofs.specs.run_step.Step.{AtInstr, fetch_in, fetch_or}
 
 -- ---- what is fetched stands there
 

@@ -1,7 +1,7 @@
 -- The activation on top returns in both runs: its slots die, and the one below it goes on behind its call.
 use Rattle.std.proofs.Common.{◌≡◌, ℕ, Bool, List, [], ◌∷◌, refl, sym, ap, ◌∙◌, subst}
 use Rattle.std.specs.Prelude.{Ok, Option, unwrap_or}
-use Rattle.ir_base.specs.declared.outcome.Outcome.{Outcome}
+use Rattle.pass_proofs.specs.ir_base.declared.outcome.Outcome.{Outcome}
 use Rattle.pass_frames_proof.proofs.returning.Dying.{died, over, u, w}
 use Rattle.pass_frames_proof.proofs.returning.Popped.{popped, popped_homes, t'}
 use Rattle.pass_frames_proof.proofs.returning.Results.{result_given}
@@ -12,16 +12,16 @@ use Rattle.pass_frames_proof.specs.Related.{AreBelow, AreBuiltOf, Building, belo
 use Rattle.pass_frames_proof.specs.Returning.{GoesBehind, IsGivenBehind, OwnsSlots}
 use Rattle.pass_frames_proof.specs.Stepping.{AreGiven}
 use Rattle.pass_renewed_proof.specs.Renewed.{RenewedGiven}
-use Rattle.run_agreement.specs.Machines.{iterate}
-use Rattle.run_framed.specs.Framed.{framed_step}
-use Rattle.run_laws.specs.memory.Pointers.{Home, IsValue}
-use Rattle.run_memory.specs.declared.pointer.Value.{Value}
-use Rattle.run_source.specs.Source.{pop, return, returned}
-use Rattle.run_source.specs.declared.state.Activation.{Activation}
-use Rattle.run_source.specs.declared.state.State.{State}
-use Rattle.run_step.specs.Step.{without_slots}
-use Rattle.run_step.specs.Values.{Env, with_result}
-use Rattle.run_step.specs.declared.world.World.{World}
+use Rattle.pass_proofs.specs.run_agreement.Machines.{iterate}
+use Rattle.pass_proofs.specs.run_framed.Framed.{framed_step}
+use Rattle.pass_proofs.specs.run_laws.memory.Pointers.{Home, IsValue}
+use Rattle.pass_proofs.specs.run_memory.declared.pointer.Value.{Value}
+use Rattle.pass_proofs.specs.run_source.Source.{pop, return, returned}
+use Rattle.pass_proofs.specs.run_source.declared.state.Activation.{Activation}
+use Rattle.pass_proofs.specs.run_source.declared.state.State.{State}
+use Rattle.pass_proofs.specs.run_step.Step.{without_slots}
+use Rattle.pass_proofs.specs.run_step.Values.{Env, with_result}
+use Rattle.pass_proofs.specs.run_step.declared.world.World.{World}
 
 -- what the source shows doesn't depend on the values on top
 pub on_top : (b : Building) (s t : State) (a : Activation) → IsOn b s t → IsOn b (record s { top = a }) t

@@ -1,10 +1,10 @@
 -- The entry function returns, and so have both runs.
 use Rattle.std.proofs.Common.{◌≡◌, ℕ, ◌+◌, ◌≤◌, Bool, true, false, List, [], ◌∷◌, refl, sym, ap, ◌∙◌, subst, arith}
 use Rattle.std.specs.Prelude.{None, Ok, Option, Some, Result, if◌then◌else◌}
-use Rattle.ir_base.specs.declared.cause.Cause.{Cause}
-use Rattle.ir_base.specs.declared.outcome.Outcome.{Outcome}
-use Rattle.ir_model.specs.declared.instr.Terminator.{Terminator}
-use Rattle.ir_model.specs.declared.operand.Arg.{Arg}
+use Rattle.pass_proofs.specs.ir_base.declared.cause.Cause.{Cause}
+use Rattle.pass_proofs.specs.ir_base.declared.outcome.Outcome.{Outcome}
+use Rattle.pass_proofs.specs.ir_model.declared.instr.Terminator.{Terminator}
+use Rattle.pass_proofs.specs.ir_model.declared.operand.Arg.{Arg}
 use Rattle.pass_frames_proof.proofs.lined.Lines.{framed_does}
 use Rattle.pass_frames_proof.proofs.returning.Dying.{died, over, u, w}
 use Rattle.pass_frames_proof.proofs.returning.Returns.{returns_value}
@@ -16,24 +16,24 @@ use Rattle.pass_frames_proof.specs.Meaning.{action_at, behind_cost, coroutine_co
 use Rattle.pass_frames_proof.specs.Related.{AreActivations, AreAllAhead, AreBelow, AreBuiltOf, AreFreeCells, AreInstances, Building, IsStatus, is_coroutine, place_by, point_of, slots_below, top_place}
 use Rattle.pass_frames_proof.specs.Returning.{IsAtLast, OwnsSlots, value_of}
 use Rattle.pass_frames_proof.specs.Stepping.{AreGiven}
-use Rattle.ir_laws.specs.paths.woven_rules.Pairs.{AreDifferent}
+use Rattle.pass_proofs.specs.ir_laws.paths.woven_rules.Pairs.{AreDifferent}
 use Rattle.std.specs.Prelude.{map}
 use Rattle.pass_renewed_proof.specs.Renewed.{RenewedGiven, renewed_step}
-use Rattle.run_framed.specs.Framed.{frame_rights, framed_context, framed_step}
-use Rattle.run_laws.specs.memory.Pointers.{Home, IsValue}
-use Rattle.run_memory.specs.Memory.{Rights}
-use Rattle.run_memory.specs.declared.pointer.Value.{Value}
-use Rattle.run_source.specs.Source.{context_of, pop, returned}
-use Rattle.run_source.specs.State.{or_undefined, work_of}
-use Rattle.run_source.specs.declared.state.Activation.{Activation}
-use Rattle.run_source.specs.declared.state.Instance.{Instance}
-use Rattle.run_source.specs.declared.state.State.{State}
-use Rattle.run_source.specs.declared.state.Status.{Status}
-use Rattle.run_step.specs.Results.{and_then}
-use Rattle.run_step.specs.Step.{AtTerm, Context, Return, action_of, outcome_of}
-use Rattle.run_step.specs.Values.{arg_value}
-use Rattle.run_step.specs.declared.world.Slot.{Slot}
-use Rattle.run_step.specs.declared.world.World.{World}
+use Rattle.pass_proofs.specs.run_framed.Framed.{frame_rights, framed_context, framed_step}
+use Rattle.pass_proofs.specs.run_laws.memory.Pointers.{Home, IsValue}
+use Rattle.pass_proofs.specs.run_memory.Memory.{Rights}
+use Rattle.pass_proofs.specs.run_memory.declared.pointer.Value.{Value}
+use Rattle.pass_proofs.specs.run_source.Source.{context_of, pop, returned}
+use Rattle.pass_proofs.specs.run_source.State.{or_undefined, work_of}
+use Rattle.pass_proofs.specs.run_source.declared.state.Activation.{Activation}
+use Rattle.pass_proofs.specs.run_source.declared.state.Instance.{Instance}
+use Rattle.pass_proofs.specs.run_source.declared.state.State.{State}
+use Rattle.pass_proofs.specs.run_source.declared.state.Status.{Status}
+use Rattle.pass_proofs.specs.run_step.Results.{and_then}
+use Rattle.pass_proofs.specs.run_step.Step.{AtTerm, Context, Return, action_of, outcome_of}
+use Rattle.pass_proofs.specs.run_step.Values.{arg_value}
+use Rattle.pass_proofs.specs.run_step.declared.world.Slot.{Slot}
+use Rattle.pass_proofs.specs.run_step.declared.world.World.{World}
 
 -- ---- a state that has another outcome
 

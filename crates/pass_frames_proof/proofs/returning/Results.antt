@@ -1,9 +1,9 @@
 -- An activation, of a coroutine or not, is given the result of its call.
 use Rattle.std.proofs.Common.{◌≡◌, ℕ, suc, ◌+◌, ◌-◌, ◌<◌, Bool, true, false, List, length, refl, sym, ap, ◌∙◌, subst, arith}
 use Rattle.std.specs.Prelude.{None, Option, Some, if◌then◌else◌}
-use Rattle.ir_base.specs.declared.outcome.Outcome.{Outcome}
-use Rattle.ir_paths.specs.declared.point.Point.{Point}
-use Rattle.pass_cells.specs.Written.{stored_result}
+use Rattle.pass_proofs.specs.ir_base.declared.outcome.Outcome.{Outcome}
+use Rattle.pass_proofs.specs.ir_paths.declared.point.Point.{Point}
+use Rattle.pass_proofs.specs.pass_cells.Written.{stored_result}
 use Rattle.pass_frames_proof.proofs.returning.Given.{cost, leads, own_at, related, shown}
 use Rattle.pass_frames_proof.proofs.stepping.Other.{AreStanding, memory_left, one_standing, related_left, stands}
 use Rattle.pass_frames_proof.specs.Followed.{IsOn}
@@ -13,12 +13,12 @@ use Rattle.pass_frames_proof.specs.Related.{AreBuiltOf, Building, behind_place, 
 use Rattle.pass_frames_proof.specs.Returning.{FitsResult, GoesBehind, IsBehindCall, IsGivenBehind, behind_state}
 use Rattle.pass_frames_proof.specs.Stepping.{AreGiven, IsNotEntering}
 use Rattle.pass_renewed_proof.specs.Renewed.{RenewedGiven}
-use Rattle.run_agreement.specs.Machines.{iterate}
-use Rattle.run_framed.specs.Framed.{framed_step}
-use Rattle.run_laws.specs.memory.Pointers.{Home, IsValue}
-use Rattle.run_memory.specs.declared.pointer.Value.{Value}
-use Rattle.run_source.specs.declared.state.State.{State}
-use Rattle.run_step.specs.Values.{Env, with_result}
+use Rattle.pass_proofs.specs.run_agreement.Machines.{iterate}
+use Rattle.pass_proofs.specs.run_framed.Framed.{framed_step}
+use Rattle.pass_proofs.specs.run_laws.memory.Pointers.{Home, IsValue}
+use Rattle.pass_proofs.specs.run_memory.declared.pointer.Value.{Value}
+use Rattle.pass_proofs.specs.run_source.declared.state.State.{State}
+use Rattle.pass_proofs.specs.run_step.Values.{Env, with_result}
 
 result_standing : (homes : List Home) (env other : Env) (o : Option ℕ) (v u : Value) → AreStanding homes env other
     → IsValue homes v u → AreStanding homes (with_result env o v) (with_result other o u)

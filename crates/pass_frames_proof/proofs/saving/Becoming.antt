@@ -1,23 +1,23 @@
 -- What a call of a coro intrinsic becomes whose operands aren't fetched, and whose result is kept nowhere.
 use Rattle.std.proofs.Common.{◌≡◌, ◌+◌, ◌&&◌, ◌∷◌, ◌++◌, ◌∙◌, [], if◌then◌else◌, Bool, List, Option, Some, ap, false, refl, subst, sym, true, ℕ, None}
 use Rattle.std.specs.Prelude.{slice_get}
-use Rattle.ir_laws.proofs.facts.Members.{each_joined, each_turns}
-use Rattle.ir_laws.proofs.facts.Truth.{false_behind}
-use Rattle.ir_model.specs.declared.instr.Instr.{Instr}
-use Rattle.ir_model.specs.declared.module.Module.{Module}
-use Rattle.ir_model.specs.declared.operand.Intrinsic.{Intrinsic}
-use Rattle.ir_parts.specs.Contents.{instr_operands, result_of}
-use Rattle.ir_paths.specs.Windows.{is_call_of}
-use Rattle.pass_addresses.specs.Placing.{lies_outside, stays, without_promise_of}
-use Rattle.pass_cells.specs.Cells.{fetches_of}
-use Rattle.pass_cells.specs.Moves.{after_saved, saved_one, saved_values}
-use Rattle.pass_cells.specs.Written.{distance_behind, save_row, stored_result}
-use Rattle.pass_cells.specs.declared.plan.KeptValue.{KeptValue}
-use Rattle.pass_copies.specs.BeginCopies.{begin_copies}
-use Rattle.pass_fetch.specs.Blocks.{end_at}
-use Rattle.pass_fetch.specs.Fetching.{fetches_of_all}
-use Rattle.pass_fetch.specs.Instrs.{with_fetched}
-use Rattle.pass_fetch.specs.declared.fetch.Fetch.{Fetch}
+use Rattle.pass_proofs.proofs.ir_laws.facts.Members.{each_joined, each_turns}
+use Rattle.pass_proofs.proofs.ir_laws.facts.Truth.{false_behind}
+use Rattle.pass_proofs.specs.ir_model.declared.instr.Instr.{Instr}
+use Rattle.pass_proofs.specs.ir_model.declared.module.Module.{Module}
+use Rattle.pass_proofs.specs.ir_model.declared.operand.Intrinsic.{Intrinsic}
+use Rattle.pass_proofs.specs.ir_parts.Contents.{instr_operands, result_of}
+use Rattle.pass_proofs.specs.ir_paths.Windows.{is_call_of}
+use Rattle.pass_proofs.specs.pass_addresses.Placing.{lies_outside, stays, without_promise_of}
+use Rattle.pass_proofs.specs.pass_cells.Cells.{fetches_of}
+use Rattle.pass_proofs.specs.pass_cells.Moves.{after_saved, saved_one, saved_values}
+use Rattle.pass_proofs.specs.pass_cells.Written.{distance_behind, save_row, stored_result}
+use Rattle.pass_proofs.specs.pass_cells.declared.plan.KeptValue.{KeptValue}
+use Rattle.pass_proofs.specs.pass_copies.BeginCopies.{begin_copies}
+use Rattle.pass_proofs.specs.pass_fetch.Blocks.{end_at}
+use Rattle.pass_proofs.specs.pass_fetch.Fetching.{fetches_of_all}
+use Rattle.pass_proofs.specs.pass_fetch.Instrs.{with_fetched}
+use Rattle.pass_proofs.specs.pass_fetch.declared.fetch.Fetch.{Fetch}
 use Rattle.pass_frames_proof.proofs.code.Idle.{each_idle, fetches_idle, only_idle, instr_same}
 use Rattle.pass_frames_proof.proofs.code.Instrs.{instr_code}
 use Rattle.pass_frames_proof.proofs.code.Left.{IsMove, move_outside, parts_left}
@@ -33,10 +33,10 @@ use Rattle.pass_frames_proof.specs.Passes.{block_at, fetched_before, fetched_fir
 use Rattle.pass_frames_proof.specs.Places.{Framing, Placed, addressing_layer, copies, instrs_at, marked, offsets, placed_layer, plan, unmarked}
 use Rattle.pass_frames_proof.specs.Saving.{IsBare, saved_line}
 use Rattle.pass_frames_proof.specs.Stepping.{state_in}
-use Rattle.pass_front.specs.Front.{is_no_alloca}
+use Rattle.pass_proofs.specs.pass_front.Front.{is_no_alloca}
 use Rattle.pass_proofs.proofs.fetch.shape.Fetching.{none_fetched}
-use Rattle.run_laws.specs.changed.Changed.{Each}
-use Rattle.pass_copies.specs.BeginCopies.{behind as behind_begin}
+use Rattle.pass_proofs.specs.run_laws.changed.Changed.{Each}
+use Rattle.pass_proofs.specs.pass_copies.BeginCopies.{behind as behind_begin}
 
 module _ (x : Framing) (k : ℕ) (n : Placed) (i : Instr) (bare : IsBare x i) where
   loaded_is : loaded x n i ≡ i

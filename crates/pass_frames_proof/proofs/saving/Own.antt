@@ -1,11 +1,11 @@
 -- Where that stands which is in the place of a call of a coro intrinsic, by what its line is.
 use Rattle.std.proofs.Common.{◌≡◌, ◌+◌, ◌==◌, ◌∷◌, ◌++◌, ◌∙◌, [], if◌then◌else◌, Bool, List, Option, Some, ap, arith, false, length, map, refl, subst, suc, sym, true, ℕ}
 use Rattle.std.specs.Prelude.{slice_get}
-use Rattle.ir_laws.proofs.facts.Lists.{places}
-use Rattle.ir_laws.proofs.facts.Truth.{equal_numbers}
-use Rattle.ir_model.specs.declared.instr.Instr.{Instr}
-use Rattle.ir_model.specs.declared.operand.Intrinsic.{Intrinsic}
-use Rattle.ir_paths.specs.Windows.{is_call_of}
+use Rattle.pass_proofs.proofs.ir_laws.facts.Lists.{places}
+use Rattle.pass_proofs.proofs.ir_laws.facts.Truth.{equal_numbers}
+use Rattle.pass_proofs.specs.ir_model.declared.instr.Instr.{Instr}
+use Rattle.pass_proofs.specs.ir_model.declared.operand.Intrinsic.{Intrinsic}
+use Rattle.pass_proofs.specs.ir_paths.Windows.{is_call_of}
 use Rattle.pass_frames_proof.proofs.stepping.Codes.{led_becomes}
 use Rattle.pass_frames_proof.proofs.tests.Kept.{led_keeps, one_place, places_behind}
 use Rattle.pass_frames_proof.proofs.tests.Passes.{alloca_fails}
@@ -14,8 +14,8 @@ use Rattle.pass_frames_proof.specs.Layers.{Layer, becomes, before_of, own_place_
 use Rattle.pass_frames_proof.specs.Places.{Framing, entry_layer, instrs_at, is_return, own_place, own_place_by, place, place_by, placed_layer}
 use Rattle.pass_frames_proof.specs.Stepping.{state_in}
 use Rattle.pass_frames_proof.specs.Tests.{AllFail, KeepsTest, is_steady}
-use Rattle.pass_front.specs.Front.{is_no_alloca}
-use Rattle.run_laws.specs.changed.Changed.{Each}
+use Rattle.pass_proofs.specs.pass_front.Front.{is_no_alloca}
+use Rattle.pass_proofs.specs.run_laws.changed.Changed.{Each}
 
 -- ---- of any test that a pass keeps
 

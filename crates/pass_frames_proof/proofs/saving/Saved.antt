@@ -3,21 +3,21 @@ use Rattle.std.proofs.Common.{◌≡◌, ◌+◌, ◌-◌, ◌<◌, ◌≤◌, �
 use Rattle.std.proofs.lemmas.Bool.{cases_lt}
 use Rattle.std.specs.List.{Contains}
 use Rattle.std.specs.Prelude.{slice_get, slice_set}
-use Rattle.flow_solver.specs.Paths.{IsListed}
-use Rattle.ir_base.specs.declared.outcome.Outcome.{Outcome}
-use Rattle.ir_laws.proofs.facts.Lists.{set_length}
-use Rattle.ir_laws.proofs.facts.Members.{each_joined, each_turns}
-use Rattle.ir_model.specs.Names.{function_at}
-use Rattle.ir_model.specs.Ty.{Ty}
-use Rattle.ir_model.specs.declared.instr.Instr.{Instr}
-use Rattle.ir_model.specs.declared.module.Function.{Function}
-use Rattle.ir_model.specs.declared.operand.Intrinsic.{Intrinsic}
-use Rattle.ir_paths.specs.Windows.{is_call_of, suspend_of}
-use Rattle.ir_paths.specs.declared.point.Point.{Point}
-use Rattle.pass_cells.specs.Written.{save_row}
-use Rattle.pass_copies.specs.declared.slot.EarlySlot.{EarlySlot}
-use Rattle.pass_fetch.specs.Fetching.{value_bytes}
-use Rattle.pass_frames.specs.Framed.{begin_of}
+use Rattle.pass_proofs.specs.flow_solver.Paths.{IsListed}
+use Rattle.pass_proofs.specs.ir_base.declared.outcome.Outcome.{Outcome}
+use Rattle.pass_proofs.proofs.ir_laws.facts.Lists.{set_length}
+use Rattle.pass_proofs.proofs.ir_laws.facts.Members.{each_joined, each_turns}
+use Rattle.pass_proofs.specs.ir_model.Names.{function_at}
+use Rattle.pass_proofs.specs.ir_model.Ty.{Ty}
+use Rattle.pass_proofs.specs.ir_model.declared.instr.Instr.{Instr}
+use Rattle.pass_proofs.specs.ir_model.declared.module.Function.{Function}
+use Rattle.pass_proofs.specs.ir_model.declared.operand.Intrinsic.{Intrinsic}
+use Rattle.pass_proofs.specs.ir_paths.Windows.{is_call_of, suspend_of}
+use Rattle.pass_proofs.specs.ir_paths.declared.point.Point.{Point}
+use Rattle.pass_proofs.specs.pass_cells.Written.{save_row}
+use Rattle.pass_proofs.specs.pass_copies.declared.slot.EarlySlot.{EarlySlot}
+use Rattle.pass_proofs.specs.pass_fetch.Fetching.{value_bytes}
+use Rattle.pass_proofs.specs.pass_frames.Framed.{begin_of}
 use Rattle.pass_frames_proof.proofs.code.Left.{IsMove}
 use Rattle.pass_frames_proof.proofs.followed.Assembly.{other_instance}
 use Rattle.pass_frames_proof.proofs.led.Steps.{fills_elsewhere}
@@ -50,39 +50,39 @@ use Rattle.pass_frames_proof.specs.Related.{AreActivations, AreAhead, AreBelow, 
 use Rattle.pass_frames_proof.specs.Saves.{IsButBlock, IsFieldSpan, MaySave, SavesValues}
 use Rattle.pass_frames_proof.specs.Saving.{IsAtSave, save_call, saved_line}
 use Rattle.pass_frames_proof.specs.Stepping.{AreGiven, StandsInPlace, state_in}
-use Rattle.pass_front.specs.Front.{is_no_alloca}
+use Rattle.pass_proofs.specs.pass_front.Front.{is_no_alloca}
 use Rattle.pass_proofs.specs.addresses.rules.Addresses.{lies_in_frame}
 use Rattle.pass_renewed_proof.specs.Renewed.{RenewedGiven, renewed_step}
 use Rattle.run_access_worked.proofs.Ended.{set_frames}
 use Rattle.run_access_worked.specs.Frames.{IsSameFrame}
-use Rattle.run_agreement.proofs.Runs.{iterate-add}
-use Rattle.run_agreement.specs.Machines.{iterate}
-use Rattle.run_framed.specs.Framed.{frame_rights, framed_context, framed_step}
-use Rattle.run_laws.proofs.memory.Itself.{owner_rights_fit}
-use Rattle.run_laws.specs.access.Accessed.{Span}
-use Rattle.run_laws.specs.access.Lines.{StandAt, pointer_at}
-use Rattle.run_laws.specs.changed.Changed.{Each}
-use Rattle.run_laws.specs.embedded.Refilled.{AreRefilled}
-use Rattle.run_laws.specs.memory.Pointers.{Home, IsValue, home_of}
-use Rattle.run_laws.specs.memory.Standing.{IsAway, IsOpen}
-use Rattle.run_laws.specs.transfer.Muted.{muted}
-use Rattle.run_laws.specs.transfer.Transfer.{AreOver, muted_world}
-use Rattle.run_laws_worked.proofs.Frames.{frame_rights_fit}
-use Rattle.run_memory.specs.Memory.{Rights, is_live, owner_rights}
-use Rattle.run_memory.specs.Pointers.{moved, offset_of}
-use Rattle.run_memory.specs.declared.block.MemoryBlock.{MemoryBlock}
-use Rattle.run_memory.specs.declared.pointer.Pointer.{Pointer}
-use Rattle.run_memory.specs.declared.pointer.Value.{Value}
-use Rattle.run_source.specs.Source.{context_of}
-use Rattle.run_source.specs.State.{function_of, or_undefined, work_of}
-use Rattle.run_source.specs.declared.state.Activation.{Activation}
-use Rattle.run_source.specs.declared.state.Instance.{Instance}
-use Rattle.run_source.specs.declared.state.State.{State}
-use Rattle.run_source.specs.declared.state.Status.{Status}
-use Rattle.run_step.specs.Step.{AtInstr, Context, Coro, Fetched, Work, action_of, fetch}
-use Rattle.run_step.specs.Values.{Env, value_in}
-use Rattle.run_step.specs.declared.world.Slot.{Slot}
-use Rattle.run_step.specs.declared.world.World.{World}
+use Rattle.pass_proofs.proofs.run_agreement.Runs.{iterate-add}
+use Rattle.pass_proofs.specs.run_agreement.Machines.{iterate}
+use Rattle.pass_proofs.specs.run_framed.Framed.{frame_rights, framed_context, framed_step}
+use Rattle.pass_proofs.proofs.run_laws.memory.Itself.{owner_rights_fit}
+use Rattle.pass_proofs.specs.run_laws.access.Accessed.{Span}
+use Rattle.pass_proofs.specs.run_laws.access.Lines.{StandAt, pointer_at}
+use Rattle.pass_proofs.specs.run_laws.changed.Changed.{Each}
+use Rattle.pass_proofs.specs.run_laws.embedded.Refilled.{AreRefilled}
+use Rattle.pass_proofs.specs.run_laws.memory.Pointers.{Home, IsValue, home_of}
+use Rattle.pass_proofs.specs.run_laws.memory.Standing.{IsAway, IsOpen}
+use Rattle.pass_proofs.specs.run_laws.transfer.Muted.{muted}
+use Rattle.pass_proofs.specs.run_laws.transfer.Transfer.{AreOver, muted_world}
+use Rattle.run_access_worked.proofs.run_laws_worked.Frames.{frame_rights_fit}
+use Rattle.pass_proofs.specs.run_memory.Memory.{Rights, is_live, owner_rights}
+use Rattle.pass_proofs.specs.run_memory.Pointers.{moved, offset_of}
+use Rattle.pass_proofs.specs.run_memory.declared.block.MemoryBlock.{MemoryBlock}
+use Rattle.pass_proofs.specs.run_memory.declared.pointer.Pointer.{Pointer}
+use Rattle.pass_proofs.specs.run_memory.declared.pointer.Value.{Value}
+use Rattle.pass_proofs.specs.run_source.Source.{context_of}
+use Rattle.pass_proofs.specs.run_source.State.{function_of, or_undefined, work_of}
+use Rattle.pass_proofs.specs.run_source.declared.state.Activation.{Activation}
+use Rattle.pass_proofs.specs.run_source.declared.state.Instance.{Instance}
+use Rattle.pass_proofs.specs.run_source.declared.state.State.{State}
+use Rattle.pass_proofs.specs.run_source.declared.state.Status.{Status}
+use Rattle.pass_proofs.specs.run_step.Step.{AtInstr, Context, Coro, Fetched, Work, action_of, fetch}
+use Rattle.pass_proofs.specs.run_step.Values.{Env, value_in}
+use Rattle.pass_proofs.specs.run_step.declared.world.Slot.{Slot}
+use Rattle.pass_proofs.specs.run_step.declared.world.World.{World}
 use Rattle.run_access_worked.proofs.Ended.{rights_same as frames_same}
 use Rattle.pass_frames_proof.proofs.stepping.After.{right_there as cells_there}
 

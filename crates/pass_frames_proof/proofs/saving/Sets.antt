@@ -1,12 +1,12 @@
 -- One instance of a list is another one then.
 use Rattle.std.proofs.Common.{◌≡◌, ◌∙◌, List, Option, Some, ap, subst, sym, ℕ, ⊎_elim, None}
 use Rattle.std.specs.Prelude.{slice_get, slice_set}
-use Rattle.ir_laws.proofs.facts.Lists.{get_within, set_here, set_other}
-use Rattle.ir_laws.proofs.facts.Truth.{is_number}
+use Rattle.pass_proofs.proofs.ir_laws.facts.Lists.{get_within, set_here, set_other}
+use Rattle.pass_proofs.proofs.ir_laws.facts.Truth.{is_number}
 use Rattle.pass_frames_proof.proofs.moved.Rest.{same_place}
 use Rattle.pass_frames_proof.specs.Moved.{IsSamePlace}
 use Rattle.pass_frames_proof.specs.Related.{instance_in}
-use Rattle.run_source.specs.declared.state.Instance.{Instance}
+use Rattle.pass_proofs.specs.run_source.declared.state.Instance.{Instance}
 
 module _ (xs ys : List Instance) (i : ℕ) (p p' y y' : Instance) (there : slice_get xs i ≡ Some p)
     (there' : slice_get ys i ≡ Some y) (P : Instance → Instance → Type 0) where

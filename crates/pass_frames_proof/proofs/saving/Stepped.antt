@@ -1,19 +1,19 @@
 -- A save of a state, once its suspend and its instance are known; and lines with an instruction behind them.
 use Rattle.std.proofs.Common.{◌≡◌, ◌+◌, ◌∷◌, ◌++◌, ◌∙◌, [], Bool, List, Ok, Option, Result, Some, ap, arith, false, length, not, subst, true, ℕ}
 use Rattle.std.specs.Prelude.{option_and_then, option_map, slice_get}
-use Rattle.ir_base.specs.declared.cause.Cause.{Cause}
-use Rattle.ir_model.specs.declared.instr.Instr.{Instr}
-use Rattle.ir_model.specs.declared.module.Function.{Function}
-use Rattle.ir_paths.specs.Windows.{suspend_of}
-use Rattle.ir_paths.specs.declared.point.Point.{Point}
-use Rattle.run_laws.specs.access.Lines.{StandAt}
-use Rattle.run_source.specs.Source.{save}
-use Rattle.run_source.specs.State.{function_of, next, numbered, own_instance, point_of, with_instance, with_left}
-use Rattle.run_source.specs.declared.state.Instance.{Instance}
-use Rattle.run_source.specs.declared.state.State.{State}
-use Rattle.run_source.specs.declared.state.Status.{Status}
-use Rattle.run_source_tables.specs.Given.{Given}
-use Rattle.run_step.specs.Results.{and_then, found, ok_if}
+use Rattle.pass_proofs.specs.ir_base.declared.cause.Cause.{Cause}
+use Rattle.pass_proofs.specs.ir_model.declared.instr.Instr.{Instr}
+use Rattle.pass_proofs.specs.ir_model.declared.module.Function.{Function}
+use Rattle.pass_proofs.specs.ir_paths.Windows.{suspend_of}
+use Rattle.pass_proofs.specs.ir_paths.declared.point.Point.{Point}
+use Rattle.pass_proofs.specs.run_laws.access.Lines.{StandAt}
+use Rattle.pass_proofs.specs.run_source.Source.{save}
+use Rattle.pass_proofs.specs.run_source.State.{function_of, next, numbered, own_instance, point_of, with_instance, with_left}
+use Rattle.pass_proofs.specs.run_source.declared.state.Instance.{Instance}
+use Rattle.pass_proofs.specs.run_source.declared.state.State.{State}
+use Rattle.pass_proofs.specs.run_source.declared.state.Status.{Status}
+use Rattle.pass_proofs.specs.run_source_tables.Given.{Given}
+use Rattle.pass_proofs.specs.run_step.Results.{and_then, found, ok_if}
 
 -- ---- code
 

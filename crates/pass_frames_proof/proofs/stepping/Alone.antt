@@ -1,13 +1,13 @@
 -- An instruction around which nothing is put but what fetches its operands and what stores its result.
 use Rattle.std.proofs.Common.{◌≡◌, ℕ, Bool, true, List, [], ◌∷◌, ◌++◌, refl, sym, ap, ◌∙◌, subst, append_assoc, append-nil}
 use Rattle.std.specs.Prelude.{None, Option, Some, if◌then◌else◌}
-use Rattle.ir_laws.proofs.facts.Members.{each_joined, each_turns}
-use Rattle.ir_model.specs.declared.instr.Instr.{Instr}
-use Rattle.ir_parts.specs.Contents.{instr_operands}
-use Rattle.pass_addresses.specs.Placing.{lies_outside, stays, without_promise_of}
-use Rattle.pass_cells.specs.Cells.{fetches_of}
-use Rattle.pass_cells.specs.Moves.{saved_values}
-use Rattle.pass_fetch.specs.Fetching.{fetches_of_all}
+use Rattle.pass_proofs.proofs.ir_laws.facts.Members.{each_joined, each_turns}
+use Rattle.pass_proofs.specs.ir_model.declared.instr.Instr.{Instr}
+use Rattle.pass_proofs.specs.ir_parts.Contents.{instr_operands}
+use Rattle.pass_proofs.specs.pass_addresses.Placing.{lies_outside, stays, without_promise_of}
+use Rattle.pass_proofs.specs.pass_cells.Cells.{fetches_of}
+use Rattle.pass_proofs.specs.pass_cells.Moves.{saved_values}
+use Rattle.pass_proofs.specs.pass_fetch.Fetching.{fetches_of_all}
 use Rattle.pass_frames_proof.proofs.code.Idle.{each_idle, only_idle}
 use Rattle.pass_frames_proof.proofs.layers.Grown.{both_becomes, grown_one}
 use Rattle.pass_frames_proof.proofs.layers.Idle.{all_stay, both_idle, state_stays}
@@ -19,8 +19,8 @@ use Rattle.pass_frames_proof.specs.Operands.{IsLeftAlone}
 use Rattle.pass_frames_proof.specs.Passes.{fetching_at, unmarked_at}
 use Rattle.pass_frames_proof.specs.Places.{Framing, Placed, addressing_layer, celled_layer, copied_layer, copying_layer, loading_layer, marked, offsets, placed_layer, plan, unmarked, unmarked_layer, writing_layer}
 use Rattle.pass_frames_proof.specs.Stepping.{IsUnlocated, placed_front, placed_instr}
-use Rattle.pass_front.specs.Front.{is_no_alloca}
-use Rattle.run_laws.specs.changed.Changed.{Each}
+use Rattle.pass_proofs.specs.pass_front.Front.{is_no_alloca}
+use Rattle.pass_proofs.specs.run_laws.changed.Changed.{Each}
 
 -- ---- what stands in front of an instruction over two passes, where the second leaves what the first puts there
 

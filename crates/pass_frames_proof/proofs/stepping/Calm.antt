@@ -1,17 +1,17 @@
 -- Arithmetic, loads and addresses leave the world as it is, and set no name but their own. A store sets none.
 use Rattle.std.proofs.Common.{◌≡◌, ℕ, Bool, true, false, List, [], ◌∷◌, ◌++◌, refl, ap, ◌∙◌}
 use Rattle.std.specs.Prelude.{Err, Ok, Result, if◌then◌else◌}
-use Rattle.ir_base.specs.declared.cause.Cause.{Cause}
-use Rattle.ir_model.specs.Ty.{ptr}
-use Rattle.ir_model.specs.declared.instr.Instr.{Instr}
+use Rattle.pass_proofs.specs.ir_base.declared.cause.Cause.{Cause}
+use Rattle.pass_proofs.specs.ir_model.Ty.{ptr}
+use Rattle.pass_proofs.specs.ir_model.declared.instr.Instr.{Instr}
 use Rattle.pass_frames_proof.proofs.led.Steps.{done_value, done_world, set_value_other, still_world}
 use Rattle.pass_frames_proof.specs.Led.{IsNotSet, RunsThrough}
-use Rattle.run_ints.specs.Numbers.{binary}
-use Rattle.run_laws.specs.access.Lines.{Runs}
-use Rattle.run_laws.specs.changed.Changed.{Each}
-use Rattle.run_memory.specs.Memory.{load, store}
-use Rattle.run_step.specs.Step.{Context, Done, Stuck, Work, cast_to, done, instr_action, is_alignment, set_memory, set_value, value_at}
-use Rattle.run_step.specs.Values.{access_of, address, arg_value, distance, element, indices_of, number_at, stored, value_in, value_of}
+use Rattle.pass_proofs.specs.run_ints.Numbers.{binary}
+use Rattle.pass_proofs.specs.run_laws.access.Lines.{Runs}
+use Rattle.pass_proofs.specs.run_laws.changed.Changed.{Each}
+use Rattle.pass_proofs.specs.run_memory.Memory.{load, store}
+use Rattle.pass_proofs.specs.run_step.Step.{Context, Done, Stuck, Work, cast_to, done, instr_action, is_alignment, set_memory, set_value, value_at}
+use Rattle.pass_proofs.specs.run_step.Values.{access_of, address, arg_value, distance, element, indices_of, number_at, stored, value_in, value_of}
 
 abbrev pub IsCalm : Instr → Type 0
 IsCalm (Instr.Load r ty p align) = Unit {0}

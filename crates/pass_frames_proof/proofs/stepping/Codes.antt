@@ -1,10 +1,10 @@
 -- What an instruction becomes stands in the framed form at its place, and behind it the next one's.
 use Rattle.std.proofs.Common.{◌≡◌, ℕ, ◌+◌, Bool, true, false, List, [], ◌∷◌, length, refl, sym, ap, ◌∙◌, subst}
 use Rattle.std.specs.Prelude.{None, Option, Some, filter, slice_get, take, unwrap_or, ◌==◌, ◌≢◌}
-use Rattle.ir_laws.proofs.facts.Truth.{equal_numbers}
-use Rattle.ir_model.specs.declared.instr.Instr.{Instr}
-use Rattle.ir_model.specs.declared.module.Block.{Block}
-use Rattle.ir_model.specs.declared.module.Function.{Function}
+use Rattle.pass_proofs.proofs.ir_laws.facts.Truth.{equal_numbers}
+use Rattle.pass_proofs.specs.ir_model.declared.instr.Instr.{Instr}
+use Rattle.pass_proofs.specs.ir_model.declared.module.Block.{Block}
+use Rattle.pass_proofs.specs.ir_model.declared.module.Function.{Function}
 use Rattle.pass_frames_proof.proofs.code.Framed.{entry_made, others_made}
 use Rattle.pass_frames_proof.proofs.code.Idle.{only_idle}
 use Rattle.pass_frames_proof.proofs.layers.Grown.{both_becomes, both_passed}
@@ -14,10 +14,10 @@ use Rattle.pass_frames_proof.specs.Layers.{IsIdle, IsMadeBy, Layer, becomes, bot
 use Rattle.pass_frames_proof.specs.Passes.{IsBlockMade, allocas_led, block_at, no_block}
 use Rattle.pass_frames_proof.specs.Places.{Framing, edged, entry_layer, framed, instrs_at, is_return, place_by, placed_layer}
 use Rattle.pass_frames_proof.specs.Stepping.{StandsInPlace, state_in}
-use Rattle.pass_front.specs.Front.{is_alloca, is_no_alloca}
-use Rattle.run_laws.specs.access.Lines.{StandAt}
-use Rattle.run_laws.specs.changed.Changed.{Each}
-use Rattle.run_step.specs.Step.{AtInstr, fetch, fetch_in, fetch_or}
+use Rattle.pass_proofs.specs.pass_front.Front.{is_alloca, is_no_alloca}
+use Rattle.pass_proofs.specs.run_laws.access.Lines.{StandAt}
+use Rattle.pass_proofs.specs.run_laws.changed.Changed.{Each}
+use Rattle.pass_proofs.specs.run_step.Step.{AtInstr, fetch, fetch_in, fetch_or}
 
 -- ---- the block
 

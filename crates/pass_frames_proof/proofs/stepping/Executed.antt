@@ -1,6 +1,6 @@
 -- The line of an ordinary instruction is executed, and stands at its place.
 use Rattle.std.proofs.Common.{◌≡◌, List, ◌∙◌}
-use Rattle.ir_model.specs.declared.instr.Instr.{Instr}
+use Rattle.pass_proofs.specs.ir_model.declared.instr.Instr.{Instr}
 use Rattle.pass_frames_proof.proofs.code.Instrs.{instr_code}
 use Rattle.pass_frames_proof.proofs.code.Left.{parts_left}
 use Rattle.pass_frames_proof.proofs.led.Steps.{led_step}
@@ -15,14 +15,14 @@ use Rattle.pass_frames_proof.specs.Places.{Framing, Placed, placed_layer}
 use Rattle.pass_frames_proof.specs.Related.{AreBuiltOf, Building}
 use Rattle.pass_frames_proof.specs.Stepping.{AreGiven, IsAtOrdinary, StandsInPlace, placed_front, placed_instr, placed_line, state_in}
 use Rattle.pass_renewed_proof.specs.Renewed.{RenewedGiven}
-use Rattle.run_framed.specs.Framed.{framed_context, frame_rights}
-use Rattle.run_laws.proofs.memory.Itself.{owner_rights_fit}
-use Rattle.run_laws_worked.proofs.Frames.{frame_rights_fit}
-use Rattle.run_memory.specs.Memory.{Rights}
-use Rattle.run_source.specs.Source.{context_of}
-use Rattle.run_source.specs.State.{work_of}
-use Rattle.run_source.specs.declared.state.State.{State}
-use Rattle.run_step.specs.Step.{Context, Work}
+use Rattle.pass_proofs.specs.run_framed.Framed.{framed_context, frame_rights}
+use Rattle.pass_proofs.proofs.run_laws.memory.Itself.{owner_rights_fit}
+use Rattle.run_access_worked.proofs.run_laws_worked.Frames.{frame_rights_fit}
+use Rattle.pass_proofs.specs.run_memory.Memory.{Rights}
+use Rattle.pass_proofs.specs.run_source.Source.{context_of}
+use Rattle.pass_proofs.specs.run_source.State.{work_of}
+use Rattle.pass_proofs.specs.run_source.declared.state.State.{State}
+use Rattle.pass_proofs.specs.run_step.Step.{Context, Work}
 
 module _ (b : Building) (g : RenewedGiven) (given : AreGiven b g) (s t : State) (r : AreBuiltOf b s t) (i : Instr)
     (v : Work) (h : IsAtOrdinary b g s i v) where

@@ -3,21 +3,21 @@ use Rattle.std.proofs.Common.{◌≡◌, ℕ, ◌+◌, ◌*◌, ◌<◌, ◌≤�
 use Rattle.std.proofs.lemmas.List.{map-append}
 use Rattle.std.specs.List.{Contains}
 use Rattle.std.specs.Prelude.{None, Option, Some, map, option_map, if◌then◌else◌}
-use Rattle.ir_base.specs.declared.name.Name.{Name}
-use Rattle.ir_laws.proofs.facts.Members.{each_all, each_turns}
-use Rattle.ir_laws.proofs.paths.edges.Lists.{different_left}
-use Rattle.ir_laws.specs.paths.woven_rules.Pairs.{AreDifferent}
-use Rattle.ir_model.specs.Names.{declaration_named, function_named}
-use Rattle.ir_model.specs.Ty.{Ty}
-use Rattle.ir_model.specs.declared.instr.Instr.{Instr}
-use Rattle.ir_model.specs.declared.module.Module.{Module}
-use Rattle.ir_model.specs.declared.operand.Operand.{Operand}
-use Rattle.ir_parts.specs.Contents.{instr_operands}
-use Rattle.pass_cells.specs.Cells.{fetches_of}
-use Rattle.pass_cells.specs.Kept.{entry}
-use Rattle.pass_fetch.specs.Fetching.{next_after_all}
-use Rattle.pass_fetch.specs.Instrs.{with_fetched}
-use Rattle.pass_fetch.specs.declared.fetch.Fetch.{Fetch}
+use Rattle.pass_proofs.specs.ir_base.declared.name.Name.{Name}
+use Rattle.pass_proofs.proofs.ir_laws.facts.Members.{each_all, each_turns}
+use Rattle.pass_proofs.proofs.ir_laws.paths.edges.Lists.{different_left}
+use Rattle.pass_proofs.specs.ir_laws.paths.woven_rules.Pairs.{AreDifferent}
+use Rattle.pass_proofs.specs.ir_model.Names.{declaration_named, function_named}
+use Rattle.pass_proofs.specs.ir_model.Ty.{Ty}
+use Rattle.pass_proofs.specs.ir_model.declared.instr.Instr.{Instr}
+use Rattle.pass_proofs.specs.ir_model.declared.module.Module.{Module}
+use Rattle.pass_proofs.specs.ir_model.declared.operand.Operand.{Operand}
+use Rattle.pass_proofs.specs.ir_parts.Contents.{instr_operands}
+use Rattle.pass_proofs.specs.pass_cells.Cells.{fetches_of}
+use Rattle.pass_proofs.specs.pass_cells.Kept.{entry}
+use Rattle.pass_proofs.specs.pass_fetch.Fetching.{next_after_all}
+use Rattle.pass_proofs.specs.pass_fetch.Instrs.{with_fetched}
+use Rattle.pass_proofs.specs.pass_fetch.declared.fetch.Fetch.{Fetch}
 use Rattle.pass_frames_proof.proofs.code.Left.{Far, far_named, far_written}
 use Rattle.pass_frames_proof.proofs.code.Names.{Count, First, far_left}
 use Rattle.pass_frames_proof.proofs.distances.Sums.{more_below}
@@ -38,20 +38,20 @@ use Rattle.pass_frames_proof.specs.Stepping.{AreGiven, IsNotEntering, IsPlacedOp
 use Rattle.pass_frames_proof.specs.Passes.{block_at}
 use Rattle.pass_proofs.proofs.fetch.rules.Puts.{fetch_rises}
 use Rattle.pass_renewed_proof.specs.Renewed.{RenewedGiven}
-use Rattle.run_framed.specs.Framed.{frame_rights, framed_context}
-use Rattle.run_laws.specs.memory.Pointers.{Home, IsValue}
-use Rattle.run_laws.specs.transfer.Shapes.{InstrStays}
-use Rattle.run_laws.specs.transfer.Transfer.{IsNamedAlike, StandsFor, same_maps}
-use Rattle.run_memory.specs.Memory.{Rights}
-use Rattle.run_memory.specs.declared.pointer.Value.{Value}
-use Rattle.run_source.specs.Source.{context_of}
-use Rattle.run_source.specs.State.{work_of}
-use Rattle.run_source.specs.declared.state.Activation.{Activation}
-use Rattle.run_source.specs.declared.state.Mode.{Mode}
-use Rattle.run_source.specs.declared.state.State.{State}
-use Rattle.run_step.specs.Step.{Context}
-use Rattle.run_step.specs.Values.{operand_value}
-use Rattle.run_step.specs.declared.world.Slot.{Slot}
+use Rattle.pass_proofs.specs.run_framed.Framed.{frame_rights, framed_context}
+use Rattle.pass_proofs.specs.run_laws.memory.Pointers.{Home, IsValue}
+use Rattle.pass_proofs.specs.run_laws.transfer.Shapes.{InstrStays}
+use Rattle.pass_proofs.specs.run_laws.transfer.Transfer.{IsNamedAlike, StandsFor, same_maps}
+use Rattle.pass_proofs.specs.run_memory.Memory.{Rights}
+use Rattle.pass_proofs.specs.run_memory.declared.pointer.Value.{Value}
+use Rattle.pass_proofs.specs.run_source.Source.{context_of}
+use Rattle.pass_proofs.specs.run_source.State.{work_of}
+use Rattle.pass_proofs.specs.run_source.declared.state.Activation.{Activation}
+use Rattle.pass_proofs.specs.run_source.declared.state.Mode.{Mode}
+use Rattle.pass_proofs.specs.run_source.declared.state.State.{State}
+use Rattle.pass_proofs.specs.run_step.Step.{Context}
+use Rattle.pass_proofs.specs.run_step.Values.{operand_value}
+use Rattle.pass_proofs.specs.run_step.declared.world.Slot.{Slot}
 
 -- ---- small things
 

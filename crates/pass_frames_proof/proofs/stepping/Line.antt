@@ -1,19 +1,19 @@
 -- What an ordinary instruction becomes: its operands are fetched twice, and its result is stored.
 use Rattle.std.proofs.Common.{◌≡◌, ℕ, Bool, true, false, List, [], ◌∷◌, ◌++◌, refl, sym, ap, ◌∙◌, subst, append-nil}
 use Rattle.std.specs.Prelude.{None, Option, Some, slice_get}
-use Rattle.ir_laws.proofs.facts.Members.{each_joined, each_turns}
-use Rattle.ir_model.specs.declared.instr.Instr.{Instr}
-use Rattle.ir_model.specs.declared.module.Module.{Module}
-use Rattle.ir_model.specs.declared.operand.Callee.{Callee}
-use Rattle.ir_parts.specs.Contents.{instr_operands, result_of}
-use Rattle.pass_cells.specs.Cells.{fetches_of}
-use Rattle.pass_cells.specs.Kept.{entry}
-use Rattle.pass_cells.specs.Moves.{after_saved}
-use Rattle.pass_cells.specs.Written.{distance_behind, distance_from, distance_into, save_row, stored_at, stored_one, stored_result}
-use Rattle.pass_cells.specs.declared.plan.KeptValue.{KeptValue}
-use Rattle.pass_fetch.specs.Fetching.{fetches_of_all}
-use Rattle.pass_fetch.specs.Instrs.{with_fetched}
-use Rattle.pass_fetch.specs.declared.fetch.Fetch.{Fetch}
+use Rattle.pass_proofs.proofs.ir_laws.facts.Members.{each_joined, each_turns}
+use Rattle.pass_proofs.specs.ir_model.declared.instr.Instr.{Instr}
+use Rattle.pass_proofs.specs.ir_model.declared.module.Module.{Module}
+use Rattle.pass_proofs.specs.ir_model.declared.operand.Callee.{Callee}
+use Rattle.pass_proofs.specs.ir_parts.Contents.{instr_operands, result_of}
+use Rattle.pass_proofs.specs.pass_cells.Cells.{fetches_of}
+use Rattle.pass_proofs.specs.pass_cells.Kept.{entry}
+use Rattle.pass_proofs.specs.pass_cells.Moves.{after_saved}
+use Rattle.pass_proofs.specs.pass_cells.Written.{distance_behind, distance_from, distance_into, save_row, stored_at, stored_one, stored_result}
+use Rattle.pass_proofs.specs.pass_cells.declared.plan.KeptValue.{KeptValue}
+use Rattle.pass_proofs.specs.pass_fetch.Fetching.{fetches_of_all}
+use Rattle.pass_proofs.specs.pass_fetch.Instrs.{with_fetched}
+use Rattle.pass_proofs.specs.pass_fetch.declared.fetch.Fetch.{Fetch}
 use Rattle.pass_frames_proof.proofs.led.Front.{all_still}
 use Rattle.pass_frames_proof.proofs.stepping.Alone.{alone_is, alone_no_alloca}
 use Rattle.pass_frames_proof.specs.Code.{address_state, code_of, load_name, loaded, loads, slot_table, stores, write_name}
@@ -22,11 +22,11 @@ use Rattle.pass_frames_proof.specs.Operands.{IsLeftAlone}
 use Rattle.pass_frames_proof.specs.Lined.{GivesNone, gives_frame}
 use Rattle.pass_frames_proof.specs.Places.{Framing, Placed, plan}
 use Rattle.pass_frames_proof.specs.Stepping.{IsCommon, IsUnlocated, placed_front, placed_instr, placed_line}
-use Rattle.pass_front.specs.Front.{is_no_alloca}
+use Rattle.pass_proofs.specs.pass_front.Front.{is_no_alloca}
 use Rattle.pass_proofs.proofs.fetch.rules.Times.{with_result}
 use Rattle.pass_renewed_proof.specs.Renewed.{is_idle}
-use Rattle.run_laws.specs.changed.Changed.{Each}
-use Rattle.run_step.specs.Step.{AtInstr, Context}
+use Rattle.pass_proofs.specs.run_laws.changed.Changed.{Each}
+use Rattle.pass_proofs.specs.run_step.Step.{AtInstr, Context}
 
 -- ---- tests that an ordinary instruction passes, whatever its operands
 

@@ -2,10 +2,10 @@
 use Rattle.std.proofs.Common.{◌≡◌, ℕ, ◌≤◌, length, sym, ◌∙◌, subst}
 use Rattle.std.specs.List.{Contains}
 use Rattle.std.specs.Prelude.{Some}
-use Rattle.ir_model.specs.declared.instr.Instr.{Instr}
-use Rattle.ir_model.specs.declared.operand.Callee.{Callee}
-use Rattle.ir_parts.specs.Contents.{result_of}
-use Rattle.pass_cells.specs.declared.plan.KeptValue.{KeptValue}
+use Rattle.pass_proofs.specs.ir_model.declared.instr.Instr.{Instr}
+use Rattle.pass_proofs.specs.ir_model.declared.operand.Callee.{Callee}
+use Rattle.pass_proofs.specs.ir_parts.Contents.{result_of}
+use Rattle.pass_proofs.specs.pass_cells.declared.plan.KeptValue.{KeptValue}
 pub use Rattle.pass_frames_proof.proofs.stepping.Fetch.{coroutine_values, named_alike, not_returned, own_blocks}
 use Rattle.pass_frames_proof.proofs.stepping.Fetch as fetching
 use Rattle.pass_frames_proof.specs.Operands.{IsAtFetch}
@@ -17,16 +17,16 @@ use Rattle.pass_frames_proof.specs.Places.{Framing, Placed, edged}
 use Rattle.pass_frames_proof.specs.Related.{AreBuiltOf, AreCellsRight, AreCoroutines, AreWheresRight, Building, IsCellName, IsFreeOf, IsKeptValue, instance_in}
 use Rattle.pass_frames_proof.specs.Stepping.{IsCommon, AreGiven, IsAtOrdinary, placed_front, placed_instr, state_in}
 use Rattle.pass_renewed_proof.specs.Renewed.{RenewedGiven}
-use Rattle.run_framed.specs.Framed.{frame_rights, framed_context}
-use Rattle.run_laws.specs.changed.Changed.{callee_at}
-use Rattle.run_laws.specs.transfer.Transfer.{IsPointedAlike, same_maps}
-use Rattle.run_memory.specs.Memory.{Rights}
-use Rattle.run_source.specs.Source.{context_of}
-use Rattle.run_source.specs.State.{work_of}
-use Rattle.run_source.specs.declared.state.State.{State}
-use Rattle.run_step.specs.Step.{AtInstr, Context, Done, Work, instr_action}
-use Rattle.run_step.specs.Values.{Env, value_in}
-use Rattle.run_step.specs.declared.world.Slot.{Slot}
+use Rattle.pass_proofs.specs.run_framed.Framed.{frame_rights, framed_context}
+use Rattle.pass_proofs.specs.run_laws.changed.Changed.{callee_at}
+use Rattle.pass_proofs.specs.run_laws.transfer.Transfer.{IsPointedAlike, same_maps}
+use Rattle.pass_proofs.specs.run_memory.Memory.{Rights}
+use Rattle.pass_proofs.specs.run_source.Source.{context_of}
+use Rattle.pass_proofs.specs.run_source.State.{work_of}
+use Rattle.pass_proofs.specs.run_source.declared.state.State.{State}
+use Rattle.pass_proofs.specs.run_step.Step.{AtInstr, Context, Done, Work, instr_action}
+use Rattle.pass_proofs.specs.run_step.Values.{Env, value_in}
+use Rattle.pass_proofs.specs.run_step.declared.world.Slot.{Slot}
 
 pub not_pointed : (c d : Context) (env : Env) (i : Instr) → IsCommon i → IsPointedAlike same_maps c d env (AtInstr i)
 not_pointed c d env (Instr.Binary r op flags ty a b) q = tt

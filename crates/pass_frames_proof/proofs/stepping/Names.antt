@@ -2,15 +2,15 @@
 use Rattle.std.proofs.Common.{◌≡◌, inl, inr, ℕ, ◌+◌, ◌<◌, ◌≤◌, List, [], ◌∷◌, ◌++◌, length, sym, subst, arith}
 use Rattle.std.specs.List.{Contains}
 use Rattle.std.specs.Prelude.{codes, ◌≢◌}
-use Rattle.flow_solver.specs.Paths.{IsListed}
-use Rattle.ir_base.specs.declared.name.Name.{Name}
-use Rattle.pass_cells.specs.Cells.{fetched_function}
-use Rattle.pass_fetch.specs.Blocks.{numbered_names}
-use Rattle.pass_copies.specs.Slots.{entry_instrs}
-use Rattle.pass_copies.specs.Uses.{used_before}
-use Rattle.pass_copies.specs.declared.slot.EarlySlot.{EarlySlot}
-use Rattle.frame_classes.specs.declared.class.SlotClass.{SlotClass}
-use Rattle.pass_frames.specs.Tables.{class_flags, sizes_by_name}
+use Rattle.pass_proofs.specs.flow_solver.Paths.{IsListed}
+use Rattle.pass_proofs.specs.ir_base.declared.name.Name.{Name}
+use Rattle.pass_proofs.specs.pass_cells.Cells.{fetched_function}
+use Rattle.pass_proofs.specs.pass_fetch.Blocks.{numbered_names}
+use Rattle.pass_proofs.specs.pass_copies.Slots.{entry_instrs}
+use Rattle.pass_proofs.specs.pass_copies.Uses.{used_before}
+use Rattle.pass_proofs.specs.pass_copies.declared.slot.EarlySlot.{EarlySlot}
+use Rattle.pass_proofs.specs.frame_classes.declared.class.SlotClass.{SlotClass}
+use Rattle.pass_proofs.specs.pass_frames.Tables.{class_flags, sizes_by_name}
 use Rattle.pass_frames_proof.proofs.code.Left.{longer}
 use Rattle.pass_frames_proof.proofs.lines.Cells.{contained}
 use Rattle.pass_frames_proof.specs.Lines.{IsCellOf}

@@ -6,10 +6,10 @@ use Rattle.pass_frames_proof.specs.Followed.{IsFollowed, IsOn}
 use Rattle.pass_frames_proof.specs.Meaning.{step_cost}
 use Rattle.pass_frames_proof.specs.Related.{AreBuiltOf, Building}
 use Rattle.pass_renewed_proof.specs.Renewed.{RenewedGiven, renewed_step}
-use Rattle.run_agreement.proofs.Runs.{iterate-add}
-use Rattle.run_agreement.specs.Machines.{iterate}
-use Rattle.run_framed.specs.Framed.{framed_step}
-use Rattle.run_source.specs.declared.state.State.{State}
+use Rattle.pass_proofs.proofs.run_agreement.Runs.{iterate-add}
+use Rattle.pass_proofs.specs.run_agreement.Machines.{iterate}
+use Rattle.pass_proofs.specs.run_framed.Framed.{framed_step}
+use Rattle.pass_proofs.specs.run_source.declared.state.State.{State}
 
 -- so many steps lead from a state of the framed run to one that is related, and meanwhile it shows the same
 pub record EndsUp (b : Building) : Type 0 where

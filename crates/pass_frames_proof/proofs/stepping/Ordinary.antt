@@ -3,11 +3,11 @@
 use Rattle.std.proofs.Common.{◌≡◌, ◌⊎◌, inl, inr, ⊎_elim, ℕ, ◌<◌, ◌≤◌, true, List, length, refl, sym, ◌∙◌, subst, arith}
 use Rattle.std.specs.List.{Contains}
 use Rattle.std.specs.Prelude.{map, slice_get}
-use Rattle.flow_solver.specs.Paths.{IsListed}
-use Rattle.ir_base.specs.declared.outcome.Outcome.{Outcome}
-use Rattle.ir_model.specs.Ty.{Ty, ptr}
-use Rattle.ir_model.specs.declared.instr.Instr.{Instr}
-use Rattle.pass_copies.specs.declared.slot.EarlySlot.{EarlySlot}
+use Rattle.pass_proofs.specs.flow_solver.Paths.{IsListed}
+use Rattle.pass_proofs.specs.ir_base.declared.outcome.Outcome.{Outcome}
+use Rattle.pass_proofs.specs.ir_model.Ty.{Ty, ptr}
+use Rattle.pass_proofs.specs.ir_model.declared.instr.Instr.{Instr}
+use Rattle.pass_proofs.specs.pass_copies.declared.slot.EarlySlot.{EarlySlot}
 use Rattle.pass_frames_proof.proofs.followed.Assembly.{events_same, other_instance}
 use Rattle.pass_frames_proof.proofs.lined.Lines.{each_between, line_leads}
 use Rattle.pass_frames_proof.proofs.lines.Cells.{other_block}
@@ -15,7 +15,7 @@ use Rattle.pass_frames_proof.proofs.stepping.Executed.{led_there, stands_there}
 use Rattle.pass_frames_proof.proofs.stepping.May.{cell_name, cells, free, own_blocks}
 use Rattle.pass_frames_proof.proofs.stepping.Rest.{LeavesRest, below_apart, instance_kept, stood_apart}
 use Rattle.pass_frames_proof.proofs.stepping.Same.{kept, rest_left}
-use Rattle.pass_fetch.specs.Fetching.{value_bytes}
+use Rattle.pass_proofs.specs.pass_fetch.Fetching.{value_bytes}
 use Rattle.pass_frames_proof.specs.Followed.{IsFollowed, IsOn}
 use Rattle.pass_frames_proof.specs.Led.{IsOnWay, SparesBlocks, StepsLed}
 use Rattle.pass_frames_proof.specs.Lined.{GivesNone, lined}
@@ -24,18 +24,18 @@ use Rattle.pass_frames_proof.specs.Places.{Framing, Placed, copies, named, writt
 use Rattle.pass_frames_proof.specs.Related.{AreBuiltOf, AreWheresRight, Building, IsAhead, IsCellName, IsFreeOf, instance_in, slots_below}
 use Rattle.pass_frames_proof.specs.Stepping.{AreGiven, IsAtOrdinary, StandsInPlace, placed_front, placed_line, state_in}
 use Rattle.pass_renewed_proof.specs.Renewed.{RenewedGiven}
-use Rattle.run_agreement.specs.Machines.{iterate}
-use Rattle.run_framed.specs.Framed.{framed_context, framed_step, frame_rights}
-use Rattle.run_laws.specs.access.Lines.{StandAt}
-use Rattle.run_laws.specs.changed.Changed.{Each}
-use Rattle.run_laws.specs.memory.Pointers.{home_of}
-use Rattle.run_memory.specs.Memory.{Rights}
-use Rattle.run_memory.specs.declared.block.MemoryBlock.{MemoryBlock}
-use Rattle.run_source.specs.Source.{context_of}
-use Rattle.run_source.specs.State.{function_of, settled, work_of}
-use Rattle.run_source.specs.declared.state.State.{State}
-use Rattle.run_step.specs.Step.{Context, Work}
-use Rattle.run_step.specs.declared.world.Slot.{Slot}
+use Rattle.pass_proofs.specs.run_agreement.Machines.{iterate}
+use Rattle.pass_proofs.specs.run_framed.Framed.{framed_context, framed_step, frame_rights}
+use Rattle.pass_proofs.specs.run_laws.access.Lines.{StandAt}
+use Rattle.pass_proofs.specs.run_laws.changed.Changed.{Each}
+use Rattle.pass_proofs.specs.run_laws.memory.Pointers.{home_of}
+use Rattle.pass_proofs.specs.run_memory.Memory.{Rights}
+use Rattle.pass_proofs.specs.run_memory.declared.block.MemoryBlock.{MemoryBlock}
+use Rattle.pass_proofs.specs.run_source.Source.{context_of}
+use Rattle.pass_proofs.specs.run_source.State.{function_of, settled, work_of}
+use Rattle.pass_proofs.specs.run_source.declared.state.State.{State}
+use Rattle.pass_proofs.specs.run_step.Step.{Context, Work}
+use Rattle.pass_proofs.specs.run_step.declared.world.Slot.{Slot}
 use Rattle.pass_frames_proof.proofs.stepping.Names.{named_written, slots_new}
 use Rattle.pass_frames_proof.proofs.stepping.Shown.{still_shown}
 use Rattle.pass_frames_proof.proofs.stepping.Place.{gives, runs, stand_there}

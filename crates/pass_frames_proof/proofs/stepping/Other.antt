@@ -1,21 +1,21 @@
 -- A function that is no coroutine: the framed run makes the same step. Of a branch too.
 use Rattle.std.proofs.Common.{◌≡◌, ◌⊎◌, inl, inr, ⊎_elim, ℕ, ◌<◌, ◌≤◌, Bool, true, false, List, [], ◌∷◌, length, refl, sym, ap, ◌∙◌, subst, arith}
 use Rattle.std.specs.Prelude.{None, Ok, Option, Some, filter, slice_get, if◌then◌else◌}
-use Rattle.ir_base.specs.declared.outcome.Outcome.{Outcome}
-use Rattle.ir_laws.proofs.facts.Members.{each_all}
-use Rattle.ir_laws.proofs.facts.Truth.{is_number}
-use Rattle.ir_model.specs.Names.{declaration_named, function_at, function_named, position_of}
-use Rattle.ir_model.specs.Ty.{Ty}
-use Rattle.ir_model.specs.declared.instr.Case.{Case}
-use Rattle.ir_model.specs.declared.instr.Phi.{Phi}
-use Rattle.ir_model.specs.declared.instr.Terminator.{Terminator}
-use Rattle.ir_model.specs.declared.module.Function.{Function}
-use Rattle.ir_model.specs.declared.module.Module.{Module}
-use Rattle.ir_model.specs.declared.operand.Operand.{Operand}
-use Rattle.ir_paths.specs.Paths.{entry_point}
-use Rattle.ir_paths.specs.Windows.{leaves}
-use Rattle.ir_paths.specs.declared.point.Point.{Point}
-use Rattle.ir_paths.specs.declared.point.Window.{Window}
+use Rattle.pass_proofs.specs.ir_base.declared.outcome.Outcome.{Outcome}
+use Rattle.pass_proofs.proofs.ir_laws.facts.Members.{each_all}
+use Rattle.pass_proofs.proofs.ir_laws.facts.Truth.{is_number}
+use Rattle.pass_proofs.specs.ir_model.Names.{declaration_named, function_at, function_named, position_of}
+use Rattle.pass_proofs.specs.ir_model.Ty.{Ty}
+use Rattle.pass_proofs.specs.ir_model.declared.instr.Case.{Case}
+use Rattle.pass_proofs.specs.ir_model.declared.instr.Phi.{Phi}
+use Rattle.pass_proofs.specs.ir_model.declared.instr.Terminator.{Terminator}
+use Rattle.pass_proofs.specs.ir_model.declared.module.Function.{Function}
+use Rattle.pass_proofs.specs.ir_model.declared.module.Module.{Module}
+use Rattle.pass_proofs.specs.ir_model.declared.operand.Operand.{Operand}
+use Rattle.pass_proofs.specs.ir_paths.Paths.{entry_point}
+use Rattle.pass_proofs.specs.ir_paths.Windows.{leaves}
+use Rattle.pass_proofs.specs.ir_paths.declared.point.Point.{Point}
+use Rattle.pass_proofs.specs.ir_paths.declared.point.Window.{Window}
 use Rattle.pass_frames_proof.proofs.lined.Lines.{framed_does}
 use Rattle.pass_frames_proof.proofs.stepping.Operands.{AreSameNames, empty_same, other_stands}
 use Rattle.pass_frames_proof.proofs.stepping.Rest.{LeavesRest, own_slots, rest_related}
@@ -26,26 +26,26 @@ use Rattle.pass_frames_proof.specs.Meaning.{action_at, coroutine_cost, other_cos
 use Rattle.pass_frames_proof.specs.Related.{AreBuiltOf, AreOthers, Building, HasValues, is_coroutine, place_by, point_of, top_place}
 use Rattle.pass_frames_proof.specs.Stepping.{AreGiven, IsAtOtherBranch, IsNotEntering}
 use Rattle.pass_renewed_proof.specs.Renewed.{RenewedGiven, renewed_step}
-use Rattle.run_framed.specs.Framed.{framed_context, framed_step, frame_rights}
-use Rattle.run_laws.proofs.memory.Itself.{owner_rights_fit}
-use Rattle.run_laws.proofs.transfer.Alone.{here_itself, looked_at}
-use Rattle.run_laws.proofs.transfer.Over.{step_over}
-use Rattle.run_laws.proofs.transfer.Sets.{sets_name}
-use Rattle.run_laws.specs.memory.Pointers.{Home, IsValue}
-use Rattle.run_laws.specs.transfer.Shapes.{StaysAt}
-use Rattle.run_laws.specs.transfer.Transfer.{AreJoined, AreOver, AreSet, GoesOver, IsSameCase, IsTransferred, StandsFor, cases_at, looks_at, same_maps}
-use Rattle.run_laws_worked.proofs.Frames.{frame_rights_fit}
-use Rattle.run_memory.specs.Memory.{Rights, owner_rights}
-use Rattle.run_memory.specs.declared.block.MemoryBlock.{MemoryBlock}
-use Rattle.run_memory.specs.declared.pointer.Value.{Value}
-use Rattle.run_source.specs.Source.{branch_leaving, context_of, enter_block, go_to}
-use Rattle.run_source.specs.State.{point_of as state_point, function_of, or_undefined, own_facts, work_of}
-use Rattle.run_source.specs.declared.state.Activation.{Activation}
-use Rattle.run_source.specs.declared.state.State.{State}
-use Rattle.run_source_tables.specs.Given.{Given, facts_at}
-use Rattle.run_step.specs.Step.{Action, AtTerm, Context, Fetched, GoTo, action_of, fetch, incoming_from, label_of, phi_values, phis_of, term_action, values_in, with_all}
-use Rattle.run_step.specs.Values.{Env, operand_value, value_in, with_value}
-use Rattle.run_step.specs.declared.world.World.{World}
+use Rattle.pass_proofs.specs.run_framed.Framed.{framed_context, framed_step, frame_rights}
+use Rattle.pass_proofs.proofs.run_laws.memory.Itself.{owner_rights_fit}
+use Rattle.pass_proofs.proofs.run_laws.transfer.Alone.{here_itself, looked_at}
+use Rattle.pass_proofs.proofs.run_laws.transfer.Over.{step_over}
+use Rattle.pass_proofs.proofs.run_laws.transfer.Sets.{sets_name}
+use Rattle.pass_proofs.specs.run_laws.memory.Pointers.{Home, IsValue}
+use Rattle.pass_proofs.specs.run_laws.transfer.Shapes.{StaysAt}
+use Rattle.pass_proofs.specs.run_laws.transfer.Transfer.{AreJoined, AreOver, AreSet, GoesOver, IsSameCase, IsTransferred, StandsFor, cases_at, looks_at, same_maps}
+use Rattle.run_access_worked.proofs.run_laws_worked.Frames.{frame_rights_fit}
+use Rattle.pass_proofs.specs.run_memory.Memory.{Rights, owner_rights}
+use Rattle.pass_proofs.specs.run_memory.declared.block.MemoryBlock.{MemoryBlock}
+use Rattle.pass_proofs.specs.run_memory.declared.pointer.Value.{Value}
+use Rattle.pass_proofs.specs.run_source.Source.{branch_leaving, context_of, enter_block, go_to}
+use Rattle.pass_proofs.specs.run_source.State.{point_of as state_point, function_of, or_undefined, own_facts, work_of}
+use Rattle.pass_proofs.specs.run_source.declared.state.Activation.{Activation}
+use Rattle.pass_proofs.specs.run_source.declared.state.State.{State}
+use Rattle.pass_proofs.specs.run_source_tables.Given.{Given, facts_at}
+use Rattle.pass_proofs.specs.run_step.Step.{Action, AtTerm, Context, Fetched, GoTo, action_of, fetch, incoming_from, label_of, phi_values, phis_of, term_action, values_in, with_all}
+use Rattle.pass_proofs.specs.run_step.Values.{Env, operand_value, value_in, with_value}
+use Rattle.pass_proofs.specs.run_step.declared.world.World.{World}
 
 -- ---- one step for one
 

@@ -1,11 +1,11 @@
 -- An ordinary instruction of a function that is no coroutine, and a store: the framed run does the same.
 use Rattle.std.proofs.Common.{◌≡◌, ℕ, ◌+◌, false, [], refl, sym, ap, ◌∙◌, subst}
 use Rattle.std.specs.Prelude.{None}
-use Rattle.ir_model.specs.Ty.{ptr}
-use Rattle.ir_model.specs.declared.instr.Instr.{Instr}
-use Rattle.ir_model.specs.declared.module.Module.{Module}
-use Rattle.ir_model.specs.declared.operand.Operand.{Operand}
-use Rattle.ir_paths.specs.declared.point.Point.{Point}
+use Rattle.pass_proofs.specs.ir_model.Ty.{ptr}
+use Rattle.pass_proofs.specs.ir_model.declared.instr.Instr.{Instr}
+use Rattle.pass_proofs.specs.ir_model.declared.module.Module.{Module}
+use Rattle.pass_proofs.specs.ir_model.declared.operand.Operand.{Operand}
+use Rattle.pass_proofs.specs.ir_paths.declared.point.Point.{Point}
 use Rattle.pass_frames_proof.proofs.led.Steps.{leaves_memory, IsSimple, simple}
 use Rattle.pass_frames_proof.proofs.lined.Lines.{framed_does, no_gift}
 use Rattle.pass_frames_proof.proofs.stepping.Line.{never_idle}
@@ -17,35 +17,35 @@ use Rattle.pass_frames_proof.specs.Lined.{gives_frame}
 use Rattle.pass_frames_proof.specs.Related.{AreBuiltOf, Building}
 use Rattle.pass_frames_proof.specs.Stepping.{AreGiven, IsAtOther}
 use Rattle.pass_renewed_proof.specs.Renewed.{RenewedGiven, renewed_step}
-use Rattle.run_framed.specs.Framed.{framed_context, framed_step, frame_rights}
-use Rattle.run_laws.proofs.memory.Itself.{owner_rights_fit}
-use Rattle.run_laws.proofs.transfer.Over.{step_over}
-use Rattle.run_laws.specs.changed.Changed.{callee_at}
-use Rattle.run_laws.specs.memory.Pointers.{IsValue}
-use Rattle.run_laws.specs.transfer.Transfer.{GoesOver, IsTransferred, StandsFor, args_at, given_at, looks_at, same_maps}
-use Rattle.run_laws_worked.proofs.Frames.{frame_rights_fit}
-use Rattle.run_memory.specs.Memory.{store, Rights, owner_rights}
-use Rattle.run_source.specs.Source.{context_of}
-use Rattle.run_source.specs.State.{settled, work_of}
-use Rattle.run_source.specs.declared.state.State.{State}
-use Rattle.run_step.specs.Step.{Action, AtInstr, Context, Done, Work, action_of, instr_action}
-use Rattle.ir_model.specs.declared.operand.Arg.{Arg}
+use Rattle.pass_proofs.specs.run_framed.Framed.{framed_context, framed_step, frame_rights}
+use Rattle.pass_proofs.proofs.run_laws.memory.Itself.{owner_rights_fit}
+use Rattle.pass_proofs.proofs.run_laws.transfer.Over.{step_over}
+use Rattle.pass_proofs.specs.run_laws.changed.Changed.{callee_at}
+use Rattle.pass_proofs.specs.run_laws.memory.Pointers.{IsValue}
+use Rattle.pass_proofs.specs.run_laws.transfer.Transfer.{GoesOver, IsTransferred, StandsFor, args_at, given_at, looks_at, same_maps}
+use Rattle.run_access_worked.proofs.run_laws_worked.Frames.{frame_rights_fit}
+use Rattle.pass_proofs.specs.run_memory.Memory.{store, Rights, owner_rights}
+use Rattle.pass_proofs.specs.run_source.Source.{context_of}
+use Rattle.pass_proofs.specs.run_source.State.{settled, work_of}
+use Rattle.pass_proofs.specs.run_source.declared.state.State.{State}
+use Rattle.pass_proofs.specs.run_step.Step.{Action, AtInstr, Context, Done, Work, action_of, instr_action}
+use Rattle.pass_proofs.specs.ir_model.declared.operand.Arg.{Arg}
 use Rattle.pass_frames_proof.proofs.ordinary.Stores.{stands_shown, store_defined}
-use Rattle.run_laws.proofs.access.Touched.{free_untouched}
-use Rattle.run_laws.proofs.embedded.Refills.{step_only}
-use Rattle.run_laws.proofs.embedded.Values.{address_kept}
-use Rattle.run_laws.proofs.transfer.Muted.{shown_address, store_muted}
-use Rattle.run_laws.specs.access.Changed.{IsDefined, KeepsFree, LeavesFree}
-use Rattle.run_laws.specs.access.Touched.{AreTouches, touch_of}
-use Rattle.run_laws.specs.embedded.Refilled.{AreRefilled, OnlyRefills}
-use Rattle.run_laws.specs.transfer.Muted.{muted, muted_work}
-use Rattle.run_step.specs.Step.{Action, AtInstr, Context, Done, Work, action_of, instr_action, is_alignment, value_at}
-use Rattle.run_step.specs.Values.{access_of, address, arg_value, stored}
+use Rattle.pass_proofs.proofs.run_laws.access.Touched.{free_untouched}
+use Rattle.pass_proofs.proofs.run_laws.embedded.Refills.{step_only}
+use Rattle.pass_proofs.proofs.run_laws.embedded.Values.{address_kept}
+use Rattle.pass_proofs.proofs.run_laws.transfer.Muted.{shown_address, store_muted}
+use Rattle.pass_proofs.specs.run_laws.access.Changed.{IsDefined, KeepsFree, LeavesFree}
+use Rattle.pass_proofs.specs.run_laws.access.Touched.{AreTouches, touch_of}
+use Rattle.pass_proofs.specs.run_laws.embedded.Refilled.{AreRefilled, OnlyRefills}
+use Rattle.pass_proofs.specs.run_laws.transfer.Muted.{muted, muted_work}
+use Rattle.pass_proofs.specs.run_step.Step.{Action, AtInstr, Context, Done, Work, action_of, instr_action, is_alignment, value_at}
+use Rattle.pass_proofs.specs.run_step.Values.{access_of, address, arg_value, stored}
 use Rattle.pass_frames_proof.proofs.stepping.Other.{joined, set_standing, shape, same_names, stands, operand_stands, fetched_there, here_is, cost_one, related_left, memory_left, one_followed}
 use Rattle.pass_frames_proof.proofs.stepping.Stored.{store_left}
 use Rattle.pass_frames_proof.specs.Led.{LeavesMemory}
 use Rattle.pass_frames_proof.specs.Stepping.{AreFieldsSpared}
-use Rattle.run_source.specs.State.{settled}
+use Rattle.pass_proofs.specs.run_source.State.{settled}
 
 module _ (b : Building) (g : RenewedGiven) (given : AreGiven b g) (s t : State) (r : AreBuiltOf b s t) (i : Instr)
     (v : Work) (h : IsAtOther b g s i v) where

@@ -1,8 +1,8 @@
 -- Where an instruction itself stands, in front of which its operands are fetched.
 use Rattle.std.proofs.Common.{◌≡◌, ℕ, ◌+◌, Bool, true, false, List, ◌∷◌, ◌++◌, length, refl, sym, ap, ◌∙◌, subst, append-nil}
 use Rattle.std.specs.Prelude.{Option, Some, slice_get, take, ◌==◌}
-use Rattle.ir_laws.proofs.facts.Truth.{equal_numbers}
-use Rattle.ir_model.specs.declared.instr.Instr.{Instr}
+use Rattle.pass_proofs.proofs.ir_laws.facts.Truth.{equal_numbers}
+use Rattle.pass_proofs.specs.ir_model.declared.instr.Instr.{Instr}
 use Rattle.pass_frames_proof.proofs.code.Instrs.{instr_code}
 use Rattle.pass_frames_proof.proofs.code.Left.{parts_left}
 use Rattle.pass_frames_proof.proofs.layers.Idle.{all_stay}
@@ -14,8 +14,8 @@ use Rattle.pass_frames_proof.specs.Layers.{Layer, before_of, grown, only, own_pl
 use Rattle.pass_frames_proof.specs.Operands.{IsLeftAlone, StandsAlone}
 use Rattle.pass_frames_proof.specs.Places.{Framing, Placed, entry_layer, instrs_at, is_return, own_place, own_place_by, place, place_by, placed_layer}
 use Rattle.pass_frames_proof.specs.Stepping.{IsUnlocated, placed_front, placed_instr, state_in}
-use Rattle.pass_front.specs.Front.{is_no_alloca}
-use Rattle.run_laws.specs.changed.Changed.{Each}
+use Rattle.pass_proofs.specs.pass_front.Front.{is_no_alloca}
+use Rattle.pass_proofs.specs.run_laws.changed.Changed.{Each}
 
 module _ {S : Type 0} (L : Layer S) (is : List Instr) (at : ℕ) (i : Instr) (front : List Instr)
     (there : slice_get is at ≡ Some i) (before : L.before (state_at L is at) i ≡ front) where

@@ -1,7 +1,7 @@
 -- While a line leaves the world as it is, the framed run shows what it showed.
 use Rattle.std.proofs.Common.{◌≡◌, ℕ, true, refl, ap, ◌∙◌}
 use Rattle.std.specs.Prelude.{slice_get}
-use Rattle.ir_base.specs.declared.outcome.Outcome.{Outcome}
+use Rattle.pass_proofs.specs.ir_base.declared.outcome.Outcome.{Outcome}
 use Rattle.pass_frames_proof.proofs.followed.Assembly.{events_same, other_instance}
 use Rattle.pass_frames_proof.proofs.stepping.Rest.{instance_kept}
 use Rattle.pass_frames_proof.proofs.stepping.Same.{rest_left}
@@ -9,9 +9,9 @@ use Rattle.pass_frames_proof.specs.Followed.{IsOn}
 use Rattle.pass_frames_proof.specs.Framings.{IsFraming}
 use Rattle.pass_frames_proof.specs.Lined.{lined}
 use Rattle.pass_frames_proof.specs.Related.{AreBuiltOf, Building, is_coroutine}
-use Rattle.run_source.specs.declared.state.State.{State}
-use Rattle.run_step.specs.Step.{Work}
-use Rattle.run_step.specs.declared.world.World.{World}
+use Rattle.pass_proofs.specs.run_source.declared.state.State.{State}
+use Rattle.pass_proofs.specs.run_step.Step.{Work}
+use Rattle.pass_proofs.specs.run_step.declared.world.World.{World}
 
 pub still_shown : (b : Building) (s t : State) → AreBuiltOf b s t
     → ((func : ℕ) → is_coroutine b func ≡ true → IsFraming (b.framing func)) → t.outcome ≡ Outcome.Running → (k : ℕ)

@@ -1,11 +1,11 @@
 -- A store of a coroutine is followed.
 use Rattle.std.proofs.Common.{◌≡◌, ◌⊎◌, inl, ℕ, ◌<◌, List, length, sym, subst}
-use Rattle.ir_base.specs.declared.outcome.Outcome.{Outcome}
-use Rattle.ir_model.specs.Ty.{ptr}
-use Rattle.ir_model.specs.declared.instr.Instr.{Instr}
-use Rattle.ir_model.specs.declared.operand.Arg.{Arg}
-use Rattle.ir_model.specs.declared.operand.Operand.{Operand}
-use Rattle.pass_fetch.specs.Fetching.{value_bytes}
+use Rattle.pass_proofs.specs.ir_base.declared.outcome.Outcome.{Outcome}
+use Rattle.pass_proofs.specs.ir_model.Ty.{ptr}
+use Rattle.pass_proofs.specs.ir_model.declared.instr.Instr.{Instr}
+use Rattle.pass_proofs.specs.ir_model.declared.operand.Arg.{Arg}
+use Rattle.pass_proofs.specs.ir_model.declared.operand.Operand.{Operand}
+use Rattle.pass_proofs.specs.pass_fetch.Fetching.{value_bytes}
 use Rattle.pass_frames_proof.proofs.led.Stores.{led_store}
 use Rattle.pass_frames_proof.proofs.lined.Lines.{each_between, line_leads}
 use Rattle.pass_frames_proof.proofs.stepping.Executed.{stands_there}
@@ -24,15 +24,15 @@ use Rattle.pass_frames_proof.specs.Places.{Framing}
 use Rattle.pass_frames_proof.specs.Related.{AreBuiltOf, AreWheresRight, Building, instance_in}
 use Rattle.pass_frames_proof.specs.Stepping.{AreFieldsSpared, AreGiven, IsAtOrdinary, StandsInPlace, placed_front, placed_instr, placed_line, state_in}
 use Rattle.pass_renewed_proof.specs.Renewed.{RenewedGiven}
-use Rattle.run_agreement.specs.Machines.{iterate}
-use Rattle.run_framed.specs.Framed.{frame_rights, framed_context, framed_step}
-use Rattle.run_laws.proofs.memory.Itself.{owner_rights_fit}
-use Rattle.run_laws_worked.proofs.Frames.{frame_rights_fit}
-use Rattle.run_memory.specs.Memory.{Rights}
-use Rattle.run_source.specs.Source.{context_of}
-use Rattle.run_source.specs.State.{settled, work_of}
-use Rattle.run_source.specs.declared.state.State.{State}
-use Rattle.run_step.specs.Step.{Work}
+use Rattle.pass_proofs.specs.run_agreement.Machines.{iterate}
+use Rattle.pass_proofs.specs.run_framed.Framed.{frame_rights, framed_context, framed_step}
+use Rattle.pass_proofs.proofs.run_laws.memory.Itself.{owner_rights_fit}
+use Rattle.run_access_worked.proofs.run_laws_worked.Frames.{frame_rights_fit}
+use Rattle.pass_proofs.specs.run_memory.Memory.{Rights}
+use Rattle.pass_proofs.specs.run_source.Source.{context_of}
+use Rattle.pass_proofs.specs.run_source.State.{settled, work_of}
+use Rattle.pass_proofs.specs.run_source.declared.state.State.{State}
+use Rattle.pass_proofs.specs.run_step.Step.{Work}
 
 module _ (b : Building) (g : RenewedGiven) (given : AreGiven b g) (s t : State) (r : AreBuiltOf b s t) (i : Instr)
     (v : Work) (h : IsAtOrdinary b g s i v)

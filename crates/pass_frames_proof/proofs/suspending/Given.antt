@@ -1,12 +1,12 @@
 -- A name of a coroutine that is kept nowhere gets values which stand for each other, in one step of both runs.
 use Rattle.std.proofs.Common.{◌≡◌, ◌++◌, ◌+◌, ◌<◌, ◌≤◌, ◌∙◌, List, None, Option, Some, ap, arith, false, length, refl, subst, sym, true, ℕ, ⊎_elim}
-use Rattle.ir_base.specs.declared.name.Name.{Name}
-use Rattle.ir_laws.proofs.facts.Truth.{is_number}
-use Rattle.ir_model.specs.Ty.{Ty, int}
-use Rattle.ir_model.specs.declared.module.Function.{Function}
-use Rattle.ir_paths.specs.declared.point.Point.{Point}
-use Rattle.pass_cells.specs.Kept.{entry}
-use Rattle.pass_cells.specs.declared.plan.KeptValue.{KeptValue}
+use Rattle.pass_proofs.specs.ir_base.declared.name.Name.{Name}
+use Rattle.pass_proofs.proofs.ir_laws.facts.Truth.{is_number}
+use Rattle.pass_proofs.specs.ir_model.Ty.{Ty, int}
+use Rattle.pass_proofs.specs.ir_model.declared.module.Function.{Function}
+use Rattle.pass_proofs.specs.ir_paths.declared.point.Point.{Point}
+use Rattle.pass_proofs.specs.pass_cells.Kept.{entry}
+use Rattle.pass_proofs.specs.pass_cells.declared.plan.KeptValue.{KeptValue}
 use Rattle.pass_frames_proof.proofs.code.Framed.{framed_is}
 use Rattle.pass_frames_proof.proofs.code.Left.{longer}
 use Rattle.pass_frames_proof.proofs.lines.Names.{distance_of}
@@ -24,18 +24,18 @@ use Rattle.pass_frames_proof.specs.Related.{AreActivations, AreAhead, AreBuiltOf
 use Rattle.pass_frames_proof.specs.Saving.{HasLowAllocas}
 use Rattle.pass_frames_proof.specs.Stepping.{IsNotEntering}
 use Rattle.pass_frames_proof.specs.Suspending.{IsLooseName}
-use Rattle.run_framed.specs.Framed.{frame_rights}
-use Rattle.run_laws.proofs.transfer.Sets.{sets_name}
-use Rattle.run_laws.specs.memory.Pointers.{IsValue}
-use Rattle.run_laws.specs.transfer.Transfer.{AreSet}
-use Rattle.run_memory.specs.Memory.{Rights}
-use Rattle.run_memory.specs.declared.pointer.Value.{Value}
-use Rattle.run_source.specs.declared.state.Activation.{Activation}
-use Rattle.run_source.specs.declared.state.Instance.{Instance}
-use Rattle.run_source.specs.declared.state.State.{State}
-use Rattle.run_step.specs.Values.{Env, value_in, with_value}
+use Rattle.pass_proofs.specs.run_framed.Framed.{frame_rights}
+use Rattle.pass_proofs.proofs.run_laws.transfer.Sets.{sets_name}
+use Rattle.pass_proofs.specs.run_laws.memory.Pointers.{IsValue}
+use Rattle.pass_proofs.specs.run_laws.transfer.Transfer.{AreSet}
+use Rattle.pass_proofs.specs.run_memory.Memory.{Rights}
+use Rattle.pass_proofs.specs.run_memory.declared.pointer.Value.{Value}
+use Rattle.pass_proofs.specs.run_source.declared.state.Activation.{Activation}
+use Rattle.pass_proofs.specs.run_source.declared.state.Instance.{Instance}
+use Rattle.pass_proofs.specs.run_source.declared.state.State.{State}
+use Rattle.pass_proofs.specs.run_step.Values.{Env, value_in, with_value}
 use Rattle.pass_frames_proof.proofs.stepping.After.{right_there as cells_there}
-use Rattle.pass_copies.specs.Slots.{slot_names}
+use Rattle.pass_proofs.specs.pass_copies.Slots.{slot_names}
 
 -- the framed form has the names of the coroutine
 pub edged_framed : (x : Framing) → length (edged x).names ≤ length (framed x).names

@@ -1,11 +1,11 @@
 -- A suspend is followed: it gives -1 in both runs.
 use Rattle.std.proofs.Common.{◌≡◌, ◌+◌, ◌-◌, ◌≤◌, ◌∷◌, ◌∙◌, [], if◌then◌else◌, Bool, Some, ap, arith, negsuc, refl, subst, sym, ℕ}
-use Rattle.ir_model.specs.Names.{function_at}
-use Rattle.ir_model.specs.declared.instr.Instr.{Instr}
-use Rattle.ir_model.specs.declared.module.Function.{Function}
-use Rattle.ir_model.specs.declared.operand.Intrinsic.{Intrinsic}
-use Rattle.ir_model.specs.declared.operand.Operand.{Operand}
-use Rattle.ir_paths.specs.declared.point.Point.{Point}
+use Rattle.pass_proofs.specs.ir_model.Names.{function_at}
+use Rattle.pass_proofs.specs.ir_model.declared.instr.Instr.{Instr}
+use Rattle.pass_proofs.specs.ir_model.declared.module.Function.{Function}
+use Rattle.pass_proofs.specs.ir_model.declared.operand.Intrinsic.{Intrinsic}
+use Rattle.pass_proofs.specs.ir_model.declared.operand.Operand.{Operand}
+use Rattle.pass_proofs.specs.ir_paths.declared.point.Point.{Point}
 use Rattle.pass_frames_proof.proofs.lined.Lines.{framed_does}
 use Rattle.pass_frames_proof.proofs.saving.Becoming.{bare_becomes}
 use Rattle.pass_frames_proof.proofs.stepping.Codes.{code_stands, instr_there}
@@ -20,14 +20,14 @@ use Rattle.pass_frames_proof.specs.Related.{AreBuiltOf, Building, point_of}
 use Rattle.pass_frames_proof.specs.Stepping.{AreGiven, StandsInPlace}
 use Rattle.pass_frames_proof.specs.Suspending.{IsAtSuspend, suspend_call}
 use Rattle.pass_renewed_proof.specs.Renewed.{RenewedGiven, renewed_step}
-use Rattle.run_framed.specs.Framed.{framed_step}
-use Rattle.run_memory.specs.declared.pointer.Value.{Value}
-use Rattle.run_source.specs.Source.{context_of}
-use Rattle.run_source.specs.State.{function_of, work_of}
-use Rattle.run_source.specs.declared.state.Activation.{Activation}
-use Rattle.run_source.specs.declared.state.State.{State}
-use Rattle.run_step.specs.Step.{AtInstr, Coro, Fetched, action_of, fetch}
-use Rattle.run_step.specs.Values.{integer, with_value}
+use Rattle.pass_proofs.specs.run_framed.Framed.{framed_step}
+use Rattle.pass_proofs.specs.run_memory.declared.pointer.Value.{Value}
+use Rattle.pass_proofs.specs.run_source.Source.{context_of}
+use Rattle.pass_proofs.specs.run_source.State.{function_of, work_of}
+use Rattle.pass_proofs.specs.run_source.declared.state.Activation.{Activation}
+use Rattle.pass_proofs.specs.run_source.declared.state.State.{State}
+use Rattle.pass_proofs.specs.run_step.Step.{AtInstr, Coro, Fetched, action_of, fetch}
+use Rattle.pass_proofs.specs.run_step.Values.{integer, with_value}
 
 module _ (b : Building) (g : RenewedGiven) (given : AreGiven b g) (s t : State) (r : AreBuiltOf b s t)
     (h : IsAtSuspend b s) where

@@ -2,10 +2,10 @@
 use Rattle.std.proofs.Common.{◌≡◌, ℕ, suc, ◌+◌, Bool, true, false, List, [], ◌∷◌, ◌++◌, length, refl, sym, ap, ◌∙◌, arith, append-nil}
 use Rattle.std.proofs.lemmas.List.{length-append}
 use Rattle.std.specs.Prelude.{None, Option, Some, filter, map, option_to_list, slice_get, take, if◌then◌else◌}
-use Rattle.ir_laws.proofs.facts.Lists.{map_map, map_same, places}
-use Rattle.ir_laws.proofs.facts.Members.{each_joined}
-use Rattle.ir_model.specs.declared.instr.Instr.{Instr}
-use Rattle.pass_front.specs.Front.{is_alloca, is_no_alloca}
+use Rattle.pass_proofs.proofs.ir_laws.facts.Lists.{map_map, map_same, places}
+use Rattle.pass_proofs.proofs.ir_laws.facts.Members.{each_joined}
+use Rattle.pass_proofs.specs.ir_model.declared.instr.Instr.{Instr}
+use Rattle.pass_proofs.specs.pass_front.Front.{is_alloca, is_no_alloca}
 use Rattle.pass_frames_proof.specs.Layers.{Layer, after_of, becomes, before_of, behind_of, both, grown, here_of, met, only, own_place_in, passed, woven}
 use Rattle.pass_frames_proof.specs.Passes.{allocas_led}
 use Rattle.pass_frames_proof.specs.Tests.{AllFail, KeepsTest, PassesLike}

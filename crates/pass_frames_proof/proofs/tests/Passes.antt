@@ -1,30 +1,30 @@
 -- The passes that build frames keep the calls of coro intrinsics, but for markers.
 use Rattle.std.proofs.Common.{◌≡◌, ℕ, Bool, true, false, List, [], ◌∷◌, ◌++◌, length, refl}
 use Rattle.std.specs.Prelude.{None, Option, Some, map, replicate, take, if◌then◌else◌, ◌==◌}
-use Rattle.ir_laws.proofs.facts.Members.{each_joined}
-use Rattle.ir_model.specs.Names.{same_intrinsic}
-use Rattle.ir_model.specs.declared.instr.Instr.{Instr}
-use Rattle.ir_model.specs.declared.module.Block.{Block}
-use Rattle.ir_model.specs.declared.module.Function.{Function}
-use Rattle.ir_model.specs.declared.module.Module.{Module}
-use Rattle.ir_model.specs.declared.module.Param.{Param}
-use Rattle.ir_model.specs.declared.operand.Callee.{Callee}
-use Rattle.ir_model.specs.declared.operand.Intrinsic.{Intrinsic}
-use Rattle.ir_parts.specs.Contents.{instr_operands, result_of}
-use Rattle.ir_paths.specs.Windows.{is_call_of}
-use Rattle.pass_addresses.specs.Placing.{lies_outside, slot_fetches, stays, without_promise_of}
-use Rattle.pass_cells.specs.Moves.{after_saved, again_values, saved_values}
-use Rattle.pass_cells.specs.Written.{after_blocks as after_written, again_row, distance_behind, entry_front as cells_front, save_row, stored_phis, stored_result}
-use Rattle.pass_cells.specs.declared.plan.Plan.{Plan}
-use Rattle.pass_copies.specs.BeginCopies.{begin_copies, block_front, entry_front as copies_front, is_fetched, put, puts, slot_allocas}
-use Rattle.pass_copies.specs.Uses.{flag_at, is_begin}
-use Rattle.pass_copies.specs.declared.copying.Copying.{Copying}
-use Rattle.pass_copies.specs.declared.slot.EarlySlot.{EarlySlot}
-use Rattle.pass_fetch.specs.Blocks.{end_at}
-use Rattle.pass_fetch.specs.Fetching.{fetch_into, fetches_of_all}
-use Rattle.pass_fetch.specs.Instrs.{term_operands, with_fetched}
-use Rattle.pass_fetch.specs.declared.fetch.Fetch.{Fetch}
-use Rattle.pass_front.specs.Front.{is_alloca}
+use Rattle.pass_proofs.proofs.ir_laws.facts.Members.{each_joined}
+use Rattle.pass_proofs.specs.ir_model.Names.{same_intrinsic}
+use Rattle.pass_proofs.specs.ir_model.declared.instr.Instr.{Instr}
+use Rattle.pass_proofs.specs.ir_model.declared.module.Block.{Block}
+use Rattle.pass_proofs.specs.ir_model.declared.module.Function.{Function}
+use Rattle.pass_proofs.specs.ir_model.declared.module.Module.{Module}
+use Rattle.pass_proofs.specs.ir_model.declared.module.Param.{Param}
+use Rattle.pass_proofs.specs.ir_model.declared.operand.Callee.{Callee}
+use Rattle.pass_proofs.specs.ir_model.declared.operand.Intrinsic.{Intrinsic}
+use Rattle.pass_proofs.specs.ir_parts.Contents.{instr_operands, result_of}
+use Rattle.pass_proofs.specs.ir_paths.Windows.{is_call_of}
+use Rattle.pass_proofs.specs.pass_addresses.Placing.{lies_outside, slot_fetches, stays, without_promise_of}
+use Rattle.pass_proofs.specs.pass_cells.Moves.{after_saved, again_values, saved_values}
+use Rattle.pass_proofs.specs.pass_cells.Written.{after_blocks as after_written, again_row, distance_behind, entry_front as cells_front, save_row, stored_phis, stored_result}
+use Rattle.pass_proofs.specs.pass_cells.declared.plan.Plan.{Plan}
+use Rattle.pass_proofs.specs.pass_copies.BeginCopies.{begin_copies, block_front, entry_front as copies_front, is_fetched, put, puts, slot_allocas}
+use Rattle.pass_proofs.specs.pass_copies.Uses.{flag_at, is_begin}
+use Rattle.pass_proofs.specs.pass_copies.declared.copying.Copying.{Copying}
+use Rattle.pass_proofs.specs.pass_copies.declared.slot.EarlySlot.{EarlySlot}
+use Rattle.pass_proofs.specs.pass_fetch.Blocks.{end_at}
+use Rattle.pass_proofs.specs.pass_fetch.Fetching.{fetch_into, fetches_of_all}
+use Rattle.pass_proofs.specs.pass_fetch.Instrs.{term_operands, with_fetched}
+use Rattle.pass_proofs.specs.pass_fetch.declared.fetch.Fetch.{Fetch}
+use Rattle.pass_proofs.specs.pass_front.Front.{is_alloca}
 use Rattle.pass_frames_proof.proofs.tests.Kept.{both_keep}
 use Rattle.pass_proofs.proofs.cells.crossing.Calls.{AreQuiet, agains_quiet, behind_quiet, fetches_quiet, front_quiet, phis_quiet, result_quiet, same_call, saves_quiet}
 use Rattle.pass_proofs.proofs.fetch.shape.Fetching.{ends_each, no_rows}

@@ -2,26 +2,26 @@
 use Rattle.std.proofs.Common.{◌≡◌, ℕ, zero, suc, ◌+◌, Bool, true, List, [], ◌∷◌, ◌++◌, length, refl, sym, ap, ◌∙◌, subst, arith}
 use Rattle.std.proofs.lemmas.List.{map-append}
 use Rattle.std.specs.Prelude.{Option, Some, codes, filter, map, slice_get, ◌≢◌}
-use Rattle.ir_laws.proofs.facts.Lists.{map_map, map_same, places}
-use Rattle.ir_laws.proofs.facts.local_rules.Woven.{other_number}
-use Rattle.ir_laws.proofs.paths.expanded.Points.{points_are}
-use Rattle.ir_model.specs.declared.instr.Instr.{Instr}
-use Rattle.ir_model.specs.declared.module.Block.{Block}
-use Rattle.ir_model.specs.declared.module.Function.{Function}
-use Rattle.ir_model.specs.declared.module.Module.{Module}
-use Rattle.ir_model.specs.declared.operand.Intrinsic.{Intrinsic}
-use Rattle.ir_paths.specs.Windows.{is_call_of, points_from, points_in, points_where}
-use Rattle.ir_paths.specs.declared.point.Point.{Point}
-use Rattle.pass_addresses.specs.Placing.{lies_outside, slot_fetches, stays, turned_block, without_markers, without_promise_of}
-use Rattle.pass_cells.specs.Cells.{fetched_function, fetches_of}
-use Rattle.pass_cells.specs.Written.{after_block as after_written_block, entry_blocks, entry_front as cells_front, written_blocks}
-use Rattle.pass_cells.specs.declared.plan.Plan.{Plan}
-use Rattle.pass_copies.specs.BeginCopies.{after_block as after_copied_block, copied_blocks, entry_front as copies_front, first_fetched}
-use Rattle.pass_copies.specs.declared.copying.Copying.{Copying}
-use Rattle.pass_fetch.specs.Blocks.{fetched_blocks, next_after_block, next_after_phis, next_after_phis_by, with_fetches}
-use Rattle.pass_fetch.specs.declared.fetch.Fetch.{Fetch}
-use Rattle.pass_frames.specs.Framed.{begin_of}
-use Rattle.pass_front.specs.Front.{with_allocas_first}
+use Rattle.pass_proofs.proofs.ir_laws.facts.Lists.{map_map, map_same, places}
+use Rattle.pass_proofs.proofs.ir_laws.facts.local_rules.Woven.{other_number}
+use Rattle.pass_proofs.proofs.ir_laws.paths.expanded.Points.{points_are}
+use Rattle.pass_proofs.specs.ir_model.declared.instr.Instr.{Instr}
+use Rattle.pass_proofs.specs.ir_model.declared.module.Block.{Block}
+use Rattle.pass_proofs.specs.ir_model.declared.module.Function.{Function}
+use Rattle.pass_proofs.specs.ir_model.declared.module.Module.{Module}
+use Rattle.pass_proofs.specs.ir_model.declared.operand.Intrinsic.{Intrinsic}
+use Rattle.pass_proofs.specs.ir_paths.Windows.{is_call_of, points_from, points_in, points_where}
+use Rattle.pass_proofs.specs.ir_paths.declared.point.Point.{Point}
+use Rattle.pass_proofs.specs.pass_addresses.Placing.{lies_outside, slot_fetches, stays, turned_block, without_markers, without_promise_of}
+use Rattle.pass_proofs.specs.pass_cells.Cells.{fetched_function, fetches_of}
+use Rattle.pass_proofs.specs.pass_cells.Written.{after_block as after_written_block, entry_blocks, entry_front as cells_front, written_blocks}
+use Rattle.pass_proofs.specs.pass_cells.declared.plan.Plan.{Plan}
+use Rattle.pass_proofs.specs.pass_copies.BeginCopies.{after_block as after_copied_block, copied_blocks, entry_front as copies_front, first_fetched}
+use Rattle.pass_proofs.specs.pass_copies.declared.copying.Copying.{Copying}
+use Rattle.pass_proofs.specs.pass_fetch.Blocks.{fetched_blocks, next_after_block, next_after_phis, next_after_phis_by, with_fetches}
+use Rattle.pass_proofs.specs.pass_fetch.declared.fetch.Fetch.{Fetch}
+use Rattle.pass_proofs.specs.pass_frames.Framed.{begin_of}
+use Rattle.pass_proofs.specs.pass_front.Front.{with_allocas_first}
 use Rattle.pass_frames_proof.proofs.code.Framed.{entry_made, framed_is, others_made}
 use Rattle.pass_frames_proof.proofs.code.Passes.{addressed, block_is}
 use Rattle.pass_frames_proof.proofs.tests.Kept.{both_keep, led_keeps, woven_places}

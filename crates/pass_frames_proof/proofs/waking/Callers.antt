@@ -2,18 +2,18 @@
 -- front of the call.
 use Rattle.std.proofs.Common.{◌≡◌, ◌+◌, ◌-◌, ◌<◌, ◌∙◌, if◌then◌else◌, Bool, List, Ok, Option, Result, ap, arith, false, length, not, refl, subst, suc, sym, true, ℕ}
 use Rattle.std.specs.List.{Contains}
-use Rattle.ir_base.specs.declared.cause.Cause.{Cause}
-use Rattle.ir_base.specs.declared.outcome.Outcome.{Outcome}
-use Rattle.ir_model.specs.Names.{function_at}
-use Rattle.ir_model.specs.declared.instr.Instr.{Instr}
-use Rattle.ir_model.specs.declared.module.Function.{Function}
-use Rattle.ir_model.specs.declared.operand.Arg.{Arg}
-use Rattle.ir_model.specs.declared.operand.Callee.{Callee}
-use Rattle.ir_model.specs.declared.operand.Intrinsic.{Intrinsic}
-use Rattle.ir_paths.specs.Windows.{destroy_label, resume_label}
-use Rattle.ir_paths.specs.declared.point.Point.{Point}
-use Rattle.pass_cells.specs.Cells.{fetches_of}
-use Rattle.pass_fetch.specs.Fetching.{fetched_args}
+use Rattle.pass_proofs.specs.ir_base.declared.cause.Cause.{Cause}
+use Rattle.pass_proofs.specs.ir_base.declared.outcome.Outcome.{Outcome}
+use Rattle.pass_proofs.specs.ir_model.Names.{function_at}
+use Rattle.pass_proofs.specs.ir_model.declared.instr.Instr.{Instr}
+use Rattle.pass_proofs.specs.ir_model.declared.module.Function.{Function}
+use Rattle.pass_proofs.specs.ir_model.declared.operand.Arg.{Arg}
+use Rattle.pass_proofs.specs.ir_model.declared.operand.Callee.{Callee}
+use Rattle.pass_proofs.specs.ir_model.declared.operand.Intrinsic.{Intrinsic}
+use Rattle.pass_proofs.specs.ir_paths.Windows.{destroy_label, resume_label}
+use Rattle.pass_proofs.specs.ir_paths.declared.point.Point.{Point}
+use Rattle.pass_proofs.specs.pass_cells.Cells.{fetches_of}
+use Rattle.pass_proofs.specs.pass_fetch.Fetching.{fetched_args}
 use Rattle.pass_frames_proof.proofs.asking.Finals.{final_same}
 use Rattle.pass_frames_proof.proofs.asking.Found.{sleeper_found}
 use Rattle.pass_frames_proof.proofs.asking.Others.{nth_stands}
@@ -40,23 +40,23 @@ use Rattle.pass_frames_proof.specs.Related.{AreBuiltOf, Building, all_slots, beh
 use Rattle.pass_frames_proof.specs.Returning.{SwitchesTo}
 use Rattle.pass_frames_proof.specs.Stepping.{AreGiven, IsNotEntering, placed_front, placed_instr, state_in}
 use Rattle.pass_frames_proof.specs.Waking.{AreWoken, HasFirstAnew, HasNoneAnew, IsAtOwnWaking, IsAtWaking, IsSleeping, IsUnfinal, IsWaking, wake_call}
-use Rattle.pass_kept_proof.specs.Kept.{kept}
+use Rattle.pass_proofs.specs.pass_kept_proof.Kept.{kept}
 use Rattle.pass_renewed_proof.specs.Renewed.{RenewedGiven, continue_renewed, renewed_step}
-use Rattle.run_agreement.specs.Machines.{iterate}
-use Rattle.run_framed.specs.Framed.{continue_framed, framed_context, framed_step}
-use Rattle.run_laws.specs.memory.Pointers.{Home, IsValue}
-use Rattle.run_laws.specs.transfer.Transfer.{StandsFor}
-use Rattle.run_memory.specs.declared.block.MemoryBlock.{MemoryBlock}
-use Rattle.run_memory.specs.declared.pointer.Value.{Value}
-use Rattle.run_source.specs.Source.{Sleeper, context_of, sleeper_at}
-use Rattle.run_source.specs.State.{function_of, or_undefined, work_of}
-use Rattle.run_source.specs.declared.state.State.{State}
-use Rattle.run_source_tables.specs.Given.{is_final}
-use Rattle.run_step.specs.Results.{and_then, ok_if}
-use Rattle.run_step.specs.Step.{AtInstr, Context, Coro, Work, action_of, fetch, intrinsic_call}
-use Rattle.run_step.specs.Values.{arg_values, nth}
-use Rattle.run_step.specs.declared.world.Slot.{Slot}
-use Rattle.run_step.specs.declared.world.World.{World}
+use Rattle.pass_proofs.specs.run_agreement.Machines.{iterate}
+use Rattle.pass_proofs.specs.run_framed.Framed.{continue_framed, framed_context, framed_step}
+use Rattle.pass_proofs.specs.run_laws.memory.Pointers.{Home, IsValue}
+use Rattle.pass_proofs.specs.run_laws.transfer.Transfer.{StandsFor}
+use Rattle.pass_proofs.specs.run_memory.declared.block.MemoryBlock.{MemoryBlock}
+use Rattle.pass_proofs.specs.run_memory.declared.pointer.Value.{Value}
+use Rattle.pass_proofs.specs.run_source.Source.{Sleeper, context_of, sleeper_at}
+use Rattle.pass_proofs.specs.run_source.State.{function_of, or_undefined, work_of}
+use Rattle.pass_proofs.specs.run_source.declared.state.State.{State}
+use Rattle.pass_proofs.specs.run_source_tables.Given.{is_final}
+use Rattle.pass_proofs.specs.run_step.Results.{and_then, ok_if}
+use Rattle.pass_proofs.specs.run_step.Step.{AtInstr, Context, Coro, Work, action_of, fetch, intrinsic_call}
+use Rattle.pass_proofs.specs.run_step.Values.{arg_values, nth}
+use Rattle.pass_proofs.specs.run_step.declared.world.Slot.{Slot}
+use Rattle.pass_proofs.specs.run_step.declared.world.World.{World}
 
 -- ---- what resumes and destroys have in common
 

@@ -3,18 +3,18 @@ use Rattle.std.proofs.Common.{◌≡◌, ◌+◌, ◌-◌, ◌<◌, ◌≤◌, �
 use Rattle.std.proofs.lemmas.List.{length-replicate}
 use Rattle.std.specs.List.{Contains}
 use Rattle.std.specs.Prelude.{option_map, slice_get, slice_set}
-use Rattle.ir_laws.proofs.facts.Lists.{get_within, set_here, set_length}
-use Rattle.ir_model.specs.Layout.{size_of}
-use Rattle.ir_model.specs.Names.{function_at, position_of}
-use Rattle.ir_model.specs.Ty.{Ty, int, ptr}
-use Rattle.ir_model.specs.declared.instr.Instr.{Instr}
-use Rattle.ir_model.specs.declared.module.Function.{Function}
-use Rattle.ir_model.specs.declared.module.Module.{Module}
-use Rattle.ir_paths.specs.declared.point.Point.{Point}
-use Rattle.pass_cells.specs.Kept.{entry}
-use Rattle.pass_cells.specs.declared.plan.KeptValue.{KeptValue}
-use Rattle.pass_fetch.specs.Fetching.{value_bytes}
-use Rattle.pass_frames.specs.Framed.{begin_of}
+use Rattle.pass_proofs.proofs.ir_laws.facts.Lists.{get_within, set_here, set_length}
+use Rattle.pass_proofs.specs.ir_model.Layout.{size_of}
+use Rattle.pass_proofs.specs.ir_model.Names.{function_at, position_of}
+use Rattle.pass_proofs.specs.ir_model.Ty.{Ty, int, ptr}
+use Rattle.pass_proofs.specs.ir_model.declared.instr.Instr.{Instr}
+use Rattle.pass_proofs.specs.ir_model.declared.module.Function.{Function}
+use Rattle.pass_proofs.specs.ir_model.declared.module.Module.{Module}
+use Rattle.pass_proofs.specs.ir_paths.declared.point.Point.{Point}
+use Rattle.pass_proofs.specs.pass_cells.Kept.{entry}
+use Rattle.pass_proofs.specs.pass_cells.declared.plan.KeptValue.{KeptValue}
+use Rattle.pass_proofs.specs.pass_fetch.Fetching.{value_bytes}
+use Rattle.pass_proofs.specs.pass_frames.Framed.{begin_of}
 use Rattle.pass_frames_proof.proofs.distances.Sums.{value_set}
 use Rattle.pass_frames_proof.proofs.entering.Allocas.{alloca_there, to_the_last, up_to_next}
 use Rattle.pass_frames_proof.proofs.entering.Behind.{AreBehind, are_behind}
@@ -39,32 +39,32 @@ use Rattle.pass_frames_proof.specs.Places.{Framing, edged, framed, own_place, pl
 use Rattle.pass_frames_proof.specs.Related.{Anything, AreActivations, AreAllAhead, AreBuiltOf, AreCellsThere, AreFieldsRight, AreInstances, AreNamed, AreWheresThere, Building, HasCells, IsCell, IsFreeOf, IsKeptAs, IsKeptValue, IsStatus, below_place, instance_in, is_coroutine, returned_from, slots_below, top_place}
 use Rattle.pass_frames_proof.specs.Stepping.{AreGiven}
 use Rattle.pass_frames_proof.specs.Waking.{AreWoken, HasNoneAnew, IsCellMade, IsSleeping, framed_start}
-use Rattle.pass_kept_proof.specs.Kept.{kept}
+use Rattle.pass_proofs.specs.pass_kept_proof.Kept.{kept}
 use Rattle.pass_renewed_proof.specs.Renewed.{RenewedGiven, renew_after, renewed_step, renewed_value, renewed_values}
 use Rattle.run_access_worked.proofs.Ended.{set_frames}
 use Rattle.run_access_worked.specs.Frames.{IsSameFrame}
-use Rattle.run_agreement.specs.Machines.{iterate}
-use Rattle.run_framed.specs.Framed.{alloca_from, begin_name, enter_after, frame_rights, framed_step, reentry_values}
-use Rattle.run_laws.specs.access.Lines.{Holds, StandAt}
-use Rattle.run_laws.specs.changed.Changed.{Each}
-use Rattle.run_laws.specs.memory.Pointers.{Home, IsValue, home_of}
-use Rattle.run_memory.specs.Memory.{Rights, decode}
-use Rattle.run_memory.specs.Pointers.{moved, offset_of}
-use Rattle.run_memory.specs.declared.block.MemoryBlock.{MemoryBlock}
-use Rattle.run_memory.specs.declared.pointer.Pointer.{Pointer}
-use Rattle.run_memory.specs.declared.pointer.Value.{Value}
-use Rattle.run_source.specs.Source.{enter_block, push, resumed}
-use Rattle.run_source.specs.State.{address_in, frame_address_of, function_of, with_status}
-use Rattle.run_source.specs.declared.state.Activation.{Activation}
-use Rattle.run_source.specs.declared.state.Instance.{Instance}
-use Rattle.run_source.specs.declared.state.Mode.{Mode}
-use Rattle.run_source.specs.declared.state.State.{State}
-use Rattle.run_source.specs.declared.state.Status.{Status}
-use Rattle.run_step.specs.Step.{AtInstr, fetch, has_markers, label_of, values_in}
-use Rattle.run_step.specs.Values.{Env, access_of, value_in, with_result}
-use Rattle.run_step.specs.declared.world.Slot.{Slot}
-use Rattle.run_step.specs.declared.world.World.{World}
-use Rattle.run_laws.proofs.transfer.Sets.{set_length as value_length}
+use Rattle.pass_proofs.specs.run_agreement.Machines.{iterate}
+use Rattle.pass_proofs.specs.run_framed.Framed.{alloca_from, begin_name, enter_after, frame_rights, framed_step, reentry_values}
+use Rattle.pass_proofs.specs.run_laws.access.Lines.{Holds, StandAt}
+use Rattle.pass_proofs.specs.run_laws.changed.Changed.{Each}
+use Rattle.pass_proofs.specs.run_laws.memory.Pointers.{Home, IsValue, home_of}
+use Rattle.pass_proofs.specs.run_memory.Memory.{Rights, decode}
+use Rattle.pass_proofs.specs.run_memory.Pointers.{moved, offset_of}
+use Rattle.pass_proofs.specs.run_memory.declared.block.MemoryBlock.{MemoryBlock}
+use Rattle.pass_proofs.specs.run_memory.declared.pointer.Pointer.{Pointer}
+use Rattle.pass_proofs.specs.run_memory.declared.pointer.Value.{Value}
+use Rattle.pass_proofs.specs.run_source.Source.{enter_block, push, resumed}
+use Rattle.pass_proofs.specs.run_source.State.{address_in, frame_address_of, function_of, with_status}
+use Rattle.pass_proofs.specs.run_source.declared.state.Activation.{Activation}
+use Rattle.pass_proofs.specs.run_source.declared.state.Instance.{Instance}
+use Rattle.pass_proofs.specs.run_source.declared.state.Mode.{Mode}
+use Rattle.pass_proofs.specs.run_source.declared.state.State.{State}
+use Rattle.pass_proofs.specs.run_source.declared.state.Status.{Status}
+use Rattle.pass_proofs.specs.run_step.Step.{AtInstr, fetch, has_markers, label_of, values_in}
+use Rattle.pass_proofs.specs.run_step.Values.{Env, access_of, value_in, with_result}
+use Rattle.pass_proofs.specs.run_step.declared.world.Slot.{Slot}
+use Rattle.pass_proofs.specs.run_step.declared.world.World.{World}
+use Rattle.pass_proofs.proofs.run_laws.transfer.Sets.{set_length as value_length}
 use Rattle.run_access_worked.proofs.Ended.{rights_same as frames_same, set_frames}
 use Rattle.pass_frames_proof.proofs.entering.Cells.{cells_made}
 use Rattle.pass_frames_proof.specs.Places.{place_by as place_by_flag}

@@ -7,14 +7,14 @@ ghost use Rattle.std.specs.Prelude.{◌≡◌, ℕ, Bool, true, List, None};
 ghost use Rattle.rule_laws.specs.frames.crossing.Crossed.{AreSuspendsApart, IsNothingNeeded};
 ghost use Rattle.pass_proofs.specs.cells.rules.Asked.{AreCellsFor};
 ghost use Rattle.rule_laws.specs.rules.counted.Widths.{first_other_width};
-ghost use Rattle.flow_solver.specs.Paths.{IsListed};
+ghost use Rattle.rule_laws.specs.flow_solver.Paths.{IsListed};
 ghost use Rattle.rule_laws.specs.rules.function_rules.Kept.{KeepsFunctionRules};
 ghost use Rattle.ir_model.specs.declared.module.Function.{Function};
 ghost use Rattle.ir_model.specs.declared.module.Module.{Module};
-ghost use Rattle.ir_paths.specs.Slots.{allocas_of};
-ghost use Rattle.frame_crossing.specs.Crossing.{AreCrossing};
-ghost use Rattle.pass_cells.specs.Kept.{is_flagged};
-ghost use Rattle.pass_cells.specs.Cells.{with_cells};
+ghost use Rattle.rule_laws.specs.ir_paths.Slots.{allocas_of};
+ghost use Rattle.rule_laws.specs.frame_crossing.Crossing.{AreCrossing};
+ghost use Rattle.rule_laws.specs.pass_cells.Kept.{is_flagged};
+ghost use Rattle.rule_laws.specs.pass_cells.Cells.{with_cells};
 
 /// What is asked of the values that are kept holds of those that cross suspends, where suspends stand apart.
 pub fn crossing_values_are_for_cells()

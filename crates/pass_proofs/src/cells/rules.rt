@@ -6,7 +6,7 @@ ghost use Rattle.pass_proofs.specs.cells.rules.Weaving.{cells_weaving};
 ghost use Rattle.rule_laws.specs.rules.function_rules.Kept.{KeepsFunctionRules};
 ghost use Rattle.ir_model.specs.declared.module.Function.{Function};
 ghost use Rattle.ir_model.specs.declared.module.Module.{Module};
-ghost use Rattle.pass_cells.specs.Cells.{with_cells};
+ghost use Rattle.rule_laws.specs.pass_cells.Cells.{with_cells};
 ghost use Rattle.rule_laws.specs.rules.woven_rules.Blocks.{IsWoven};
 ghost use Rattle.rule_laws.specs.rules.woven_rules.Pairs.{AreIncomingOnce};
 

@@ -4,7 +4,7 @@ ghost use Rattle.std.specs.Prelude.{ℕ, Bool, List};
 ghost use Rattle.ir_model.specs.declared.module.Function.{Function};
 ghost use Rattle.ir_model.specs.declared.module.Module.{Module};
 ghost use Rattle.rule_laws.specs.rules.spelled.Spelled.{IsSpelledFunction};
-ghost use Rattle.pass_cells.specs.Cells.{with_cells};
+ghost use Rattle.rule_laws.specs.pass_cells.Cells.{with_cells};
 
 /// And where crossing values are kept in cells.
 pub fn cells_can_be_spelled()

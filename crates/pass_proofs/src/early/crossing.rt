@@ -7,9 +7,9 @@ ghost use Rattle.pass_proofs.specs.early.renaming.Passes.{renamed_coroutine};
 ghost use Rattle.pass_proofs.specs.early.crossing.Plain.{HasPlainNames};
 ghost use Rattle.pass_early.specs.declared.renaming.Renaming.{Renaming};
 ghost use Rattle.ir_model.specs.declared.module.Function.{Function};
-ghost use Rattle.frame_crossing.specs.Crossing.{AreCrossing};
+ghost use Rattle.rule_laws.specs.frame_crossing.Crossing.{AreCrossing};
 ghost use Rattle.pass_proofs.specs.early.saves.SavesWritten.{saved_function};
-ghost use Rattle.ir_laws.specs.facts.sound_states.Named.{HasNamedLocals};
+ghost use Rattle.rule_laws.specs.ir_laws.facts.sound_states.Named.{HasNamedLocals};
 ghost use Rattle.pass_early.specs.BeginName.{with_begin_name};
 
 /// The values that cross suspends stay where uses of `coro.frame` are renamed.

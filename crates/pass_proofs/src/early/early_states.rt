@@ -1,11 +1,11 @@
 //! That the first pass keeps the states of sources beside each other, by what steps cost.
 
 ghost use Rattle.std.specs.Prelude.{ℕ, ℤ, List};
-ghost use Rattle.run_agreement.specs.Costs.{AgreesBy, IsNear};
-ghost use Rattle.ir_base.specs.declared.outcome.Word.{Word};
+ghost use Rattle.rule_laws.specs.run_agreement.Costs.{AgreesBy, IsNear};
+ghost use Rattle.rule_laws.specs.ir_base.declared.outcome.Word.{Word};
 ghost use Rattle.pass_proofs.specs.early.renaming.Passes.{named_module, renamed_module};
 ghost use Rattle.pass_proofs.specs.early.early_states.Beside.{IsShortOf, source_machine, IsSameState, IsSavedOf, IsEarlyOf, IsNearlyEarlyOf};
-ghost use Rattle.ir_laws.specs.facts.sound_states.Named.{AreLocalsNamed, AreUsesNamed};
+ghost use Rattle.rule_laws.specs.ir_laws.facts.sound_states.Named.{AreLocalsNamed, AreUsesNamed};
 ghost use Rattle.ir_model.specs.declared.module.Frame.{Frame};
 ghost use Rattle.ir_model.specs.declared.module.Module.{Module};
 ghost use Rattle.pass_proofs.specs.early.renaming.Regular.{AllKeepRules};

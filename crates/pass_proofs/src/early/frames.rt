@@ -4,27 +4,27 @@
 //! `accepted_layouts_stay`).
 
 ghost use Rattle.std.specs.Prelude.{◌↔◌, Bool, Result, ◌≡◌, ℕ, true, List, None};
-ghost use Rattle.frame_contents.specs.Frames.{AreLayouts, AreContents, IsFrame};
-ghost use Rattle.frame_contents.specs.declared.module_frames.LayoutsError.{LayoutsError};
+ghost use Rattle.rule_laws.specs.frame_contents.Frames.{AreLayouts, AreContents, IsFrame};
+ghost use Rattle.rule_laws.specs.frame_contents.declared.module_frames.LayoutsError.{LayoutsError};
 ghost use Rattle.pass_proofs.specs.early.renaming.Passes.{named_module, renamed_module};
-ghost use Rattle.frame_layout.specs.declared.layout.Layouts.{Layouts};
+ghost use Rattle.rule_laws.specs.frame_layout.declared.layout.Layouts.{Layouts};
 ghost use Rattle.ir_model.specs.declared.module.Module.{Module};
-ghost use Rattle.ir_laws.specs.facts.sound_states.Named.{AreLocalsNamed, AreUsesNamed};
+ghost use Rattle.rule_laws.specs.ir_laws.facts.sound_states.Named.{AreLocalsNamed, AreUsesNamed};
 ghost use Rattle.pass_proofs.specs.early.renaming.Regular.{AllKeepRules};
 ghost use Rattle.pass_proofs.specs.early.frames.NoParams.{AreBeginsNoParams};
 ghost use Rattle.pass_proofs.specs.early.saves.SavesWritten.{saves_written};
 ghost use Rattle.pass_early.specs.Early.{early_module};
 ghost use Rattle.ir_model.specs.Names.{function_at};
-ghost use Rattle.frame_crossing.specs.Crossing.{AreCrossing};
-ghost use Rattle.frame_classes.specs.Classes.{AreClasses};
-ghost use Rattle.frame_classes.specs.declared.class.SlotClass.{SlotClass};
-ghost use Rattle.frame_conflicts.specs.Conflicts.{AreAliveAt, AreConflicts};
-ghost use Rattle.rule_all.specs.Refused.{IsRefused};
-ghost use Rattle.rule_names.specs.declared.stage.Stage.{Stage};
-ghost use Rattle.frame_contents.specs.declared.contents.Contents.{Contents};
-ghost use Rattle.frame_contents.specs.declared.held.Holding.{Holding};
-ghost use Rattle.frame_layout.specs.declared.laying.LayoutError.{LayoutError};
-ghost use Rattle.frame_layout.specs.declared.layout.Layout.{Layout};
+ghost use Rattle.rule_laws.specs.frame_crossing.Crossing.{AreCrossing};
+ghost use Rattle.rule_laws.specs.frame_classes.Classes.{AreClasses};
+ghost use Rattle.rule_laws.specs.frame_classes.declared.class.SlotClass.{SlotClass};
+ghost use Rattle.rule_laws.specs.frame_conflicts.Conflicts.{AreAliveAt, AreConflicts};
+ghost use Rattle.rule_laws.specs.rule_all.Refused.{IsRefused};
+ghost use Rattle.rule_laws.specs.rule_names.declared.stage.Stage.{Stage};
+ghost use Rattle.rule_laws.specs.frame_contents.declared.contents.Contents.{Contents};
+ghost use Rattle.rule_laws.specs.frame_contents.declared.held.Holding.{Holding};
+ghost use Rattle.rule_laws.specs.frame_layout.declared.laying.LayoutError.{LayoutError};
+ghost use Rattle.rule_laws.specs.frame_layout.declared.layout.Layout.{Layout};
 
 /// The layouts of a module's coroutines stay where begin's value gets a name.
 pub fn layouts_stay_named()

@@ -7,9 +7,9 @@ ghost use Rattle.std.specs.Prelude.{None};
 ghost use Rattle.rule_laws.specs.rules.local_rules.Local.{BreaksNoLocalRule};
 ghost use Rattle.pass_early.specs.Early.{early_module};
 ghost use Rattle.rule_laws.specs.rules.source_rules.Named.{AreTabled};
-ghost use Rattle.rule_all.specs.Refused.{IsRefused};
+ghost use Rattle.rule_laws.specs.rule_all.Refused.{IsRefused};
 ghost use Rattle.ir_model.specs.declared.module.Module.{Module};
-ghost use Rattle.rule_names.specs.declared.stage.Stage.{Stage};
+ghost use Rattle.rule_laws.specs.rule_names.declared.stage.Stage.{Stage};
 
 /// Nor does what the first pass makes of it, where the locals that coroutines define are positions of their tables of names.
 pub fn first_pass_breaks_no_local_rule()

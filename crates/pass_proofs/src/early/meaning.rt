@@ -6,11 +6,11 @@
 ghost use Rattle.pass_proofs.specs.early.renaming.Passes.{named_module, renamed_module};
 ghost use Rattle.pass_proofs.specs.early.renaming.Regular.{AllKeepRules};
 ghost use Rattle.ir_model.specs.declared.module.Module.{Module};
-ghost use Rattle.ir_laws.specs.facts.sound_states.Named.{AreLocalsNamed, AreUsesNamed};
+ghost use Rattle.rule_laws.specs.ir_laws.facts.sound_states.Named.{AreLocalsNamed, AreUsesNamed};
 ghost use Rattle.std.specs.Prelude.{ℕ, ℤ, List};
-ghost use Rattle.run_agreement.specs.Agreements.{AgreesWithin};
-ghost use Rattle.ir_base.specs.declared.outcome.Word.{Word};
-ghost use Rattle.run_source.specs.Source.{SourceAt};
+ghost use Rattle.rule_laws.specs.run_agreement.Agreements.{AgreesWithin};
+ghost use Rattle.rule_laws.specs.ir_base.declared.outcome.Word.{Word};
+ghost use Rattle.rule_laws.specs.run_source.Source.{SourceAt};
 ghost use Rattle.pass_early.specs.Early.{early_module};
 ghost use Rattle.ir_model.specs.declared.module.Frame.{Frame};
 

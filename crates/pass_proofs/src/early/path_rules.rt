@@ -7,11 +7,11 @@ ghost use Rattle.std.specs.Prelude.{◌≡◌, ℕ, None, Some, slice_get};
 ghost use Rattle.pass_early.specs.Early.{early_module};
 ghost use Rattle.rule_laws.specs.rules.path_rules.Shape.{KeepsShape};
 ghost use Rattle.rule_laws.specs.rules.source_rules.Named.{AreTabled};
-ghost use Rattle.rule_all.specs.Refused.{IsRefused};
+ghost use Rattle.rule_laws.specs.rule_all.Refused.{IsRefused};
 ghost use Rattle.ir_model.specs.declared.module.Function.{Function};
 ghost use Rattle.ir_model.specs.declared.module.Module.{Module};
-ghost use Rattle.rule_names.specs.declared.stage.Stage.{Stage};
-ghost use Rattle.ir_laws.specs.facts.sound_states.Named.{AreLocalsNamed, AreUsesNamed};
+ghost use Rattle.rule_laws.specs.rule_names.declared.stage.Stage.{Stage};
+ghost use Rattle.rule_laws.specs.ir_laws.facts.sound_states.Named.{AreLocalsNamed, AreUsesNamed};
 ghost use Rattle.rule_laws.specs.rules.path_rules.Paths.{KeepsPaths};
 
 /// Nor have those that the first pass makes of them.

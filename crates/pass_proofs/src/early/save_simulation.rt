@@ -4,13 +4,13 @@
 //! (`written_saves_keep_meaning`).
 
 ghost use Rattle.std.specs.Prelude.{ℕ, ℤ, List};
-ghost use Rattle.run_agreement.specs.Agreements.{AgreesWithin};
-ghost use Rattle.ir_base.specs.declared.outcome.Word.{Word};
-ghost use Rattle.run_source.specs.Source.{SourceAt};
+ghost use Rattle.rule_laws.specs.run_agreement.Agreements.{AgreesWithin};
+ghost use Rattle.rule_laws.specs.ir_base.declared.outcome.Word.{Word};
+ghost use Rattle.rule_laws.specs.run_source.Source.{SourceAt};
 ghost use Rattle.ir_model.specs.declared.module.Frame.{Frame};
 ghost use Rattle.ir_model.specs.declared.module.Module.{Module};
 ghost use Rattle.pass_proofs.specs.early.saves.SavesWritten.{saves_written};
-ghost use Rattle.ir_laws.specs.facts.sound_states.Named.{AreLocalsNamed, AreUsesNamed};
+ghost use Rattle.rule_laws.specs.ir_laws.facts.sound_states.Named.{AreLocalsNamed, AreUsesNamed};
 
 /// Where saves are written out, each run agrees within 2 with the run of the module, in which each local is a position of
 /// its function's table of names: a suspend without a save becomes two instructions, and each other one stays one.

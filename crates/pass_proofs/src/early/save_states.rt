@@ -5,26 +5,26 @@
 //! `suspends_come_behind`).
 
 ghost use Rattle.std.specs.Prelude.{◌≡◌, ℕ, ℤ, List, Option, true, Ok, Some, slice_get, length};
-ghost use Rattle.run_source.specs.Source.{given, go_to, context_of, save, new_slot, deallocate, enter, return, save_for, act, continue};
-ghost use Rattle.run_source.specs.State.{own_instance, function_of, work_of, next, point_of, gives};
-ghost use Rattle.run_source.specs.declared.state.State.{State};
+ghost use Rattle.rule_laws.specs.run_source.Source.{given, go_to, context_of, save, new_slot, deallocate, enter, return, save_for, act, continue};
+ghost use Rattle.rule_laws.specs.run_source.State.{own_instance, function_of, work_of, next, point_of, gives};
+ghost use Rattle.rule_laws.specs.run_source.declared.state.State.{State};
 ghost use Rattle.ir_model.specs.Names.{function_at};
 ghost use Rattle.ir_model.specs.declared.module.Frame.{Frame};
 ghost use Rattle.ir_model.specs.declared.module.Module.{Module};
 ghost use Rattle.pass_proofs.specs.early.saves.SavesWritten.{saves_written, is_bare};
-ghost use Rattle.ir_laws.specs.paths.expanded.Tokens.{HasNamedTokens};
+ghost use Rattle.rule_laws.specs.ir_laws.paths.expanded.Tokens.{HasNamedTokens};
 ghost use Rattle.pass_proofs.specs.early.save_states.SavedState.{HasRoom, IsOwnedBy, saved_result, saved_state, StandsAlone, saved_action, IsNamedBelow};
-ghost use Rattle.ir_laws.specs.facts.sound_states.Named.{HasNamedPhis, HasNamedResults, HasNamedParams, AreLocalsNamed};
-ghost use Rattle.run_step.specs.Step.{action_of, fetch};
-ghost use Rattle.run_step.specs.declared.world.Slot.{Slot};
-ghost use Rattle.run_memory.specs.declared.pointer.Value.{Value};
-ghost use Rattle.ir_paths.specs.declared.point.Point.{Point};
+ghost use Rattle.rule_laws.specs.ir_laws.facts.sound_states.Named.{HasNamedPhis, HasNamedResults, HasNamedParams, AreLocalsNamed};
+ghost use Rattle.rule_laws.specs.run_step.Step.{action_of, fetch};
+ghost use Rattle.rule_laws.specs.run_step.declared.world.Slot.{Slot};
+ghost use Rattle.rule_laws.specs.run_memory.declared.pointer.Value.{Value};
+ghost use Rattle.rule_laws.specs.ir_paths.declared.point.Point.{Point};
 ghost use Rattle.pass_proofs.specs.early.saves.Spots.{back_of, front_of, own_saves};
 ghost use Rattle.ir_model.specs.declared.instr.Instr.{Instr};
-ghost use Rattle.run_step.specs.Results.{and_then};
-ghost use Rattle.ir_laws.specs.facts.expanded.Spots.{instrs_in};
-ghost use Rattle.ir_laws.specs.facts.expanded.Tokens.{IsNamedResult};
-ghost use Rattle.ir_laws.specs.paths.saved.SavedState.{AreTokensNamed};
+ghost use Rattle.rule_laws.specs.run_step.Results.{and_then};
+ghost use Rattle.rule_laws.specs.ir_laws.facts.expanded.Spots.{instrs_in};
+ghost use Rattle.rule_laws.specs.ir_laws.facts.expanded.Tokens.{IsNamedResult};
+ghost use Rattle.rule_laws.specs.ir_laws.paths.saved.SavedState.{AreTokensNamed};
 ghost use Rattle.run_states.specs.sound_states.Sound.{IsSound};
 
 /// A branch does the same, the windows that it leaves among it.

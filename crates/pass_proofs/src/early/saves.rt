@@ -8,16 +8,16 @@
 ghost use Rattle.std.specs.Prelude.{◌≡◌, false, ◌↔◌, List, filter, ℕ};
 ghost use Rattle.ir_model.specs.declared.module.Function.{Function};
 ghost use Rattle.pass_proofs.specs.early.saves.SavesWritten.{saved_function};
-ghost use Rattle.ir_paths.specs.Paths.{Leads};
-ghost use Rattle.ir_paths.specs.declared.point.Point.{Point};
-ghost use Rattle.ir_laws.specs.paths.expanded.Avoided.{AreAvoided};
+ghost use Rattle.rule_laws.specs.ir_paths.Paths.{Leads};
+ghost use Rattle.rule_laws.specs.ir_paths.declared.point.Point.{Point};
+ghost use Rattle.rule_laws.specs.ir_laws.paths.expanded.Avoided.{AreAvoided};
 ghost use Rattle.pass_proofs.specs.early.saves.Spots.{back_of, front_of};
-ghost use Rattle.ir_paths.specs.Windows.{windows_of, leaves};
+ghost use Rattle.rule_laws.specs.ir_paths.Windows.{windows_of, leaves};
 ghost use Rattle.pass_proofs.specs.early.saves.Moved.{AreMoved, AreAllMoved};
-ghost use Rattle.ir_laws.specs.paths.expanded.Tokens.{HasNamedTokens};
-ghost use Rattle.ir_paths.specs.Facts.{facts_of};
-ghost use Rattle.ir_paths.specs.Slots.{has_name, promise_of};
-ghost use Rattle.run_step.specs.Step.{has_markers};
+ghost use Rattle.rule_laws.specs.ir_laws.paths.expanded.Tokens.{HasNamedTokens};
+ghost use Rattle.rule_laws.specs.ir_paths.Facts.{facts_of};
+ghost use Rattle.rule_laws.specs.ir_paths.Slots.{has_name, promise_of};
+ghost use Rattle.rule_laws.specs.run_step.Step.{has_markers};
 
 /// A function that is no coroutine stays as it is.
 #[tactic(auto, using(crate::proofs::early::saves::Plain::plain_stays))]

@@ -7,15 +7,15 @@
 ghost use Rattle.std.specs.Prelude.{◌↔◌, List, ℕ};
 ghost use Rattle.ir_model.specs.declared.module.Function.{Function};
 ghost use Rattle.pass_proofs.specs.early.saves.SavesWritten.{saved_function};
-ghost use Rattle.ir_laws.specs.paths.expanded.Tokens.{HasNamedTokens};
-ghost use Rattle.frame_classes.specs.Classes.{AreClasses};
-ghost use Rattle.frame_classes.specs.declared.class.SlotClass.{SlotClass};
-ghost use Rattle.frame_conflicts.specs.Conflicts.{AreAliveAt, AreConflicts};
+ghost use Rattle.rule_laws.specs.ir_laws.paths.expanded.Tokens.{HasNamedTokens};
+ghost use Rattle.rule_laws.specs.frame_classes.Classes.{AreClasses};
+ghost use Rattle.rule_laws.specs.frame_classes.declared.class.SlotClass.{SlotClass};
+ghost use Rattle.rule_laws.specs.frame_conflicts.Conflicts.{AreAliveAt, AreConflicts};
 ghost use Rattle.pass_proofs.specs.early.renaming.Passes.{renamed_coroutine};
 ghost use Rattle.pass_proofs.specs.early.renaming.Regular.{IsRegular};
 ghost use Rattle.pass_early.specs.declared.renaming.Renaming.{Renaming};
 ghost use Rattle.pass_early.specs.BeginName.{with_begin_name};
-ghost use Rattle.ir_laws.specs.facts.sound_states.Named.{HasNamedOperands};
+ghost use Rattle.rule_laws.specs.ir_laws.facts.sound_states.Named.{HasNamedOperands};
 
 /// The classes of slots stay where saves are written out.
 pub fn classes_stay_saved()

@@ -5,13 +5,13 @@
 ghost use Rattle.std.specs.Prelude.{None, ℕ, ℤ, List};
 ghost use Rattle.pass_proofs.specs.early.renaming.Regular.{AllKeepRules};
 ghost use Rattle.rule_laws.specs.rules.source_rules.Named.{AreTabled, HaveNamedBegins};
-ghost use Rattle.rule_all.specs.Refused.{IsRefused};
+ghost use Rattle.rule_laws.specs.rule_all.Refused.{IsRefused};
 ghost use Rattle.ir_model.specs.declared.module.Module.{Module};
-ghost use Rattle.rule_names.specs.declared.stage.Stage.{Stage};
+ghost use Rattle.rule_laws.specs.rule_names.declared.stage.Stage.{Stage};
 ghost use Rattle.pass_proofs.specs.early.renaming.Passes.{named_module, renamed_module};
-ghost use Rattle.run_agreement.specs.Agreements.{AgreesWithin};
-ghost use Rattle.ir_base.specs.declared.outcome.Word.{Word};
-ghost use Rattle.run_source.specs.Source.{SourceAt};
+ghost use Rattle.rule_laws.specs.run_agreement.Agreements.{AgreesWithin};
+ghost use Rattle.rule_laws.specs.ir_base.declared.outcome.Word.{Word};
+ghost use Rattle.rule_laws.specs.run_source.Source.{SourceAt};
 ghost use Rattle.ir_model.specs.declared.module.Frame.{Frame};
 
 /// A source that breaks no rule, in which begins have names, keeps what the theorem on the renaming asks.

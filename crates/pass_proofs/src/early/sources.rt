@@ -1,18 +1,18 @@
 //! Lemmas on sources.
 
 ghost use Rattle.std.specs.Prelude.{ℕ, ℤ, List, None, ◌↔◌, Bool, Result};
-ghost use Rattle.run_agreement.specs.Agreements.{AgreesWithin};
-ghost use Rattle.ir_base.specs.declared.outcome.Word.{Word};
-ghost use Rattle.run_source.specs.Source.{SourceAt};
+ghost use Rattle.rule_laws.specs.run_agreement.Agreements.{AgreesWithin};
+ghost use Rattle.rule_laws.specs.ir_base.declared.outcome.Word.{Word};
+ghost use Rattle.rule_laws.specs.run_source.Source.{SourceAt};
 ghost use Rattle.pass_early.specs.Early.{early_module};
-ghost use Rattle.rule_all.specs.Refused.{IsRefused};
-ghost use Rattle.text_grammar.specs.Text.{StandsFor};
+ghost use Rattle.rule_laws.specs.rule_all.Refused.{IsRefused};
+ghost use Rattle.rule_laws.specs.text_grammar.Text.{StandsFor};
 ghost use Rattle.ir_model.specs.declared.module.Frame.{Frame};
 ghost use Rattle.ir_model.specs.declared.module.Module.{Module as TheModule};
-ghost use Rattle.rule_names.specs.declared.stage.Stage.{Stage};
-ghost use Rattle.frame_contents.specs.Frames.{AreLayouts};
-ghost use Rattle.frame_contents.specs.declared.module_frames.LayoutsError.{LayoutsError};
-ghost use Rattle.frame_layout.specs.declared.layout.Layouts.{Layouts};
+ghost use Rattle.rule_laws.specs.rule_names.declared.stage.Stage.{Stage};
+ghost use Rattle.rule_laws.specs.frame_contents.Frames.{AreLayouts};
+ghost use Rattle.rule_laws.specs.frame_contents.declared.module_frames.LayoutsError.{LayoutsError};
+ghost use Rattle.rule_laws.specs.frame_layout.declared.layout.Layouts.{Layouts};
 
 /// Each run of a source that a text stands for and that breaks no rule agrees within 2 with the run of what the first pass
 /// makes of it.

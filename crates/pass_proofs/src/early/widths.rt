@@ -2,8 +2,8 @@
 
 ghost use Rattle.pass_early.specs.Early.{early_module, early_function};
 ghost use Rattle.ir_model.specs.declared.module.Module.{Module};
-ghost use Rattle.ir_laws.specs.facts.same_names.Same.{HaveSameNames};
-ghost use Rattle.ir_laws.specs.facts.function_rules.Signatures.{HaveSameSignatures};
+ghost use Rattle.rule_laws.specs.ir_laws.facts.same_names.Same.{HaveSameNames};
+ghost use Rattle.rule_laws.specs.ir_laws.facts.function_rules.Signatures.{HaveSameSignatures};
 ghost use Rattle.std.specs.Prelude.{◌≡◌, ℕ, None};
 ghost use Rattle.rule_laws.specs.rules.counted.Widths.{first_other_width};
 ghost use Rattle.ir_model.specs.declared.module.Function.{Function};

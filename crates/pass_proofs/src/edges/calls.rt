@@ -1,16 +1,16 @@
 //! Lemmas on calls.
 
 ghost use Rattle.std.specs.Prelude.{◌≡◌, ℕ, true, None, Some};
-ghost use Rattle.rule_shape.specs.OneOfEach.{wrong_call};
-ghost use Rattle.rule_shape.specs.Switches.{wrong_switch};
+ghost use Rattle.rule_laws.specs.rule_shape.OneOfEach.{wrong_call};
+ghost use Rattle.rule_laws.specs.rule_shape.Switches.{wrong_switch};
 ghost use Rattle.pass_edges.specs.EdgeBlocks.{with_edge_blocks};
 ghost use Rattle.rule_laws.specs.rules.function_rules.Kept.{KeepsFunctionRules};
 ghost use Rattle.ir_model.specs.Calls.{first_result};
 ghost use Rattle.ir_model.specs.declared.module.Function.{Function};
 ghost use Rattle.ir_model.specs.declared.module.Module.{Module};
 ghost use Rattle.ir_model.specs.declared.operand.Intrinsic.{Intrinsic};
-ghost use Rattle.rule_windows.specs.Outside.{IsFirstOutside};
-ghost use Rattle.rule_windows.specs.Windows.{IsFirstWindow};
+ghost use Rattle.rule_laws.specs.rule_windows.Outside.{IsFirstOutside};
+ghost use Rattle.rule_laws.specs.rule_windows.Windows.{IsFirstWindow};
 ghost use Rattle.rule_laws.specs.frames.woven_shape.Shaped.{IsShaped};
 
 /// A coroutine that breaks none of its rules (K2, K3, K5 and K6) is what splitting asks where its edges have blocks.

@@ -1,12 +1,12 @@
 //! What splitting asks of a coroutine, with the allocas of its entry block in front.
 
 ghost use Rattle.std.specs.Prelude.{ℕ, ◌≡◌, None, true};
-ghost use Rattle.pass_front.specs.Front.{with_front_allocas};
+ghost use Rattle.rule_laws.specs.pass_front.Front.{with_front_allocas};
 ghost use Rattle.ir_model.specs.declared.module.Function.{Function};
 ghost use Rattle.ir_model.specs.declared.module.Module.{Module};
 ghost use Rattle.rule_laws.specs.frames.shape.Passes.{IsKept};
-ghost use Rattle.rule_shape.specs.Switches.{wrong_switch};
-ghost use Rattle.rule_phis.specs.Edges.{first_wrong_edge};
+ghost use Rattle.rule_laws.specs.rule_shape.Switches.{wrong_switch};
+ghost use Rattle.rule_laws.specs.rule_phis.Edges.{first_wrong_edge};
 ghost use Rattle.rule_laws.specs.frames.crossing.Crossed.{IsNothingNeeded};
 ghost use Rattle.rule_laws.specs.frames.needed.Crossed.{AreFramesUnneeded};
 ghost use Rattle.pass_proofs.specs.edges.rules.Phis.{ArePhisEnteredByJumps};

@@ -2,7 +2,7 @@
 
 ghost use Rattle.std.specs.Prelude.{◌≡◌, length};
 ghost use Rattle.pass_edges.specs.EdgeBlocks.{with_edge_blocks};
-ghost use Rattle.pass_intrinsics.specs.Shapes.{suspends_of};
+ghost use Rattle.rule_laws.specs.pass_intrinsics.Shapes.{suspends_of};
 ghost use Rattle.ir_model.specs.declared.module.Function.{Function};
 
 /// Blocks on edges add no suspend, and take none.

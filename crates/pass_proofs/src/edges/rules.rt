@@ -13,12 +13,12 @@ ghost use Rattle.pass_proofs.specs.edges.states.MovedState.{edges_split};
 ghost use Rattle.rule_laws.specs.rules.woven_rules.Pairs.{AreIncomingOnce};
 ghost use Rattle.pass_proofs.specs.edges.rules.Phis.{ArePhisEnteredByJumps};
 ghost use Rattle.pass_proofs.specs.edges.rules.Returns.{HaveOwnBlocks, AreSwitched};
-ghost use Rattle.rule_shape.specs.Switches.{wrong_switch};
+ghost use Rattle.rule_laws.specs.rule_shape.Switches.{wrong_switch};
 ghost use Rattle.rule_laws.specs.frames.rows.Returns.{HaveOwnReturns};
-ghost use Rattle.frame_crossing.specs.Crossing.{AreCrossing};
+ghost use Rattle.rule_laws.specs.frame_crossing.Crossing.{AreCrossing};
 ghost use Rattle.pass_proofs.specs.edges.paths.Spots.{moved};
-ghost use Rattle.ir_paths.specs.declared.point.Point.{Point};
-ghost use Rattle.frame_classes.specs.Alive.{MayBeAlive};
+ghost use Rattle.rule_laws.specs.ir_paths.declared.point.Point.{Point};
+ghost use Rattle.rule_laws.specs.frame_classes.Alive.{MayBeAlive};
 
 /// A function that breaks none of the rules of functions breaks none of them where its edges have blocks.
 pub fn edge_blocks_keep_function_rules()

@@ -4,8 +4,8 @@
 //! (`calls_break_no_rule_where_edges_have_blocks`, `switches_break_no_rule_where_edges_have_blocks`).
 
 ghost use Rattle.std.specs.Prelude.{◌≡◌, ℕ, None, true};
-ghost use Rattle.rule_shape.specs.OneOfEach.{wrong_call};
-ghost use Rattle.rule_shape.specs.Switches.{wrong_switch};
+ghost use Rattle.rule_laws.specs.rule_shape.OneOfEach.{wrong_call};
+ghost use Rattle.rule_laws.specs.rule_shape.Switches.{wrong_switch};
 ghost use Rattle.pass_edges.specs.EdgeBlocks.{with_edge_blocks};
 ghost use Rattle.rule_laws.specs.rules.function_rules.Kept.{KeepsFunctionRules};
 ghost use Rattle.ir_model.specs.declared.module.Function.{Function};

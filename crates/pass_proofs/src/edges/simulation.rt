@@ -5,14 +5,14 @@
 //! switches.
 
 ghost use Rattle.std.specs.Prelude.{ℕ, ℤ, List};
-ghost use Rattle.run_agreement.specs.Agreements.{AgreesWithin};
-ghost use Rattle.ir_base.specs.declared.outcome.Word.{Word};
-ghost use Rattle.run_source.specs.Source.{SourceAt};
+ghost use Rattle.rule_laws.specs.run_agreement.Agreements.{AgreesWithin};
+ghost use Rattle.rule_laws.specs.ir_base.declared.outcome.Word.{Word};
+ghost use Rattle.rule_laws.specs.run_source.Source.{SourceAt};
 ghost use Rattle.pass_proofs.specs.edges.states.MovedState.{AreEdgesKept, edges_split};
 ghost use Rattle.ir_model.specs.declared.module.Frame.{Frame};
 ghost use Rattle.ir_model.specs.declared.module.Module.{Module};
-ghost use Rattle.ir_laws.specs.facts.sound_states.Named.{AreLocalsNamed, AreUsesNamed};
-ghost use Rattle.run_agreement.specs.Costs.{AgreesBy};
+ghost use Rattle.rule_laws.specs.ir_laws.facts.sound_states.Named.{AreLocalsNamed, AreUsesNamed};
+ghost use Rattle.rule_laws.specs.run_agreement.Costs.{AgreesBy};
 ghost use Rattle.pass_proofs.specs.early.early_states.Beside.{source_machine};
 ghost use Rattle.pass_proofs.specs.edges.simulation.Beside.{IsNearlySplitOf, IsSplitOf};
 

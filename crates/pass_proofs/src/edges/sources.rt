@@ -5,27 +5,27 @@
 //! blocks on edges make of it (`accepted_edges_keep_meaning`).
 
 ghost use Rattle.std.specs.Prelude.{◌≡◌, ℕ, true, [], None, Some, slice_get, List, ℤ};
-ghost use Rattle.rule_shape.specs.Switches.{wrong_switch};
-ghost use Rattle.ir_laws.specs.paths.threads.Labels.{HasNamedLabels};
-ghost use Rattle.rule_phis.specs.Edges.{first_wrong_edge};
+ghost use Rattle.rule_laws.specs.rule_shape.Switches.{wrong_switch};
+ghost use Rattle.rule_laws.specs.ir_laws.paths.threads.Labels.{HasNamedLabels};
+ghost use Rattle.rule_laws.specs.rule_phis.Edges.{first_wrong_edge};
 ghost use Rattle.pass_proofs.specs.edges.states.MovedState.{KeepsEdges, AreEdgesKept, edges_split};
-ghost use Rattle.ir_parts.specs.Locals.{locals_of};
+ghost use Rattle.rule_laws.specs.ir_parts.Locals.{locals_of};
 ghost use Rattle.ir_model.specs.declared.module.Function.{Function};
-ghost use Rattle.rule_names.specs.Definitions.{first_twice};
+ghost use Rattle.rule_laws.specs.rule_names.Definitions.{first_twice};
 ghost use Rattle.rule_laws.specs.rules.local_rules.Local.{BreaksNoLocalRule};
 ghost use Rattle.rule_laws.specs.rules.path_rules.Shape.{KeepsShape};
 ghost use Rattle.rule_laws.specs.rules.source_rules.Named.{AreTabled};
 ghost use Rattle.ir_model.specs.declared.module.Module.{Module};
 ghost use Rattle.pass_early.specs.Early.{early_module};
-ghost use Rattle.rule_all.specs.Refused.{IsRefused};
-ghost use Rattle.text_grammar.specs.Text.{StandsFor};
-ghost use Rattle.rule_names.specs.declared.stage.Stage.{Stage};
-ghost use Rattle.ir_laws.specs.facts.sound_states.Named.{AreLocalsNamed};
-ghost use Rattle.run_agreement.specs.Agreements.{AgreesWithin};
-ghost use Rattle.ir_base.specs.declared.outcome.Word.{Word};
-ghost use Rattle.run_source.specs.Source.{SourceAt};
+ghost use Rattle.rule_laws.specs.rule_all.Refused.{IsRefused};
+ghost use Rattle.rule_laws.specs.text_grammar.Text.{StandsFor};
+ghost use Rattle.rule_laws.specs.rule_names.declared.stage.Stage.{Stage};
+ghost use Rattle.rule_laws.specs.ir_laws.facts.sound_states.Named.{AreLocalsNamed};
+ghost use Rattle.rule_laws.specs.run_agreement.Agreements.{AgreesWithin};
+ghost use Rattle.rule_laws.specs.ir_base.declared.outcome.Word.{Word};
+ghost use Rattle.rule_laws.specs.run_source.Source.{SourceAt};
 ghost use Rattle.ir_model.specs.declared.module.Frame.{Frame};
-ghost use Rattle.run_agreement.specs.Costs.{AgreesBy};
+ghost use Rattle.rule_laws.specs.run_agreement.Costs.{AgreesBy};
 ghost use Rattle.pass_proofs.specs.early.early_states.Beside.{source_machine};
 ghost use Rattle.pass_proofs.specs.edges.simulation.Beside.{IsEarlySplitOf, IsNearlyEarlySplitOf};
 

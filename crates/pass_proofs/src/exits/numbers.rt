@@ -1,7 +1,7 @@
 //! Lemmas on numbers.
 
 ghost use Rattle.std.specs.Prelude.{◌≡◌, length};
-ghost use Rattle.pass_intrinsics.specs.Shapes.{suspends_of};
+ghost use Rattle.rule_laws.specs.pass_intrinsics.Shapes.{suspends_of};
 ghost use Rattle.ir_model.specs.declared.module.Function.{Function};
 ghost use Rattle.pass_exits.specs.ExitBlocks.{with_exit_blocks};
 

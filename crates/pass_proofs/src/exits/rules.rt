@@ -14,15 +14,15 @@ ghost use Rattle.rule_laws.specs.rules.function_rules.Kept.{KeepsFunctionRules};
 ghost use Rattle.ir_model.specs.declared.module.Module.{Module};
 ghost use Rattle.pass_exits.specs.ExitBlocks.{with_exit_blocks};
 ghost use Rattle.rule_laws.specs.rules.woven_rules.Pairs.{AreIncomingOnce};
-ghost use Rattle.rule_shape.specs.OneOfEach.{wrong_call};
-ghost use Rattle.rule_shape.specs.Switches.{wrong_switch};
+ghost use Rattle.rule_laws.specs.rule_shape.OneOfEach.{wrong_call};
+ghost use Rattle.rule_laws.specs.rule_shape.Switches.{wrong_switch};
 ghost use Rattle.ir_model.specs.Calls.{first_result};
 ghost use Rattle.ir_model.specs.declared.operand.Intrinsic.{Intrinsic};
-ghost use Rattle.pass_intrinsics.specs.Shapes.{suspends_of, shape_of};
+ghost use Rattle.rule_laws.specs.pass_intrinsics.Shapes.{suspends_of, shape_of};
 ghost use Rattle.rule_laws.specs.rules.replaced.Splittable.{AreBlocksBegun};
 ghost use Rattle.rule_laws.specs.frames.replaced.Splittable.{HasOwnEdges};
-ghost use Rattle.run_laws.specs.changed.Changed.{Each};
-ghost use Rattle.frame_layout.specs.declared.layout.Layout.{Layout};
+ghost use Rattle.rule_laws.specs.run_laws.changed.Changed.{Each};
+ghost use Rattle.rule_laws.specs.frame_layout.declared.layout.Layout.{Layout};
 ghost use Rattle.rule_laws.specs.frames.replaced.Parted.{IsSmall};
 
 /// An edge that is the only one of its block leaves no window: what stands behind it is in the window too, or is its suspend.

@@ -11,14 +11,14 @@ ghost use Rattle.ir_model.specs.declared.module.Module.{Module};
 ghost use Rattle.pass_proofs.specs.exits.states.Exits.{KeepsExits, AreExitsKept, exits_split};
 ghost use Rattle.run_states.specs.moved_states.Moving.{IsMovedTo};
 ghost use Rattle.pass_exits.specs.ExitBlocks.{with_exit_blocks};
-ghost use Rattle.run_agreement.specs.Agreements.{AgreesWithin};
-ghost use Rattle.ir_base.specs.declared.outcome.Word.{Word};
-ghost use Rattle.ir_laws.specs.facts.sound_states.Named.{AreLocalsNamed};
-ghost use Rattle.frame_layout.specs.declared.layout.Layouts.{Layouts};
-ghost use Rattle.run_framed.specs.Framed.{FramedAt};
-ghost use Rattle.run_agreement.specs.Costs.{AgreesBy, IsNear};
+ghost use Rattle.rule_laws.specs.run_agreement.Agreements.{AgreesWithin};
+ghost use Rattle.rule_laws.specs.ir_base.declared.outcome.Word.{Word};
+ghost use Rattle.rule_laws.specs.ir_laws.facts.sound_states.Named.{AreLocalsNamed};
+ghost use Rattle.rule_laws.specs.frame_layout.declared.layout.Layouts.{Layouts};
+ghost use Rattle.run_states.specs.run_framed.Framed.{FramedAt};
+ghost use Rattle.rule_laws.specs.run_agreement.Costs.{AgreesBy, IsNear};
 ghost use Rattle.run_states.specs.moved_states.Beside.{IsMovedIn, framed_machine, AllPayFor};
-ghost use Rattle.run_source.specs.declared.state.State.{State};
+ghost use Rattle.rule_laws.specs.run_source.declared.state.State.{State};
 
 /// With blocks on the edges that leave windows the blocks of a coroutine are moved, and all else stays at its place in its block.
 pub fn exit_blocks_move_coroutines()

@@ -7,8 +7,8 @@ ghost use Rattle.pass_proofs.specs.fetch.rules.Fetches.{FetchesFit, fetch_weavin
 ghost use Rattle.rule_laws.specs.rules.function_rules.Kept.{KeepsFunctionRules};
 ghost use Rattle.ir_model.specs.declared.module.Function.{Function};
 ghost use Rattle.ir_model.specs.declared.module.Module.{Module};
-ghost use Rattle.pass_fetch.specs.Blocks.{with_fetches};
-ghost use Rattle.pass_fetch.specs.declared.fetch.Fetch.{Fetch};
+ghost use Rattle.rule_laws.specs.pass_fetch.Blocks.{with_fetches};
+ghost use Rattle.rule_laws.specs.pass_fetch.declared.fetch.Fetch.{Fetch};
 ghost use Rattle.rule_laws.specs.rules.woven_rules.Blocks.{IsWoven};
 ghost use Rattle.rule_laws.specs.rules.woven_rules.Pairs.{AreIncomingOnce};
 

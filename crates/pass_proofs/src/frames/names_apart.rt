@@ -1,6 +1,6 @@
 //! Lemmas on names apart.
 
-ghost use Rattle.frame_layout.specs.declared.layout.Layout.{Layout};
+ghost use Rattle.rule_laws.specs.frame_layout.declared.layout.Layout.{Layout};
 ghost use Rattle.ir_model.specs.declared.module.Function.{Function};
 ghost use Rattle.ir_model.specs.declared.module.Module.{Module};
 ghost use Rattle.rule_laws.specs.rules.names_apart.Words.{AreFew, IsTableOf, early_words, framed_words};

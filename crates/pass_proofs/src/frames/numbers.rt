@@ -2,14 +2,14 @@
 //! suspends there are.
 
 ghost use Rattle.std.specs.Prelude.{ℕ, List, ◌<◌, ◌^◌, Bool, Ok, ◌≤◌, length, ◌≡◌};
-ghost use Rattle.frame_layout.specs.declared.layout.Layout.{Layout};
+ghost use Rattle.rule_laws.specs.frame_layout.declared.layout.Layout.{Layout};
 ghost use Rattle.rule_laws.specs.frames.suspend_counts.Given.{IsGiven};
 ghost use Rattle.pass_frames.specs.Framed.{layout_at, IsFramedCoroutine};
-ghost use Rattle.frame_contents.specs.Frames.{AreLayouts};
-ghost use Rattle.frame_layout.specs.declared.layout.Layouts.{Layouts};
+ghost use Rattle.rule_laws.specs.frame_contents.Frames.{AreLayouts};
+ghost use Rattle.rule_laws.specs.frame_layout.declared.layout.Layouts.{Layouts};
 ghost use Rattle.ir_model.specs.declared.module.Module.{Module};
 ghost use Rattle.pass_frames.specs.Tables.{offset_at};
-ghost use Rattle.pass_intrinsics.specs.Shapes.{shape_of, suspends_of};
+ghost use Rattle.rule_laws.specs.pass_intrinsics.Shapes.{shape_of, suspends_of};
 ghost use Rattle.ir_model.specs.declared.module.Function.{Function};
 ghost use Rattle.rule_laws.specs.frames.replaced.Parted.{IsSmall};
 

@@ -5,8 +5,8 @@
 //! breaks none of the rules of functions and has the calls that splitting asks for (`framed_forms_are_kept`).
 
 ghost use Rattle.std.specs.Prelude.{ℕ, List};
-ghost use Rattle.frame_contents.specs.declared.contents.Contents.{Contents};
-ghost use Rattle.frame_layout.specs.declared.layout.Layout.{Layout};
+ghost use Rattle.rule_laws.specs.frame_contents.declared.contents.Contents.{Contents};
+ghost use Rattle.rule_laws.specs.frame_layout.declared.layout.Layout.{Layout};
 ghost use Rattle.pass_proofs.specs.frames.rules.Buildable.{IsBuildable};
 ghost use Rattle.pass_proofs.specs.frames.shape.Passes.{PassesFit};
 ghost use Rattle.ir_model.specs.declared.module.Function.{Function};

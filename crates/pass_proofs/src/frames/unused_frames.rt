@@ -1,10 +1,10 @@
 //! Lemmas on unused frames.
 
 ghost use Rattle.std.specs.Prelude.{◌≡◌, ℕ, List, None, Some, true};
-ghost use Rattle.rule_shape.specs.OneOfEach.{wrong_call};
-ghost use Rattle.rule_shape.specs.Switches.{wrong_switch};
-ghost use Rattle.frame_contents.specs.declared.contents.Contents.{Contents};
-ghost use Rattle.frame_layout.specs.declared.layout.Layout.{Layout};
+ghost use Rattle.rule_laws.specs.rule_shape.OneOfEach.{wrong_call};
+ghost use Rattle.rule_laws.specs.rule_shape.Switches.{wrong_switch};
+ghost use Rattle.rule_laws.specs.frame_contents.declared.contents.Contents.{Contents};
+ghost use Rattle.rule_laws.specs.frame_layout.declared.layout.Layout.{Layout};
 ghost use Rattle.rule_laws.specs.rules.function_rules.Kept.{KeepsFunctionRules};
 ghost use Rattle.ir_model.specs.Calls.{first_result};
 ghost use Rattle.ir_model.specs.declared.module.Function.{Function};
@@ -14,9 +14,9 @@ ghost use Rattle.rule_laws.specs.frames.needed.Crossed.{AreFramesUnneeded};
 ghost use Rattle.pass_proofs.specs.frames.shape.Passes.{PassesFit};
 ghost use Rattle.rule_laws.specs.rules.unused.Unused.{AreFramesUnused};
 ghost use Rattle.pass_frames.specs.Framed.{celled, copied, placed};
-ghost use Rattle.frame_crossing.specs.Crossing.{AreCrossing};
-ghost use Rattle.rule_windows.specs.Outside.{IsFirstOutside};
-ghost use Rattle.rule_windows.specs.Windows.{IsFirstWindow};
+ghost use Rattle.rule_laws.specs.frame_crossing.Crossing.{AreCrossing};
+ghost use Rattle.rule_laws.specs.rule_windows.Outside.{IsFirstOutside};
+ghost use Rattle.rule_laws.specs.rule_windows.Windows.{IsFirstWindow};
 
 /// So none is needed behind a suspend once the frame is built.
 pub fn no_frame_is_needed_in_framed_coroutines()

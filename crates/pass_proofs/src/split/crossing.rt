@@ -12,18 +12,18 @@ ghost use Rattle.rule_laws.specs.rules.woven_rules.Weaving.{Weaving};
 ghost use Rattle.rule_laws.specs.frames.woven_shape.Shaped.{KeepsCalls};
 ghost use Rattle.std.specs.Prelude.{◌≡◌, ℕ, true, None, Some, slice_get};
 ghost use Rattle.rule_laws.specs.frames.crossing.Crossed.{IsNothingNeeded};
-ghost use Rattle.rule_shape.specs.OneOfEach.{wrong_call};
-ghost use Rattle.flow_solver.specs.Paths.{IsListed};
+ghost use Rattle.rule_laws.specs.rule_shape.OneOfEach.{wrong_call};
+ghost use Rattle.rule_laws.specs.flow_solver.Paths.{IsListed};
 ghost use Rattle.rule_laws.specs.frames.needed.Crossed.{AreFramesUnneeded};
 ghost use Rattle.rule_laws.specs.rules.function_rules.Kept.{KeepsFunctionRules};
 ghost use Rattle.ir_model.specs.Calls.{first_result};
 ghost use Rattle.ir_model.specs.declared.module.Block.{Block};
 ghost use Rattle.ir_model.specs.declared.operand.Intrinsic.{Intrinsic};
-ghost use Rattle.ir_paths.specs.declared.point.Point.{Point};
+ghost use Rattle.rule_laws.specs.ir_paths.declared.point.Point.{Point};
 ghost use Rattle.pass_proofs.specs.split.rules.Reached.{IsLedTo};
 ghost use Rattle.rule_laws.specs.frames.replaced.Splittable.{may_cross};
-ghost use Rattle.frame_crossing.specs.Crossing.{suspends_of};
-ghost use Rattle.frame_crossing.specs.Paths.{IsDefinedBefore, IsNeededBehind};
+ghost use Rattle.rule_laws.specs.frame_crossing.Crossing.{suspends_of};
+ghost use Rattle.rule_laws.specs.frame_crossing.Paths.{IsDefinedBefore, IsNeededBehind};
 
 /// So it stays with instructions woven in.
 pub fn woven_suspends_end_first()

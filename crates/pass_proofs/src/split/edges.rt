@@ -3,24 +3,24 @@
 //! They break none of F1, F3 and K13. The parts that go on return nothing (`parts_that_go_on_return_nothing`).
 
 ghost use Rattle.std.specs.Prelude.{◌≡◌, ℕ, None, true};
-ghost use Rattle.flow_solver.specs.Paths.{IsListed};
-ghost use Rattle.frame_layout.specs.declared.layout.Layout.{Layout};
-ghost use Rattle.pass_intrinsics.specs.Shapes.{shape_of};
-ghost use Rattle.pass_intrinsics.specs.declared.shape.Part.{Part};
+ghost use Rattle.rule_laws.specs.flow_solver.Paths.{IsListed};
+ghost use Rattle.rule_laws.specs.frame_layout.declared.layout.Layout.{Layout};
+ghost use Rattle.rule_laws.specs.pass_intrinsics.Shapes.{shape_of};
+ghost use Rattle.rule_laws.specs.pass_intrinsics.declared.shape.Part.{Part};
 ghost use Rattle.ir_model.specs.declared.module.Block.{Block};
 ghost use Rattle.ir_model.specs.declared.module.Function.{Function};
 ghost use Rattle.ir_model.specs.declared.module.Module.{Module};
-ghost use Rattle.ir_paths.specs.Paths.{targets};
+ghost use Rattle.rule_laws.specs.ir_paths.Paths.{targets};
 ghost use Rattle.pass_proofs.specs.split.rules.Parted.{IsPartOf};
 ghost use Rattle.pass_proofs.specs.split.rules.Splittable.{IsSplittable};
-ghost use Rattle.ir_parts.specs.Parts.{first_part, parts_of};
-ghost use Rattle.rule_names.specs.Known.{is_label};
+ghost use Rattle.rule_laws.specs.ir_parts.Parts.{first_part, parts_of};
+ghost use Rattle.rule_laws.specs.rule_names.Known.{is_label};
 ghost use Rattle.rule_laws.specs.rules.replaced.Instructions.{names_lost};
-ghost use Rattle.rule_phis.specs.Edges.{first_wrong_edge};
-ghost use Rattle.pass_intrinsics.specs.Cuts.{goes_on};
+ghost use Rattle.rule_laws.specs.rule_phis.Edges.{first_wrong_edge};
+ghost use Rattle.rule_laws.specs.pass_intrinsics.Cuts.{goes_on};
 ghost use Rattle.rule_laws.specs.rules.replaced.Returns.{ReturnsNothing};
-ghost use Rattle.rule_locals.specs.Entries.{first_late_alloca};
-ghost use Rattle.rule_locals.specs.Markers.{first_other_mark};
+ghost use Rattle.rule_laws.specs.rule_locals.Entries.{first_late_alloca};
+ghost use Rattle.rule_laws.specs.rule_locals.Markers.{first_other_mark};
 ghost use Rattle.rule_laws.specs.frames.same_names.Parts.{HasPartsOf};
 
 /// The edges of a part lead to blocks of it.

@@ -1,21 +1,21 @@
 //! Lemmas on exits.
 
 ghost use Rattle.std.specs.Prelude.{◌≡◌, ℕ, None, true, Some, slice_get};
-ghost use Rattle.rule_shape.specs.Switches.{wrong_switch};
+ghost use Rattle.rule_laws.specs.rule_shape.Switches.{wrong_switch};
 ghost use Rattle.pass_proofs.specs.edges.rules.Phis.{ArePhisEnteredByJumps};
-ghost use Rattle.flow_solver.specs.Paths.{IsListed};
+ghost use Rattle.rule_laws.specs.flow_solver.Paths.{IsListed};
 ghost use Rattle.rule_laws.specs.rules.function_rules.Kept.{KeepsFunctionRules};
-ghost use Rattle.pass_intrinsics.specs.Shapes.{suspends_of};
-ghost use Rattle.pass_intrinsics.specs.declared.shape.SuspendPoint.{SuspendPoint};
+ghost use Rattle.rule_laws.specs.pass_intrinsics.Shapes.{suspends_of};
+ghost use Rattle.rule_laws.specs.pass_intrinsics.declared.shape.SuspendPoint.{SuspendPoint};
 ghost use Rattle.ir_model.specs.declared.module.Function.{Function};
 ghost use Rattle.ir_model.specs.declared.module.Module.{Module};
 ghost use Rattle.pass_proofs.specs.split.rules.Reached.{IsLedTo};
 ghost use Rattle.rule_laws.specs.frames.replaced.Splittable.{IsEndedFirst, may_cross};
 ghost use Rattle.pass_exits.specs.ExitBlocks.{with_exit_blocks};
 ghost use Rattle.ir_model.specs.declared.module.Block.{Block};
-ghost use Rattle.ir_paths.specs.declared.point.Point.{Point};
-ghost use Rattle.frame_crossing.specs.Crossing.{suspends_of as suspend_points};
-ghost use Rattle.frame_crossing.specs.Paths.{IsDefinedBefore, IsNeededBehind};
+ghost use Rattle.rule_laws.specs.ir_paths.declared.point.Point.{Point};
+ghost use Rattle.rule_laws.specs.frame_crossing.Crossing.{suspends_of as suspend_points};
+ghost use Rattle.rule_laws.specs.frame_crossing.Paths.{IsDefinedBefore, IsNeededBehind};
 ghost use Rattle.pass_proofs.specs.split.rules.Splittable.{IsSplittable};
 
 /// Behind a suspend that is reached the end comes before a return.

@@ -1,6 +1,6 @@
 //! The end of a coroutine, with the allocas of its entry block in front.
 
-ghost use Rattle.pass_front.specs.Front.{with_front_allocas};
+ghost use Rattle.rule_laws.specs.pass_front.Front.{with_front_allocas};
 ghost use Rattle.ir_model.specs.declared.module.Function.{Function};
 ghost use Rattle.pass_proofs.specs.split.crossing.Ended.{AreEndedFirst};
 

@@ -2,14 +2,14 @@
 
 ghost use Rattle.std.specs.Prelude.{ℕ, Some, slice_get, ◌≡◌};
 ghost use Rattle.pass_split.specs.Parts.{split_module};
-ghost use Rattle.frame_layout.specs.declared.layout.Layouts.{Layouts};
+ghost use Rattle.rule_laws.specs.frame_layout.declared.layout.Layouts.{Layouts};
 ghost use Rattle.ir_model.specs.declared.module.Function.{Function};
 ghost use Rattle.ir_model.specs.declared.module.Module.{Module};
 ghost use Rattle.pass_proofs.specs.split.names.Sources.{ComesFrom, HasGivenParts};
-ghost use Rattle.rule_names.specs.declared.stage.Stage.{Stage};
+ghost use Rattle.rule_laws.specs.rule_names.declared.stage.Stage.{Stage};
 ghost use Rattle.rule_laws.specs.rules.plain_rules.Items.{KeepsItemRules};
 ghost use Rattle.rule_laws.specs.frames.same_names.Parts.{HasPartsOf};
-ghost use Rattle.ir_laws.specs.facts.same_names.Short.{HaveShortNames};
+ghost use Rattle.rule_laws.specs.ir_laws.facts.same_names.Short.{HaveShortNames};
 
 /// Each function of a split module is one of those that a function of the module becomes.
 pub fn split_functions_come_from_functions()

@@ -2,9 +2,9 @@
 
 ghost use Rattle.std.specs.Prelude.{◌≡◌, ℕ, Bool, Some, slice_get};
 ghost use Rattle.pass_split.specs.Parts.{split_function};
-ghost use Rattle.frame_layout.specs.declared.layout.Layout.{Layout};
+ghost use Rattle.rule_laws.specs.frame_layout.declared.layout.Layout.{Layout};
 ghost use Rattle.ir_model.specs.declared.module.Function.{Function};
-ghost use Rattle.ir_laws.specs.facts.names_apart.Apart.{AreApart};
+ghost use Rattle.rule_laws.specs.ir_laws.facts.names_apart.Apart.{AreApart};
 ghost use Rattle.rule_laws.specs.rules.names_apart.Words.{AreFew, IsSplitTable};
 
 /// The names of each function into which one is split are all different.

@@ -9,29 +9,29 @@
 ghost use Rattle.std.specs.Prelude.{ℕ, List, ◌≡◌, Some, slice_get, true, false, None};
 ghost use Rattle.pass_split.specs.Pieces.{next_after, pieces_of};
 ghost use Rattle.pass_split.specs.declared.origin.Origin.{Origin};
-ghost use Rattle.pass_intrinsics.specs.declared.shape.Part.{Part};
-ghost use Rattle.pass_intrinsics.specs.declared.shape.Shape.{Shape};
+ghost use Rattle.rule_laws.specs.pass_intrinsics.declared.shape.Part.{Part};
+ghost use Rattle.rule_laws.specs.pass_intrinsics.declared.shape.Shape.{Shape};
 ghost use Rattle.ir_model.specs.declared.module.Block.{Block};
 ghost use Rattle.pass_proofs.specs.split.rules.Pieced.{ArePiecesOf};
-ghost use Rattle.frame_layout.specs.declared.layout.Layout.{Layout};
+ghost use Rattle.rule_laws.specs.frame_layout.declared.layout.Layout.{Layout};
 ghost use Rattle.rule_laws.specs.rules.function_rules.Kept.{KeepsFunctionRules};
-ghost use Rattle.pass_intrinsics.specs.Shapes.{shape_of};
+ghost use Rattle.rule_laws.specs.pass_intrinsics.Shapes.{shape_of};
 ghost use Rattle.ir_model.specs.declared.module.Function.{Function};
 ghost use Rattle.ir_model.specs.declared.module.Module.{Module};
 ghost use Rattle.rule_laws.specs.frames.same_names.Parts.{HasPart, HasPartsOf};
 ghost use Rattle.rule_laws.specs.rules.replaced.Instructions.{KeepsRulesOfInstructions, KnowsItsLocals};
 ghost use Rattle.pass_proofs.specs.split.rules.Parted.{IsPartOf};
 ghost use Rattle.pass_split.specs.Parts.{plain_of, plain_shape};
-ghost use Rattle.pass_intrinsics.specs.Cuts.{goes_on};
-ghost use Rattle.rule_names.specs.Known.{first_unknown};
+ghost use Rattle.rule_laws.specs.pass_intrinsics.Cuts.{goes_on};
+ghost use Rattle.rule_laws.specs.rule_names.Known.{first_unknown};
 ghost use Rattle.rule_laws.specs.frames.replaced.Parted.{IsSmall};
 ghost use Rattle.rule_laws.specs.rules.replaced.Returns.{ReturnsNothing};
 ghost use Rattle.pass_proofs.specs.split.rules.Splittable.{IsSplittable};
-ghost use Rattle.rule_values.specs.Values.{first_wrong_value};
+ghost use Rattle.rule_laws.specs.rule_values.Values.{first_wrong_value};
 ghost use Rattle.pass_split.specs.Reached.{is_flagged, reached, pruned};
 ghost use Rattle.pass_proofs.specs.split.rules.Reached.{HasTabledLabels, IsLedTo, HasOwnBlocks};
-ghost use Rattle.flow_solver.specs.Paths.{IsListed};
-ghost use Rattle.ir_paths.specs.Paths.{targets};
+ghost use Rattle.rule_laws.specs.flow_solver.Paths.{IsListed};
+ghost use Rattle.rule_laws.specs.ir_paths.Paths.{targets};
 
 /// What the pass makes of blocks are their pieces.
 pub fn blocks_are_cut_into_pieces()

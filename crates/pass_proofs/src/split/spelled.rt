@@ -1,8 +1,8 @@
 //! Lemmas on spelled.
 
-ghost use Rattle.frame_layout.specs.declared.layout.Layout.{Layout};
-ghost use Rattle.pass_intrinsics.specs.Shapes.{shape_of};
-ghost use Rattle.pass_intrinsics.specs.declared.shape.Part.{Part};
+ghost use Rattle.rule_laws.specs.frame_layout.declared.layout.Layout.{Layout};
+ghost use Rattle.rule_laws.specs.pass_intrinsics.Shapes.{shape_of};
+ghost use Rattle.rule_laws.specs.pass_intrinsics.declared.shape.Part.{Part};
 ghost use Rattle.ir_model.specs.declared.module.Function.{Function};
 ghost use Rattle.rule_laws.specs.rules.spelled.Spelled.{IsSpelledFunction};
 ghost use Rattle.pass_proofs.specs.split.rules.Parted.{IsPartOf};
@@ -11,7 +11,7 @@ ghost use Rattle.std.specs.Prelude.{ℕ};
 ghost use Rattle.rule_laws.specs.rules.source_rules.Named.{HasTabledLocals};
 ghost use Rattle.ir_model.specs.declared.module.Module.{Module};
 ghost use Rattle.pass_proofs.specs.split.rules.Splittable.{IsSplittable};
-ghost use Rattle.ir_laws.specs.facts.spelled.Filled.{HasFilledPhis, HasNoEntryPhis};
+ghost use Rattle.rule_laws.specs.ir_laws.facts.spelled.Filled.{HasFilledPhis, HasNoEntryPhis};
 
 /// So can the parts of a coroutine.
 pub fn parts_can_be_spelled()

@@ -3,18 +3,18 @@
 //! Each local that they use is theirs and is made on each path to its use, and stands once (N1, N2 of locals, F2).
 
 ghost use Rattle.std.specs.Prelude.{ℕ, None, ◌≡◌, []};
-ghost use Rattle.rule_uses.specs.Undefined.{IsFirstUndefined};
-ghost use Rattle.rule_uses.specs.Uses.{uses_of};
-ghost use Rattle.frame_layout.specs.declared.layout.Layout.{Layout};
-ghost use Rattle.pass_intrinsics.specs.Shapes.{shape_of};
-ghost use Rattle.pass_intrinsics.specs.declared.shape.Part.{Part};
+ghost use Rattle.rule_laws.specs.rule_uses.Undefined.{IsFirstUndefined};
+ghost use Rattle.rule_laws.specs.rule_uses.Uses.{uses_of};
+ghost use Rattle.rule_laws.specs.frame_layout.declared.layout.Layout.{Layout};
+ghost use Rattle.rule_laws.specs.pass_intrinsics.Shapes.{shape_of};
+ghost use Rattle.rule_laws.specs.pass_intrinsics.declared.shape.Part.{Part};
 ghost use Rattle.ir_model.specs.declared.module.Function.{Function};
 ghost use Rattle.ir_model.specs.declared.module.Module.{Module};
 ghost use Rattle.pass_proofs.specs.split.rules.Parted.{IsPartOf};
 ghost use Rattle.pass_proofs.specs.split.rules.Splittable.{IsSplittable};
 ghost use Rattle.rule_laws.specs.rules.replaced.Instructions.{KnowsItsLocals};
-ghost use Rattle.ir_parts.specs.Locals.{locals_of};
-ghost use Rattle.rule_names.specs.Definitions.{first_twice};
+ghost use Rattle.rule_laws.specs.ir_parts.Locals.{locals_of};
+ghost use Rattle.rule_laws.specs.rule_names.Definitions.{first_twice};
 
 /// No path of a part of a coroutine reaches a use without its value (F2).
 pub fn parts_make_what_they_use()

@@ -1,5 +1,5 @@
 use Rattle.std.proofs.Common.{sym, subst}
-use Rattle.ir_model.specs.declared.module.Module.{Module}
+use Rattle.pass_kept_proof.specs.ir_model.declared.module.Module.{Module}
 use Rattle.pass_renewed_proof.proofs.Branching.{branched_beside, entered_block}
 use Rattle.pass_renewed_proof.proofs.SameBranches.{same_label}
 use Rattle.pass_renewed_proof.proofs.branches_stay_beside.Goals as goal

@@ -1,10 +1,10 @@
 use Rattle.std.proofs.Common.{sym, subst}
-use Rattle.ir_model.specs.Names.{function_at}
-use Rattle.ir_model.specs.declared.module.Module.{Module}
+use Rattle.pass_kept_proof.specs.ir_model.Names.{function_at}
+use Rattle.pass_kept_proof.specs.ir_model.declared.module.Module.{Module}
 use Rattle.pass_renewed_proof.proofs.Calling.{calls_beside}
 use Rattle.pass_renewed_proof.proofs.calls_stay_beside.Goals as goal
 use Rattle.pass_renewed_proof.specs.Beside.{IsBeside}
-use Rattle.run_source.specs.Source.{called, mode_of, push}
+use Rattle.pass_kept_proof.specs.run_source.Source.{called, mode_of, push}
 
 pub returns : goal.returns
 returns c = λ flags roots g h same keeps answers s t beside result must_tail ty callee args calling outdone asleep func

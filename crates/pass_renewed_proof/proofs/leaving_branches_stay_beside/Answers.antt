@@ -1,12 +1,12 @@
 use Rattle.std.proofs.Common.{sym, subst}
 use Rattle.std.specs.Prelude.{false}
-use Rattle.ir_model.specs.declared.module.Module.{Module}
+use Rattle.pass_kept_proof.specs.ir_model.declared.module.Module.{Module}
 use Rattle.pass_renewed_proof.proofs.Branching.{entered_block}
 use Rattle.pass_renewed_proof.proofs.Leaving.{left_window}
 use Rattle.pass_renewed_proof.proofs.leaving_branches_stay_beside.Goals as goal
 use Rattle.pass_renewed_proof.specs.Beside.{IsBeside}
-use Rattle.run_source.specs.State.{with_left, with_status}
-use Rattle.run_source.specs.declared.state.Status.{Status}
+use Rattle.pass_kept_proof.specs.run_source.State.{with_left, with_status}
+use Rattle.pass_kept_proof.specs.run_source.declared.state.Status.{Status}
 
 pub returns : goal.returns
 returns c = λ flags roots g h same keeps s t beside label branching is n x y back there outdone.

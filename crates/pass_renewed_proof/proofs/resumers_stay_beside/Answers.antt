@@ -2,8 +2,8 @@ use Rattle.std.proofs.Common.{None}
 use Rattle.pass_renewed_proof.proofs.Giving.{gives_beside}
 use Rattle.pass_renewed_proof.proofs.Leaving.{running_beside}
 use Rattle.pass_renewed_proof.proofs.resumers_stay_beside.Goals as goal
-use Rattle.run_memory.specs.declared.pointer.Value.{Value}
-use Rattle.run_source.specs.State.{next}
+use Rattle.pass_kept_proof.specs.run_memory.declared.pointer.Value.{Value}
+use Rattle.pass_kept_proof.specs.run_source.State.{next}
 
 pub returns : goal.returns
 returns c = λ m flags roots keeps s t beside i giving n x y there suspended there'.

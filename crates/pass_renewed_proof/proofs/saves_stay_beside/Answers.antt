@@ -1,5 +1,5 @@
 use Rattle.std.specs.Prelude.{None}
-use Rattle.run_memory.specs.declared.pointer.Value.{Value}
+use Rattle.pass_kept_proof.specs.run_memory.declared.pointer.Value.{Value}
 use Rattle.pass_renewed_proof.proofs.SavePoints.{save_saves}
 use Rattle.pass_renewed_proof.proofs.Saving.{saved_beside}
 use Rattle.pass_renewed_proof.proofs.saves_stay_beside.Goals as goal

@@ -1,5 +1,5 @@
 use Rattle.std.specs.Prelude.{negsuc, refl}
-use Rattle.run_step.specs.Values.{integer}
+use Rattle.pass_kept_proof.specs.run_step.Values.{integer}
 use Rattle.pass_renewed_proof.proofs.SavePoints.{suspend_saves}
 use Rattle.pass_renewed_proof.proofs.Saving.{saved_beside}
 use Rattle.pass_renewed_proof.specs.Beside.{place_in}

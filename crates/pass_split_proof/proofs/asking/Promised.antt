@@ -3,18 +3,18 @@ use Rattle.std.proofs.Common.{◌≡◌, ℕ, ◌+◌, ◌-◌, ◌%◌, ◌<◌
 use Rattle.std.specs.Prelude.{find, negsuc, option_map, slice_get}
 use Rattle.std.specs.Option.{option_map_or}
 use Rattle.std.proofs.lemmas.Bool.{and_parts, eqb-true, false≢true}
-use Rattle.frame_layout.specs.declared.layout.PlacedField.{PlacedField}
-use Rattle.ir_base.specs.declared.cause.Cause.{Cause}
-use Rattle.ir_model.specs.Ty.{int, ptr}
-use Rattle.ir_model.specs.declared.instr.Instr.{Instr}
-use Rattle.ir_model.specs.declared.operand.Arg.{Arg}
-use Rattle.ir_model.specs.declared.operand.Callee.{Callee}
-use Rattle.ir_model.specs.declared.operand.Intrinsic.{Intrinsic}
-use Rattle.ir_model.specs.declared.operand.Operand.{Operand}
-use Rattle.ir_paths.specs.Windows.{operand_at}
-use Rattle.pass_intrinsics.specs.Lowered.{address, number_arg, promise_distance}
-use Rattle.pass_intrinsics.specs.Lowered.{operand_at as lowered_operand}
-use Rattle.pass_intrinsics.specs.Shapes.{is_true}
+use Rattle.pass_proofs.specs.frame_layout.declared.layout.PlacedField.{PlacedField}
+use Rattle.pass_proofs.specs.ir_base.declared.cause.Cause.{Cause}
+use Rattle.pass_proofs.specs.ir_model.Ty.{int, ptr}
+use Rattle.pass_proofs.specs.ir_model.declared.instr.Instr.{Instr}
+use Rattle.pass_proofs.specs.ir_model.declared.operand.Arg.{Arg}
+use Rattle.pass_proofs.specs.ir_model.declared.operand.Callee.{Callee}
+use Rattle.pass_proofs.specs.ir_model.declared.operand.Intrinsic.{Intrinsic}
+use Rattle.pass_proofs.specs.ir_model.declared.operand.Operand.{Operand}
+use Rattle.pass_proofs.specs.ir_paths.Windows.{operand_at}
+use Rattle.pass_proofs.specs.pass_intrinsics.Lowered.{address, number_arg, promise_distance}
+use Rattle.pass_proofs.specs.pass_intrinsics.Lowered.{operand_at as lowered_operand}
+use Rattle.pass_proofs.specs.pass_intrinsics.Shapes.{is_true}
 use Rattle.pass_proofs.proofs.addresses.numbers.Done.{address_done}
 use Rattle.pass_split_proof.proofs.asking.Placed.{asks_at}
 use Rattle.pass_split_proof.proofs.giving.Constants.{not_again}
@@ -30,24 +30,24 @@ use Rattle.pass_split_proof.specs.asking.Asking.{ArePromisesInFront, IsAsking}
 use Rattle.pass_split_proof.specs.simulation.Followed.{IsFollowed}
 use Rattle.pass_split_proof.specs.states.Memories.{homes_of}
 use Rattle.pass_split_proof.specs.states.Related.{AreRelated}
-use Rattle.run_agreement.specs.Machines.{IsFine}
-use Rattle.run_framed.specs.Framed.{FramedGiven, address_behind, framed_frame_of_promise, framed_promise, framed_promise_of_frame, framed_step, is_over, is_promise_at, is_promise_kind, layout_of, promise_offset}
-use Rattle.run_laws.proofs.access.Done.{gep_done}
-use Rattle.run_laws.specs.access.Lines.{pointer_at}
-use Rattle.run_laws.specs.memory.Pointers.{IsValue}
-use Rattle.run_memory.specs.Pointers.{offset_of}
-use Rattle.run_memory.specs.declared.pointer.Offset.{Offset}
-use Rattle.run_memory.specs.declared.pointer.Pointer.{Pointer}
-use Rattle.run_memory.specs.declared.pointer.Value.{Value}
-use Rattle.run_plain.specs.Plain.{PlainGiven, plain_context, plain_work}
-use Rattle.run_plain.specs.declared.state.PlainState.{PlainState}
-use Rattle.run_source.proofs.Indexes.{last-passes}
-use Rattle.run_source.specs.State.{frame_address_of, gives, instance_at, last_where, or_undefined}
-use Rattle.run_source.specs.declared.state.Instance.{Instance}
-use Rattle.run_source.specs.declared.state.State.{State}
-use Rattle.run_step.specs.Results.{and_then, found, ok_if}
-use Rattle.run_step.specs.Step.{AtInstr, Context, Coro, Done, Work, instr_action, set_value, value_at}
-use Rattle.run_step.specs.Values.{arg_value}
+use Rattle.pass_proofs.specs.run_agreement.Machines.{IsFine}
+use Rattle.pass_proofs.specs.run_framed.Framed.{FramedGiven, address_behind, framed_frame_of_promise, framed_promise, framed_promise_of_frame, framed_step, is_over, is_promise_at, is_promise_kind, layout_of, promise_offset}
+use Rattle.pass_proofs.proofs.run_laws.access.Done.{gep_done}
+use Rattle.pass_proofs.specs.run_laws.access.Lines.{pointer_at}
+use Rattle.pass_proofs.specs.run_laws.memory.Pointers.{IsValue}
+use Rattle.pass_proofs.specs.run_memory.Pointers.{offset_of}
+use Rattle.pass_proofs.specs.run_memory.declared.pointer.Offset.{Offset}
+use Rattle.pass_proofs.specs.run_memory.declared.pointer.Pointer.{Pointer}
+use Rattle.pass_proofs.specs.run_memory.declared.pointer.Value.{Value}
+use Rattle.run_access_worked.specs.run_plain.Plain.{PlainGiven, plain_context, plain_work}
+use Rattle.run_access_worked.specs.run_plain.declared.state.PlainState.{PlainState}
+use Rattle.pass_proofs.proofs.run_source.Indexes.{last-passes}
+use Rattle.pass_proofs.specs.run_source.State.{frame_address_of, gives, instance_at, last_where, or_undefined}
+use Rattle.pass_proofs.specs.run_source.declared.state.Instance.{Instance}
+use Rattle.pass_proofs.specs.run_source.declared.state.State.{State}
+use Rattle.pass_proofs.specs.run_step.Results.{and_then, found, ok_if}
+use Rattle.pass_proofs.specs.run_step.Step.{AtInstr, Context, Coro, Done, Work, instr_action, set_value, value_at}
+use Rattle.pass_proofs.specs.run_step.Values.{arg_value}
 
 -- ---- operands
 

@@ -2,28 +2,28 @@
 use Rattle.std.proofs.Common.{◌≡◌, ℕ, ◌≤◌, Bool, true, false, List, [], ◌∷◌, ◌++◌, length, Option, Some, None, Ok, Err, refl, sym, ap, ◌∙◌, subst, arith}
 use Rattle.std.proofs.lemmas.Bool.{and_parts}
 use Rattle.std.specs.Prelude.{cond, filter, is_none, is_some, nat_le, not, slice_get, ◌&&◌, ◌==◌}
-use Rattle.ir_base.specs.declared.cause.Cause.{Cause}
-use Rattle.ir_laws.proofs.facts.Truth.{equal_numbers}
+use Rattle.pass_proofs.specs.ir_base.declared.cause.Cause.{Cause}
+use Rattle.pass_proofs.proofs.ir_laws.facts.Truth.{equal_numbers}
 use Rattle.pass_split_proof.specs.states.Begun.{IsFreshBlock}
 use Rattle.pass_split_proof.specs.steps.Begins.{begun_to}
-use Rattle.run_agreement.specs.Machines.{IsFine}
-use Rattle.run_framed.specs.Framed.{FramedGiven, framed_step}
-use Rattle.run_laws.specs.access.Lines.{pointer_at}
-use Rattle.run_laws.specs.changed.Changed.{Each}
-use Rattle.run_memory.specs.Memory.{check, is_live, may_be_owned, owned_to, same_kind, with_block}
-use Rattle.run_memory.specs.declared.block.Kind.{Kind}
-use Rattle.run_memory.specs.declared.block.MemoryBlock.{MemoryBlock}
-use Rattle.run_memory.specs.declared.pointer.Offset.{Offset}
-use Rattle.run_memory.specs.declared.pointer.Pointer.{Pointer}
-use Rattle.run_memory.specs.declared.pointer.Value.{Value}
-use Rattle.run_source.proofs.Beginning.{begun-is}
-use Rattle.run_source.specs.Source.{begin, begin_at, begun, is_among, new_instance}
-use Rattle.run_source.specs.State.{gives, or_undefined, own_facts, own_frame, with_memory}
-use Rattle.run_source.specs.declared.state.State.{State}
-use Rattle.run_step.specs.Results.{and_then, found, ok_if}
-use Rattle.run_step.specs.Step.{block_of}
-use Rattle.run_step.specs.Values.{with_value}
-use Rattle.run_step.specs.declared.world.Slot.{Slot}
+use Rattle.pass_proofs.specs.run_agreement.Machines.{IsFine}
+use Rattle.pass_proofs.specs.run_framed.Framed.{FramedGiven, framed_step}
+use Rattle.pass_proofs.specs.run_laws.access.Lines.{pointer_at}
+use Rattle.pass_proofs.specs.run_laws.changed.Changed.{Each}
+use Rattle.pass_proofs.specs.run_memory.Memory.{check, is_live, may_be_owned, owned_to, same_kind, with_block}
+use Rattle.pass_proofs.specs.run_memory.declared.block.Kind.{Kind}
+use Rattle.pass_proofs.specs.run_memory.declared.block.MemoryBlock.{MemoryBlock}
+use Rattle.pass_proofs.specs.run_memory.declared.pointer.Offset.{Offset}
+use Rattle.pass_proofs.specs.run_memory.declared.pointer.Pointer.{Pointer}
+use Rattle.pass_proofs.specs.run_memory.declared.pointer.Value.{Value}
+use Rattle.pass_proofs.proofs.run_source.Beginning.{begun-is}
+use Rattle.pass_proofs.specs.run_source.Source.{begin, begin_at, begun, is_among, new_instance}
+use Rattle.pass_proofs.specs.run_source.State.{gives, or_undefined, own_facts, own_frame, with_memory}
+use Rattle.pass_proofs.specs.run_source.declared.state.State.{State}
+use Rattle.pass_proofs.specs.run_step.Results.{and_then, found, ok_if}
+use Rattle.pass_proofs.specs.run_step.Step.{block_of}
+use Rattle.pass_proofs.specs.run_step.Values.{with_value}
+use Rattle.pass_proofs.specs.run_step.declared.world.Slot.{Slot}
 
 -- ---- all slots are the ramp's
 

@@ -3,23 +3,23 @@ use Rattle.std.proofs.Common.{◌≡◌, ℕ, ◌+◌, ◌<◌, ◌≤◌, ◌^�
 use Rattle.std.proofs.lemmas.Bool.{false≢true}
 use Rattle.std.proofs.lemmas.Option.{slice_get_within}
 use Rattle.std.specs.Prelude.{slice_get}
-use Rattle.ir_model.specs.Names.{position_of}
-use Rattle.ir_model.specs.TypeView.{bits_of}
-use Rattle.ir_model.specs.declared.instr.Instr.{Instr}
-use Rattle.ir_model.specs.declared.instr.Terminator.{Terminator}
-use Rattle.ir_model.specs.declared.ir_type.IntWidth.{IntWidth}
-use Rattle.ir_model.specs.declared.module.Function.{Function}
-use Rattle.ir_model.specs.declared.operand.Callee.{Callee}
-use Rattle.ir_model.specs.declared.operand.Intrinsic.{Intrinsic}
-use Rattle.ir_paths.specs.Windows.{call_result, suspend_of}
-use Rattle.ir_paths.specs.declared.point.Point.{Point}
-use Rattle.pass_intrinsics.specs.Cuts.{cut_at, marks_save}
-use Rattle.pass_intrinsics.specs.Lowered.{lowered, names_taken, number_of_save, save_or_none, save_stores}
-use Rattle.pass_intrinsics.specs.Shapes.{saved_label, suspends_of}
-use Rattle.pass_intrinsics.specs.declared.cuts.Cut.{Cut}
-use Rattle.pass_intrinsics.specs.declared.shape.Part.{Part}
-use Rattle.pass_intrinsics.specs.declared.shape.Shape.{Shape}
-use Rattle.pass_split.specs.Pieces.{begins_again}
+use Rattle.pass_proofs.specs.ir_model.Names.{position_of}
+use Rattle.pass_proofs.specs.ir_model.TypeView.{bits_of}
+use Rattle.pass_proofs.specs.ir_model.declared.instr.Instr.{Instr}
+use Rattle.pass_proofs.specs.ir_model.declared.instr.Terminator.{Terminator}
+use Rattle.pass_proofs.specs.ir_model.declared.ir_type.IntWidth.{IntWidth}
+use Rattle.pass_proofs.specs.ir_model.declared.module.Function.{Function}
+use Rattle.pass_proofs.specs.ir_model.declared.operand.Callee.{Callee}
+use Rattle.pass_proofs.specs.ir_model.declared.operand.Intrinsic.{Intrinsic}
+use Rattle.pass_proofs.specs.ir_paths.Windows.{call_result, suspend_of}
+use Rattle.pass_proofs.specs.ir_paths.declared.point.Point.{Point}
+use Rattle.pass_proofs.specs.pass_intrinsics.Cuts.{cut_at, marks_save}
+use Rattle.pass_proofs.specs.pass_intrinsics.Lowered.{lowered, names_taken, number_of_save, save_or_none, save_stores}
+use Rattle.pass_proofs.specs.pass_intrinsics.Shapes.{saved_label, suspends_of}
+use Rattle.pass_proofs.specs.pass_intrinsics.declared.cuts.Cut.{Cut}
+use Rattle.pass_proofs.specs.pass_intrinsics.declared.shape.Part.{Part}
+use Rattle.pass_proofs.specs.pass_intrinsics.declared.shape.Shape.{Shape}
+use Rattle.pass_proofs.specs.pass_split.Pieces.{begins_again}
 use Rattle.pass_split_proof.proofs.code.Dispatch.{wide}
 use Rattle.pass_split_proof.proofs.code.Numbers.{by_save}
 use Rattle.pass_split_proof.proofs.places.Coded.{has_code}
@@ -31,13 +31,13 @@ use Rattle.pass_split_proof.specs.states.Activations.{IsShapeOf}
 use Rattle.pass_split_proof.specs.states.Instances.{address_of_part, shape_at}
 use Rattle.pass_split_proof.specs.states.Related.{AreRelated}
 use Rattle.pass_split_proof.specs.steps.Saves.{HasSaveCode}
-use Rattle.run_framed.specs.Framed.{FramedGiven}
-use Rattle.run_plain.specs.Plain.{PlainGiven, plain_function}
-use Rattle.run_plain.specs.declared.state.PlainState.{PlainState}
-use Rattle.run_source.specs.State.{function_of}
-use Rattle.run_source.specs.declared.state.State.{State}
-use Rattle.run_step.specs.Step.{AtInstr, fetch, phis_of}
-use Rattle.run_step.specs.Values.{address_of}
+use Rattle.pass_proofs.specs.run_framed.Framed.{FramedGiven}
+use Rattle.run_access_worked.specs.run_plain.Plain.{PlainGiven, plain_function}
+use Rattle.run_access_worked.specs.run_plain.declared.state.PlainState.{PlainState}
+use Rattle.pass_proofs.specs.run_source.State.{function_of}
+use Rattle.pass_proofs.specs.run_source.declared.state.State.{State}
+use Rattle.pass_proofs.specs.run_step.Step.{AtInstr, fetch, phis_of}
+use Rattle.pass_proofs.specs.run_step.Values.{address_of}
 
 -- ---- a line up to a mark
 

@@ -1,25 +1,25 @@
 -- Where terminators lead, in a function and redirected in what becomes of it.
 use Rattle.std.proofs.Common.{◌≡◌, ℕ, ◌<◌, inl, inr, ⊎_elim, Bool, true, false, List, [], ◌∷◌, length, map, refl, sym, ap, ◌∙◌, subst, arith}
 use Rattle.std.specs.Prelude.{if◌then◌else◌}
-use Rattle.flow_solver.specs.Paths.{IsListed}
-use Rattle.ir_base.specs.declared.outcome.Word.{Word}
-use Rattle.ir_laws.proofs.paths.edges.Lists.{listed_at}
-use Rattle.ir_model.specs.declared.instr.Case.{Case}
-use Rattle.ir_model.specs.declared.instr.Terminator.{Terminator}
-use Rattle.ir_model.specs.declared.module.Function.{Function}
-use Rattle.ir_model.specs.declared.module.Module.{Module}
-use Rattle.ir_paths.specs.Paths.{targets}
-use Rattle.pass_intrinsics.specs.declared.shape.Part.{Part}
-use Rattle.pass_intrinsics.specs.declared.shape.Shape.{Shape}
+use Rattle.pass_proofs.specs.flow_solver.Paths.{IsListed}
+use Rattle.pass_proofs.specs.ir_base.declared.outcome.Word.{Word}
+use Rattle.pass_proofs.proofs.ir_laws.paths.edges.Lists.{listed_at}
+use Rattle.pass_proofs.specs.ir_model.declared.instr.Case.{Case}
+use Rattle.pass_proofs.specs.ir_model.declared.instr.Terminator.{Terminator}
+use Rattle.pass_proofs.specs.ir_model.declared.module.Function.{Function}
+use Rattle.pass_proofs.specs.ir_model.declared.module.Module.{Module}
+use Rattle.pass_proofs.specs.ir_paths.Paths.{targets}
+use Rattle.pass_proofs.specs.pass_intrinsics.declared.shape.Part.{Part}
+use Rattle.pass_proofs.specs.pass_intrinsics.declared.shape.Shape.{Shape}
 use Rattle.pass_proofs.proofs.split.edges.Rules.{own_label_low, own_target_known}
-use Rattle.pass_split.specs.Pieces.{redirected, redirected_case}
+use Rattle.pass_proofs.specs.pass_split.Pieces.{redirected, redirected_case}
 use Rattle.pass_split_proof.proofs.places.Transfers.{end_first}
 use Rattle.pass_split_proof.specs.places.Places.{IsCodeOf, OfCoroutine, OfPlain, StartsWithEnd}
-use Rattle.rule_laws.proofs.rules.sources.Places.{term_there}
-use Rattle.run_laws.specs.changed.Changed.{Each}
-use Rattle.run_memory.specs.declared.pointer.Value.{Value}
-use Rattle.run_step.specs.Step.{AtTerm, fetch, is_word, target_of}
-use Rattle.run_step.specs.Values.{arg_value}
+use Rattle.pass_proofs.proofs.rule_laws.rules.sources.Places.{term_there}
+use Rattle.pass_proofs.specs.run_laws.changed.Changed.{Each}
+use Rattle.pass_proofs.specs.run_memory.declared.pointer.Value.{Value}
+use Rattle.pass_proofs.specs.run_step.Step.{AtTerm, fetch, is_word, target_of}
+use Rattle.pass_proofs.specs.run_step.Values.{arg_value}
 
 -- a choice between two labels, redirected
 pub chosen_through : (s : Shape) (b : Bool) (x y : ℕ)

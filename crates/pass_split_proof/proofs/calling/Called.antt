@@ -1,14 +1,14 @@
 -- A call of a function, or of a ramp, is followed in the part.
 use Rattle.std.proofs.Common.{◌≡◌, ℕ, ◌+◌, ◌≤◌, Bool, true, false, List, [], ◌∷◌, length, Option, refl, sym, ap, ◌∙◌, subst, arith, if◌then◌else◌}
 use Rattle.std.specs.Prelude.{is_none, ◌&&◌}
-use Rattle.ir_base.specs.declared.outcome.Outcome.{Outcome}
-use Rattle.ir_model.specs.Names.{declaration_named, function_at}
-use Rattle.ir_model.specs.declared.instr.Instr.{Instr}
-use Rattle.ir_model.specs.declared.module.Function.{Function}
-use Rattle.ir_model.specs.declared.operand.Arg.{Arg}
-use Rattle.ir_model.specs.declared.operand.Callee.{Callee}
-use Rattle.pass_intrinsics.specs.declared.shape.Part.{Part}
-use Rattle.pass_split.specs.Pieces.{begins_again}
+use Rattle.pass_proofs.specs.ir_base.declared.outcome.Outcome.{Outcome}
+use Rattle.pass_proofs.specs.ir_model.Names.{declaration_named, function_at}
+use Rattle.pass_proofs.specs.ir_model.declared.instr.Instr.{Instr}
+use Rattle.pass_proofs.specs.ir_model.declared.module.Function.{Function}
+use Rattle.pass_proofs.specs.ir_model.declared.operand.Arg.{Arg}
+use Rattle.pass_proofs.specs.ir_model.declared.operand.Callee.{Callee}
+use Rattle.pass_proofs.specs.pass_intrinsics.declared.shape.Part.{Part}
+use Rattle.pass_proofs.specs.pass_split.Pieces.{begins_again}
 use Rattle.pass_split_proof.proofs.steps.Calling.{IsCounted, counted_is, counted_related}
 use Rattle.pass_split_proof.proofs.steps.Entered.{calls_related}
 use Rattle.pass_split_proof.proofs.steps.Followed.{call_followed, framed_does}
@@ -22,18 +22,18 @@ use Rattle.pass_split_proof.specs.states.Instances.{part_position}
 use Rattle.pass_split_proof.specs.states.Memories.{homes_of}
 use Rattle.pass_split_proof.specs.states.Related.{AreRelated, is_ramp, left_of_call, left_of_calls, weight}
 use Rattle.pass_split_proof.specs.steps.Operands.{IsReadable}
-use Rattle.run_framed.specs.Framed.{FramedGiven, enter_given, framed_context, framed_step}
-use Rattle.run_laws.specs.changed.Changed.{Each, values_of}
-use Rattle.run_laws.specs.embedded.Related.{AreValues}
-use Rattle.run_memory.specs.declared.pointer.Value.{Value}
-use Rattle.run_plain.specs.Plain.{PlainGiven, counted, plain_call, plain_context, plain_step, plain_work}
-use Rattle.run_plain.specs.declared.state.PlainState.{PlainState}
-use Rattle.run_source.specs.Source.{enter}
-use Rattle.run_source.specs.State.{function_of, work_of}
-use Rattle.run_source.specs.declared.state.Activation.{Activation}
-use Rattle.run_source.specs.declared.state.State.{State}
-use Rattle.run_step.specs.Step.{AtInstr, Enter, Fetched, action_of, named_call}
-use Rattle.run_step.specs.Values.{arg_values}
+use Rattle.pass_proofs.specs.run_framed.Framed.{FramedGiven, enter_given, framed_context, framed_step}
+use Rattle.pass_proofs.specs.run_laws.changed.Changed.{Each, values_of}
+use Rattle.pass_proofs.specs.run_laws.embedded.Related.{AreValues}
+use Rattle.pass_proofs.specs.run_memory.declared.pointer.Value.{Value}
+use Rattle.run_access_worked.specs.run_plain.Plain.{PlainGiven, counted, plain_call, plain_context, plain_step, plain_work}
+use Rattle.run_access_worked.specs.run_plain.declared.state.PlainState.{PlainState}
+use Rattle.pass_proofs.specs.run_source.Source.{enter}
+use Rattle.pass_proofs.specs.run_source.State.{function_of, work_of}
+use Rattle.pass_proofs.specs.run_source.declared.state.Activation.{Activation}
+use Rattle.pass_proofs.specs.run_source.declared.state.State.{State}
+use Rattle.pass_proofs.specs.run_step.Step.{AtInstr, Enter, Fetched, action_of, named_call}
+use Rattle.pass_proofs.specs.run_step.Values.{arg_values}
 
 -- a call makes at most one ramp more that hasn't begun
 pub left_low : (a : Activation) → left_of_call a ≤ 1

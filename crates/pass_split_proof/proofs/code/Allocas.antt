@@ -1,17 +1,17 @@
 -- The allocas in front of a coroutine, and those of its parts that go on.
 use Rattle.std.proofs.Common.{◌≡◌, ℕ, zero, suc, ◌<◌, Bool, true, false, List, [], ◌∷◌, ◌++◌, length, refl, sym, ap, ◌∙◌, arith}
 use Rattle.std.specs.Prelude.{None, Option, Some, drop, filter, option_map, slice_get, if◌then◌else◌, ◌==◌}
-use Rattle.ir_laws.proofs.facts.Lists.{get_front}
-use Rattle.ir_model.specs.declared.instr.Instr.{Instr}
-use Rattle.ir_model.specs.declared.module.Block.{Block}
-use Rattle.ir_model.specs.declared.module.Function.{Function}
-use Rattle.ir_paths.specs.declared.point.Point.{Point}
-use Rattle.pass_front.specs.Front.{allocas_first, allocas_of, is_alloca, is_no_alloca}
+use Rattle.pass_proofs.proofs.ir_laws.facts.Lists.{get_front}
+use Rattle.pass_proofs.specs.ir_model.declared.instr.Instr.{Instr}
+use Rattle.pass_proofs.specs.ir_model.declared.module.Block.{Block}
+use Rattle.pass_proofs.specs.ir_model.declared.module.Function.{Function}
+use Rattle.pass_proofs.specs.ir_paths.declared.point.Point.{Point}
+use Rattle.pass_proofs.specs.pass_front.Front.{allocas_first, allocas_of, is_alloca, is_no_alloca}
 use Rattle.pass_split_proof.specs.code.Entry.{IsAllocaAt}
-use Rattle.run_framed.specs.Framed.{alloca_from, alloca_in, alloca_of}
-use Rattle.run_laws.specs.changed.Changed.{Each}
-use Rattle.run_step.specs.Effects.{is_alloca as makes_slot}
-use Rattle.run_step.specs.Step.{AtInstr, fetch, fetch_in, fetch_or}
+use Rattle.pass_proofs.specs.run_framed.Framed.{alloca_from, alloca_in, alloca_of}
+use Rattle.pass_proofs.specs.run_laws.changed.Changed.{Each}
+use Rattle.pass_proofs.specs.run_step.Effects.{is_alloca as makes_slot}
+use Rattle.pass_proofs.specs.run_step.Step.{AtInstr, fetch, fetch_in, fetch_or}
 
 same_test : (i : Instr) → makes_slot i ≡ is_alloca i
 same_test (Instr.Alloca result ty align) = refl

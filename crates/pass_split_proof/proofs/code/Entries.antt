@@ -1,31 +1,31 @@
 -- The entry of a part that goes on behind a suspend, and where its index leads.
 use Rattle.std.proofs.Common.{◌≡◌, ◌<◌, inl, inr, ⊎_elim, ℕ, zero, suc, ◌+◌, ◌-◌, Bool, true, false, List, [], ◌∷◌, ◌++◌, length, refl, sym, ap, ◌∙◌, subst, arith}
 use Rattle.std.specs.Prelude.{None, Some, filter, map, slice_get, if◌then◌else◌}
-use Rattle.flow_solver.specs.Paths.{IsListed}
-use Rattle.frame_layout.specs.declared.layout.Layout.{Layout}
-use Rattle.rule_laws.proofs.frames.edges.Shaped.{point_home}
-use Rattle.ir_laws.proofs.paths.crossing.Spots.{Spot, spot_first, spot_term}
-use Rattle.ir_laws.proofs.paths.edges.Lists.{listed_at}
-use Rattle.ir_laws.proofs.paths.replaced.Known.{of_listed}
-use Rattle.ir_laws.proofs.paths.uses.Paths.{place_of}
-use Rattle.rule_laws.proofs.rules.source_rules.Locals.{own_label}
-use Rattle.rule_laws.specs.frames.replaced.Splittable.{HasOwnEdges}
-use Rattle.ir_model.specs.Names.{position_of}
-use Rattle.ir_model.specs.declared.instr.Case.{Case}
-use Rattle.ir_model.specs.declared.instr.Instr.{Instr}
-use Rattle.ir_model.specs.declared.instr.Phi.{Phi}
-use Rattle.ir_model.specs.declared.instr.Terminator.{Terminator}
-use Rattle.ir_model.specs.declared.module.Block.{Block}
-use Rattle.ir_model.specs.declared.module.Function.{Function}
-use Rattle.ir_model.specs.declared.module.Module.{Module}
-use Rattle.ir_paths.specs.Paths.{targets}
-use Rattle.ir_paths.specs.Windows.{label_of_term}
-use Rattle.pass_front.specs.Front.{allocas_first, allocas_of, is_alloca}
-use Rattle.pass_intrinsics.specs.Cuts.{goes_on}
-use Rattle.pass_intrinsics.specs.Shapes.{back_label, first_name, shape_of, suspends_of}
-use Rattle.pass_intrinsics.specs.declared.shape.Part.{Part}
-use Rattle.pass_intrinsics.specs.declared.shape.Shape.{Shape}
-use Rattle.pass_intrinsics.specs.declared.shape.SuspendPoint.{SuspendPoint}
+use Rattle.pass_proofs.specs.flow_solver.Paths.{IsListed}
+use Rattle.pass_proofs.specs.frame_layout.declared.layout.Layout.{Layout}
+use Rattle.pass_proofs.proofs.rule_laws.frames.edges.Shaped.{point_home}
+use Rattle.pass_proofs.proofs.ir_laws.paths.crossing.Spots.{Spot, spot_first, spot_term}
+use Rattle.pass_proofs.proofs.ir_laws.paths.edges.Lists.{listed_at}
+use Rattle.pass_proofs.proofs.ir_laws.paths.replaced.Known.{of_listed}
+use Rattle.pass_proofs.proofs.ir_laws.paths.uses.Paths.{place_of}
+use Rattle.pass_proofs.proofs.rule_laws.rules.source_rules.Locals.{own_label}
+use Rattle.pass_proofs.specs.rule_laws.frames.replaced.Splittable.{HasOwnEdges}
+use Rattle.pass_proofs.specs.ir_model.Names.{position_of}
+use Rattle.pass_proofs.specs.ir_model.declared.instr.Case.{Case}
+use Rattle.pass_proofs.specs.ir_model.declared.instr.Instr.{Instr}
+use Rattle.pass_proofs.specs.ir_model.declared.instr.Phi.{Phi}
+use Rattle.pass_proofs.specs.ir_model.declared.instr.Terminator.{Terminator}
+use Rattle.pass_proofs.specs.ir_model.declared.module.Block.{Block}
+use Rattle.pass_proofs.specs.ir_model.declared.module.Function.{Function}
+use Rattle.pass_proofs.specs.ir_model.declared.module.Module.{Module}
+use Rattle.pass_proofs.specs.ir_paths.Paths.{targets}
+use Rattle.pass_proofs.specs.ir_paths.Windows.{label_of_term}
+use Rattle.pass_proofs.specs.pass_front.Front.{allocas_first, allocas_of, is_alloca}
+use Rattle.pass_proofs.specs.pass_intrinsics.Cuts.{goes_on}
+use Rattle.pass_proofs.specs.pass_intrinsics.Shapes.{back_label, first_name, shape_of, suspends_of}
+use Rattle.pass_proofs.specs.pass_intrinsics.declared.shape.Part.{Part}
+use Rattle.pass_proofs.specs.pass_intrinsics.declared.shape.Shape.{Shape}
+use Rattle.pass_proofs.specs.pass_intrinsics.declared.shape.SuspendPoint.{SuspendPoint}
 use Rattle.pass_split_proof.proofs.code.Allocas.{alike, alloca_there, allocas_are, next_alloca, no_alloca}
 use Rattle.pass_proofs.proofs.split.edges.Cuttable.{HasBlock, IsCuttable}
 use Rattle.pass_proofs.proofs.split.edges.Entries.{entry_flagged, first_block}
@@ -45,12 +45,12 @@ use Rattle.pass_split_proof.specs.places.Places.{HasLike, IsNamed, Remain, enter
 use Rattle.pass_proofs.specs.split.rules.Parted.{IsPartOf}
 use Rattle.pass_proofs.specs.split.rules.Reached.{Edge, IsLedTo}
 use Rattle.pass_proofs.specs.split.rules.Splittable.{IsSplittable}
-use Rattle.pass_split.specs.Parts.{back_block, back_blocks, case_of, cases_from, done_block, entry_block, entry_term, goes_on_at, is_entered, later_head, none_block, or_zero, origins_for, part_names}
-use Rattle.pass_split.specs.Pieces.{going_on, next_after, pieced_phi, pieces_of, redirected}
-use Rattle.pass_split.specs.Reached.{is_flagged, kept_block, kept_blocks, pruned, reached, targets_at, targets_in}
-use Rattle.pass_split.specs.declared.origin.Origin.{Origin}
-use Rattle.run_framed.specs.Framed.{alloca_from}
-use Rattle.run_step.specs.Step.{AtTerm, label_of, phis_of}
+use Rattle.pass_proofs.specs.pass_split.Parts.{back_block, back_blocks, case_of, cases_from, done_block, entry_block, entry_term, goes_on_at, is_entered, later_head, none_block, or_zero, origins_for, part_names}
+use Rattle.pass_proofs.specs.pass_split.Pieces.{going_on, next_after, pieced_phi, pieces_of, redirected}
+use Rattle.pass_proofs.specs.pass_split.Reached.{is_flagged, kept_block, kept_blocks, pruned, reached, targets_at, targets_in}
+use Rattle.pass_proofs.specs.pass_split.declared.origin.Origin.{Origin}
+use Rattle.pass_proofs.specs.run_framed.Framed.{alloca_from}
+use Rattle.pass_proofs.specs.run_step.Step.{AtTerm, label_of, phis_of}
 
 -- ---- the cases of the index
 

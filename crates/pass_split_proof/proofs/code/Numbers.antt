@@ -2,44 +2,44 @@
 use Rattle.std.proofs.Common.{◌≡◌, ◌<◌, inl, inr, ℕ, zero, suc, ◌+◌, Bool, true, List, [], ◌∷◌, ◌++◌, length, refl, sym, ap, ◌∙◌, subst, arith}
 use Rattle.std.proofs.lemmas.List.{length-replicate}
 use Rattle.std.specs.Prelude.{None, Option, Some, flat_map, option_and_then, option_to_list, replicate, slice_get, ◌||◌}
-use Rattle.flow_solver.specs.Paths.{IsListed}
-use Rattle.frame_layout.specs.declared.layout.Layout.{Layout}
-use Rattle.ir_laws.proofs.facts.Lists.{phi_names, row_of, set_here, set_length, set_other}
-use Rattle.ir_laws.proofs.facts.Truth.{and_first, and_second, equal_numbers}
-use Rattle.ir_laws.proofs.paths.edges.Lists.{listed_at}
-use Rattle.ir_laws.proofs.paths.path_rules.Where.{has_where}
-use Rattle.ir_laws.proofs.paths.renamed.Uses.{stands_in}
-use Rattle.ir_laws.proofs.paths.source_rules.Locals.{in_row, listed_left, listed_right}
-use Rattle.ir_laws.proofs.paths.uses.Paths.{place_of}
-use Rattle.rule_laws.proofs.rules.source_rules.Locals.{block_names, made_by}
-use Rattle.rule_laws.proofs.rules.sources.Places.{instr_there}
-use Rattle.rule_laws.proofs.rules.woven_rules.Once.{names_below}
-use Rattle.ir_laws.specs.facts.renamed.Regular.{passes}
-use Rattle.rule_laws.specs.frames.replaced.Splittable.{token_taken}
-use Rattle.ir_laws.specs.paths.woven_rules.Pairs.{AreDifferent}
-use Rattle.ir_model.specs.Names.{is_local}
-use Rattle.ir_model.specs.Ty.{Ty}
-use Rattle.ir_model.specs.declared.instr.Instr.{Instr}
-use Rattle.ir_model.specs.declared.module.Block.{Block}
-use Rattle.ir_model.specs.declared.module.Function.{Function}
-use Rattle.ir_model.specs.declared.module.Module.{Module}
-use Rattle.ir_model.specs.declared.operand.Arg.{Arg}
-use Rattle.ir_model.specs.declared.operand.Callee.{Callee}
-use Rattle.ir_model.specs.declared.operand.Intrinsic.{Intrinsic}
-use Rattle.ir_model.specs.declared.operand.Operand.{Operand}
-use Rattle.ir_paths.proofs.Search.{same_point-itself}
-use Rattle.ir_paths.specs.Paths.{has_point, same_point}
-use Rattle.ir_paths.specs.Windows.{call_operand, call_result, instr_at, is_suspend_of, label_at, label_of_term, operand_at, points_where, suspend_of}
-use Rattle.ir_paths.specs.declared.point.Point.{Point}
-use Rattle.pass_intrinsics.specs.Lowered.{number_at, number_of_save}
-use Rattle.pass_intrinsics.specs.Shapes.{is_final as is_final_of, save_of, shape_of, suspends_of, token_of, with_save, with_saves, with_suspend, with_suspends_by, with_suspends_in}
-use Rattle.pass_intrinsics.specs.declared.shape.SuspendPoint.{SuspendPoint}
+use Rattle.pass_proofs.specs.flow_solver.Paths.{IsListed}
+use Rattle.pass_proofs.specs.frame_layout.declared.layout.Layout.{Layout}
+use Rattle.pass_proofs.proofs.ir_laws.facts.Lists.{phi_names, row_of, set_here, set_length, set_other}
+use Rattle.pass_proofs.proofs.ir_laws.facts.Truth.{and_first, and_second, equal_numbers}
+use Rattle.pass_proofs.proofs.ir_laws.paths.edges.Lists.{listed_at}
+use Rattle.pass_proofs.proofs.ir_laws.paths.path_rules.Where.{has_where}
+use Rattle.pass_proofs.proofs.ir_laws.paths.renamed.Uses.{stands_in}
+use Rattle.pass_proofs.proofs.ir_laws.paths.source_rules.Locals.{in_row, listed_left, listed_right}
+use Rattle.pass_proofs.proofs.ir_laws.paths.uses.Paths.{place_of}
+use Rattle.pass_proofs.proofs.rule_laws.rules.source_rules.Locals.{block_names, made_by}
+use Rattle.pass_proofs.proofs.rule_laws.rules.sources.Places.{instr_there}
+use Rattle.pass_proofs.proofs.rule_laws.rules.woven_rules.Once.{names_below}
+use Rattle.pass_proofs.specs.ir_laws.facts.renamed.Regular.{passes}
+use Rattle.pass_proofs.specs.rule_laws.frames.replaced.Splittable.{token_taken}
+use Rattle.pass_proofs.specs.ir_laws.paths.woven_rules.Pairs.{AreDifferent}
+use Rattle.pass_proofs.specs.ir_model.Names.{is_local}
+use Rattle.pass_proofs.specs.ir_model.Ty.{Ty}
+use Rattle.pass_proofs.specs.ir_model.declared.instr.Instr.{Instr}
+use Rattle.pass_proofs.specs.ir_model.declared.module.Block.{Block}
+use Rattle.pass_proofs.specs.ir_model.declared.module.Function.{Function}
+use Rattle.pass_proofs.specs.ir_model.declared.module.Module.{Module}
+use Rattle.pass_proofs.specs.ir_model.declared.operand.Arg.{Arg}
+use Rattle.pass_proofs.specs.ir_model.declared.operand.Callee.{Callee}
+use Rattle.pass_proofs.specs.ir_model.declared.operand.Intrinsic.{Intrinsic}
+use Rattle.pass_proofs.specs.ir_model.declared.operand.Operand.{Operand}
+use Rattle.pass_proofs.proofs.ir_paths.Search.{same_point-itself}
+use Rattle.pass_proofs.specs.ir_paths.Paths.{has_point, same_point}
+use Rattle.pass_proofs.specs.ir_paths.Windows.{call_operand, call_result, instr_at, is_suspend_of, label_at, label_of_term, operand_at, points_where, suspend_of}
+use Rattle.pass_proofs.specs.ir_paths.declared.point.Point.{Point}
+use Rattle.pass_proofs.specs.pass_intrinsics.Lowered.{number_at, number_of_save}
+use Rattle.pass_proofs.specs.pass_intrinsics.Shapes.{is_final as is_final_of, save_of, shape_of, suspends_of, token_of, with_save, with_saves, with_suspend, with_suspends_by, with_suspends_in}
+use Rattle.pass_proofs.specs.pass_intrinsics.declared.shape.SuspendPoint.{SuspendPoint}
 use Rattle.pass_split_proof.specs.code.Numbers.{IsNumbered}
 use Rattle.pass_proofs.specs.split.rules.Splittable.{IsSplittable}
-use Rattle.rule_shape.specs.Suspends.{is_suspend}
-use Rattle.rule_uses.specs.Undefined.{params_of}
-use Rattle.run_source_tables.specs.Given.{is_final_call, is_true}
-use Rattle.run_step.specs.Step.{AtInstr, fetch, label_of}
+use Rattle.pass_proofs.specs.rule_shape.Suspends.{is_suspend}
+use Rattle.pass_proofs.specs.rule_uses.Undefined.{params_of}
+use Rattle.pass_proofs.specs.run_source_tables.Given.{is_final_call, is_true}
+use Rattle.pass_proofs.specs.run_step.Step.{AtInstr, fetch, label_of}
 
 -- ---- suspends in the text
 

@@ -1,28 +1,28 @@
 -- Where the functions of a module stand once its coroutines are split, and how they are found by their names.
 use Rattle.std.proofs.Common.{◌≡◌, ℕ, zero, suc, ◌+◌, Bool, true, false, List, [], ◌∷◌, length, refl, sym, ap, ◌∙◌, subst, arith}
 use Rattle.std.specs.Prelude.{None, Some, is_some, map, slice_get, if◌then◌else◌, ◌||◌}
-use Rattle.frame_layout.specs.declared.layout.Layout.{Layout}
-use Rattle.frame_layout.specs.declared.layout.Layouts.{Layouts}
-use Rattle.ir_base.specs.declared.name.Name.{Name}
-use Rattle.ir_laws.proofs.facts.Lists.{first_same, get_behind, of_first}
-use Rattle.ir_laws.proofs.facts.same_names.Lists.{what_is_found}
-use Rattle.ir_laws.specs.facts.same_names.Short.{HaveShortNames}
-use Rattle.rule_laws.specs.rules.plain_rules.Items.{KeepsItemRules}
-use Rattle.ir_model.specs.Names.{declaration_named, first_where, function_named, global_named, same_name}
-use Rattle.ir_model.specs.declared.module.Function.{Function}
-use Rattle.ir_model.specs.declared.module.Module.{Module}
-use Rattle.ir_tables.proofs.Tables.{same_name-same}
-use Rattle.pass_intrinsics.specs.Shapes.{shape_of}
-use Rattle.pass_intrinsics.specs.declared.shape.Part.{Part}
+use Rattle.pass_proofs.specs.frame_layout.declared.layout.Layout.{Layout}
+use Rattle.pass_proofs.specs.frame_layout.declared.layout.Layouts.{Layouts}
+use Rattle.pass_proofs.specs.ir_base.declared.name.Name.{Name}
+use Rattle.pass_proofs.proofs.ir_laws.facts.Lists.{first_same, get_behind, of_first}
+use Rattle.pass_proofs.proofs.ir_laws.facts.same_names.Lists.{what_is_found}
+use Rattle.pass_proofs.specs.ir_laws.facts.same_names.Short.{HaveShortNames}
+use Rattle.pass_proofs.specs.rule_laws.rules.plain_rules.Items.{KeepsItemRules}
+use Rattle.pass_proofs.specs.ir_model.Names.{declaration_named, first_where, function_named, global_named, same_name}
+use Rattle.pass_proofs.specs.ir_model.declared.module.Function.{Function}
+use Rattle.pass_proofs.specs.ir_model.declared.module.Module.{Module}
+use Rattle.pass_proofs.proofs.ir_tables.Tables.{same_name-same}
+use Rattle.pass_proofs.specs.pass_intrinsics.Shapes.{shape_of}
+use Rattle.pass_proofs.specs.pass_intrinsics.declared.shape.Part.{Part}
 use Rattle.pass_split_proof.proofs.first_exits.Parted.{same_own_name, split_parted}
 use Rattle.pass_proofs.proofs.split.names.Parts.{has_parts, stands_named}
 use Rattle.pass_proofs.specs.exits.states.Exits.{exit_function, exits_split}
 use Rattle.pass_split_proof.specs.code.Positions.{is_given, layout_at, moved, number_of}
 use Rattle.pass_split_proof.specs.first_exits.Parted.{parted_function, parted_functions, parted_module}
 use Rattle.pass_proofs.specs.split.rules.Parted.{IsCleanup, IsDestroy, IsGivenRamp, IsPartOf, IsRamp, IsResume}
-use Rattle.pass_split.specs.Given.{has_given_call}
-use Rattle.pass_split.specs.Parts.{first_layout, layouts_after, marked_parts, parts_of, plain_of, plain_shape}
-use Rattle.rule_names.specs.declared.stage.Stage.{Stage}
+use Rattle.pass_proofs.specs.pass_split.Given.{has_given_call}
+use Rattle.pass_proofs.specs.pass_split.Parts.{first_layout, layouts_after, marked_parts, parts_of, plain_of, plain_shape}
+use Rattle.pass_proofs.specs.rule_names.declared.stage.Stage.{Stage}
 
 -- what a function becomes stands from its new position on
 pub stands_moved : (ls : List Layout) (m : Module) (fs : List Function) (k i : ℕ) (f g : Function) → slice_get fs k ≡ Some f → slice_get (parted_function (layout_at ls fs k) (has_given_call m f) f) i ≡ Some g → slice_get (parted_functions ls m fs) (moved ls m fs k + i) ≡ Some g

@@ -10,18 +10,18 @@ use Rattle.pass_split_proof.specs.ends.Ending.{HasOwnFrame}
 use Rattle.pass_split_proof.specs.states.Instances.{AreFrames, is_given_in, is_held_in, lives_in}
 use Rattle.pass_split_proof.specs.states.Memories.{AreBeside}
 use Rattle.pass_split_proof.specs.states.Related.{AreRelated}
-use Rattle.run_framed.specs.Framed.{FramedGiven, disown_given, framed_finish, is_given, is_stack_block}
-use Rattle.run_memory.specs.Memory.{disown}
-use Rattle.run_memory.specs.declared.block.MemoryBlock.{MemoryBlock}
-use Rattle.run_plain.specs.Plain.{PlainGiven}
-use Rattle.run_plain.specs.declared.state.PlainState.{PlainState}
-use Rattle.run_source.specs.Source.{change_own, slots_of}
-use Rattle.run_source.specs.State.{is_finished, numbered, with_instance, with_memory}
-use Rattle.run_source.specs.declared.state.Instance.{Instance}
-use Rattle.run_source.specs.declared.state.State.{State}
-use Rattle.run_source.specs.declared.state.Status.{Status}
-use Rattle.run_step.specs.Step.{without_slots}
-use Rattle.run_step.specs.declared.world.Slot.{Slot}
+use Rattle.pass_proofs.specs.run_framed.Framed.{FramedGiven, disown_given, framed_finish, is_given, is_stack_block}
+use Rattle.pass_proofs.specs.run_memory.Memory.{disown}
+use Rattle.pass_proofs.specs.run_memory.declared.block.MemoryBlock.{MemoryBlock}
+use Rattle.run_access_worked.specs.run_plain.Plain.{PlainGiven}
+use Rattle.run_access_worked.specs.run_plain.declared.state.PlainState.{PlainState}
+use Rattle.pass_proofs.specs.run_source.Source.{change_own, slots_of}
+use Rattle.pass_proofs.specs.run_source.State.{is_finished, numbered, with_instance, with_memory}
+use Rattle.pass_proofs.specs.run_source.declared.state.Instance.{Instance}
+use Rattle.pass_proofs.specs.run_source.declared.state.State.{State}
+use Rattle.pass_proofs.specs.run_source.declared.state.Status.{Status}
+use Rattle.pass_proofs.specs.run_step.Step.{without_slots}
+use Rattle.pass_proofs.specs.run_step.declared.world.Slot.{Slot}
 
 -- the state in which coro.end goes on, with the instances that there are then
 pub record HasEnded (g : FramedGiven) (h : PlainGiven) (s : State) (t : PlainState) : Type 0 where

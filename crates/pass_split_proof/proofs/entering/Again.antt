@@ -1,12 +1,12 @@
 -- Where an activation goes on behind a suspend, an alloca before the last is made again in both runs.
 use Rattle.std.proofs.Common.{◌≡◌, ℕ, ◌+◌, ◌<◌, ◌≤◌, Bool, true, false, List, ◌∷◌, length, Some, refl, sym, ap, ◌∙◌, subst, arith}
 use Rattle.std.specs.Prelude.{slice_get, ◌≢◌}
-use Rattle.ir_base.specs.declared.outcome.Outcome.{Outcome}
-use Rattle.ir_model.specs.Layout.{size_of}
-use Rattle.ir_model.specs.Names.{function_at}
-use Rattle.ir_model.specs.declared.instr.Instr.{Instr}
-use Rattle.ir_model.specs.declared.module.Function.{Function}
-use Rattle.pass_front.specs.Front.{allocas_of}
+use Rattle.pass_proofs.specs.ir_base.declared.outcome.Outcome.{Outcome}
+use Rattle.pass_proofs.specs.ir_model.Layout.{size_of}
+use Rattle.pass_proofs.specs.ir_model.Names.{function_at}
+use Rattle.pass_proofs.specs.ir_model.declared.instr.Instr.{Instr}
+use Rattle.pass_proofs.specs.ir_model.declared.module.Function.{Function}
+use Rattle.pass_proofs.specs.pass_front.Front.{allocas_of}
 use Rattle.pass_split_proof.proofs.making.Allocas.{fewer_markers, made, made_too, makes_slot, no_allocator, slot, slot_made}
 use Rattle.pass_split_proof.proofs.states.Advanced.{all_beside_on, frame_on, same_frames}
 use Rattle.pass_split_proof.proofs.states.Fresh.{got_before}
@@ -19,23 +19,23 @@ use Rattle.pass_split_proof.specs.states.Instances.{IsIndexed, index_length}
 use Rattle.pass_split_proof.specs.states.Memories.{homes_of, plain_kind}
 use Rattle.pass_split_proof.specs.states.Related.{AreRelated, left_of_call, left_of_calls}
 use Rattle.pass_split_proof.specs.steps.Slots.{slot_memory}
-use Rattle.run_agreement.specs.Machines.{IsFine}
-use Rattle.run_framed.specs.Framed.{FramedGiven, at_point, enter_after, framed_slot, framed_step, layout_of, with_mode}
-use Rattle.run_laws.proofs.access.Held.{same_held}
-use Rattle.run_laws.proofs.memory.Written.{changed_elsewhere}
-use Rattle.run_laws.proofs.transfer.Sets.{set_elsewhere, set_length}
-use Rattle.run_laws.specs.memory.Standing.{blank_block}
-use Rattle.run_memory.specs.Memory.{digits, ended, fresh, owner_rights}
-use Rattle.run_memory.specs.declared.block.Kind.{Kind}
-use Rattle.run_memory.specs.declared.block.MemoryBlock.{MemoryBlock}
-use Rattle.run_plain.specs.Plain.{PlainGiven, plain_settled, plain_slot}
-use Rattle.run_plain.specs.declared.state.PlainState.{PlainState}
-use Rattle.run_source.specs.State.{function_of, settled, with_slots}
-use Rattle.run_source.specs.declared.state.Mode.{Mode}
-use Rattle.run_source.specs.declared.state.State.{State}
-use Rattle.run_step.specs.Step.{AtInstr, Work, alloca_kind, fetch, has_markers}
-use Rattle.run_step.specs.Values.{pointer_to}
-use Rattle.run_step.specs.declared.world.Slot.{Slot}
+use Rattle.pass_proofs.specs.run_agreement.Machines.{IsFine}
+use Rattle.pass_proofs.specs.run_framed.Framed.{FramedGiven, at_point, enter_after, framed_slot, framed_step, layout_of, with_mode}
+use Rattle.pass_proofs.proofs.run_laws.access.Held.{same_held}
+use Rattle.pass_proofs.proofs.run_laws.memory.Written.{changed_elsewhere}
+use Rattle.pass_proofs.proofs.run_laws.transfer.Sets.{set_elsewhere, set_length}
+use Rattle.pass_proofs.specs.run_laws.memory.Standing.{blank_block}
+use Rattle.pass_proofs.specs.run_memory.Memory.{digits, ended, fresh, owner_rights}
+use Rattle.pass_proofs.specs.run_memory.declared.block.Kind.{Kind}
+use Rattle.pass_proofs.specs.run_memory.declared.block.MemoryBlock.{MemoryBlock}
+use Rattle.run_access_worked.specs.run_plain.Plain.{PlainGiven, plain_settled, plain_slot}
+use Rattle.run_access_worked.specs.run_plain.declared.state.PlainState.{PlainState}
+use Rattle.pass_proofs.specs.run_source.State.{function_of, settled, with_slots}
+use Rattle.pass_proofs.specs.run_source.declared.state.Mode.{Mode}
+use Rattle.pass_proofs.specs.run_source.declared.state.State.{State}
+use Rattle.pass_proofs.specs.run_step.Step.{AtInstr, Work, alloca_kind, fetch, has_markers}
+use Rattle.pass_proofs.specs.run_step.Values.{pointer_to}
+use Rattle.pass_proofs.specs.run_step.declared.world.Slot.{Slot}
 
 -- the blocks that there were stand where they stood
 old_there : (n : List MemoryBlock) (size align : ℕ) (kind : Kind) (marked : Bool) (b : ℕ) → b < length n

@@ -1,17 +1,17 @@
 -- Behind the last alloca that is made again the part comes in four steps to the block behind the suspend.
 use Rattle.std.proofs.Common.{◌≡◌, ℕ, zero, suc, ◌+◌, ◌<◌, ◌≤◌, ◌^◌, inl, inr, Bool, true, List, [], ◌∷◌, length, Some, refl, sym, ap, ◌∙◌, subst, arith}
 use Rattle.std.specs.Prelude.{slice_get}
-use Rattle.ir_base.specs.declared.outcome.Outcome.{Outcome}
-use Rattle.ir_model.specs.Layout.{size_of}
-use Rattle.ir_model.specs.Names.{function_at, position_of}
-use Rattle.ir_model.specs.declared.instr.Phi.{Phi}
-use Rattle.ir_model.specs.declared.module.Function.{Function}
-use Rattle.pass_front.specs.Front.{allocas_of}
-use Rattle.pass_intrinsics.specs.Shapes.{back_label, index_name, slot_name, suspends_of}
-use Rattle.pass_intrinsics.specs.declared.shape.Shape.{Shape}
-use Rattle.pass_intrinsics.specs.declared.shape.SuspendPoint.{SuspendPoint}
-use Rattle.pass_split.specs.Parts.{or_zero}
-use Rattle.pass_split.specs.Pieces.{going_on, redirected}
+use Rattle.pass_proofs.specs.ir_base.declared.outcome.Outcome.{Outcome}
+use Rattle.pass_proofs.specs.ir_model.Layout.{size_of}
+use Rattle.pass_proofs.specs.ir_model.Names.{function_at, position_of}
+use Rattle.pass_proofs.specs.ir_model.declared.instr.Phi.{Phi}
+use Rattle.pass_proofs.specs.ir_model.declared.module.Function.{Function}
+use Rattle.pass_proofs.specs.pass_front.Front.{allocas_of}
+use Rattle.pass_proofs.specs.pass_intrinsics.Shapes.{back_label, index_name, slot_name, suspends_of}
+use Rattle.pass_proofs.specs.pass_intrinsics.declared.shape.Shape.{Shape}
+use Rattle.pass_proofs.specs.pass_intrinsics.declared.shape.SuspendPoint.{SuspendPoint}
+use Rattle.pass_proofs.specs.pass_split.Parts.{or_zero}
+use Rattle.pass_proofs.specs.pass_split.Pieces.{going_on, redirected}
 use Rattle.pass_split_proof.proofs.begins.SaveCode.{shape_is}
 use Rattle.pass_split_proof.proofs.entering.Again.{here, indexed, old, unlike}
 use Rattle.pass_split_proof.proofs.giving.Frames.{block_there}
@@ -34,22 +34,22 @@ use Rattle.pass_split_proof.specs.states.Memories.{homes_of}
 use Rattle.pass_split_proof.specs.states.Related.{AreRelated, IsOn, credit_of, fetched_at, is_behind_suspend, is_return_label, left_of_call, left_of_calls, part_price, price_of, weight}
 use Rattle.pass_split_proof.specs.states.Values.{AreValuesOf}
 use Rattle.pass_split_proof.specs.steps.Dispatch.{IsAtIndex, indexed_work}
-use Rattle.run_agreement.specs.Machines.{IsFine, iterate}
-use Rattle.run_framed.specs.Framed.{FramedGiven, alloca_from, enter_after, framed_slot, framed_step, layout_of}
-use Rattle.run_laws.proofs.memory.Written.{same_some}
-use Rattle.run_laws.proofs.transfer.Sets.{set_elsewhere, set_length}
-use Rattle.run_laws.specs.access.Lines.{Holds, pointer_at}
-use Rattle.run_memory.specs.Memory.{digits, owner_rights}
-use Rattle.run_plain.specs.Plain.{PlainGiven, plain_go_to, plain_settled, plain_slot, plain_step, plain_work}
-use Rattle.run_plain.specs.declared.state.PlainState.{PlainState}
-use Rattle.run_source.specs.State.{frame_address_of, function_of, settled, with_slots}
-use Rattle.run_source.specs.declared.state.Instance.{Instance}
-use Rattle.run_source.specs.declared.state.Mode.{Mode}
-use Rattle.run_source.specs.declared.state.State.{State}
-use Rattle.run_step.specs.Step.{Fetched, Work, alloca_kind, fetch, has_markers, label_of, phi_values, phis_of, with_all}
-use Rattle.run_step.specs.Values.{pointer_to, value_in, with_value}
-use Rattle.run_step.specs.declared.world.Slot.{Slot}
-use Rattle.run_step.specs.declared.world.World.{World}
+use Rattle.pass_proofs.specs.run_agreement.Machines.{IsFine, iterate}
+use Rattle.pass_proofs.specs.run_framed.Framed.{FramedGiven, alloca_from, enter_after, framed_slot, framed_step, layout_of}
+use Rattle.pass_proofs.proofs.run_laws.memory.Written.{same_some}
+use Rattle.pass_proofs.proofs.run_laws.transfer.Sets.{set_elsewhere, set_length}
+use Rattle.pass_proofs.specs.run_laws.access.Lines.{Holds, pointer_at}
+use Rattle.pass_proofs.specs.run_memory.Memory.{digits, owner_rights}
+use Rattle.run_access_worked.specs.run_plain.Plain.{PlainGiven, plain_go_to, plain_settled, plain_slot, plain_step, plain_work}
+use Rattle.run_access_worked.specs.run_plain.declared.state.PlainState.{PlainState}
+use Rattle.pass_proofs.specs.run_source.State.{frame_address_of, function_of, settled, with_slots}
+use Rattle.pass_proofs.specs.run_source.declared.state.Instance.{Instance}
+use Rattle.pass_proofs.specs.run_source.declared.state.Mode.{Mode}
+use Rattle.pass_proofs.specs.run_source.declared.state.State.{State}
+use Rattle.pass_proofs.specs.run_step.Step.{Fetched, Work, alloca_kind, fetch, has_markers, label_of, phi_values, phis_of, with_all}
+use Rattle.pass_proofs.specs.run_step.Values.{pointer_to, value_in, with_value}
+use Rattle.pass_proofs.specs.run_step.declared.world.Slot.{Slot}
+use Rattle.pass_proofs.specs.run_step.declared.world.World.{World}
 
 module _ (g : FramedGiven) (h : PlainGiven) (s : State) (t : PlainState) (r : AreRelated g h s t)
     (runs : s.outcome ≡ Outcome.Running) (fine : IsFine (framed_step g s).outcome) (from label : ℕ)

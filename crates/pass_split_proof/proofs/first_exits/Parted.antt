@@ -2,19 +2,19 @@
 use Rattle.std.proofs.Common.{◌≡◌, ℕ, ◌+◌, Bool, true, false, List, [], ◌∷◌, ◌++◌, refl, sym, ap, ◌∙◌}
 use Rattle.std.specs.Prelude.{map, if◌then◌else◌}
 use Rattle.std.specs.List.{list_any}
-use Rattle.ir_base.specs.declared.name.Name.{Name}
-use Rattle.pass_split.specs.Given.{called_from, called_in, called_names, has_given_call, is_given_by}
-use Rattle.pass_split.specs.Parts.{first_layout, layouts_after, marked_parts, other_layouts, plain_of, plain_shape, split_function, split_functions, split_module}
-use Rattle.pass_split.specs.declared.given.CalledName.{CalledName}
-use Rattle.frame_layout.specs.declared.layout.Layout.{Layout}
-use Rattle.frame_layout.specs.declared.layout.Layouts.{Layouts}
-use Rattle.ir_model.specs.Names.{noalloc_of, same_name}
-use Rattle.ir_model.specs.declared.module.Block.{Block}
-use Rattle.ir_model.specs.declared.module.Function.{Function}
-use Rattle.ir_model.specs.declared.module.Module.{Module}
-use Rattle.pass_exits.specs.ExitBlocks.{blocks_by, exit_blocks, with_exit_blocks}
-use Rattle.pass_exits.specs.Exits.{block_exits}
-use Rattle.pass_exits.specs.declared.exit.Exit.{Exit}
+use Rattle.pass_proofs.specs.ir_base.declared.name.Name.{Name}
+use Rattle.pass_proofs.specs.pass_split.Given.{called_from, called_in, called_names, has_given_call, is_given_by}
+use Rattle.pass_proofs.specs.pass_split.Parts.{first_layout, layouts_after, marked_parts, other_layouts, plain_of, plain_shape, split_function, split_functions, split_module}
+use Rattle.pass_proofs.specs.pass_split.declared.given.CalledName.{CalledName}
+use Rattle.pass_proofs.specs.frame_layout.declared.layout.Layout.{Layout}
+use Rattle.pass_proofs.specs.frame_layout.declared.layout.Layouts.{Layouts}
+use Rattle.pass_proofs.specs.ir_model.Names.{noalloc_of, same_name}
+use Rattle.pass_proofs.specs.ir_model.declared.module.Block.{Block}
+use Rattle.pass_proofs.specs.ir_model.declared.module.Function.{Function}
+use Rattle.pass_proofs.specs.ir_model.declared.module.Module.{Module}
+use Rattle.pass_proofs.specs.pass_exits.ExitBlocks.{blocks_by, exit_blocks, with_exit_blocks}
+use Rattle.pass_proofs.specs.pass_exits.Exits.{block_exits}
+use Rattle.pass_proofs.specs.pass_exits.declared.exit.Exit.{Exit}
 use Rattle.pass_proofs.specs.exits.states.Exits.{exit_function, exits_split}
 use Rattle.pass_split_proof.specs.first_exits.Parted.{parted_function, parted_functions, parted_module}
 

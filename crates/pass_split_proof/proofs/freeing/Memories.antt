@@ -2,7 +2,7 @@
 use Rattle.std.proofs.Common.{◌≡◌, ℕ, zero, suc, Bool, true, false, not, List, [], ◌∷◌, Option, Some, None, Ok, Err, refl, sym, ap, ◌∙◌, if◌then◌else◌, ◌==◌}
 use Rattle.std.specs.Prelude.{slice_get, slice_set, is_some}
 use Rattle.std.proofs.lemmas.Bool.{and_from, false≢true}
-use Rattle.ir_base.specs.declared.cause.Cause.{Cause}
+use Rattle.pass_proofs.specs.ir_base.declared.cause.Cause.{Cause}
 use Rattle.pass_split_proof.proofs.held.LetGo.{IsUnkilled}
 use Rattle.pass_split_proof.proofs.states.Advanced.{KeepsFrames}
 use Rattle.pass_split_proof.proofs.states.Killed.{dead_beside, dead_frames, kills, left_too}
@@ -11,16 +11,16 @@ use Rattle.pass_split_proof.proofs.states.Twins.{HasTwin, twin_at, unowned}
 use Rattle.pass_split_proof.proofs.steps.Saves.{set_keeps}
 use Rattle.pass_split_proof.specs.states.Instances.{AreFrames, is_held}
 use Rattle.pass_split_proof.specs.states.Memories.{AreBeside, plain_kind}
-use Rattle.run_framed.specs.Framed.{FramedGiven}
-use Rattle.run_laws.proofs.memory.Written.{changed_here, same_some}
-use Rattle.run_memory.specs.Memory.{disown, is_killed, is_live, is_owned, is_unkilled, killed, killed_block, same_kind, with_block}
-use Rattle.run_memory.specs.declared.block.Kind.{Kind}
-use Rattle.run_memory.specs.declared.block.MemoryBlock.{MemoryBlock}
-use Rattle.run_memory.specs.declared.pointer.Offset.{Offset}
-use Rattle.run_memory.specs.declared.pointer.Pointer.{Pointer}
-use Rattle.run_memory.specs.declared.pointer.Value.{Value}
-use Rattle.run_source.specs.declared.state.Instance.{Instance}
-use Rattle.run_step.specs.Step.{deallocated}
+use Rattle.pass_proofs.specs.run_framed.Framed.{FramedGiven}
+use Rattle.pass_proofs.proofs.run_laws.memory.Written.{changed_here, same_some}
+use Rattle.pass_proofs.specs.run_memory.Memory.{disown, is_killed, is_live, is_owned, is_unkilled, killed, killed_block, same_kind, with_block}
+use Rattle.pass_proofs.specs.run_memory.declared.block.Kind.{Kind}
+use Rattle.pass_proofs.specs.run_memory.declared.block.MemoryBlock.{MemoryBlock}
+use Rattle.pass_proofs.specs.run_memory.declared.pointer.Offset.{Offset}
+use Rattle.pass_proofs.specs.run_memory.declared.pointer.Pointer.{Pointer}
+use Rattle.pass_proofs.specs.run_memory.declared.pointer.Value.{Value}
+use Rattle.pass_proofs.specs.run_source.declared.state.Instance.{Instance}
+use Rattle.pass_proofs.specs.run_step.Step.{deallocated}
 
 -- a block that dies needn't lose its owner before
 pub killed_alone : (m : List MemoryBlock) (b : ℕ) → killed (disown m b) b ≡ killed m b

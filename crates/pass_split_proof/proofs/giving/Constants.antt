@@ -1,16 +1,16 @@
 -- The frame's size and alignment, and whether it is allocated: numbers and truths in the part.
 use Rattle.std.proofs.Common.{◌≡◌, ℕ, ◌<◌, ◌^◌, Bool, true, false, Option, Some, None, refl, sym, ap, ◌∙◌, arith, if◌then◌else◌}
 use Rattle.std.specs.Prelude.{pos}
-use Rattle.ir_base.specs.declared.ops.BinOp.{BinOp}
-use Rattle.ir_base.specs.declared.outcome.Outcome.{Outcome}
-use Rattle.ir_model.specs.Ty.{int}
-use Rattle.ir_model.specs.declared.instr.Instr.{Instr}
-use Rattle.ir_model.specs.declared.operand.Intrinsic.{Intrinsic}
-use Rattle.ir_model.specs.declared.operand.Operand.{Operand}
-use Rattle.pass_intrinsics.specs.Cuts.{goes_on}
-use Rattle.pass_intrinsics.specs.Lowered.{allocates as allocates_in, no_flags, truth_of}
-use Rattle.pass_intrinsics.specs.declared.shape.Part.{Part}
-use Rattle.pass_split.specs.Pieces.{begins_again, is_begin}
+use Rattle.pass_proofs.specs.ir_base.declared.ops.BinOp.{BinOp}
+use Rattle.pass_proofs.specs.ir_base.declared.outcome.Outcome.{Outcome}
+use Rattle.pass_proofs.specs.ir_model.Ty.{int}
+use Rattle.pass_proofs.specs.ir_model.declared.instr.Instr.{Instr}
+use Rattle.pass_proofs.specs.ir_model.declared.operand.Intrinsic.{Intrinsic}
+use Rattle.pass_proofs.specs.ir_model.declared.operand.Operand.{Operand}
+use Rattle.pass_proofs.specs.pass_intrinsics.Cuts.{goes_on}
+use Rattle.pass_proofs.specs.pass_intrinsics.Lowered.{allocates as allocates_in, no_flags, truth_of}
+use Rattle.pass_proofs.specs.pass_intrinsics.declared.shape.Part.{Part}
+use Rattle.pass_proofs.specs.pass_split.Pieces.{begins_again, is_begin}
 use Rattle.pass_split_proof.proofs.giving.Given.{IsNothing, call_here, none_given, one_given}
 use Rattle.pass_split_proof.proofs.giving.Small.{literal_is, number_done, truth_done}
 use Rattle.pass_split_proof.proofs.steps.Followed.{framed_does}
@@ -19,15 +19,15 @@ use Rattle.pass_split_proof.specs.giving.Intrinsics.{HasOwnSize, IsAtIntrinsic, 
 use Rattle.pass_split_proof.specs.simulation.Followed.{IsFollowed}
 use Rattle.pass_split_proof.specs.states.Activations.{RunsPart}
 use Rattle.pass_split_proof.specs.states.Related.{AreRelated}
-use Rattle.run_framed.specs.Framed.{FramedGiven, allocates, framed_step}
-use Rattle.run_memory.specs.declared.pointer.Value.{Value}
-use Rattle.run_plain.specs.Plain.{PlainGiven, plain_context, plain_work}
-use Rattle.run_plain.specs.declared.state.PlainState.{PlainState}
-use Rattle.run_source.specs.State.{gives}
-use Rattle.run_source.specs.declared.state.Mode.{Mode}
-use Rattle.run_source.specs.declared.state.State.{State}
-use Rattle.run_step.specs.Step.{AtInstr, Coro}
-use Rattle.run_step.specs.Values.{integer, truth_value}
+use Rattle.pass_proofs.specs.run_framed.Framed.{FramedGiven, allocates, framed_step}
+use Rattle.pass_proofs.specs.run_memory.declared.pointer.Value.{Value}
+use Rattle.run_access_worked.specs.run_plain.Plain.{PlainGiven, plain_context, plain_work}
+use Rattle.run_access_worked.specs.run_plain.declared.state.PlainState.{PlainState}
+use Rattle.pass_proofs.specs.run_source.State.{gives}
+use Rattle.pass_proofs.specs.run_source.declared.state.Mode.{Mode}
+use Rattle.pass_proofs.specs.run_source.declared.state.State.{State}
+use Rattle.pass_proofs.specs.run_step.Step.{AtInstr, Coro}
+use Rattle.pass_proofs.specs.run_step.Values.{integer, truth_value}
 
 pub not_again : (part : Part) (i : Instr) → is_begin i ≡ false → begins_again part i ≡ false
 not_again part i e = on (goes_on part)

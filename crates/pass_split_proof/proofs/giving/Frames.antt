@@ -1,14 +1,14 @@
 -- The address of a frame, with its release or without, and the name of a coroutine.
 use Rattle.std.proofs.Common.{◌≡◌, ℕ, zero, suc, ◌+◌, ◌<◌, ◌≤◌, ◌^◌, false, List, ◌∷◌, [], length, Option, Some, None, refl, ap, ◌∙◌, arith}
 use Rattle.std.specs.Prelude.{option_and_then, option_map, pos, slice_get}
-use Rattle.ir_base.specs.declared.outcome.Outcome.{Outcome}
-use Rattle.ir_model.specs.Names.{function_at}
-use Rattle.ir_model.specs.Ty.{int, ptr}
-use Rattle.ir_model.specs.declared.instr.Instr.{Instr}
-use Rattle.ir_model.specs.declared.module.Function.{Function}
-use Rattle.ir_model.specs.declared.operand.Intrinsic.{Intrinsic}
-use Rattle.ir_model.specs.declared.operand.Operand.{Operand}
-use Rattle.pass_intrinsics.specs.Lowered.{address, number_arg}
+use Rattle.pass_proofs.specs.ir_base.declared.outcome.Outcome.{Outcome}
+use Rattle.pass_proofs.specs.ir_model.Names.{function_at}
+use Rattle.pass_proofs.specs.ir_model.Ty.{int, ptr}
+use Rattle.pass_proofs.specs.ir_model.declared.instr.Instr.{Instr}
+use Rattle.pass_proofs.specs.ir_model.declared.module.Function.{Function}
+use Rattle.pass_proofs.specs.ir_model.declared.operand.Intrinsic.{Intrinsic}
+use Rattle.pass_proofs.specs.ir_model.declared.operand.Operand.{Operand}
+use Rattle.pass_proofs.specs.pass_intrinsics.Lowered.{address, number_arg}
 use Rattle.pass_proofs.proofs.addresses.numbers.Done.{address_done}
 use Rattle.pass_split_proof.proofs.giving.Constants.{not_again}
 use Rattle.pass_split_proof.proofs.giving.Given.{call_here, none_given, one_given}
@@ -24,19 +24,19 @@ use Rattle.pass_split_proof.specs.simulation.Followed.{IsFollowed}
 use Rattle.pass_split_proof.specs.states.Activations.{HasFrame, Inside}
 use Rattle.pass_split_proof.specs.states.Memories.{homes_of}
 use Rattle.pass_split_proof.specs.states.Related.{AreRelated, credit_of}
-use Rattle.run_framed.specs.Framed.{FramedGiven, framed_step}
-use Rattle.run_laws.specs.access.Lines.{pointer_at}
-use Rattle.run_laws.specs.memory.Pointers.{IsValue}
-use Rattle.run_memory.specs.declared.block.MemoryBlock.{MemoryBlock}
-use Rattle.run_memory.specs.declared.pointer.Value.{Value}
-use Rattle.run_plain.specs.Plain.{PlainGiven, plain_context, plain_settled, plain_work}
-use Rattle.run_plain.specs.declared.state.PlainState.{PlainState}
-use Rattle.run_source.specs.Source.{frame_address}
-use Rattle.run_source.specs.State.{frame_address_of, function_of, gives, next, numbered, work_of}
-use Rattle.run_source.specs.declared.state.Instance.{Instance}
-use Rattle.run_source.specs.declared.state.State.{State}
-use Rattle.run_step.specs.Step.{AtInstr, Coro, Done, instr_action, set_value, value_at}
-use Rattle.run_step.specs.Values.{distance, element, indices_of, value_in}
+use Rattle.pass_proofs.specs.run_framed.Framed.{FramedGiven, framed_step}
+use Rattle.pass_proofs.specs.run_laws.access.Lines.{pointer_at}
+use Rattle.pass_proofs.specs.run_laws.memory.Pointers.{IsValue}
+use Rattle.pass_proofs.specs.run_memory.declared.block.MemoryBlock.{MemoryBlock}
+use Rattle.pass_proofs.specs.run_memory.declared.pointer.Value.{Value}
+use Rattle.run_access_worked.specs.run_plain.Plain.{PlainGiven, plain_context, plain_settled, plain_work}
+use Rattle.run_access_worked.specs.run_plain.declared.state.PlainState.{PlainState}
+use Rattle.pass_proofs.specs.run_source.Source.{frame_address}
+use Rattle.pass_proofs.specs.run_source.State.{frame_address_of, function_of, gives, next, numbered, work_of}
+use Rattle.pass_proofs.specs.run_source.declared.state.Instance.{Instance}
+use Rattle.pass_proofs.specs.run_source.declared.state.State.{State}
+use Rattle.pass_proofs.specs.run_step.Step.{AtInstr, Coro, Done, instr_action, set_value, value_at}
+use Rattle.pass_proofs.specs.run_step.Values.{distance, element, indices_of, value_in}
 
 -- a block that a memory has
 pub block_there : (m : List MemoryBlock) (b : ℕ) → b < length m → (y : MemoryBlock) × (slice_get m b ≡ Some y)

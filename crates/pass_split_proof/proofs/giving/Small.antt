@@ -3,18 +3,18 @@ use Rattle.std.proofs.Common.{◌≡◌, ℕ, ◌+◌, ◌<◌, ◌%◌, ◌^◌
 use Rattle.std.proofs.Math.Nat.{mod-eq_of_lt}
 use Rattle.std.proofs.lemmas.Bool.{and_from}
 use Rattle.std.specs.Prelude.{nat_lt, pos, ◌==◌}
-use Rattle.ir_base.specs.declared.outcome.Word.{Word}
-use Rattle.ir_base.specs.declared.ops.BinOp.{BinOp}
-use Rattle.ir_laws.proofs.facts.Truth.{itself}
-use Rattle.ir_model.specs.Ty.{int}
-use Rattle.ir_model.specs.declared.instr.Instr.{Instr}
-use Rattle.ir_model.specs.declared.operand.Operand.{Operand}
-use Rattle.pass_intrinsics.specs.Lowered.{no_flags, truth_of}
-use Rattle.run_ints.specs.Numbers.{binary}
-use Rattle.run_ints.specs.declared.num.Num.{Num}
-use Rattle.run_memory.specs.declared.pointer.Value.{Value}
-use Rattle.run_step.specs.Step.{Context, Done, Work, done, instr_action, set_value}
-use Rattle.run_step.specs.Values.{is_word_of, literal, number_at, number_of_width, truth_value, value_of}
+use Rattle.pass_proofs.specs.ir_base.declared.outcome.Word.{Word}
+use Rattle.pass_proofs.specs.ir_base.declared.ops.BinOp.{BinOp}
+use Rattle.pass_proofs.proofs.ir_laws.facts.Truth.{itself}
+use Rattle.pass_proofs.specs.ir_model.Ty.{int}
+use Rattle.pass_proofs.specs.ir_model.declared.instr.Instr.{Instr}
+use Rattle.pass_proofs.specs.ir_model.declared.operand.Operand.{Operand}
+use Rattle.pass_proofs.specs.pass_intrinsics.Lowered.{no_flags, truth_of}
+use Rattle.pass_proofs.specs.run_ints.Numbers.{binary}
+use Rattle.pass_proofs.specs.run_ints.declared.num.Num.{Num}
+use Rattle.pass_proofs.specs.run_memory.declared.pointer.Value.{Value}
+use Rattle.pass_proofs.specs.run_step.Step.{Context, Done, Work, done, instr_action, set_value}
+use Rattle.pass_proofs.specs.run_step.Values.{is_word_of, literal, number_at, number_of_width, truth_value, value_of}
 
 abbrev word : ℕ → ℕ → Word
 word w n = record { width = w; bits = n }

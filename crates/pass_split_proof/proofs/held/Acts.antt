@@ -1,29 +1,29 @@
 -- What an instruction makes of memory: blocks of allocators that live and are owned stay so.
 use Rattle.std.proofs.Common.{◌≡◌, ℕ, Bool, true, false, List, length, Option, None, Some, refl, ap, ◌∙◌}
 use Rattle.std.specs.Prelude.{slice_get, if◌then◌else◌}
-use Rattle.ir_base.specs.declared.cause.Cause.{Cause}
-use Rattle.ir_model.specs.Layout.{size_of}
-use Rattle.ir_model.specs.Ty.{Ty}
-use Rattle.ir_model.specs.declared.instr.Instr.{Instr}
-use Rattle.ir_model.specs.declared.module.Function.{Function}
-use Rattle.ir_model.specs.declared.operand.Allocator.{Allocator}
-use Rattle.ir_model.specs.declared.operand.Arg.{Arg}
-use Rattle.ir_model.specs.declared.operand.Callee.{Callee}
-use Rattle.ir_model.specs.declared.operand.Intrinsic.{Intrinsic}
+use Rattle.pass_proofs.specs.ir_base.declared.cause.Cause.{Cause}
+use Rattle.pass_proofs.specs.ir_model.Layout.{size_of}
+use Rattle.pass_proofs.specs.ir_model.Ty.{Ty}
+use Rattle.pass_proofs.specs.ir_model.declared.instr.Instr.{Instr}
+use Rattle.pass_proofs.specs.ir_model.declared.module.Function.{Function}
+use Rattle.pass_proofs.specs.ir_model.declared.operand.Allocator.{Allocator}
+use Rattle.pass_proofs.specs.ir_model.declared.operand.Arg.{Arg}
+use Rattle.pass_proofs.specs.ir_model.declared.operand.Callee.{Callee}
+use Rattle.pass_proofs.specs.ir_model.declared.operand.Intrinsic.{Intrinsic}
 use Rattle.pass_split_proof.proofs.held.Memory.{Keeps, ended_kind, get_last, keeps_more, keeps_no_heap, keeps_refilled, keeps_same, keeps_then, longer_by_one, no_heap_on, started_kind}
 use Rattle.pass_split_proof.specs.held.Kept.{IsNoHeap, MarksNoHeap, is_heap_in}
-use Rattle.run_framed.specs.Framed.{FramedGiven, framed_context}
-use Rattle.run_laws.proofs.access.Reading.{as_many}
-use Rattle.run_laws.proofs.embedded.Refills.{step_only}
-use Rattle.run_laws.specs.embedded.Refilled.{OnlyRefills}
-use Rattle.run_memory.specs.Memory.{end, ended, fresh, same_kind, start, started}
-use Rattle.run_memory.specs.declared.block.Kind.{Kind}
-use Rattle.run_memory.specs.declared.block.MemoryBlock.{MemoryBlock}
-use Rattle.run_memory.specs.declared.pointer.Value.{Value}
-use Rattle.run_source.specs.State.{work_of}
-use Rattle.run_source.specs.declared.state.State.{State}
-use Rattle.run_step.specs.Step.{Action, AtInstr, AtTerm, Context, Done, Fetched, NewSlot, Nowhere, Stuck, Work, action_of, alloca, alloca_kind, allocated, block_of, has_markers, instr_action, is_alignment, on_block, with_length}
-use Rattle.run_step.specs.Values.{arg_values, nth}
+use Rattle.pass_proofs.specs.run_framed.Framed.{FramedGiven, framed_context}
+use Rattle.pass_proofs.proofs.run_laws.access.Reading.{as_many}
+use Rattle.pass_proofs.proofs.run_laws.embedded.Refills.{step_only}
+use Rattle.pass_proofs.specs.run_laws.embedded.Refilled.{OnlyRefills}
+use Rattle.pass_proofs.specs.run_memory.Memory.{end, ended, fresh, same_kind, start, started}
+use Rattle.pass_proofs.specs.run_memory.declared.block.Kind.{Kind}
+use Rattle.pass_proofs.specs.run_memory.declared.block.MemoryBlock.{MemoryBlock}
+use Rattle.pass_proofs.specs.run_memory.declared.pointer.Value.{Value}
+use Rattle.pass_proofs.specs.run_source.State.{work_of}
+use Rattle.pass_proofs.specs.run_source.declared.state.State.{State}
+use Rattle.pass_proofs.specs.run_step.Step.{Action, AtInstr, AtTerm, Context, Done, Fetched, NewSlot, Nowhere, Stuck, Work, action_of, alloca, alloca_kind, allocated, block_of, has_markers, instr_action, is_alignment, on_block, with_length}
+use Rattle.pass_proofs.specs.run_step.Values.{arg_values, nth}
 
 -- what is done keeps them, and a new slot is no allocator's block
 abbrev pub ActsKept : List MemoryBlock → Action → Type 0

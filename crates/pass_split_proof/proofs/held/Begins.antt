@@ -4,32 +4,32 @@ use Rattle.std.specs.Prelude.{slice_get, is_none, is_some, filter}
 use Rattle.std.proofs.lemmas.Bool.{and_from, and_parts, eq-eqb, false≢true, leb-true}
 use Rattle.std.proofs.lemmas.Option.{slice_get_within}
 use Rattle.std.specs.Option.{option_map_or}
-use Rattle.ir_base.specs.declared.cause.Cause.{Cause}
+use Rattle.pass_proofs.specs.ir_base.declared.cause.Cause.{Cause}
 use Rattle.pass_split_proof.proofs.held.Instances.{changed_kept, have_slots_on, kept_on, more_kept}
 use Rattle.pass_split_proof.proofs.held.Memory.{Keeps, keeps_changed, slots_on}
 use Rattle.pass_split_proof.proofs.held.Moves.{StaysKept, found_is, if_kept, ok_is, ok_same, then_kept}
 use Rattle.pass_split_proof.proofs.states.Judged.{get_new}
 use Rattle.pass_split_proof.proofs.steps.Woken.{found_there}
 use Rattle.pass_split_proof.specs.held.Kept.{IsKeptState, IsNoHeap, is_heap_in, is_kept_in}
-use Rattle.run_framed.specs.Framed.{FramedGiven, are_finished_at, begin_given, begin_given_at, begin_in_block, begin_in_frame, covers, frame_around, framed_begin, has_room, has_size}
-use Rattle.run_laws.proofs.memory.Written.{changed_here, same_some}
-use Rattle.run_laws.specs.changed.Changed.{Each}
-use Rattle.run_memory.specs.Memory.{check, is_live, may_be_owned, own, owned_to, with_block}
-use Rattle.run_memory.specs.declared.block.Kind.{Kind}
-use Rattle.run_memory.specs.declared.block.MemoryBlock.{MemoryBlock}
-use Rattle.run_memory.specs.declared.pointer.Offset.{Offset}
-use Rattle.run_memory.specs.declared.pointer.Pointer.{Pointer}
-use Rattle.run_memory.specs.declared.pointer.Value.{Value}
-use Rattle.run_source.proofs.Indexes.{last-passes}
-use Rattle.run_source.specs.Source.{begin, begin_at, begun, is_among, is_live_at, new_instance}
-use Rattle.run_source.specs.State.{began_at, gives, last_where, own_facts, own_frame, with_memory}
-use Rattle.run_source.specs.declared.state.Instance.{Instance}
-use Rattle.run_source.specs.declared.state.Mode.{Mode}
-use Rattle.run_source.specs.declared.state.State.{State}
-use Rattle.run_source_tables.specs.Given.{Given}
-use Rattle.run_step.specs.Results.{and_then, found, ok_if}
-use Rattle.run_step.specs.Step.{block_of}
-use Rattle.run_step.specs.declared.world.Slot.{Slot}
+use Rattle.pass_proofs.specs.run_framed.Framed.{FramedGiven, are_finished_at, begin_given, begin_given_at, begin_in_block, begin_in_frame, covers, frame_around, framed_begin, has_room, has_size}
+use Rattle.pass_proofs.proofs.run_laws.memory.Written.{changed_here, same_some}
+use Rattle.pass_proofs.specs.run_laws.changed.Changed.{Each}
+use Rattle.pass_proofs.specs.run_memory.Memory.{check, is_live, may_be_owned, own, owned_to, with_block}
+use Rattle.pass_proofs.specs.run_memory.declared.block.Kind.{Kind}
+use Rattle.pass_proofs.specs.run_memory.declared.block.MemoryBlock.{MemoryBlock}
+use Rattle.pass_proofs.specs.run_memory.declared.pointer.Offset.{Offset}
+use Rattle.pass_proofs.specs.run_memory.declared.pointer.Pointer.{Pointer}
+use Rattle.pass_proofs.specs.run_memory.declared.pointer.Value.{Value}
+use Rattle.pass_proofs.proofs.run_source.Indexes.{last-passes}
+use Rattle.pass_proofs.specs.run_source.Source.{begin, begin_at, begun, is_among, is_live_at, new_instance}
+use Rattle.pass_proofs.specs.run_source.State.{began_at, gives, last_where, own_facts, own_frame, with_memory}
+use Rattle.pass_proofs.specs.run_source.declared.state.Instance.{Instance}
+use Rattle.pass_proofs.specs.run_source.declared.state.Mode.{Mode}
+use Rattle.pass_proofs.specs.run_source.declared.state.State.{State}
+use Rattle.pass_proofs.specs.run_source_tables.Given.{Given}
+use Rattle.pass_proofs.specs.run_step.Results.{and_then, found, ok_if}
+use Rattle.pass_proofs.specs.run_step.Step.{block_of}
+use Rattle.pass_proofs.specs.run_step.declared.world.Slot.{Slot}
 
 -- ---- slots that are parted
 

@@ -2,27 +2,27 @@
 use Rattle.std.proofs.Common.{◌≡◌, ℕ, zero, suc, Bool, true, false, not, List, [], ◌∷◌, Option, Some, None, Ok, Err, refl, sym, ap, ◌∙◌, subst, if◌then◌else◌, ◌&&◌, ◌==◌}
 use Rattle.std.specs.Prelude.{slice_get, is_some}
 use Rattle.std.proofs.lemmas.Bool.{and_parts, eqb-true, false≢true}
-use Rattle.ir_base.specs.declared.cause.Cause.{Cause}
+use Rattle.pass_proofs.specs.ir_base.declared.cause.Cause.{Cause}
 use Rattle.pass_split_proof.proofs.held.Instances.{have_slots_on, kept_on}
 use Rattle.pass_split_proof.proofs.held.LetGo.{have_slots_dead, let_go_kept, slots_dead, unkilled_at}
 use Rattle.pass_split_proof.proofs.held.Memory.{Keeps, keeps_changed, keeps_dead, keeps_same, slots_on}
 use Rattle.pass_split_proof.proofs.held.Moves.{StaysKept, ok_same, on_memory, then_kept}
 use Rattle.pass_split_proof.proofs.steps.Woken.{found_there}
 use Rattle.pass_split_proof.specs.held.Kept.{IsKeptState}
-use Rattle.run_laws.proofs.memory.Written.{changed_here}
-use Rattle.run_memory.specs.Memory.{disown, disowned, is_live, is_owned, is_unkilled, kill, killed, killed_block}
-use Rattle.run_memory.specs.declared.block.Kind.{Kind}
-use Rattle.run_memory.specs.declared.block.MemoryBlock.{MemoryBlock}
-use Rattle.run_memory.specs.declared.pointer.Offset.{Offset}
-use Rattle.run_memory.specs.declared.pointer.Pointer.{Pointer}
-use Rattle.run_memory.specs.declared.pointer.Value.{Value}
-use Rattle.run_source.proofs.Indexes.{last-passes}
-use Rattle.run_source.specs.Source.{deallocate, if_let_go, let_go, may_be_freed}
-use Rattle.run_source.specs.State.{began_at, is_suspended, last_where, next, with_memory}
-use Rattle.run_source.specs.declared.state.Instance.{Instance}
-use Rattle.run_source.specs.declared.state.State.{State}
-use Rattle.run_step.specs.Results.{and_then}
-use Rattle.run_step.specs.Step.{deallocated, without_slots}
+use Rattle.pass_proofs.proofs.run_laws.memory.Written.{changed_here}
+use Rattle.pass_proofs.specs.run_memory.Memory.{disown, disowned, is_live, is_owned, is_unkilled, kill, killed, killed_block}
+use Rattle.pass_proofs.specs.run_memory.declared.block.Kind.{Kind}
+use Rattle.pass_proofs.specs.run_memory.declared.block.MemoryBlock.{MemoryBlock}
+use Rattle.pass_proofs.specs.run_memory.declared.pointer.Offset.{Offset}
+use Rattle.pass_proofs.specs.run_memory.declared.pointer.Pointer.{Pointer}
+use Rattle.pass_proofs.specs.run_memory.declared.pointer.Value.{Value}
+use Rattle.pass_proofs.proofs.run_source.Indexes.{last-passes}
+use Rattle.pass_proofs.specs.run_source.Source.{deallocate, if_let_go, let_go, may_be_freed}
+use Rattle.pass_proofs.specs.run_source.State.{began_at, is_suspended, last_where, next, with_memory}
+use Rattle.pass_proofs.specs.run_source.declared.state.Instance.{Instance}
+use Rattle.pass_proofs.specs.run_source.declared.state.State.{State}
+use Rattle.pass_proofs.specs.run_step.Results.{and_then}
+use Rattle.pass_proofs.specs.run_step.Step.{deallocated, without_slots}
 
 -- ---- what a deallocator does to memory
 

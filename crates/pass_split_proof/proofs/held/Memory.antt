@@ -4,16 +4,16 @@ use Rattle.std.specs.Prelude.{slice_get, is_some}
 use Rattle.std.proofs.lemmas.Bool.{cases_eq, false≢true}
 use Rattle.pass_split_proof.proofs.states.Written.{length-changed}
 use Rattle.pass_split_proof.specs.held.Kept.{IsNoHeap, is_heap_in, is_kept_in, is_killed_in}
-use Rattle.run_laws.proofs.memory.Written.{changed_elsewhere, changed_here}
-use Rattle.run_laws.specs.changed.Changed.{Each}
-use Rattle.run_laws.specs.embedded.Refilled.{AreRefilled, IsRefilled}
-use Rattle.run_memory.specs.Memory.{ended, is_killed, is_live, killed, killed_block, same_kind, started, with_block}
-use Rattle.run_memory.specs.declared.block.Byte.{Byte}
-use Rattle.run_memory.specs.declared.block.Kind.{Kind}
-use Rattle.run_memory.specs.declared.block.Life.{Life}
-use Rattle.run_memory.specs.declared.block.MemoryBlock.{MemoryBlock}
-use Rattle.run_step.specs.Step.{without_slots}
-use Rattle.run_step.specs.declared.world.Slot.{Slot}
+use Rattle.pass_proofs.proofs.run_laws.memory.Written.{changed_elsewhere, changed_here}
+use Rattle.pass_proofs.specs.run_laws.changed.Changed.{Each}
+use Rattle.pass_proofs.specs.run_laws.embedded.Refilled.{AreRefilled, IsRefilled}
+use Rattle.pass_proofs.specs.run_memory.Memory.{ended, is_killed, is_live, killed, killed_block, same_kind, started, with_block}
+use Rattle.pass_proofs.specs.run_memory.declared.block.Byte.{Byte}
+use Rattle.pass_proofs.specs.run_memory.declared.block.Kind.{Kind}
+use Rattle.pass_proofs.specs.run_memory.declared.block.Life.{Life}
+use Rattle.pass_proofs.specs.run_memory.declared.block.MemoryBlock.{MemoryBlock}
+use Rattle.pass_proofs.specs.run_step.Step.{without_slots}
+use Rattle.pass_proofs.specs.run_step.declared.world.Slot.{Slot}
 
 -- what holds of a block later
 pub record IsKeptOn (o p : Option MemoryBlock) : Type 0 where

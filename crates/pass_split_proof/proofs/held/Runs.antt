@@ -2,18 +2,18 @@
 use Rattle.std.proofs.Common.{◌≡◌, ℕ, zero, suc, ◌+◌, Bool, true, false, not, List, Option, Some, None, refl, sym, ap, ◌∙◌, subst, arith, ◌&&◌, ◌==◌}
 use Rattle.std.specs.Prelude.{slice_get, is_some}
 use Rattle.std.proofs.lemmas.Bool.{and_from, and_parts, and_right, eqb-true, false≢true}
-use Rattle.ir_base.specs.declared.outcome.Word.{Word}
+use Rattle.pass_proofs.specs.ir_base.declared.outcome.Word.{Word}
 use Rattle.pass_split_proof.proofs.held.Steps.{step_kept}
 use Rattle.pass_split_proof.specs.held.Kept.{AreKept, DoGivenFramesLive, IsKeptState, MarksNoHeaps, begins_heap, is_heap_in, is_kept_in}
 use Rattle.pass_split_proof.specs.states.Instances.{is_given_in, is_held, is_held_in, lives_in}
-use Rattle.run_agreement.proofs.Runs.{iterate-add}
-use Rattle.run_framed.specs.Framed.{FramedGiven, framed_state_at, framed_step}
-use Rattle.run_memory.specs.Memory.{is_live}
-use Rattle.run_memory.specs.declared.block.MemoryBlock.{MemoryBlock}
-use Rattle.run_source.specs.Source.{first_state}
-use Rattle.run_source.specs.State.{is_finished, is_suspended}
-use Rattle.run_source.specs.declared.state.Instance.{Instance}
-use Rattle.run_source.specs.declared.state.Status.{Status}
+use Rattle.pass_proofs.proofs.run_agreement.Runs.{iterate-add}
+use Rattle.pass_proofs.specs.run_framed.Framed.{FramedGiven, framed_state_at, framed_step}
+use Rattle.pass_proofs.specs.run_memory.Memory.{is_live}
+use Rattle.pass_proofs.specs.run_memory.declared.block.MemoryBlock.{MemoryBlock}
+use Rattle.pass_proofs.specs.run_source.Source.{first_state}
+use Rattle.pass_proofs.specs.run_source.State.{is_finished, is_suspended}
+use Rattle.pass_proofs.specs.run_source.declared.state.Instance.{Instance}
+use Rattle.pass_proofs.specs.run_source.declared.state.Status.{Status}
 
 first_kept : (g : FramedGiven) (entry : ℕ) (args : List Word) → IsKeptState (first_state g.given.code entry args)
 first_kept g entry args = record {

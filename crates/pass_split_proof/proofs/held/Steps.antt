@@ -2,17 +2,17 @@
 use Rattle.std.proofs.Common.{◌≡◌, ℕ, ◌+◌, Bool, true, false, List, [], ◌∷◌, Option, Some, None, Result, Ok, Err, refl, sym, subst, if◌then◌else◌, ◌&&◌, ◌==◌}
 use Rattle.std.specs.Prelude.{negsuc, slice_get, unwrap_or}
 use Rattle.std.proofs.lemmas.Bool.{and_parts, false≢true}
-use Rattle.ir_base.specs.declared.cause.Cause.{Cause}
-use Rattle.ir_base.specs.declared.outcome.Outcome.{Outcome}
-use Rattle.ir_model.specs.Names.{function_at}
-use Rattle.ir_model.specs.Ty.{Ty}
-use Rattle.ir_model.specs.declared.instr.Instr.{Instr}
-use Rattle.ir_model.specs.declared.operand.Arg.{Arg}
-use Rattle.ir_model.specs.declared.operand.Callee.{Callee}
-use Rattle.ir_model.specs.declared.operand.Intrinsic.{Intrinsic}
-use Rattle.ir_model.specs.declared.operand.Operand.{Operand}
-use Rattle.ir_paths.specs.Windows.{destroy_label, operand_at, resume_label, suspend_of}
-use Rattle.ir_paths.specs.declared.point.Point.{Point}
+use Rattle.pass_proofs.specs.ir_base.declared.cause.Cause.{Cause}
+use Rattle.pass_proofs.specs.ir_base.declared.outcome.Outcome.{Outcome}
+use Rattle.pass_proofs.specs.ir_model.Names.{function_at}
+use Rattle.pass_proofs.specs.ir_model.Ty.{Ty}
+use Rattle.pass_proofs.specs.ir_model.declared.instr.Instr.{Instr}
+use Rattle.pass_proofs.specs.ir_model.declared.operand.Arg.{Arg}
+use Rattle.pass_proofs.specs.ir_model.declared.operand.Callee.{Callee}
+use Rattle.pass_proofs.specs.ir_model.declared.operand.Intrinsic.{Intrinsic}
+use Rattle.pass_proofs.specs.ir_model.declared.operand.Operand.{Operand}
+use Rattle.pass_proofs.specs.ir_paths.Windows.{destroy_label, operand_at, resume_label, suspend_of}
+use Rattle.pass_proofs.specs.ir_paths.declared.point.Point.{Point}
 use Rattle.pass_split_proof.proofs.held.Acts.{ActsKept, acts}
 use Rattle.pass_split_proof.proofs.held.Begins.{begins_kept}
 use Rattle.pass_split_proof.proofs.held.Freed.{frees_kept}
@@ -21,23 +21,23 @@ use Rattle.pass_split_proof.proofs.held.Moves.{StaysKept, edge_kept, entered, go
 use Rattle.pass_split_proof.proofs.steps.Branches.{own_there}
 use Rattle.pass_split_proof.proofs.steps.Woken.{destroy_goes, resume_goes}
 use Rattle.pass_split_proof.specs.held.Kept.{IsKeptState, IsNoHeap, MarksNoHeap, is_heap_in}
-use Rattle.run_framed.specs.Framed.{FramedGiven, alloca_from, continue_framed, disown_given, enter_given, framed_act, framed_advance, framed_context, framed_coro, framed_finish, framed_next, framed_promise, framed_slot, framed_step, given_ramp, is_stack_block, last_value}
-use Rattle.run_laws.specs.changed.Changed.{Each}
-use Rattle.run_memory.specs.Memory.{disown, disowned, same_kind}
-use Rattle.run_memory.specs.declared.block.Kind.{Kind}
-use Rattle.run_memory.specs.declared.block.MemoryBlock.{MemoryBlock}
-use Rattle.run_memory.specs.declared.pointer.Value.{Value}
-use Rattle.run_source.specs.Source.{Sleeper, after_end, called, change_own, destroy, done_at, end_of, finish, go_to, mode_of, release, resume, save, save_before, save_for, sleeper_at, slots_of, suspend}
-use Rattle.run_source.specs.State.{function_of, gives, next, or_undefined, own_instance, point_of, settled, with_memory, with_slots, work_of}
-use Rattle.run_source.specs.declared.state.Instance.{Instance}
-use Rattle.run_source.specs.declared.state.Mode.{Mode}
-use Rattle.run_source.specs.declared.state.State.{State}
-use Rattle.run_source.specs.declared.state.Status.{Status}
-use Rattle.run_source_tables.specs.Given.{has_final, is_final}
-use Rattle.run_step.specs.Results.{and_then, found, ok_if}
-use Rattle.run_step.specs.Step.{Action, AtInstr, AtTerm, Coro, Deallocate, Done, Enter, Fetched, GoTo, NewSlot, Nowhere, Return, Stuck, Work, action_of, fetch, without_slots}
-use Rattle.run_step.specs.Values.{arg_values, integer, nth, truth_value}
-use Rattle.run_step.specs.declared.world.Slot.{Slot}
+use Rattle.pass_proofs.specs.run_framed.Framed.{FramedGiven, alloca_from, continue_framed, disown_given, enter_given, framed_act, framed_advance, framed_context, framed_coro, framed_finish, framed_next, framed_promise, framed_slot, framed_step, given_ramp, is_stack_block, last_value}
+use Rattle.pass_proofs.specs.run_laws.changed.Changed.{Each}
+use Rattle.pass_proofs.specs.run_memory.Memory.{disown, disowned, same_kind}
+use Rattle.pass_proofs.specs.run_memory.declared.block.Kind.{Kind}
+use Rattle.pass_proofs.specs.run_memory.declared.block.MemoryBlock.{MemoryBlock}
+use Rattle.pass_proofs.specs.run_memory.declared.pointer.Value.{Value}
+use Rattle.pass_proofs.specs.run_source.Source.{Sleeper, after_end, called, change_own, destroy, done_at, end_of, finish, go_to, mode_of, release, resume, save, save_before, save_for, sleeper_at, slots_of, suspend}
+use Rattle.pass_proofs.specs.run_source.State.{function_of, gives, next, or_undefined, own_instance, point_of, settled, with_memory, with_slots, work_of}
+use Rattle.pass_proofs.specs.run_source.declared.state.Instance.{Instance}
+use Rattle.pass_proofs.specs.run_source.declared.state.Mode.{Mode}
+use Rattle.pass_proofs.specs.run_source.declared.state.State.{State}
+use Rattle.pass_proofs.specs.run_source.declared.state.Status.{Status}
+use Rattle.pass_proofs.specs.run_source_tables.Given.{has_final, is_final}
+use Rattle.pass_proofs.specs.run_step.Results.{and_then, found, ok_if}
+use Rattle.pass_proofs.specs.run_step.Step.{Action, AtInstr, AtTerm, Coro, Deallocate, Done, Enter, Fetched, GoTo, NewSlot, Nowhere, Return, Stuck, Work, action_of, fetch, without_slots}
+use Rattle.pass_proofs.specs.run_step.Values.{arg_values, integer, nth, truth_value}
+use Rattle.pass_proofs.specs.run_step.declared.world.Slot.{Slot}
 use Rattle.std.specs.Option.{option_map_or}
 
 -- ---- what only gives values

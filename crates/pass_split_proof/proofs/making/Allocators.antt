@@ -1,13 +1,13 @@
 -- A call of an allocator makes a block in both runs.
 use Rattle.std.proofs.Common.{◌≡◌, ℕ, ◌≤◌, true, false, List, ◌∷◌, [], Option, refl, ap, ◌∙◌, subst, arith}
-use Rattle.ir_base.specs.declared.cause.Cause.{Cause}
-use Rattle.ir_base.specs.declared.outcome.Outcome.{Outcome}
-use Rattle.ir_base.specs.declared.outcome.Word.{Word}
-use Rattle.ir_model.specs.Names.{function_at}
-use Rattle.ir_model.specs.declared.instr.Instr.{Instr}
-use Rattle.ir_model.specs.declared.module.Function.{Function}
-use Rattle.ir_model.specs.declared.operand.Allocator.{Allocator}
-use Rattle.ir_model.specs.declared.operand.Callee.{Callee}
+use Rattle.pass_proofs.specs.ir_base.declared.cause.Cause.{Cause}
+use Rattle.pass_proofs.specs.ir_base.declared.outcome.Outcome.{Outcome}
+use Rattle.pass_proofs.specs.ir_base.declared.outcome.Word.{Word}
+use Rattle.pass_proofs.specs.ir_model.Names.{function_at}
+use Rattle.pass_proofs.specs.ir_model.declared.instr.Instr.{Instr}
+use Rattle.pass_proofs.specs.ir_model.declared.module.Function.{Function}
+use Rattle.pass_proofs.specs.ir_model.declared.operand.Allocator.{Allocator}
+use Rattle.pass_proofs.specs.ir_model.declared.operand.Callee.{Callee}
 use Rattle.pass_split_proof.proofs.calling.Called.{args_stand}
 use Rattle.pass_split_proof.proofs.giving.Constants.{not_again}
 use Rattle.pass_split_proof.proofs.steps.Followed.{framed_does, one_followed}
@@ -20,18 +20,18 @@ use Rattle.pass_split_proof.specs.states.Activations.{Inside}
 use Rattle.pass_split_proof.specs.states.Memories.{homes_of}
 use Rattle.pass_split_proof.specs.states.Related.{AreRelated, credit_of}
 use Rattle.pass_split_proof.specs.steps.Slots.{with_made}
-use Rattle.run_agreement.specs.Machines.{IsFine}
-use Rattle.run_framed.specs.Framed.{FramedGiven, framed_context, framed_step}
-use Rattle.run_laws.specs.embedded.Related.{AreValues}
-use Rattle.run_laws.specs.memory.Pointers.{Home, IsValue}
-use Rattle.run_memory.specs.declared.block.Kind.{Kind}
-use Rattle.run_memory.specs.declared.pointer.Value.{Value}
-use Rattle.run_plain.specs.Plain.{PlainGiven, plain_context, plain_settled, plain_work}
-use Rattle.run_plain.specs.declared.state.PlainState.{PlainState}
-use Rattle.run_source.specs.State.{function_of, settled, work_of}
-use Rattle.run_source.specs.declared.state.State.{State}
-use Rattle.run_step.specs.Step.{AtInstr, Done, Stuck, Work, action_of, allocated, allocator_call, risen, with_length}
-use Rattle.run_step.specs.Values.{arg_values, nth}
+use Rattle.pass_proofs.specs.run_agreement.Machines.{IsFine}
+use Rattle.pass_proofs.specs.run_framed.Framed.{FramedGiven, framed_context, framed_step}
+use Rattle.pass_proofs.specs.run_laws.embedded.Related.{AreValues}
+use Rattle.pass_proofs.specs.run_laws.memory.Pointers.{Home, IsValue}
+use Rattle.pass_proofs.specs.run_memory.declared.block.Kind.{Kind}
+use Rattle.pass_proofs.specs.run_memory.declared.pointer.Value.{Value}
+use Rattle.run_access_worked.specs.run_plain.Plain.{PlainGiven, plain_context, plain_settled, plain_work}
+use Rattle.run_access_worked.specs.run_plain.declared.state.PlainState.{PlainState}
+use Rattle.pass_proofs.specs.run_source.State.{function_of, settled, work_of}
+use Rattle.pass_proofs.specs.run_source.declared.state.State.{State}
+use Rattle.pass_proofs.specs.run_step.Step.{AtInstr, Done, Stuck, Work, action_of, allocated, allocator_call, risen, with_length}
+use Rattle.pass_proofs.specs.run_step.Values.{arg_values, nth}
 
 -- both allocators do the same
 action_is : (w : Work) (result : Option ℕ) (vs : List Value) (a : Allocator) → allocates a ≡ true

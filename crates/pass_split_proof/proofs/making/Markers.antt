@@ -2,24 +2,24 @@
 use Rattle.std.proofs.Common.{◌≡◌, ℕ, ◌≤◌, ⊎_elim, Bool, true, false, List, [], ◌∷◌, Option, Some, None, refl, ap, subst, sym, arith, ◌||◌}
 use Rattle.std.proofs.lemmas.Bool.{false≢true, or_cases}
 use Rattle.std.specs.List.{list_any}
-use Rattle.ir_model.specs.declared.instr.Instr.{Instr}
-use Rattle.ir_model.specs.declared.instr.Phi.{Phi}
-use Rattle.ir_model.specs.declared.instr.Terminator.{Terminator}
-use Rattle.ir_model.specs.declared.module.Block.{Block}
-use Rattle.ir_model.specs.declared.module.Function.{Function}
-use Rattle.ir_model.specs.declared.operand.Arg.{Arg}
-use Rattle.ir_model.specs.declared.operand.Callee.{Callee}
-use Rattle.ir_model.specs.declared.operand.Intrinsic.{Intrinsic}
-use Rattle.pass_intrinsics.specs.Lowered.{lowered, lowered_call, number_of_save, save_or_none}
-use Rattle.pass_intrinsics.specs.Shapes.{first_name, shape_of}
-use Rattle.pass_intrinsics.specs.declared.shape.Part.{Part}
-use Rattle.pass_intrinsics.specs.declared.shape.Shape.{Shape}
+use Rattle.pass_proofs.specs.ir_model.declared.instr.Instr.{Instr}
+use Rattle.pass_proofs.specs.ir_model.declared.instr.Phi.{Phi}
+use Rattle.pass_proofs.specs.ir_model.declared.instr.Terminator.{Terminator}
+use Rattle.pass_proofs.specs.ir_model.declared.module.Block.{Block}
+use Rattle.pass_proofs.specs.ir_model.declared.module.Function.{Function}
+use Rattle.pass_proofs.specs.ir_model.declared.operand.Arg.{Arg}
+use Rattle.pass_proofs.specs.ir_model.declared.operand.Callee.{Callee}
+use Rattle.pass_proofs.specs.ir_model.declared.operand.Intrinsic.{Intrinsic}
+use Rattle.pass_proofs.specs.pass_intrinsics.Lowered.{lowered, lowered_call, number_of_save, save_or_none}
+use Rattle.pass_proofs.specs.pass_intrinsics.Shapes.{first_name, shape_of}
+use Rattle.pass_proofs.specs.pass_intrinsics.declared.shape.Part.{Part}
+use Rattle.pass_proofs.specs.pass_intrinsics.declared.shape.Shape.{Shape}
 use Rattle.pass_proofs.proofs.split.rules.Carried.{Becomes, part_all, plain_all}
-use Rattle.pass_split.specs.Parts.{plain_shape}
+use Rattle.pass_proofs.specs.pass_split.Parts.{plain_shape}
 use Rattle.pass_split_proof.specs.places.Places.{IsCodeOf, OfCoroutine, OfPlain}
-use Rattle.rule_laws.proofs.rules.replaced.Passed.{IsAll}
-use Rattle.run_laws.specs.changed.Changed.{Each}
-use Rattle.run_step.specs.Step.{has_markers, is_marker_of}
+use Rattle.pass_proofs.proofs.rule_laws.rules.replaced.Passed.{IsAll}
+use Rattle.pass_proofs.specs.run_laws.changed.Changed.{Each}
+use Rattle.pass_proofs.specs.run_step.Step.{has_markers, is_marker_of}
 
 or_first : (a b : Bool) → a ≡ true → (a || b) ≡ true
 or_first a b e = ap (λ (t : Bool). t || b) e

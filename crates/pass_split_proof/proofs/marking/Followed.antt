@@ -1,11 +1,11 @@
 -- At a marker of a slot its block starts or ends in both runs.
 use Rattle.std.proofs.Common.{◌≡◌, ℕ, zero, suc, ◌+◌, ◌≤◌, List, [], ◌∷◌, length, Option, Some, refl, sym, ap, ◌∙◌, subst, arith}
-use Rattle.ir_base.specs.declared.outcome.Outcome.{Outcome}
-use Rattle.ir_model.specs.Names.{function_at}
-use Rattle.ir_model.specs.declared.instr.Instr.{Instr}
-use Rattle.ir_model.specs.declared.module.Function.{Function}
-use Rattle.ir_model.specs.declared.operand.Callee.{Callee}
-use Rattle.ir_model.specs.declared.operand.Intrinsic.{Intrinsic}
+use Rattle.pass_proofs.specs.ir_base.declared.outcome.Outcome.{Outcome}
+use Rattle.pass_proofs.specs.ir_model.Names.{function_at}
+use Rattle.pass_proofs.specs.ir_model.declared.instr.Instr.{Instr}
+use Rattle.pass_proofs.specs.ir_model.declared.module.Function.{Function}
+use Rattle.pass_proofs.specs.ir_model.declared.operand.Callee.{Callee}
+use Rattle.pass_proofs.specs.ir_model.declared.operand.Intrinsic.{Intrinsic}
 use Rattle.pass_split_proof.proofs.calling.Called.{args_stand}
 use Rattle.pass_split_proof.proofs.giving.Constants.{not_again}
 use Rattle.pass_split_proof.proofs.marking.Started.{started_beside, started_frames}
@@ -23,21 +23,21 @@ use Rattle.pass_split_proof.specs.states.Instances.{AreFrames}
 use Rattle.pass_split_proof.specs.states.Memories.{AreBeside, homes_of}
 use Rattle.pass_split_proof.specs.states.Related.{AreRelated, credit_of}
 use Rattle.pass_split_proof.specs.states.Values.{AreValuesOf}
-use Rattle.run_framed.specs.Framed.{FramedGiven, framed_context}
-use Rattle.run_laws.specs.embedded.Related.{AreValues}
-use Rattle.run_laws.specs.memory.Pointers.{Extends, Home, IsValue}
-use Rattle.run_laws.specs.memory.Standing.{own_homes}
-use Rattle.run_memory.specs.Memory.{ended, started, with_block}
-use Rattle.run_memory.specs.declared.block.MemoryBlock.{MemoryBlock}
-use Rattle.run_memory.specs.declared.pointer.Offset.{Offset}
-use Rattle.run_memory.specs.declared.pointer.Pointer.{Pointer}
-use Rattle.run_memory.specs.declared.pointer.Value.{Value}
-use Rattle.run_plain.specs.Plain.{PlainGiven, plain_context, plain_settled, plain_work}
-use Rattle.run_plain.specs.declared.state.PlainState.{PlainState}
-use Rattle.run_source.specs.State.{function_of, settled, work_of}
-use Rattle.run_source.specs.declared.state.State.{State}
-use Rattle.run_step.specs.Step.{AtInstr, Context, Done, Work, action_of, block_of, on_block, set_memory}
-use Rattle.run_step.specs.Values.{arg_values, nth}
+use Rattle.pass_proofs.specs.run_framed.Framed.{FramedGiven, framed_context}
+use Rattle.pass_proofs.specs.run_laws.embedded.Related.{AreValues}
+use Rattle.pass_proofs.specs.run_laws.memory.Pointers.{Extends, Home, IsValue}
+use Rattle.pass_proofs.specs.run_laws.memory.Standing.{own_homes}
+use Rattle.pass_proofs.specs.run_memory.Memory.{ended, started, with_block}
+use Rattle.pass_proofs.specs.run_memory.declared.block.MemoryBlock.{MemoryBlock}
+use Rattle.pass_proofs.specs.run_memory.declared.pointer.Offset.{Offset}
+use Rattle.pass_proofs.specs.run_memory.declared.pointer.Pointer.{Pointer}
+use Rattle.pass_proofs.specs.run_memory.declared.pointer.Value.{Value}
+use Rattle.run_access_worked.specs.run_plain.Plain.{PlainGiven, plain_context, plain_settled, plain_work}
+use Rattle.run_access_worked.specs.run_plain.declared.state.PlainState.{PlainState}
+use Rattle.pass_proofs.specs.run_source.State.{function_of, settled, work_of}
+use Rattle.pass_proofs.specs.run_source.declared.state.State.{State}
+use Rattle.pass_proofs.specs.run_step.Step.{AtInstr, Context, Done, Work, action_of, block_of, on_block, set_memory}
+use Rattle.pass_proofs.specs.run_step.Values.{arg_values, nth}
 
 -- the value at a place stands for that at the same place
 stands_there : (homes : List Home) (vs us : List Value) (i : ℕ) → AreValues homes vs us

@@ -3,30 +3,30 @@ use Rattle.std.proofs.Common.{◌≡◌, ℕ, ◌<◌, ◌≤◌, Bool, true, fa
 use Rattle.std.specs.Prelude.{is_none, slice_get}
 use Rattle.std.proofs.lemmas.Bool.{and_parts, false≢true}
 use Rattle.std.proofs.lemmas.Option.{slice_get_within}
-use Rattle.ir_base.specs.declared.cause.Cause.{Cause}
-use Rattle.ir_model.specs.Names.{function_at}
-use Rattle.ir_model.specs.declared.instr.Instr.{Instr}
-use Rattle.ir_model.specs.declared.module.Module.{Module}
+use Rattle.pass_proofs.specs.ir_base.declared.cause.Cause.{Cause}
+use Rattle.pass_proofs.specs.ir_model.Names.{function_at}
+use Rattle.pass_proofs.specs.ir_model.declared.instr.Instr.{Instr}
+use Rattle.pass_proofs.specs.ir_model.declared.module.Module.{Module}
 use Rattle.pass_split_proof.proofs.held.Moves.{ok_is, ok_same}
 use Rattle.pass_split_proof.proofs.own_blocks.Heaps.{SameHeaps, changed_heaps}
 use Rattle.pass_split_proof.proofs.own_blocks.States.{StaysOwn, gives_own, memory_own, then_own}
 use Rattle.pass_split_proof.specs.held.Kept.{is_heap_in}
 use Rattle.pass_split_proof.specs.own_blocks.Own.{FitsMode, HasOwnBlocks, IsOwnInstance, IsOwnState, SetsNoAlloca}
-use Rattle.run_framed.specs.Framed.{FramedGiven, framed_begin}
-use Rattle.run_memory.specs.Memory.{check, may_be_owned, own, owned_to, with_block}
-use Rattle.run_memory.specs.declared.block.Kind.{Kind}
-use Rattle.run_memory.specs.declared.block.MemoryBlock.{MemoryBlock}
-use Rattle.run_memory.specs.declared.pointer.Offset.{Offset}
-use Rattle.run_memory.specs.declared.pointer.Pointer.{Pointer}
-use Rattle.run_memory.specs.declared.pointer.Value.{Value}
-use Rattle.run_source.specs.Source.{begin, begin_at, begun, new_instance}
-use Rattle.run_source.specs.State.{function_of, gives, own_frame, with_memory}
-use Rattle.run_source.specs.declared.state.Mode.{Mode}
-use Rattle.run_source.specs.declared.state.State.{State}
-use Rattle.run_states.proofs.sound_states.Kept.{each_more, each_set}
-use Rattle.run_step.specs.Effects.{is_alloca}
-use Rattle.run_step.specs.Results.{and_then, found, ok_if}
-use Rattle.run_step.specs.Step.{AtInstr, block_of, fetch}
+use Rattle.pass_proofs.specs.run_framed.Framed.{FramedGiven, framed_begin}
+use Rattle.pass_proofs.specs.run_memory.Memory.{check, may_be_owned, own, owned_to, with_block}
+use Rattle.pass_proofs.specs.run_memory.declared.block.Kind.{Kind}
+use Rattle.pass_proofs.specs.run_memory.declared.block.MemoryBlock.{MemoryBlock}
+use Rattle.pass_proofs.specs.run_memory.declared.pointer.Offset.{Offset}
+use Rattle.pass_proofs.specs.run_memory.declared.pointer.Pointer.{Pointer}
+use Rattle.pass_proofs.specs.run_memory.declared.pointer.Value.{Value}
+use Rattle.pass_proofs.specs.run_source.Source.{begin, begin_at, begun, new_instance}
+use Rattle.pass_proofs.specs.run_source.State.{function_of, gives, own_frame, with_memory}
+use Rattle.pass_proofs.specs.run_source.declared.state.Mode.{Mode}
+use Rattle.pass_proofs.specs.run_source.declared.state.State.{State}
+use Rattle.pass_proofs.proofs.run_states.sound_states.Kept.{each_more, each_set}
+use Rattle.pass_proofs.specs.run_step.Effects.{is_alloca}
+use Rattle.pass_proofs.specs.run_step.Results.{and_then, found, ok_if}
+use Rattle.pass_proofs.specs.run_step.Step.{AtInstr, block_of, fetch}
 
 -- what is owned is a block of an allocator
 record IsOwnedHeap (m : List MemoryBlock) (mem : Value) (n : ℕ) (k : List MemoryBlock) : Type 0 where

@@ -1,15 +1,15 @@
 -- Coro intrinsics and deallocators leave states in which frames begin blocks of allocators.
 use Rattle.std.proofs.Common.{◌≡◌, ℕ, Bool, true, false, not, List, [], length, Option, Some, None, Result, Ok, Err, refl, sym, ◌∙◌, subst, if◌then◌else◌, ◌&&◌, ◌==◌}
 use Rattle.std.specs.Prelude.{negsuc}
-use Rattle.ir_base.specs.declared.cause.Cause.{Cause}
-use Rattle.ir_model.specs.Names.{function_at}
-use Rattle.ir_model.specs.declared.instr.Instr.{Instr}
-use Rattle.ir_model.specs.declared.module.Module.{Module}
-use Rattle.ir_model.specs.declared.operand.Arg.{Arg}
-use Rattle.ir_model.specs.declared.operand.Intrinsic.{Intrinsic}
-use Rattle.ir_model.specs.declared.operand.Operand.{Operand}
-use Rattle.ir_paths.specs.Windows.{destroy_label, operand_at, resume_label, suspend_of}
-use Rattle.ir_paths.specs.declared.point.Point.{Point}
+use Rattle.pass_proofs.specs.ir_base.declared.cause.Cause.{Cause}
+use Rattle.pass_proofs.specs.ir_model.Names.{function_at}
+use Rattle.pass_proofs.specs.ir_model.declared.instr.Instr.{Instr}
+use Rattle.pass_proofs.specs.ir_model.declared.module.Module.{Module}
+use Rattle.pass_proofs.specs.ir_model.declared.operand.Arg.{Arg}
+use Rattle.pass_proofs.specs.ir_model.declared.operand.Intrinsic.{Intrinsic}
+use Rattle.pass_proofs.specs.ir_model.declared.operand.Operand.{Operand}
+use Rattle.pass_proofs.specs.ir_paths.Windows.{destroy_label, operand_at, resume_label, suspend_of}
+use Rattle.pass_proofs.specs.ir_paths.declared.point.Point.{Point}
 use Rattle.pass_split_proof.proofs.held.Moves.{ok_is, ok_same}
 use Rattle.pass_split_proof.proofs.own_blocks.Begun.{begins_own}
 use Rattle.pass_split_proof.proofs.own_blocks.Heaps.{SameHeaps, changed_heaps, dead_heaps, freed_heaps, heaps_then}
@@ -17,21 +17,21 @@ use Rattle.pass_split_proof.proofs.own_blocks.States.{StaysOwn, gives_own, goes_
 use Rattle.pass_split_proof.proofs.steps.Branches.{own_there}
 use Rattle.pass_split_proof.proofs.steps.Woken.{destroy_goes, instance_found, resume_goes}
 use Rattle.pass_split_proof.specs.own_blocks.Own.{HasOwnBlocks, IsOwnState, SetsNoAlloca}
-use Rattle.run_framed.specs.Framed.{FramedGiven, continue_framed, disown_given, framed_coro, framed_finish, framed_promise, is_stack_block}
-use Rattle.run_memory.specs.Memory.{disown, disowned}
-use Rattle.run_memory.specs.declared.block.MemoryBlock.{MemoryBlock}
-use Rattle.run_memory.specs.declared.pointer.Value.{Value}
-use Rattle.run_source.specs.Source.{Sleeper, after_end, change_own, deallocate, destroy, done_at, end_of, finish, if_let_go, may_be_freed, let_go, release, resume, save, save_before, save_for, sleeper_at, slots_of, suspend}
-use Rattle.run_source.specs.State.{function_of, gives, instance_at, next, own_instance, point_of, with_instance, with_left, with_memory}
-use Rattle.run_source.specs.declared.state.Instance.{Instance}
-use Rattle.run_source.specs.declared.state.Mode.{Mode}
-use Rattle.run_source.specs.declared.state.State.{State}
-use Rattle.run_source.specs.declared.state.Status.{Status}
-use Rattle.run_source_tables.specs.Given.{has_final, is_final}
-use Rattle.run_step.specs.Effects.{is_alloca}
-use Rattle.run_step.specs.Results.{and_then, found, ok_if}
-use Rattle.run_step.specs.Step.{AtInstr, deallocated, fetch, without_slots}
-use Rattle.run_step.specs.Values.{integer, nth, truth_value}
+use Rattle.pass_proofs.specs.run_framed.Framed.{FramedGiven, continue_framed, disown_given, framed_coro, framed_finish, framed_promise, is_stack_block}
+use Rattle.pass_proofs.specs.run_memory.Memory.{disown, disowned}
+use Rattle.pass_proofs.specs.run_memory.declared.block.MemoryBlock.{MemoryBlock}
+use Rattle.pass_proofs.specs.run_memory.declared.pointer.Value.{Value}
+use Rattle.pass_proofs.specs.run_source.Source.{Sleeper, after_end, change_own, deallocate, destroy, done_at, end_of, finish, if_let_go, may_be_freed, let_go, release, resume, save, save_before, save_for, sleeper_at, slots_of, suspend}
+use Rattle.pass_proofs.specs.run_source.State.{function_of, gives, instance_at, next, own_instance, point_of, with_instance, with_left, with_memory}
+use Rattle.pass_proofs.specs.run_source.declared.state.Instance.{Instance}
+use Rattle.pass_proofs.specs.run_source.declared.state.Mode.{Mode}
+use Rattle.pass_proofs.specs.run_source.declared.state.State.{State}
+use Rattle.pass_proofs.specs.run_source.declared.state.Status.{Status}
+use Rattle.pass_proofs.specs.run_source_tables.Given.{has_final, is_final}
+use Rattle.pass_proofs.specs.run_step.Effects.{is_alloca}
+use Rattle.pass_proofs.specs.run_step.Results.{and_then, found, ok_if}
+use Rattle.pass_proofs.specs.run_step.Step.{AtInstr, deallocated, fetch, without_slots}
+use Rattle.pass_proofs.specs.run_step.Values.{integer, nth, truth_value}
 
 abbrev sleeping : State → Point → Point → Instance → Instance
 sleeping s save suspend x = record x {

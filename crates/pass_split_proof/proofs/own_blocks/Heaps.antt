@@ -2,25 +2,25 @@
 use Rattle.std.proofs.Common.{◌≡◌, ℕ, zero, suc, ◌<◌, ◌≤◌, ⊎_elim, List, [], ◌∷◌, length, Option, Some, None, Ok, refl, sym, ap, ◌∙◌, subst, arith}
 use Rattle.std.specs.Prelude.{slice_get}
 use Rattle.std.proofs.lemmas.Bool.{cases_eq}
-use Rattle.ir_model.specs.declared.module.Function.{Function}
-use Rattle.ir_model.specs.declared.module.Module.{Module}
+use Rattle.pass_proofs.specs.ir_model.declared.module.Function.{Function}
+use Rattle.pass_proofs.specs.ir_model.declared.module.Module.{Module}
 use Rattle.pass_split_proof.proofs.held.Freed.{killed_ok}
 use Rattle.pass_split_proof.proofs.held.Memory.{Keeps}
 use Rattle.pass_split_proof.proofs.held.Moves.{ok_same}
 use Rattle.pass_split_proof.proofs.states.Written.{length-changed}
 use Rattle.pass_split_proof.specs.held.Kept.{IsNoHeap, is_heap_in}
 use Rattle.pass_split_proof.specs.own_blocks.Own.{AreMade, AreOwn, AreOwnBelow, IsMade, IsOwnActivation}
-use Rattle.run_laws.proofs.memory.Written.{changed_elsewhere, changed_here}
-use Rattle.run_memory.specs.Memory.{killed, killed_block, same_kind, with_block}
-use Rattle.run_memory.specs.declared.block.Kind.{Kind}
-use Rattle.run_memory.specs.declared.block.MemoryBlock.{MemoryBlock}
-use Rattle.run_memory.specs.declared.pointer.Pointer.{Pointer}
-use Rattle.run_memory.specs.declared.pointer.Value.{Value}
-use Rattle.run_source.specs.declared.state.Activation.{Activation}
-use Rattle.run_source.specs.declared.state.Instance.{Instance}
-use Rattle.run_step.specs.Step.{deallocated, without_slots}
-use Rattle.run_step.specs.Values.{Env}
-use Rattle.run_step.specs.declared.world.Slot.{Slot}
+use Rattle.pass_proofs.proofs.run_laws.memory.Written.{changed_elsewhere, changed_here}
+use Rattle.pass_proofs.specs.run_memory.Memory.{killed, killed_block, same_kind, with_block}
+use Rattle.pass_proofs.specs.run_memory.declared.block.Kind.{Kind}
+use Rattle.pass_proofs.specs.run_memory.declared.block.MemoryBlock.{MemoryBlock}
+use Rattle.pass_proofs.specs.run_memory.declared.pointer.Pointer.{Pointer}
+use Rattle.pass_proofs.specs.run_memory.declared.pointer.Value.{Value}
+use Rattle.pass_proofs.specs.run_source.declared.state.Activation.{Activation}
+use Rattle.pass_proofs.specs.run_source.declared.state.Instance.{Instance}
+use Rattle.pass_proofs.specs.run_step.Step.{deallocated, without_slots}
+use Rattle.pass_proofs.specs.run_step.Values.{Env}
+use Rattle.pass_proofs.specs.run_step.declared.world.Slot.{Slot}
 
 -- there are no fewer blocks, and those that there were are of allocators as before
 pub record SameHeaps (m k : List MemoryBlock) : Type 0 where

@@ -1,17 +1,17 @@
 -- In each state of a framed run in which no call gives a frame, frames begin blocks of allocators.
 use Rattle.std.proofs.Common.{◌≡◌, ℕ, zero, suc, ◌+◌, ◌<◌, false, List, map, refl, sym, ap, ◌∙◌, subst, arith}
-use Rattle.ir_base.specs.declared.outcome.Word.{Word}
-use Rattle.ir_model.specs.Names.{function_at}
+use Rattle.pass_proofs.specs.ir_base.declared.outcome.Word.{Word}
+use Rattle.pass_proofs.specs.ir_model.Names.{function_at}
 use Rattle.pass_split_proof.proofs.own_blocks.Steps.{marks_none, step_own}
 use Rattle.pass_split_proof.specs.held.Kept.{MarksNoHeaps}
 use Rattle.pass_split_proof.specs.own_blocks.Own.{HasOwnBlocks, IsOwnState}
-use Rattle.run_agreement.proofs.Runs.{iterate-add}
-use Rattle.run_framed.specs.Framed.{FramedGiven, framed_state_at, framed_step}
-use Rattle.run_memory.specs.declared.pointer.Value.{Value}
-use Rattle.run_source.specs.Source.{first_state}
-use Rattle.run_source.specs.State.{function_of}
-use Rattle.run_states.proofs.sound_states.Acts.{entry_length}
-use Rattle.run_step.specs.Step.{fetch}
+use Rattle.pass_proofs.proofs.run_agreement.Runs.{iterate-add}
+use Rattle.pass_proofs.specs.run_framed.Framed.{FramedGiven, framed_state_at, framed_step}
+use Rattle.pass_proofs.specs.run_memory.declared.pointer.Value.{Value}
+use Rattle.pass_proofs.specs.run_source.Source.{first_state}
+use Rattle.pass_proofs.specs.run_source.State.{function_of}
+use Rattle.pass_proofs.proofs.run_states.sound_states.Acts.{entry_length}
+use Rattle.pass_proofs.specs.run_step.Step.{fetch}
 
 module _ (g : FramedGiven) (asks : HasOwnBlocks g.given.code) (entry : ℕ) (args : List Word)
     (plain : (function_at g.given.code entry).coroutine ≡ false) where

@@ -1,13 +1,13 @@
 -- What parts of a step leave of states in which frames begin blocks of allocators.
 use Rattle.std.proofs.Common.{◌≡◌, ℕ, ◌+◌, ◌<◌, Bool, true, false, List, [], ◌∷◌, length, Option, Some, None, Result, Ok, Err, refl, sym, ap, ◌∙◌, subst, arith, if◌then◌else◌}
 use Rattle.std.specs.Prelude.{is_none, slice_get}
-use Rattle.ir_base.specs.declared.cause.Cause.{Cause}
-use Rattle.ir_model.specs.Names.{function_at, position_of}
-use Rattle.ir_model.specs.declared.instr.Instr.{Instr}
-use Rattle.ir_model.specs.declared.instr.Terminator.{Terminator}
-use Rattle.ir_model.specs.declared.module.Function.{Function}
-use Rattle.ir_model.specs.declared.module.Module.{Module}
-use Rattle.ir_paths.specs.declared.point.Point.{Point}
+use Rattle.pass_proofs.specs.ir_base.declared.cause.Cause.{Cause}
+use Rattle.pass_proofs.specs.ir_model.Names.{function_at, position_of}
+use Rattle.pass_proofs.specs.ir_model.declared.instr.Instr.{Instr}
+use Rattle.pass_proofs.specs.ir_model.declared.instr.Terminator.{Terminator}
+use Rattle.pass_proofs.specs.ir_model.declared.module.Function.{Function}
+use Rattle.pass_proofs.specs.ir_model.declared.module.Module.{Module}
+use Rattle.pass_proofs.specs.ir_paths.declared.point.Point.{Point}
 use Rattle.pass_split_proof.proofs.own_blocks.Heaps.{SameHeaps, activation_later, below_later, dead_heaps, made_later, own_later, same_heaps}
 use Rattle.pass_split_proof.proofs.own_blocks.Made.{all_made, entered_length, entered_other, last_alloca, next_alloca, next_made, result_elsewhere, same_made}
 use Rattle.pass_split_proof.proofs.steps.Branches.{left_by, own_there}
@@ -15,25 +15,25 @@ use Rattle.pass_split_proof.specs.held.Kept.{is_heap_in}
 use Rattle.pass_split_proof.specs.own_blocks.Own.{AreOwn, AreOwnBelow, FitsMode, HasOwnBlocks, IsMade, IsOwnActivation, IsOwnInstance, IsOwnState, SetsNoAlloca}
 use Rattle.pass_split_proof.specs.simulation.Premises.{AreAllocasAlone, IsEntryAlloca}
 use Rattle.pass_split_proof.specs.steps.Branches.{Entered, Left, Stayed, WasLeft}
-use Rattle.run_framed.specs.Framed.{FramedGiven, alloca_from, continue_framed, enter_after, reentry_values}
-use Rattle.run_memory.specs.declared.block.MemoryBlock.{MemoryBlock}
-use Rattle.run_memory.specs.declared.pointer.Value.{Value}
-use Rattle.run_source.specs.Source.{called, change_own, go_to, left_windows, mode_of, pop, push, resumed, return, returned}
-use Rattle.run_source.specs.State.{frame_address_of, function_of, gives, own_instance, settled, with_instance, with_left, with_memory, with_slots, with_status, work_of}
-use Rattle.run_source.specs.declared.state.Activation.{Activation}
-use Rattle.run_source.specs.declared.state.Instance.{Instance}
-use Rattle.run_source.specs.declared.state.Mode.{Mode}
-use Rattle.run_source.specs.declared.state.State.{State}
-use Rattle.run_source.specs.declared.state.Status.{Status}
-use Rattle.run_states.proofs.moved_states.Frames.{reentry_length}
-use Rattle.run_states.proofs.sound_states.Acts.{entry_length}
-use Rattle.run_states.proofs.sound_states.Fits.{result_length}
-use Rattle.run_states.proofs.sound_states.Kept.{each_set}
-use Rattle.run_step.specs.Effects.{is_alloca}
-use Rattle.run_step.specs.Results.{and_then, ok_if}
-use Rattle.run_step.specs.Step.{AtInstr, AtTerm, Work, fetch, label_of, outcome_of, set_result, values_in, without_slots}
-use Rattle.run_step.specs.Values.{Env, value_in}
-use Rattle.run_step.specs.declared.world.Slot.{Slot}
+use Rattle.pass_proofs.specs.run_framed.Framed.{FramedGiven, alloca_from, continue_framed, enter_after, reentry_values}
+use Rattle.pass_proofs.specs.run_memory.declared.block.MemoryBlock.{MemoryBlock}
+use Rattle.pass_proofs.specs.run_memory.declared.pointer.Value.{Value}
+use Rattle.pass_proofs.specs.run_source.Source.{called, change_own, go_to, left_windows, mode_of, pop, push, resumed, return, returned}
+use Rattle.pass_proofs.specs.run_source.State.{frame_address_of, function_of, gives, own_instance, settled, with_instance, with_left, with_memory, with_slots, with_status, work_of}
+use Rattle.pass_proofs.specs.run_source.declared.state.Activation.{Activation}
+use Rattle.pass_proofs.specs.run_source.declared.state.Instance.{Instance}
+use Rattle.pass_proofs.specs.run_source.declared.state.Mode.{Mode}
+use Rattle.pass_proofs.specs.run_source.declared.state.State.{State}
+use Rattle.pass_proofs.specs.run_source.declared.state.Status.{Status}
+use Rattle.pass_proofs.proofs.run_states.moved_states.Frames.{reentry_length}
+use Rattle.pass_proofs.proofs.run_states.sound_states.Acts.{entry_length}
+use Rattle.pass_proofs.proofs.run_states.sound_states.Fits.{result_length}
+use Rattle.pass_proofs.proofs.run_states.sound_states.Kept.{each_set}
+use Rattle.pass_proofs.specs.run_step.Effects.{is_alloca}
+use Rattle.pass_proofs.specs.run_step.Results.{and_then, ok_if}
+use Rattle.pass_proofs.specs.run_step.Step.{AtInstr, AtTerm, Work, fetch, label_of, outcome_of, set_result, values_in, without_slots}
+use Rattle.pass_proofs.specs.run_step.Values.{Env, value_in}
+use Rattle.pass_proofs.specs.run_step.declared.world.Slot.{Slot}
 
 -- what a part of a step gives, if it gives a state
 abbrev pub StaysOwn : Module → Result State Cause → Type 0

@@ -2,21 +2,21 @@
 use Rattle.std.proofs.Common.{◌≡◌, ℕ, ◌+◌, ◌<◌, ◌≤◌, ⊎_elim, Bool, true, false, List, ◌∷◌, length, Option, Some, None, Result, Ok, Err, refl, sym, ap, ◌∙◌, subst, arith, if◌then◌else◌}
 use Rattle.std.specs.Prelude.{slice_get, unwrap_or}
 use Rattle.std.proofs.lemmas.Bool.{cases_eq, cases_lt, false≢true}
-use Rattle.ir_base.specs.declared.cause.Cause.{Cause}
-use Rattle.ir_base.specs.declared.outcome.Outcome.{Outcome}
-use Rattle.ir_model.specs.Layout.{size_of}
-use Rattle.ir_model.specs.Names.{function_at}
-use Rattle.ir_model.specs.Ty.{Ty, int}
-use Rattle.ir_model.specs.declared.instr.Instr.{Instr}
-use Rattle.ir_model.specs.declared.instr.Terminator.{Terminator}
-use Rattle.ir_model.specs.declared.module.Function.{Function}
-use Rattle.ir_model.specs.declared.module.Module.{Module}
-use Rattle.ir_model.specs.declared.operand.Allocator.{Allocator}
-use Rattle.ir_model.specs.declared.operand.Arg.{Arg}
-use Rattle.ir_model.specs.declared.operand.Callee.{Callee}
-use Rattle.ir_model.specs.declared.operand.Intrinsic.{Intrinsic}
-use Rattle.ir_model.specs.declared.operand.Operand.{Operand}
-use Rattle.ir_paths.specs.Windows.{is_call_of}
+use Rattle.pass_proofs.specs.ir_base.declared.cause.Cause.{Cause}
+use Rattle.pass_proofs.specs.ir_base.declared.outcome.Outcome.{Outcome}
+use Rattle.pass_proofs.specs.ir_model.Layout.{size_of}
+use Rattle.pass_proofs.specs.ir_model.Names.{function_at}
+use Rattle.pass_proofs.specs.ir_model.Ty.{Ty, int}
+use Rattle.pass_proofs.specs.ir_model.declared.instr.Instr.{Instr}
+use Rattle.pass_proofs.specs.ir_model.declared.instr.Terminator.{Terminator}
+use Rattle.pass_proofs.specs.ir_model.declared.module.Function.{Function}
+use Rattle.pass_proofs.specs.ir_model.declared.module.Module.{Module}
+use Rattle.pass_proofs.specs.ir_model.declared.operand.Allocator.{Allocator}
+use Rattle.pass_proofs.specs.ir_model.declared.operand.Arg.{Arg}
+use Rattle.pass_proofs.specs.ir_model.declared.operand.Callee.{Callee}
+use Rattle.pass_proofs.specs.ir_model.declared.operand.Intrinsic.{Intrinsic}
+use Rattle.pass_proofs.specs.ir_model.declared.operand.Operand.{Operand}
+use Rattle.pass_proofs.specs.ir_paths.Windows.{is_call_of}
 use Rattle.pass_split_proof.proofs.held.Acts.{ActsKept, acts}
 use Rattle.pass_split_proof.proofs.own_blocks.Coros.{coro_own, frees_own}
 use Rattle.pass_split_proof.proofs.own_blocks.Heaps.{kept_heaps, made_later, own_later, below_later}
@@ -26,28 +26,28 @@ use Rattle.pass_split_proof.proofs.steps.Saves.{set_there}
 use Rattle.pass_split_proof.specs.held.Kept.{IsNoHeap, MarksNoHeap, is_heap_in}
 use Rattle.pass_split_proof.specs.own_blocks.Own.{FitsMode, HasOwnBlocks, IsMade, IsOwnState, SetsNoAlloca}
 use Rattle.pass_split_proof.specs.simulation.Premises.{AreAllocasAlone, IsEntryAlloca, MarksAlloca, is_of_coroutines}
-use Rattle.pass_renewed_proof.proofs.Sets.{step_sets}
-use Rattle.pass_renewed_proof.specs.Steps.{SetsOnly}
-use Rattle.pass_kept_proof.specs.Needed.{given_by, given_by_allocator, given_by_call, given_by_intrinsic}
-use Rattle.run_framed.specs.Framed.{FramedGiven, enter_given, framed_act, framed_advance, framed_context, framed_next, framed_slot, framed_step, given_call}
-use Rattle.run_hooks.proofs.alive.Acts.{never_returns, slots_by}
-use Rattle.run_laws.proofs.transfer.Sets.{set_elsewhere, set_length}
-use Rattle.run_laws.specs.changed.Changed.{result_of}
-use Rattle.run_memory.specs.Memory.{copy}
-use Rattle.run_memory.specs.declared.block.MemoryBlock.{MemoryBlock}
-use Rattle.run_memory.specs.declared.pointer.Offset.{Offset}
-use Rattle.run_memory.specs.declared.pointer.Pointer.{Pointer}
-use Rattle.run_memory.specs.declared.pointer.Value.{Value}
-use Rattle.run_source.specs.Source.{called, go_to, mode_of}
-use Rattle.run_source.specs.State.{function_of, or_undefined, settled, with_slots, work_of}
-use Rattle.run_source.specs.declared.state.Mode.{Mode}
-use Rattle.run_source.specs.declared.state.State.{State}
-use Rattle.run_states.proofs.branches.Branches.{IsNoBranch, instr_none}
-use Rattle.run_states.proofs.sound_states.Fits.{Fits, fits}
-use Rattle.run_step.specs.Effects.{is_alloca}
-use Rattle.run_step.specs.Step.{Action, AtInstr, AtTerm, Context, Coro, Deallocate, Done, Enter, Fetched, GoTo, NewSlot, Nowhere, Return, Stuck, Work, action_of, alloca, block_of, branch, done, fetch, instr_action, is_alignment, is_lifetime, set_memory, switch, term_action, value_at, with_length}
-use Rattle.run_step.specs.Values.{Env, address, arg_value, arg_values, nth, pointer_to, with_value}
-use Rattle.run_step.specs.declared.world.Slot.{Slot}
+use Rattle.run_types.proofs.pass_renewed_proof.Sets.{step_sets}
+use Rattle.run_types.specs.pass_renewed_proof.Steps.{SetsOnly}
+use Rattle.pass_proofs.specs.pass_kept_proof.Needed.{given_by, given_by_allocator, given_by_call, given_by_intrinsic}
+use Rattle.pass_proofs.specs.run_framed.Framed.{FramedGiven, enter_given, framed_act, framed_advance, framed_context, framed_next, framed_slot, framed_step, given_call}
+use Rattle.run_types.proofs.run_hooks.alive.Acts.{never_returns, slots_by}
+use Rattle.pass_proofs.proofs.run_laws.transfer.Sets.{set_elsewhere, set_length}
+use Rattle.pass_proofs.specs.run_laws.changed.Changed.{result_of}
+use Rattle.pass_proofs.specs.run_memory.Memory.{copy}
+use Rattle.pass_proofs.specs.run_memory.declared.block.MemoryBlock.{MemoryBlock}
+use Rattle.pass_proofs.specs.run_memory.declared.pointer.Offset.{Offset}
+use Rattle.pass_proofs.specs.run_memory.declared.pointer.Pointer.{Pointer}
+use Rattle.pass_proofs.specs.run_memory.declared.pointer.Value.{Value}
+use Rattle.pass_proofs.specs.run_source.Source.{called, go_to, mode_of}
+use Rattle.pass_proofs.specs.run_source.State.{function_of, or_undefined, settled, with_slots, work_of}
+use Rattle.pass_proofs.specs.run_source.declared.state.Mode.{Mode}
+use Rattle.pass_proofs.specs.run_source.declared.state.State.{State}
+use Rattle.pass_proofs.proofs.run_states.branches.Branches.{IsNoBranch, instr_none}
+use Rattle.pass_proofs.proofs.run_states.sound_states.Fits.{Fits, fits}
+use Rattle.pass_proofs.specs.run_step.Effects.{is_alloca}
+use Rattle.pass_proofs.specs.run_step.Step.{Action, AtInstr, AtTerm, Context, Coro, Deallocate, Done, Enter, Fetched, GoTo, NewSlot, Nowhere, Return, Stuck, Work, action_of, alloca, block_of, branch, done, fetch, instr_action, is_alignment, is_lifetime, set_memory, switch, term_action, value_at, with_length}
+use Rattle.pass_proofs.specs.run_step.Values.{Env, address, arg_value, arg_values, nth, pointer_to, with_value}
+use Rattle.pass_proofs.specs.run_step.declared.world.Slot.{Slot}
 
 -- what gives a name has it as its result
 given_intrinsic : (i : Intrinsic) (result : Option ℕ) (name : ℕ) → given_by_intrinsic i result ≡ Some name

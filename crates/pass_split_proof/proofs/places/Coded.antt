@@ -1,31 +1,31 @@
 -- What stands in a part for an instruction of its function, and where the places behind both are.
 use Rattle.std.proofs.Common.{◌≡◌, inl, inr, ℕ, ◌+◌, ◌≤◌, false, List, [], ◌∷◌, length, refl, sym, ap, ◌∙◌, subst, arith}
 use Rattle.std.specs.Prelude.{None, Some, slice_get}
-use Rattle.flow_solver.specs.Paths.{IsListed}
-use Rattle.ir_laws.proofs.paths.crossing.Spots.{Spot, spot_first, spot_next, spot_term}
-use Rattle.ir_laws.proofs.paths.edges.Lists.{listed_at}
-use Rattle.ir_model.specs.Names.{position_of}
-use Rattle.ir_model.specs.declared.instr.Instr.{Instr}
-use Rattle.ir_model.specs.declared.instr.Phi.{Phi}
-use Rattle.ir_model.specs.declared.instr.Terminator.{Terminator}
-use Rattle.ir_model.specs.declared.module.Block.{Block}
-use Rattle.ir_model.specs.declared.module.Function.{Function}
-use Rattle.ir_paths.specs.Paths.{targets}
-use Rattle.pass_intrinsics.specs.Cuts.{cut_at}
-use Rattle.pass_intrinsics.specs.Lowered.{lowered, names_taken}
-use Rattle.pass_intrinsics.specs.Shapes.{pass_label}
-use Rattle.pass_intrinsics.specs.declared.cuts.Cut.{Cut}
-use Rattle.pass_intrinsics.specs.declared.shape.Part.{Part}
-use Rattle.pass_intrinsics.specs.declared.shape.Shape.{Shape}
+use Rattle.pass_proofs.specs.flow_solver.Paths.{IsListed}
+use Rattle.pass_proofs.proofs.ir_laws.paths.crossing.Spots.{Spot, spot_first, spot_next, spot_term}
+use Rattle.pass_proofs.proofs.ir_laws.paths.edges.Lists.{listed_at}
+use Rattle.pass_proofs.specs.ir_model.Names.{position_of}
+use Rattle.pass_proofs.specs.ir_model.declared.instr.Instr.{Instr}
+use Rattle.pass_proofs.specs.ir_model.declared.instr.Phi.{Phi}
+use Rattle.pass_proofs.specs.ir_model.declared.instr.Terminator.{Terminator}
+use Rattle.pass_proofs.specs.ir_model.declared.module.Block.{Block}
+use Rattle.pass_proofs.specs.ir_model.declared.module.Function.{Function}
+use Rattle.pass_proofs.specs.ir_paths.Paths.{targets}
+use Rattle.pass_proofs.specs.pass_intrinsics.Cuts.{cut_at}
+use Rattle.pass_proofs.specs.pass_intrinsics.Lowered.{lowered, names_taken}
+use Rattle.pass_proofs.specs.pass_intrinsics.Shapes.{pass_label}
+use Rattle.pass_proofs.specs.pass_intrinsics.declared.cuts.Cut.{Cut}
+use Rattle.pass_proofs.specs.pass_intrinsics.declared.shape.Part.{Part}
+use Rattle.pass_proofs.specs.pass_intrinsics.declared.shape.Shape.{Shape}
 use Rattle.pass_proofs.proofs.split.edges.Pieces.{HasHead, head_is}
 use Rattle.pass_split_proof.proofs.places.Cuts.{AsOne, AtBegin, AtMark, AtReturn, AtSuspend, AtTransfer, IsCut, first_cut, names_grow}
 use Rattle.pass_split_proof.proofs.places.Lines.{ahead_instr, all_there, line_there}
 use Rattle.pass_proofs.proofs.split.uses.Sources.{origin_marks, origin_stays}
 use Rattle.pass_split_proof.specs.places.Places.{AreNew, BeginsAgain, HasCode, HasLike, IsCode, IsPlace, Marks, Remain, Returns, Stays, Suspends, Transfers, entering}
 use Rattle.pass_proofs.specs.split.rules.Pieced.{ArePieces, block_with, in_front}
-use Rattle.pass_split.specs.Pieces.{begins_again, origin_in, pass_block, stop_label}
-use Rattle.pass_split.specs.declared.origin.Origin.{Origin}
-use Rattle.run_step.specs.Step.{AtInstr, AtTerm, fetch, phis_of}
+use Rattle.pass_proofs.specs.pass_split.Pieces.{begins_again, origin_in, pass_block, stop_label}
+use Rattle.pass_proofs.specs.pass_split.declared.origin.Origin.{Origin}
+use Rattle.pass_proofs.specs.run_step.Step.{AtInstr, AtTerm, fetch, phis_of}
 
 -- ---- phis
 

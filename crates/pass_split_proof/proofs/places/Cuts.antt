@@ -1,18 +1,18 @@
 -- The pieces of what is left of a block, by its first instruction.
 use Rattle.std.proofs.Common.{◌≡◌, ℕ, ◌+◌, ◌≤◌, true, false, List, [], ◌∷◌, refl, arith}
 use Rattle.std.specs.Prelude.{None}
-use Rattle.ir_model.specs.declared.instr.Instr.{Instr}
-use Rattle.ir_model.specs.declared.instr.Phi.{Phi}
-use Rattle.ir_model.specs.declared.instr.Terminator.{Terminator}
-use Rattle.ir_model.specs.declared.module.Block.{Block}
-use Rattle.pass_intrinsics.specs.Cuts.{cut_at}
-use Rattle.pass_intrinsics.specs.Lowered.{lowered, names_taken}
-use Rattle.pass_intrinsics.specs.Shapes.{pass_label}
-use Rattle.pass_intrinsics.specs.declared.cuts.Cut.{Cut}
-use Rattle.pass_intrinsics.specs.declared.shape.Part.{Part}
-use Rattle.pass_intrinsics.specs.declared.shape.Shape.{Shape}
+use Rattle.pass_proofs.specs.ir_model.declared.instr.Instr.{Instr}
+use Rattle.pass_proofs.specs.ir_model.declared.instr.Phi.{Phi}
+use Rattle.pass_proofs.specs.ir_model.declared.instr.Terminator.{Terminator}
+use Rattle.pass_proofs.specs.ir_model.declared.module.Block.{Block}
+use Rattle.pass_proofs.specs.pass_intrinsics.Cuts.{cut_at}
+use Rattle.pass_proofs.specs.pass_intrinsics.Lowered.{lowered, names_taken}
+use Rattle.pass_proofs.specs.pass_intrinsics.Shapes.{pass_label}
+use Rattle.pass_proofs.specs.pass_intrinsics.declared.cuts.Cut.{Cut}
+use Rattle.pass_proofs.specs.pass_intrinsics.declared.shape.Part.{Part}
+use Rattle.pass_proofs.specs.pass_intrinsics.declared.shape.Shape.{Shape}
 use Rattle.pass_proofs.specs.split.rules.Pieced.{ArePieces, BeginsAgain, Ends, Marks, Returns, Stays, Suspends, Transfers, block_with, in_front}
-use Rattle.pass_split.specs.Pieces.{begins_again, pass_block, redirected_term, stop_label}
+use Rattle.pass_proofs.specs.pass_split.Pieces.{begins_again, pass_block, redirected_term, stop_label}
 
 module _ (s : Shape) (part : Part) (t : Terminator) where
   -- where the pass cuts at the first instruction, and what is left behind it

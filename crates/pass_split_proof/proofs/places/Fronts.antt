@@ -1,21 +1,21 @@
 -- The places at the fronts of blocks, to which edges lead.
 use Rattle.std.proofs.Common.{◌≡◌, ◌≤◌, inl, inr, ℕ, Bool, true, false, List, [], ◌∷◌, length, refl, sym, ap, ◌∙◌, subst}
 use Rattle.std.specs.Prelude.{Option, Some, map, slice_get, if◌then◌else◌, ◌==◌}
-use Rattle.flow_solver.specs.Paths.{IsListed}
-use Rattle.ir_laws.proofs.facts.Truth.{equal_numbers}
-use Rattle.ir_laws.proofs.paths.crossing.Spots.{spot_first, spot_term, Spot}
-use Rattle.ir_laws.proofs.paths.edges.Lists.{listed_at}
-use Rattle.ir_laws.proofs.paths.uses.Paths.{place_of}
-use Rattle.ir_model.specs.Names.{position_of}
-use Rattle.ir_model.specs.declared.instr.Instr.{Instr}
-use Rattle.ir_model.specs.declared.instr.Phi.{Phi}
-use Rattle.ir_model.specs.declared.instr.Terminator.{Terminator}
-use Rattle.ir_model.specs.declared.module.Block.{Block}
-use Rattle.ir_model.specs.declared.module.Function.{Function}
-use Rattle.ir_paths.specs.Paths.{targets}
-use Rattle.pass_intrinsics.specs.Shapes.{done_label}
-use Rattle.pass_intrinsics.specs.declared.shape.Part.{Part}
-use Rattle.pass_intrinsics.specs.declared.shape.Shape.{Shape}
+use Rattle.pass_proofs.specs.flow_solver.Paths.{IsListed}
+use Rattle.pass_proofs.proofs.ir_laws.facts.Truth.{equal_numbers}
+use Rattle.pass_proofs.proofs.ir_laws.paths.crossing.Spots.{spot_first, spot_term, Spot}
+use Rattle.pass_proofs.proofs.ir_laws.paths.edges.Lists.{listed_at}
+use Rattle.pass_proofs.proofs.ir_laws.paths.uses.Paths.{place_of}
+use Rattle.pass_proofs.specs.ir_model.Names.{position_of}
+use Rattle.pass_proofs.specs.ir_model.declared.instr.Instr.{Instr}
+use Rattle.pass_proofs.specs.ir_model.declared.instr.Phi.{Phi}
+use Rattle.pass_proofs.specs.ir_model.declared.instr.Terminator.{Terminator}
+use Rattle.pass_proofs.specs.ir_model.declared.module.Block.{Block}
+use Rattle.pass_proofs.specs.ir_model.declared.module.Function.{Function}
+use Rattle.pass_proofs.specs.ir_paths.Paths.{targets}
+use Rattle.pass_proofs.specs.pass_intrinsics.Shapes.{done_label}
+use Rattle.pass_proofs.specs.pass_intrinsics.declared.shape.Part.{Part}
+use Rattle.pass_proofs.specs.pass_intrinsics.declared.shape.Shape.{Shape}
 use Rattle.pass_proofs.proofs.split.edges.Cuttable.{HasBlock}
 use Rattle.pass_proofs.proofs.split.edges.Pieces.{head_is}
 use Rattle.pass_proofs.proofs.split.edges.Targets.{to_redirected}
@@ -25,11 +25,11 @@ use Rattle.pass_split_proof.proofs.places.Lines.{ahead_term}
 use Rattle.pass_split_proof.specs.places.Places.{Enters, HasLike, IsNamed, IsPlace, Leads, Straight, ThroughDone, entering}
 use Rattle.pass_proofs.specs.split.rules.Pieced.{ArePieces, block_with}
 use Rattle.pass_proofs.specs.split.rules.Reached.{Edge, IsLedTo}
-use Rattle.pass_split.specs.Parts.{done_block}
-use Rattle.pass_split.specs.Pieces.{origin_in, pieced_phi, redirected, redirected_term}
-use Rattle.pass_split.specs.Reached.{targets_in}
-use Rattle.pass_split.specs.declared.origin.Origin.{Origin}
-use Rattle.run_step.specs.Step.{AtTerm, fetch, label_of, phis_of}
+use Rattle.pass_proofs.specs.pass_split.Parts.{done_block}
+use Rattle.pass_proofs.specs.pass_split.Pieces.{origin_in, pieced_phi, redirected, redirected_term}
+use Rattle.pass_proofs.specs.pass_split.Reached.{targets_in}
+use Rattle.pass_proofs.specs.pass_split.declared.origin.Origin.{Origin}
+use Rattle.pass_proofs.specs.run_step.Step.{AtTerm, fetch, label_of, phis_of}
 
 -- the pieces of a block, each of which stands in g where an edge leads to it
 pub record HasCuts (s : Shape) (part : Part) (f g : Function) (origins : List Origin) (b : Block) : Type 0 where

@@ -1,23 +1,23 @@
 -- The places of a function in what splitting makes of it, of coroutines and of other functions.
 use Rattle.std.proofs.Common.{◌≡◌, inl, ℕ, Bool, true, false, List, ◌∷◌, ◌++◌, refl, sym, ap, ◌∙◌, subst}
 use Rattle.std.specs.Prelude.{Some, if◌then◌else◌, map, slice_get}
-use Rattle.flow_solver.specs.Paths.{IsListed}
-use Rattle.frame_layout.specs.declared.layout.Layout.{Layout}
-use Rattle.ir_laws.proofs.paths.source_rules.Locals.{listed_right}
-use Rattle.ir_model.specs.declared.instr.Instr.{Instr}
-use Rattle.ir_model.specs.declared.instr.Phi.{Phi}
-use Rattle.ir_model.specs.declared.instr.Terminator.{Terminator}
-use Rattle.ir_model.specs.declared.module.Block.{Block}
-use Rattle.ir_model.specs.declared.module.Function.{Function}
-use Rattle.ir_model.specs.declared.module.Module.{Module}
-use Rattle.ir_model.specs.declared.operand.Callee.{Callee}
-use Rattle.ir_model.specs.declared.operand.Intrinsic.{Intrinsic}
-use Rattle.ir_paths.specs.Paths.{targets}
-use Rattle.pass_intrinsics.specs.Cuts.{cut_at, goes_on}
-use Rattle.pass_intrinsics.specs.Shapes.{shape_of}
-use Rattle.pass_intrinsics.specs.declared.cuts.Cut.{Cut}
-use Rattle.pass_intrinsics.specs.declared.shape.Part.{Part}
-use Rattle.pass_intrinsics.specs.declared.shape.Shape.{Shape}
+use Rattle.pass_proofs.specs.flow_solver.Paths.{IsListed}
+use Rattle.pass_proofs.specs.frame_layout.declared.layout.Layout.{Layout}
+use Rattle.pass_proofs.proofs.ir_laws.paths.source_rules.Locals.{listed_right}
+use Rattle.pass_proofs.specs.ir_model.declared.instr.Instr.{Instr}
+use Rattle.pass_proofs.specs.ir_model.declared.instr.Phi.{Phi}
+use Rattle.pass_proofs.specs.ir_model.declared.instr.Terminator.{Terminator}
+use Rattle.pass_proofs.specs.ir_model.declared.module.Block.{Block}
+use Rattle.pass_proofs.specs.ir_model.declared.module.Function.{Function}
+use Rattle.pass_proofs.specs.ir_model.declared.module.Module.{Module}
+use Rattle.pass_proofs.specs.ir_model.declared.operand.Callee.{Callee}
+use Rattle.pass_proofs.specs.ir_model.declared.operand.Intrinsic.{Intrinsic}
+use Rattle.pass_proofs.specs.ir_paths.Paths.{targets}
+use Rattle.pass_proofs.specs.pass_intrinsics.Cuts.{cut_at, goes_on}
+use Rattle.pass_proofs.specs.pass_intrinsics.Shapes.{shape_of}
+use Rattle.pass_proofs.specs.pass_intrinsics.declared.cuts.Cut.{Cut}
+use Rattle.pass_proofs.specs.pass_intrinsics.declared.shape.Part.{Part}
+use Rattle.pass_proofs.specs.pass_intrinsics.declared.shape.Shape.{Shape}
 use Rattle.pass_proofs.proofs.split.edges.Cuttable.{IsCuttable}
 use Rattle.pass_proofs.proofs.split.edges.Rules.{stopped}
 use Rattle.pass_proofs.proofs.split.edges.Sources.{cuttable}
@@ -30,10 +30,10 @@ use Rattle.pass_split_proof.proofs.places.Ramps.{ramp_front}
 use Rattle.pass_split_proof.specs.places.Places.{BeginsAgain, Enters, IsCode, IsCodeOf, IsPlace, Leads, Marks, OfCoroutine, OfPlain, Returns, Stays, Suspends, Transfers, entering}
 use Rattle.pass_proofs.specs.split.rules.Parted.{IsPartOf}
 use Rattle.pass_proofs.specs.split.rules.Splittable.{IsSplittable}
-use Rattle.pass_split.specs.Parts.{plain_shape}
-use Rattle.pass_split.specs.Pieces.{begins_again, pieced_phi, redirected_term, stop_label}
-use Rattle.rule_shape.specs.Suspends.{is_suspend}
-use Rattle.run_step.specs.Step.{AtInstr, AtTerm, fetch, label_of}
+use Rattle.pass_proofs.specs.pass_split.Parts.{plain_shape}
+use Rattle.pass_proofs.specs.pass_split.Pieces.{begins_again, pieced_phi, redirected_term, stop_label}
+use Rattle.pass_proofs.specs.rule_shape.Suspends.{is_suspend}
+use Rattle.pass_proofs.specs.run_step.Step.{AtInstr, AtTerm, fetch, label_of}
 
 pub code_of : (f g : Function) (s : Shape) (part : Part) → IsCodeOf f g s part → IsCutCode s part f g
 code_of f g _ _ (OfCoroutine m k layout begin part x is) = part_code m k f g begin layout part x is

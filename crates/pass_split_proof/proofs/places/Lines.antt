@@ -1,13 +1,13 @@
 -- Instructions that stand one behind another, from a place of a block on.
 use Rattle.std.proofs.Common.{◌≡◌, ℕ, suc, ◌+◌, List, [], ◌∷◌, ◌++◌, length, refl, sym, ap, ◌∙◌, subst, arith, append-nil}
-use Rattle.ir_laws.proofs.paths.crossing.Spots.{Spot, spot_instr, spot_next, spot_term}
-use Rattle.ir_model.specs.declared.instr.Instr.{Instr}
-use Rattle.ir_model.specs.declared.instr.Terminator.{Terminator}
-use Rattle.ir_model.specs.declared.module.Block.{Block}
-use Rattle.ir_model.specs.declared.module.Function.{Function}
+use Rattle.pass_proofs.proofs.ir_laws.paths.crossing.Spots.{Spot, spot_instr, spot_next, spot_term}
+use Rattle.pass_proofs.specs.ir_model.declared.instr.Instr.{Instr}
+use Rattle.pass_proofs.specs.ir_model.declared.instr.Terminator.{Terminator}
+use Rattle.pass_proofs.specs.ir_model.declared.module.Block.{Block}
+use Rattle.pass_proofs.specs.ir_model.declared.module.Function.{Function}
 use Rattle.pass_split_proof.specs.places.Places.{Remain}
-use Rattle.run_laws.specs.access.Lines.{StandAt}
-use Rattle.run_step.specs.Step.{AtInstr, AtTerm, fetch}
+use Rattle.pass_proofs.specs.run_laws.access.Lines.{StandAt}
+use Rattle.pass_proofs.specs.run_step.Step.{AtInstr, AtTerm, fetch}
 
 module _ (h : Function) (q : ℕ) (b : Block) where
   -- the first of the instructions ahead stand there, and behind them the others are ahead

@@ -1,19 +1,19 @@
 -- The blocks of a part, as they are looked for by their labels, and their pieces.
 use Rattle.std.proofs.Common.{◌≡◌, ◌≤◌, inl, inr, ℕ, ◌+◌, ◌-◌, List, [], ◌∷◌, ◌++◌, length, refl, sym, ap, ◌∙◌, subst, arith}
 use Rattle.std.specs.Prelude.{Some, map, slice_get}
-use Rattle.flow_solver.specs.Paths.{IsListed}
-use Rattle.frame_layout.specs.declared.layout.Layout.{Layout}
-use Rattle.ir_laws.proofs.facts.Numbers.{label_of}
-use Rattle.ir_laws.proofs.paths.edges.Lists.{listed_at, one_numbered}
-use Rattle.ir_laws.proofs.paths.source_rules.Locals.{listed_left, listed_right}
-use Rattle.rule_laws.proofs.rules.source_rules.Locals.{own_label}
-use Rattle.ir_model.specs.Names.{position_of}
-use Rattle.ir_model.specs.declared.module.Block.{Block}
-use Rattle.ir_model.specs.declared.module.Function.{Function}
-use Rattle.ir_model.specs.declared.module.Module.{Module}
-use Rattle.pass_intrinsics.specs.Shapes.{first_name, has_end, shape_of}
-use Rattle.pass_intrinsics.specs.declared.shape.Part.{Part}
-use Rattle.pass_intrinsics.specs.declared.shape.Shape.{Shape}
+use Rattle.pass_proofs.specs.flow_solver.Paths.{IsListed}
+use Rattle.pass_proofs.specs.frame_layout.declared.layout.Layout.{Layout}
+use Rattle.pass_proofs.proofs.ir_laws.facts.Numbers.{label_of}
+use Rattle.pass_proofs.proofs.ir_laws.paths.edges.Lists.{listed_at, one_numbered}
+use Rattle.pass_proofs.proofs.ir_laws.paths.source_rules.Locals.{listed_left, listed_right}
+use Rattle.pass_proofs.proofs.rule_laws.rules.source_rules.Locals.{own_label}
+use Rattle.pass_proofs.specs.ir_model.Names.{position_of}
+use Rattle.pass_proofs.specs.ir_model.declared.module.Block.{Block}
+use Rattle.pass_proofs.specs.ir_model.declared.module.Function.{Function}
+use Rattle.pass_proofs.specs.ir_model.declared.module.Module.{Module}
+use Rattle.pass_proofs.specs.pass_intrinsics.Shapes.{first_name, has_end, shape_of}
+use Rattle.pass_proofs.specs.pass_intrinsics.declared.shape.Part.{Part}
+use Rattle.pass_proofs.specs.pass_intrinsics.declared.shape.Shape.{Shape}
 use Rattle.pass_proofs.proofs.split.edges.Cuttable.{IsCuttable}
 use Rattle.pass_proofs.proofs.split.edges.Entries.{label_found}
 use Rattle.pass_proofs.proofs.split.edges.Kept.{kept_home}
@@ -32,10 +32,10 @@ use Rattle.pass_split_proof.specs.places.Places.{HasLike, IsNamed}
 use Rattle.pass_proofs.specs.split.rules.Parted.{IsPartOf}
 use Rattle.pass_proofs.specs.split.rules.Pieced.{ArePieces, ArePiecesOf, NoBlock, OneBlock}
 use Rattle.pass_proofs.specs.split.rules.Splittable.{IsSplittable}
-use Rattle.pass_split.specs.Parts.{done_block, origins_for, part_names}
-use Rattle.pass_split.specs.Pieces.{next_after, pieced_phi, pieces_of}
-use Rattle.pass_split.specs.Reached.{is_flagged, kept_block, pruned, reached}
-use Rattle.pass_split.specs.declared.origin.Origin.{Origin}
+use Rattle.pass_proofs.specs.pass_split.Parts.{done_block, origins_for, part_names}
+use Rattle.pass_proofs.specs.pass_split.Pieces.{next_after, pieced_phi, pieces_of}
+use Rattle.pass_proofs.specs.pass_split.Reached.{is_flagged, kept_block, pruned, reached}
+use Rattle.pass_proofs.specs.pass_split.declared.origin.Origin.{Origin}
 
 -- ---- the pieces of blocks, and the names that they take
 

@@ -2,21 +2,21 @@
 use Rattle.std.proofs.Common.{◌≡◌, inl, inr, ℕ, Bool, true, false, List, [], ◌∷◌, refl, sym, ap, ◌∙◌, subst, ◌⊎◌}
 use Rattle.std.specs.List.{cons_option}
 use Rattle.std.specs.Prelude.{None, Option, Some, filter, filter_map, map, slice_get, if◌then◌else◌, ◌==◌}
-use Rattle.flow_solver.specs.Paths.{IsListed}
-use Rattle.frame_layout.specs.declared.layout.Layout.{Layout}
-use Rattle.ir_laws.proofs.facts.Numbers.{label_of}
-use Rattle.ir_laws.proofs.facts.Truth.{equal_numbers, itself}
-use Rattle.ir_laws.proofs.facts.local_rules.Woven.{other_number}
-use Rattle.ir_model.specs.declared.instr.Incoming.{Incoming}
-use Rattle.ir_model.specs.declared.instr.Phi.{Phi}
-use Rattle.ir_model.specs.declared.module.Block.{Block}
-use Rattle.ir_model.specs.declared.module.Function.{Function}
-use Rattle.ir_model.specs.declared.module.Module.{Module}
-use Rattle.ir_model.specs.declared.operand.Operand.{Operand}
-use Rattle.ir_paths.specs.Paths.{targets}
-use Rattle.pass_intrinsics.specs.Shapes.{shape_of}
-use Rattle.pass_intrinsics.specs.declared.shape.Part.{Part}
-use Rattle.pass_intrinsics.specs.declared.shape.Shape.{Shape}
+use Rattle.pass_proofs.specs.flow_solver.Paths.{IsListed}
+use Rattle.pass_proofs.specs.frame_layout.declared.layout.Layout.{Layout}
+use Rattle.pass_proofs.proofs.ir_laws.facts.Numbers.{label_of}
+use Rattle.pass_proofs.proofs.ir_laws.facts.Truth.{equal_numbers, itself}
+use Rattle.pass_proofs.proofs.ir_laws.facts.local_rules.Woven.{other_number}
+use Rattle.pass_proofs.specs.ir_model.declared.instr.Incoming.{Incoming}
+use Rattle.pass_proofs.specs.ir_model.declared.instr.Phi.{Phi}
+use Rattle.pass_proofs.specs.ir_model.declared.module.Block.{Block}
+use Rattle.pass_proofs.specs.ir_model.declared.module.Function.{Function}
+use Rattle.pass_proofs.specs.ir_model.declared.module.Module.{Module}
+use Rattle.pass_proofs.specs.ir_model.declared.operand.Operand.{Operand}
+use Rattle.pass_proofs.specs.ir_paths.Paths.{targets}
+use Rattle.pass_proofs.specs.pass_intrinsics.Shapes.{shape_of}
+use Rattle.pass_proofs.specs.pass_intrinsics.declared.shape.Part.{Part}
+use Rattle.pass_proofs.specs.pass_intrinsics.declared.shape.Shape.{Shape}
 use Rattle.pass_proofs.proofs.split.edges.Entered.{IsEntered, entered}
 use Rattle.pass_proofs.proofs.split.edges.Kept.{incoming_is}
 use Rattle.pass_proofs.proofs.split.edges.Labels.{one_home}
@@ -25,12 +25,12 @@ use Rattle.pass_proofs.proofs.split.edges.Pieces.{block_marks}
 use Rattle.pass_proofs.proofs.split.edges.Sources.{cuttable}
 use Rattle.pass_split_proof.specs.places.Places.{entering}
 use Rattle.pass_proofs.specs.split.rules.Splittable.{IsSplittable}
-use Rattle.pass_split.specs.Parts.{origins_for}
-use Rattle.pass_split.specs.Pieces.{comes_from, incoming_from as incoming_of, origin_in, pieced_incoming, pieced_phi}
-use Rattle.pass_split.specs.Reached.{is_flagged, kept_phi}
-use Rattle.pass_split.specs.declared.origin.Origin.{Origin}
-use Rattle.rule_phis.specs.Edges.{incoming_labels}
-use Rattle.run_step.specs.Step.{incoming_from}
+use Rattle.pass_proofs.specs.pass_split.Parts.{origins_for}
+use Rattle.pass_proofs.specs.pass_split.Pieces.{comes_from, incoming_from as incoming_of, origin_in, pieced_incoming, pieced_phi}
+use Rattle.pass_proofs.specs.pass_split.Reached.{is_flagged, kept_phi}
+use Rattle.pass_proofs.specs.pass_split.declared.origin.Origin.{Origin}
+use Rattle.pass_proofs.specs.rule_phis.Edges.{incoming_labels}
+use Rattle.pass_proofs.specs.run_step.Step.{incoming_from}
 
 -- ---- labels that stay
 

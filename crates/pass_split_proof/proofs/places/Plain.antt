@@ -1,26 +1,26 @@
 -- The blocks of a function that is no coroutine, once it is turned: each is one piece.
 use Rattle.std.proofs.Common.{◌≡◌, ◌≤◌, ◌<◌, inl, inr, ℕ, ◌+◌, ◌-◌, false, List, [], ◌∷◌, length, refl, sym, ap, ◌∙◌, subst, arith, length-append}
 use Rattle.std.specs.Prelude.{Option, Some, map, slice_get, unwrap_or}
-use Rattle.flow_solver.specs.Paths.{IsListed}
-use Rattle.ir_laws.proofs.facts.Numbers.{label_of}
-use Rattle.rule_laws.proofs.frames.turned.Turned.{AreTurned, NoneTurned, OneTurned, names_behind}
-use Rattle.ir_laws.proofs.paths.edges.Lists.{first_is, listed_at}
-use Rattle.ir_laws.proofs.paths.uses.Paths.{place_of}
-use Rattle.rule_laws.proofs.rules.source_rules.Locals.{own_label}
-use Rattle.rule_laws.proofs.rules.turned.Turned.{IsOuter}
-use Rattle.ir_laws.specs.paths.woven_rules.Pairs.{AreDifferent}
-use Rattle.rule_laws.specs.rules.function_rules.Kept.{KeepsFunctionRules}
-use Rattle.ir_model.specs.Names.{position_of}
-use Rattle.ir_model.specs.declared.instr.Instr.{Instr}
-use Rattle.ir_model.specs.declared.instr.Terminator.{Terminator}
-use Rattle.ir_model.specs.declared.module.Block.{Block}
-use Rattle.ir_model.specs.declared.module.Function.{Function}
-use Rattle.ir_model.specs.declared.module.Module.{Module}
-use Rattle.ir_paths.specs.Paths.{targets}
-use Rattle.pass_intrinsics.specs.Shapes.{done_label}
-use Rattle.pass_intrinsics.specs.declared.cuts.Cut.{Cut}
-use Rattle.pass_intrinsics.specs.declared.shape.Part.{Part}
-use Rattle.pass_intrinsics.specs.declared.shape.Shape.{Shape}
+use Rattle.pass_proofs.specs.flow_solver.Paths.{IsListed}
+use Rattle.pass_proofs.proofs.ir_laws.facts.Numbers.{label_of}
+use Rattle.pass_proofs.proofs.rule_laws.frames.turned.Turned.{AreTurned, NoneTurned, OneTurned, names_behind}
+use Rattle.pass_proofs.proofs.ir_laws.paths.edges.Lists.{first_is, listed_at}
+use Rattle.pass_proofs.proofs.ir_laws.paths.uses.Paths.{place_of}
+use Rattle.pass_proofs.proofs.rule_laws.rules.source_rules.Locals.{own_label}
+use Rattle.pass_proofs.proofs.rule_laws.rules.turned.Turned.{IsOuter}
+use Rattle.pass_proofs.specs.ir_laws.paths.woven_rules.Pairs.{AreDifferent}
+use Rattle.pass_proofs.specs.rule_laws.rules.function_rules.Kept.{KeepsFunctionRules}
+use Rattle.pass_proofs.specs.ir_model.Names.{position_of}
+use Rattle.pass_proofs.specs.ir_model.declared.instr.Instr.{Instr}
+use Rattle.pass_proofs.specs.ir_model.declared.instr.Terminator.{Terminator}
+use Rattle.pass_proofs.specs.ir_model.declared.module.Block.{Block}
+use Rattle.pass_proofs.specs.ir_model.declared.module.Function.{Function}
+use Rattle.pass_proofs.specs.ir_model.declared.module.Module.{Module}
+use Rattle.pass_proofs.specs.ir_paths.Paths.{targets}
+use Rattle.pass_proofs.specs.pass_intrinsics.Shapes.{done_label}
+use Rattle.pass_proofs.specs.pass_intrinsics.declared.cuts.Cut.{Cut}
+use Rattle.pass_proofs.specs.pass_intrinsics.declared.shape.Part.{Part}
+use Rattle.pass_proofs.specs.pass_intrinsics.declared.shape.Shape.{Shape}
 use Rattle.pass_proofs.proofs.split.edges.Entries.{listed_entry}
 use Rattle.pass_proofs.proofs.split.edges.Pieces.{head_is, labels}
 use Rattle.pass_proofs.proofs.split.edges.Rules.{own_label_low, own_labels_different, own_target_known}
@@ -33,10 +33,10 @@ use Rattle.pass_proofs.proofs.split.rules.Cutting.{cut_blocks}
 use Rattle.pass_split_proof.specs.places.Places.{HasLike, IsNamed, IsPlace, entering}
 use Rattle.pass_proofs.specs.split.rules.Pieced.{ArePiecesOf}
 use Rattle.pass_proofs.specs.split.rules.Reached.{Entry}
-use Rattle.pass_split.specs.Parts.{instr_names, plain_of, plain_shape}
-use Rattle.pass_split.specs.Pieces.{after_cut, next_after, origin_in, pieced_phi}
-use Rattle.pass_split.specs.declared.origin.Origin.{Origin}
-use Rattle.run_laws.specs.changed.Changed.{Each}
+use Rattle.pass_proofs.specs.pass_split.Parts.{instr_names, plain_of, plain_shape}
+use Rattle.pass_proofs.specs.pass_split.Pieces.{after_cut, next_after, origin_in, pieced_phi}
+use Rattle.pass_proofs.specs.pass_split.declared.origin.Origin.{Origin}
+use Rattle.pass_proofs.specs.run_laws.changed.Changed.{Each}
 
 -- ---- blocks that are turned
 

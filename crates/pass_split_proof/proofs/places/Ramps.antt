@@ -1,17 +1,17 @@
 -- The code of a ramp begins where the coroutine does.
 use Rattle.std.proofs.Common.{◌≡◌, ℕ, Bool, true, false, List, [], ◌∷◌, ◌++◌, refl, sym, ap, ◌∙◌, subst}
 use Rattle.std.specs.Prelude.{Some, map, slice_get, if◌then◌else◌}
-use Rattle.flow_solver.specs.Paths.{IsListed}
-use Rattle.frame_layout.specs.declared.layout.Layout.{Layout}
-use Rattle.ir_laws.proofs.facts.Numbers.{label_of}
-use Rattle.ir_laws.proofs.paths.edges.Lists.{listed_at}
-use Rattle.ir_model.specs.declared.module.Block.{Block}
-use Rattle.ir_model.specs.declared.module.Function.{Function}
-use Rattle.ir_model.specs.declared.module.Module.{Module}
-use Rattle.pass_intrinsics.specs.Cuts.{goes_on}
-use Rattle.pass_intrinsics.specs.Shapes.{first_name, shape_of}
-use Rattle.pass_intrinsics.specs.declared.shape.Part.{Part}
-use Rattle.pass_intrinsics.specs.declared.shape.Shape.{Shape}
+use Rattle.pass_proofs.specs.flow_solver.Paths.{IsListed}
+use Rattle.pass_proofs.specs.frame_layout.declared.layout.Layout.{Layout}
+use Rattle.pass_proofs.proofs.ir_laws.facts.Numbers.{label_of}
+use Rattle.pass_proofs.proofs.ir_laws.paths.edges.Lists.{listed_at}
+use Rattle.pass_proofs.specs.ir_model.declared.module.Block.{Block}
+use Rattle.pass_proofs.specs.ir_model.declared.module.Function.{Function}
+use Rattle.pass_proofs.specs.ir_model.declared.module.Module.{Module}
+use Rattle.pass_proofs.specs.pass_intrinsics.Cuts.{goes_on}
+use Rattle.pass_proofs.specs.pass_intrinsics.Shapes.{first_name, shape_of}
+use Rattle.pass_proofs.specs.pass_intrinsics.declared.shape.Part.{Part}
+use Rattle.pass_proofs.specs.pass_intrinsics.declared.shape.Shape.{Shape}
 use Rattle.pass_proofs.proofs.split.edges.Entries.{entry_flagged, listed_entry}
 use Rattle.pass_proofs.proofs.split.edges.Labels.{one_block, whole}
 use Rattle.pass_proofs.proofs.split.edges.Pieces.{head_is}
@@ -25,10 +25,10 @@ use Rattle.pass_proofs.specs.split.rules.Parted.{IsPartOf}
 use Rattle.pass_proofs.specs.split.rules.Pieced.{ArePieces}
 use Rattle.pass_proofs.specs.split.rules.Reached.{Entry}
 use Rattle.pass_proofs.specs.split.rules.Splittable.{IsSplittable}
-use Rattle.pass_split.specs.Parts.{done_block, later_head, origins_for, part_names}
-use Rattle.pass_split.specs.Pieces.{all_pieces, pieced_phi, pieces_of, piecing_of}
-use Rattle.pass_split.specs.Reached.{is_flagged, kept_block, kept_blocks, pruned, reached}
-use Rattle.pass_split.specs.declared.origin.Origin.{Origin}
+use Rattle.pass_proofs.specs.pass_split.Parts.{done_block, later_head, origins_for, part_names}
+use Rattle.pass_proofs.specs.pass_split.Pieces.{all_pieces, pieced_phi, pieces_of, piecing_of}
+use Rattle.pass_proofs.specs.pass_split.Reached.{is_flagged, kept_block, kept_blocks, pruned, reached}
+use Rattle.pass_proofs.specs.pass_split.declared.origin.Origin.{Origin}
 
 module _ (m : Module) (k : ℕ) (f : Function) (begin : ℕ) (x : IsSplittable m k f begin) (layout : Layout) (part : Part)
     (ramp : goes_on part ≡ false) where

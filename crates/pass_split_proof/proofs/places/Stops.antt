@@ -1,31 +1,31 @@
 -- Suspends, and the stop edge that a part takes at one.
 use Rattle.std.proofs.Common.{◌≡◌, ℕ, ◌+◌, Bool, true, false, List, [], ◌∷◌, length, refl, sym, ap, ◌∙◌, subst, arith}
 use Rattle.std.specs.Prelude.{None, Option, Some, nat_le, not, slice_get, unwrap_or, ◌&&◌, ◌==◌, if◌then◌else◌}
-use Rattle.frame_layout.specs.declared.layout.Layout.{Layout}
-use Rattle.ir_laws.proofs.facts.Truth.{and_first, and_second, equal_numbers, holds, itself}
-use Rattle.rule_laws.proofs.frames.edges.Shaped.{is_there, same_end}
-use Rattle.ir_laws.proofs.paths.renamed.Uses.{stands_in}
-use Rattle.rule_laws.proofs.rules.path_rules.Holding.{of_parts}
-use Rattle.rule_laws.proofs.rules.renamed.Switches.{none_part}
-use Rattle.rule_laws.proofs.rules.sources.Places.{instr_there}
-use Rattle.ir_model.specs.Names.{is_local}
-use Rattle.ir_model.specs.declared.instr.Case.{Case}
-use Rattle.ir_model.specs.declared.instr.Instr.{Instr}
-use Rattle.ir_model.specs.declared.instr.Terminator.{Terminator}
-use Rattle.ir_model.specs.declared.module.Block.{Block}
-use Rattle.ir_model.specs.declared.module.Function.{Function}
-use Rattle.ir_model.specs.declared.module.Module.{Module}
-use Rattle.ir_model.specs.declared.operand.Arg.{Arg}
-use Rattle.ir_parts.specs.Parts.{first_part, instr_place, parts_of}
-use Rattle.ir_paths.specs.Windows.{call_result}
-use Rattle.pass_intrinsics.specs.Shapes.{shape_of}
+use Rattle.pass_proofs.specs.frame_layout.declared.layout.Layout.{Layout}
+use Rattle.pass_proofs.proofs.ir_laws.facts.Truth.{and_first, and_second, equal_numbers, holds, itself}
+use Rattle.pass_proofs.proofs.rule_laws.frames.edges.Shaped.{is_there, same_end}
+use Rattle.pass_proofs.proofs.ir_laws.paths.renamed.Uses.{stands_in}
+use Rattle.pass_proofs.proofs.rule_laws.rules.path_rules.Holding.{of_parts}
+use Rattle.pass_proofs.proofs.rule_laws.rules.renamed.Switches.{none_part}
+use Rattle.pass_proofs.proofs.rule_laws.rules.sources.Places.{instr_there}
+use Rattle.pass_proofs.specs.ir_model.Names.{is_local}
+use Rattle.pass_proofs.specs.ir_model.declared.instr.Case.{Case}
+use Rattle.pass_proofs.specs.ir_model.declared.instr.Instr.{Instr}
+use Rattle.pass_proofs.specs.ir_model.declared.instr.Terminator.{Terminator}
+use Rattle.pass_proofs.specs.ir_model.declared.module.Block.{Block}
+use Rattle.pass_proofs.specs.ir_model.declared.module.Function.{Function}
+use Rattle.pass_proofs.specs.ir_model.declared.module.Module.{Module}
+use Rattle.pass_proofs.specs.ir_model.declared.operand.Arg.{Arg}
+use Rattle.pass_proofs.specs.ir_parts.Parts.{first_part, instr_place, parts_of}
+use Rattle.pass_proofs.specs.ir_paths.Windows.{call_result}
+use Rattle.pass_proofs.specs.pass_intrinsics.Shapes.{shape_of}
 use Rattle.pass_split_proof.specs.places.Places.{IsStop}
 use Rattle.pass_proofs.specs.split.rules.Splittable.{IsSplittable}
-use Rattle.rule_shape.specs.Places.{is_the}
-use Rattle.rule_shape.specs.Suspends.{is_suspend}
-use Rattle.rule_shape.specs.Switches.{are_both, breaks_switch, end_label as switch_end, is_last, is_switch_on, is_switched, is_switched_in}
-use Rattle.rule_shape.specs.Uses.{uses_of}
-use Rattle.run_step.specs.Step.{AtInstr, AtTerm, fetch, fetch_in, fetch_or}
+use Rattle.pass_proofs.specs.rule_shape.Places.{is_the}
+use Rattle.pass_proofs.specs.rule_shape.Suspends.{is_suspend}
+use Rattle.pass_proofs.specs.rule_shape.Switches.{are_both, breaks_switch, end_label as switch_end, is_last, is_switch_on, is_switched, is_switched_in}
+use Rattle.pass_proofs.specs.rule_shape.Uses.{uses_of}
+use Rattle.pass_proofs.specs.run_step.Step.{AtInstr, AtTerm, fetch, fetch_in, fetch_or}
 
 module _ (m : Module) (k : ℕ) (f : Function) (begin : ℕ) (x : IsSplittable m k f begin) (layout : Layout) where
   abbrev end : ℕ

@@ -1,26 +1,26 @@
 -- What stands behind a resume right before its suspend, and at the end.
 use Rattle.std.proofs.Common.{◌≡◌, ℕ, ◌+◌, List, [], ◌∷◌, ap, ◌∙◌}
 use Rattle.std.specs.Prelude.{Some, slice_get}
-use Rattle.frame_layout.specs.declared.layout.Layout.{Layout}
-use Rattle.ir_model.specs.Names.{position_of}
-use Rattle.ir_model.specs.declared.instr.Instr.{Instr}
-use Rattle.ir_model.specs.declared.module.Function.{Function}
-use Rattle.ir_model.specs.declared.module.Module.{Module}
-use Rattle.ir_model.specs.declared.operand.Callee.{Callee}
-use Rattle.ir_laws.proofs.paths.uses.Paths.{place_of}
-use Rattle.rule_laws.proofs.rules.source_rules.Locals.{own_label}
-use Rattle.pass_intrinsics.specs.Cuts.{cut_at, next_suspend}
-use Rattle.pass_intrinsics.specs.Shapes.{shape_of}
-use Rattle.pass_intrinsics.specs.declared.cuts.Cut.{Cut}
-use Rattle.pass_intrinsics.specs.declared.shape.Part.{Part}
-use Rattle.pass_intrinsics.specs.declared.shape.Shape.{Shape}
+use Rattle.pass_proofs.specs.frame_layout.declared.layout.Layout.{Layout}
+use Rattle.pass_proofs.specs.ir_model.Names.{position_of}
+use Rattle.pass_proofs.specs.ir_model.declared.instr.Instr.{Instr}
+use Rattle.pass_proofs.specs.ir_model.declared.module.Function.{Function}
+use Rattle.pass_proofs.specs.ir_model.declared.module.Module.{Module}
+use Rattle.pass_proofs.specs.ir_model.declared.operand.Callee.{Callee}
+use Rattle.pass_proofs.proofs.ir_laws.paths.uses.Paths.{place_of}
+use Rattle.pass_proofs.proofs.rule_laws.rules.source_rules.Locals.{own_label}
+use Rattle.pass_proofs.specs.pass_intrinsics.Cuts.{cut_at, next_suspend}
+use Rattle.pass_proofs.specs.pass_intrinsics.Shapes.{shape_of}
+use Rattle.pass_proofs.specs.pass_intrinsics.declared.cuts.Cut.{Cut}
+use Rattle.pass_proofs.specs.pass_intrinsics.declared.shape.Part.{Part}
+use Rattle.pass_proofs.specs.pass_intrinsics.declared.shape.Shape.{Shape}
 use Rattle.pass_split_proof.proofs.code.Allocas.{by_instrs}
 use Rattle.pass_proofs.proofs.split.edges.Pieces.{call_transfers, numbered_suspend}
 use Rattle.pass_proofs.proofs.split.edges.Rules.{begins_with_end, end_is, the_end}
 use Rattle.pass_split_proof.specs.places.Places.{IsSuspendOf, StartsWithEnd}
 use Rattle.pass_proofs.specs.split.rules.Splittable.{IsSplittable}
-use Rattle.run_laws.specs.access.Lines.{StandAt}
-use Rattle.run_step.specs.Step.{phis_of}
+use Rattle.pass_proofs.specs.run_laws.access.Lines.{StandAt}
+use Rattle.pass_proofs.specs.run_step.Step.{phis_of}
 
 -- a resume transfers right before a suspend
 next_there : (s : Shape) (part : Part) (i : Instr) (after : List Instr) (j : ℕ)

@@ -3,30 +3,30 @@ use Rattle.std.proofs.Common.{◌≡◌, ℕ, Bool, true, false, List, [], ◌�
 use Rattle.std.proofs.lemmas.List.{length-map}
 use Rattle.std.specs.List.{list_all}
 use Rattle.std.specs.Prelude.{ℤ, Some, None, Ok, Option, filter, map}
-use Rattle.frame_layout.specs.declared.layout.Layout.{Layout}
-use Rattle.ir_base.specs.declared.cause.Cause.{Cause}
-use Rattle.ir_laws.specs.facts.sound_states.Named.{HasNamedPhis}
-use Rattle.ir_model.specs.Names.{function_at, position_of}
-use Rattle.ir_model.specs.declared.module.Function.{Function}
-use Rattle.ir_model.specs.declared.module.Module.{Module}
-use Rattle.ir_paths.specs.Paths.{entry_point}
-use Rattle.ir_paths.specs.Windows.{leaves}
-use Rattle.ir_paths.specs.declared.point.Facts.{Facts}
-use Rattle.ir_paths.specs.declared.point.Point.{Point}
-use Rattle.ir_paths.specs.declared.point.Window.{Window}
-use Rattle.run_framed.specs.Framed.{FramedGiven, framed_given}
-use Rattle.run_source.specs.Source.{branch_leaving, enter_block, go_to, left_windows, may_leave}
-use Rattle.run_source.specs.State.{own_facts, own_instance, point_of, with_left, with_status}
-use Rattle.run_source.specs.declared.state.Instance.{Instance}
-use Rattle.run_source.specs.declared.state.State.{State}
-use Rattle.run_source.specs.declared.state.Status.{Status}
-use Rattle.run_states.proofs.moved_states.Entering.{enters_direct}
-use Rattle.run_states.proofs.moved_states.Parts.{facts_are, facts_moved, function_moved}
-use Rattle.run_states.proofs.moved_states.States.{may_leave_moved, own_moved, with_instance_moved, with_number}
-use Rattle.run_states.specs.branches.MovedState.{IsOwnedBy}
-use Rattle.run_states.specs.moved_states.MovedState.{moved_activation, moved_instance, moved_module, moved_result, moved_state}
-use Rattle.run_states.specs.moved_states.Moving.{KeepsKinds, Moves, Moving, moved_point, saves_left}
-use Rattle.run_step.specs.Results.{and_then, found, ok_if}
+use Rattle.pass_proofs.specs.frame_layout.declared.layout.Layout.{Layout}
+use Rattle.pass_proofs.specs.ir_base.declared.cause.Cause.{Cause}
+use Rattle.pass_proofs.specs.ir_laws.facts.sound_states.Named.{HasNamedPhis}
+use Rattle.pass_proofs.specs.ir_model.Names.{function_at, position_of}
+use Rattle.pass_proofs.specs.ir_model.declared.module.Function.{Function}
+use Rattle.pass_proofs.specs.ir_model.declared.module.Module.{Module}
+use Rattle.pass_proofs.specs.ir_paths.Paths.{entry_point}
+use Rattle.pass_proofs.specs.ir_paths.Windows.{leaves}
+use Rattle.pass_proofs.specs.ir_paths.declared.point.Facts.{Facts}
+use Rattle.pass_proofs.specs.ir_paths.declared.point.Point.{Point}
+use Rattle.pass_proofs.specs.ir_paths.declared.point.Window.{Window}
+use Rattle.pass_proofs.specs.run_framed.Framed.{FramedGiven, framed_given}
+use Rattle.pass_proofs.specs.run_source.Source.{branch_leaving, enter_block, go_to, left_windows, may_leave}
+use Rattle.pass_proofs.specs.run_source.State.{own_facts, own_instance, point_of, with_left, with_status}
+use Rattle.pass_proofs.specs.run_source.declared.state.Instance.{Instance}
+use Rattle.pass_proofs.specs.run_source.declared.state.State.{State}
+use Rattle.pass_proofs.specs.run_source.declared.state.Status.{Status}
+use Rattle.pass_proofs.proofs.run_states.moved_states.Entering.{enters_direct}
+use Rattle.pass_proofs.proofs.run_states.moved_states.Parts.{facts_are, facts_moved, function_moved}
+use Rattle.pass_proofs.proofs.run_states.moved_states.States.{may_leave_moved, own_moved, with_instance_moved, with_number}
+use Rattle.pass_proofs.specs.run_states.branches.MovedState.{IsOwnedBy}
+use Rattle.pass_proofs.specs.run_states.moved_states.MovedState.{moved_activation, moved_instance, moved_module, moved_result, moved_state}
+use Rattle.pass_proofs.specs.run_states.moved_states.Moving.{KeepsKinds, Moves, Moving, moved_point, saves_left}
+use Rattle.pass_proofs.specs.run_step.Results.{and_then, found, ok_if}
 
 module _ (mv : Moving) (kinds : KeepsKinds mv) (m : Module) (layouts : List Layout) (answers : List ℤ) (s : State)
     (moves : Moves mv (function_at m s.top.func)) (phis : HasNamedPhis (function_at m s.top.func))

@@ -1,26 +1,26 @@
 -- What a terminator becomes where edges that leave windows have blocks: an edge leads directly, or to a new label.
 use Rattle.std.proofs.Common.{◌≡◌, ◌⊎◌, inl, inr, ℕ, zero, suc, ◌≤◌, Bool, true, false, List, [], ◌∷◌, length, refl, sym, ap, ◌∙◌, subst, arith}
 use Rattle.std.specs.Prelude.{Some, None, Option, map, slice_get, ◌==◌}
-use Rattle.flow_solver.specs.Paths.{IsListed}
-use Rattle.ir_laws.specs.facts.branches.Ways.{TermsPaired}
-use Rattle.ir_laws.specs.facts.expanded.Expansion.{number_at}
-use Rattle.ir_laws.specs.facts.threads.Moved.{ArePaired}
-use Rattle.ir_model.specs.Names.{position_of}
-use Rattle.ir_model.specs.declared.instr.Case.{Case}
-use Rattle.ir_model.specs.declared.instr.Instr.{Instr}
-use Rattle.ir_model.specs.declared.instr.Terminator.{Terminator}
-use Rattle.ir_model.specs.declared.module.Block.{Block}
-use Rattle.ir_model.specs.declared.module.Function.{Function}
-use Rattle.ir_model.specs.declared.module.Module.{Module}
-use Rattle.ir_paths.specs.Paths.{targets}
-use Rattle.pass_exits.specs.ExitBlocks.{after_exit, exit_cases, exit_label, exit_term, with_exit_blocks}
-use Rattle.pass_exits.specs.Exits.{mark_of}
+use Rattle.pass_proofs.specs.flow_solver.Paths.{IsListed}
+use Rattle.pass_proofs.specs.ir_laws.facts.branches.Ways.{TermsPaired}
+use Rattle.pass_proofs.specs.ir_laws.facts.expanded.Expansion.{number_at}
+use Rattle.pass_proofs.specs.ir_laws.facts.threads.Moved.{ArePaired}
+use Rattle.pass_proofs.specs.ir_model.Names.{position_of}
+use Rattle.pass_proofs.specs.ir_model.declared.instr.Case.{Case}
+use Rattle.pass_proofs.specs.ir_model.declared.instr.Instr.{Instr}
+use Rattle.pass_proofs.specs.ir_model.declared.instr.Terminator.{Terminator}
+use Rattle.pass_proofs.specs.ir_model.declared.module.Block.{Block}
+use Rattle.pass_proofs.specs.ir_model.declared.module.Function.{Function}
+use Rattle.pass_proofs.specs.ir_model.declared.module.Module.{Module}
+use Rattle.pass_proofs.specs.ir_paths.Paths.{targets}
+use Rattle.pass_proofs.specs.pass_exits.ExitBlocks.{after_exit, exit_cases, exit_label, exit_term, with_exit_blocks}
+use Rattle.pass_proofs.specs.pass_exits.Exits.{mark_of}
 use Rattle.pass_proofs.proofs.exits.rules.Places.{Placed, after, grow, own_number, own_there, spot, with_places}
 use Rattle.pass_proofs.proofs.exits.rules.Single.{no_mark}
 use Rattle.pass_proofs.proofs.exits.rules.Threaded.{threaded}
 use Rattle.pass_proofs.specs.exits.states.Exits.{KeepsExits}
-use Rattle.run_states.specs.moved_states.Moving.{IsDirect}
-use Rattle.run_step.specs.Step.{AtTerm, fetch, fetch_in, fetch_or}
+use Rattle.pass_proofs.specs.run_states.moved_states.Moving.{IsDirect}
+use Rattle.pass_proofs.specs.run_step.Step.{AtTerm, fetch, fetch_in, fetch_or}
 
 -- ---- both of two relations
 

@@ -1,22 +1,22 @@
 -- Blocks on edges that leave windows are paid by their edges: a framed step costs at most 4 there.
 use Rattle.std.proofs.Common.{◌≡◌, ◌⊎◌, inl, inr, ⊎_elim, ℕ, ◌+◌, ◌<◌, ◌≤◌, Bool, true, false, List, Result, Ok, Err, refl, sym, ap, ◌∙◌, subst, arith}
 use Rattle.std.specs.Prelude.{ℤ, Some, None, Option, length, slice_get, unwrap_or, if◌then◌else◌}
-use Rattle.frame_layout.specs.declared.layout.Layouts.{Layouts}
-use Rattle.ir_base.specs.declared.cause.Cause.{Cause}
-use Rattle.ir_base.specs.declared.outcome.Outcome.{Outcome}
-use Rattle.ir_base.specs.declared.outcome.Word.{Word}
-use Rattle.ir_laws.specs.facts.branches.Ways.{TermsPaired}
-use Rattle.ir_laws.specs.facts.sound_states.Named.{AreLocalsNamed}
-use Rattle.ir_laws.specs.paths.branches.Ways.{AreFetched}
-use Rattle.ir_model.specs.Names.{function_at, no_function, position_of}
-use Rattle.ir_model.specs.declared.instr.Instr.{Instr}
-use Rattle.ir_model.specs.declared.instr.Terminator.{Terminator}
-use Rattle.ir_model.specs.declared.module.Block.{Block}
-use Rattle.ir_model.specs.declared.module.Function.{Function}
-use Rattle.ir_model.specs.declared.module.Module.{Module}
-use Rattle.pass_exits.specs.ExitBlocks.{with_exit_blocks}
-use Rattle.pass_intrinsics.specs.Shapes.{suspends_of}
-use Rattle.pass_intrinsics.specs.declared.shape.SuspendPoint.{SuspendPoint}
+use Rattle.pass_proofs.specs.frame_layout.declared.layout.Layouts.{Layouts}
+use Rattle.pass_proofs.specs.ir_base.declared.cause.Cause.{Cause}
+use Rattle.pass_proofs.specs.ir_base.declared.outcome.Outcome.{Outcome}
+use Rattle.pass_proofs.specs.ir_base.declared.outcome.Word.{Word}
+use Rattle.pass_proofs.specs.ir_laws.facts.branches.Ways.{TermsPaired}
+use Rattle.pass_proofs.specs.ir_laws.facts.sound_states.Named.{AreLocalsNamed}
+use Rattle.pass_proofs.specs.ir_laws.paths.branches.Ways.{AreFetched}
+use Rattle.pass_proofs.specs.ir_model.Names.{function_at, no_function, position_of}
+use Rattle.pass_proofs.specs.ir_model.declared.instr.Instr.{Instr}
+use Rattle.pass_proofs.specs.ir_model.declared.instr.Terminator.{Terminator}
+use Rattle.pass_proofs.specs.ir_model.declared.module.Block.{Block}
+use Rattle.pass_proofs.specs.ir_model.declared.module.Function.{Function}
+use Rattle.pass_proofs.specs.ir_model.declared.module.Module.{Module}
+use Rattle.pass_proofs.specs.pass_exits.ExitBlocks.{with_exit_blocks}
+use Rattle.pass_proofs.specs.pass_intrinsics.Shapes.{suspends_of}
+use Rattle.pass_proofs.specs.pass_intrinsics.declared.shape.SuspendPoint.{SuspendPoint}
 use Rattle.pass_proofs.proofs.edges.rules.EdgeUses.{label_there}
 use Rattle.pass_proofs.proofs.exits.rules.Places.{spot}
 use Rattle.pass_proofs.proofs.exits.rules.Suspends.{same_suspends}
@@ -27,26 +27,26 @@ use Rattle.pass_split_proof.proofs.priced.Terms.{IsOnEdge, term_arrives}
 use Rattle.pass_split_proof.proofs.simulation.Agreement.{price_within}
 use Rattle.pass_split_proof.specs.priced.Returns.{AllJumpBehind, JumpsBehind}
 use Rattle.pass_split_proof.specs.states.Related.{fetched_at, is_behind_suspend, is_return_label, part_price, price_of}
-use Rattle.run_agreement.proofs.Costs.{weaken_by}
-use Rattle.run_agreement.proofs.Lockstep.{ShowsSame}
-use Rattle.run_agreement.proofs.PricedLockstep.{AdvanceBy, IsPassed, SimulatesBy, lockstep_by}
-use Rattle.run_agreement.specs.Costs.{AgreesBy, IsNear}
-use Rattle.run_agreement.specs.Machines.{IsFine, IsRunning, Machine, iterate}
-use Rattle.run_framed.specs.Framed.{FramedGiven, framed_advance, framed_given, framed_next, framed_step}
-use Rattle.run_source.specs.State.{function_of, or_undefined, point_of}
-use Rattle.run_source.specs.declared.state.State.{State}
-use Rattle.run_states.proofs.moved_states.Parts.{function_moved}
-use Rattle.run_states.proofs.moved_states.Simulation.{first_same}
-use Rattle.run_states.proofs.moved_states.Soundness.{first_holds, step_holds}
-use Rattle.run_states.proofs.moved_states.Steps.{instr_moved}
-use Rattle.run_states.proofs.named.Simulation.{running_is}
-use Rattle.run_states.specs.moved_states.Beside.{IsMovedIn, IsMovedOf, framed_machine}
-use Rattle.run_states.specs.moved_states.MovedState.{moved_result, moved_state}
-use Rattle.run_states.specs.moved_states.Moving.{AllMove, Goes, IsDirect}
-use Rattle.run_states.specs.moved_states.Near.{HoldsIn, IsBefore}
-use Rattle.run_step.specs.Runs.{seen_of}
-use Rattle.run_step.specs.Step.{AtInstr, AtTerm, Fetched, Nowhere, fetch, fetch_in, label_of}
-use Rattle.run_step.specs.declared.world.World.{World}
+use Rattle.pass_proofs.proofs.run_agreement.Costs.{weaken_by}
+use Rattle.pass_proofs.proofs.run_agreement.Lockstep.{ShowsSame}
+use Rattle.pass_proofs.proofs.run_agreement.PricedLockstep.{AdvanceBy, IsPassed, SimulatesBy, lockstep_by}
+use Rattle.pass_proofs.specs.run_agreement.Costs.{AgreesBy, IsNear}
+use Rattle.pass_proofs.specs.run_agreement.Machines.{IsFine, IsRunning, Machine, iterate}
+use Rattle.pass_proofs.specs.run_framed.Framed.{FramedGiven, framed_advance, framed_given, framed_next, framed_step}
+use Rattle.pass_proofs.specs.run_source.State.{function_of, or_undefined, point_of}
+use Rattle.pass_proofs.specs.run_source.declared.state.State.{State}
+use Rattle.pass_proofs.proofs.run_states.moved_states.Parts.{function_moved}
+use Rattle.pass_proofs.proofs.run_states.moved_states.Simulation.{first_same}
+use Rattle.pass_proofs.proofs.run_states.moved_states.Soundness.{first_holds, step_holds}
+use Rattle.pass_proofs.proofs.run_states.moved_states.Steps.{instr_moved}
+use Rattle.pass_proofs.proofs.run_states.named.Simulation.{running_is}
+use Rattle.pass_proofs.specs.run_states.moved_states.Beside.{IsMovedIn, IsMovedOf, framed_machine}
+use Rattle.pass_proofs.specs.run_states.moved_states.MovedState.{moved_result, moved_state}
+use Rattle.pass_proofs.specs.run_states.moved_states.Moving.{AllMove, Goes, IsDirect}
+use Rattle.pass_proofs.specs.run_states.moved_states.Near.{HoldsIn, IsBefore}
+use Rattle.pass_proofs.specs.run_step.Runs.{seen_of}
+use Rattle.pass_proofs.specs.run_step.Step.{AtInstr, AtTerm, Fetched, Nowhere, fetch, fetch_in, label_of}
+use Rattle.pass_proofs.specs.run_step.declared.world.World.{World}
 
 -- ---- prices
 

@@ -2,40 +2,40 @@
 use Rattle.std.proofs.Common.{◌≡◌, ◌⊎◌, inl, inr, ℕ, Bool, true, false, List, [], ◌∷◌, length, refl, sym, ap, ◌∙◌, subst}
 use Rattle.std.specs.List.{list_all}
 use Rattle.std.specs.Prelude.{ℤ, Some, None, Ok, Err, Option, Result, if◌then◌else◌, ◌==◌}
-use Rattle.frame_layout.specs.declared.layout.Layout.{Layout}
-use Rattle.ir_base.specs.declared.cause.Cause.{Cause}
-use Rattle.ir_base.specs.declared.outcome.Outcome.{Outcome}
-use Rattle.ir_base.specs.declared.outcome.Word.{Word}
-use Rattle.ir_laws.specs.facts.branches.Ways.{TermsPaired}
-use Rattle.ir_laws.specs.facts.sound_states.Named.{AreLocalsNamed}
-use Rattle.ir_laws.specs.facts.threads.Moved.{ArePaired}
-use Rattle.ir_model.specs.Names.{function_at, position_of}
-use Rattle.ir_model.specs.Ty.{int}
-use Rattle.ir_model.specs.declared.instr.Case.{Case}
-use Rattle.ir_model.specs.declared.instr.Terminator.{Terminator}
-use Rattle.ir_model.specs.declared.module.Function.{Function}
-use Rattle.ir_model.specs.declared.module.Module.{Module}
-use Rattle.ir_model.specs.declared.operand.Arg.{Arg}
-use Rattle.ir_paths.specs.declared.point.Window.{Window}
+use Rattle.pass_proofs.specs.frame_layout.declared.layout.Layout.{Layout}
+use Rattle.pass_proofs.specs.ir_base.declared.cause.Cause.{Cause}
+use Rattle.pass_proofs.specs.ir_base.declared.outcome.Outcome.{Outcome}
+use Rattle.pass_proofs.specs.ir_base.declared.outcome.Word.{Word}
+use Rattle.pass_proofs.specs.ir_laws.facts.branches.Ways.{TermsPaired}
+use Rattle.pass_proofs.specs.ir_laws.facts.sound_states.Named.{AreLocalsNamed}
+use Rattle.pass_proofs.specs.ir_laws.facts.threads.Moved.{ArePaired}
+use Rattle.pass_proofs.specs.ir_model.Names.{function_at, position_of}
+use Rattle.pass_proofs.specs.ir_model.Ty.{int}
+use Rattle.pass_proofs.specs.ir_model.declared.instr.Case.{Case}
+use Rattle.pass_proofs.specs.ir_model.declared.instr.Terminator.{Terminator}
+use Rattle.pass_proofs.specs.ir_model.declared.module.Function.{Function}
+use Rattle.pass_proofs.specs.ir_model.declared.module.Module.{Module}
+use Rattle.pass_proofs.specs.ir_model.declared.operand.Arg.{Arg}
+use Rattle.pass_proofs.specs.ir_paths.declared.point.Window.{Window}
 use Rattle.pass_split_proof.proofs.priced.Direct.{go_direct}
-use Rattle.run_agreement.specs.Machines.{IsFine}
-use Rattle.run_framed.specs.Framed.{FramedGiven, framed_act, framed_advance, framed_context, framed_given, framed_next, framed_step}
-use Rattle.run_memory.specs.declared.pointer.Value.{Value}
-use Rattle.run_source.specs.Source.{branch_leaving, enter_block, go_to, left_windows, may_leave, return}
-use Rattle.run_source.specs.State.{function_of, or_undefined, own_instance, point_of, with_left, with_status, work_of}
-use Rattle.run_source.specs.declared.state.Instance.{Instance}
-use Rattle.run_source.specs.declared.state.State.{State}
-use Rattle.run_source.specs.declared.state.Status.{Status}
-use Rattle.run_states.proofs.branches.Performs.{below_of, own_of}
-use Rattle.run_states.proofs.moved_states.Calls.{return_moved}
-use Rattle.run_states.proofs.moved_states.Entering.{go_to_near}
-use Rattle.run_states.proofs.moved_states.Parts.{function_moved, operand_moved}
-use Rattle.run_states.specs.moved_states.MovedState.{moved_module, moved_result, moved_state}
-use Rattle.run_states.specs.moved_states.Moving.{Goes, IsDirect, IsOver, KeepsKinds, Moves, Moving}
-use Rattle.run_states.specs.moved_states.Near.{HoldsIn, IsBefore, IsNear}
-use Rattle.run_step.specs.Results.{and_then, found, ok_if}
-use Rattle.run_step.specs.Step.{Action, AtTerm, Fetched, GoTo, Return, Stuck, branch, fetch, is_word, switch, target_of, term_action}
-use Rattle.run_step.specs.Values.{arg_value, operand_value}
+use Rattle.pass_proofs.specs.run_agreement.Machines.{IsFine}
+use Rattle.pass_proofs.specs.run_framed.Framed.{FramedGiven, framed_act, framed_advance, framed_context, framed_given, framed_next, framed_step}
+use Rattle.pass_proofs.specs.run_memory.declared.pointer.Value.{Value}
+use Rattle.pass_proofs.specs.run_source.Source.{branch_leaving, enter_block, go_to, left_windows, may_leave, return}
+use Rattle.pass_proofs.specs.run_source.State.{function_of, or_undefined, own_instance, point_of, with_left, with_status, work_of}
+use Rattle.pass_proofs.specs.run_source.declared.state.Instance.{Instance}
+use Rattle.pass_proofs.specs.run_source.declared.state.State.{State}
+use Rattle.pass_proofs.specs.run_source.declared.state.Status.{Status}
+use Rattle.pass_proofs.proofs.run_states.branches.Performs.{below_of, own_of}
+use Rattle.pass_proofs.proofs.run_states.moved_states.Calls.{return_moved}
+use Rattle.pass_proofs.proofs.run_states.moved_states.Entering.{go_to_near}
+use Rattle.pass_proofs.proofs.run_states.moved_states.Parts.{function_moved, operand_moved}
+use Rattle.pass_proofs.specs.run_states.moved_states.MovedState.{moved_module, moved_result, moved_state}
+use Rattle.pass_proofs.specs.run_states.moved_states.Moving.{Goes, IsDirect, IsOver, KeepsKinds, Moves, Moving}
+use Rattle.pass_proofs.specs.run_states.moved_states.Near.{HoldsIn, IsBefore, IsNear}
+use Rattle.pass_proofs.specs.run_step.Results.{and_then, found, ok_if}
+use Rattle.pass_proofs.specs.run_step.Step.{Action, AtTerm, Fetched, GoTo, Return, Stuck, branch, fetch, is_word, switch, target_of, term_action}
+use Rattle.pass_proofs.specs.run_step.Values.{arg_value, operand_value}
 
 -- ---- where a branch stands then
 

@@ -1,10 +1,10 @@
 -- Blocks on edges that leave windows and parts, in turn.
 use Rattle.std.proofs.Common.{ℕ, List, arith}
 use Rattle.std.specs.Prelude.{ℤ}
-use Rattle.frame_layout.specs.declared.layout.Layouts.{Layouts}
-use Rattle.ir_base.specs.declared.outcome.Word.{Word}
-use Rattle.ir_laws.specs.facts.sound_states.Named.{AreLocalsNamed}
-use Rattle.ir_model.specs.declared.module.Module.{Module}
+use Rattle.pass_proofs.specs.frame_layout.declared.layout.Layouts.{Layouts}
+use Rattle.pass_proofs.specs.ir_base.declared.outcome.Word.{Word}
+use Rattle.pass_proofs.specs.ir_laws.facts.sound_states.Named.{AreLocalsNamed}
+use Rattle.pass_proofs.specs.ir_model.declared.module.Module.{Module}
 use Rattle.pass_cleanup.specs.Cleaned.{plain_machine}
 use Rattle.pass_proofs.specs.exits.states.Exits.{AreExitsKept, exits_split}
 use Rattle.pass_split_proof.proofs.priced.Prices.{exits_paid}
@@ -13,14 +13,14 @@ use Rattle.pass_split_proof.specs.priced.Returns.{AllJumpBehind}
 use Rattle.pass_split_proof.specs.simulation.Statement.{IsEntryOfParts, parts_given}
 use Rattle.pass_split_proof.specs.states.Related.{AreRelated, Follows, part_price}
 use Rattle.pass_split_proof.specs.whole.Whole.{PartsKeepCalls}
-use Rattle.run_agreement.proofs.Costs.{agrees_within_by_steps, compose_by}
-use Rattle.run_agreement.specs.Agreements.{AgreesWithin}
-use Rattle.run_agreement.specs.Costs.{IsNear, Through}
-use Rattle.run_agreement.specs.Machines.{Machine, at}
-use Rattle.run_framed.specs.Framed.{framed_given}
-use Rattle.run_plain.specs.declared.state.PlainState.{PlainState}
-use Rattle.run_source.specs.declared.state.State.{State}
-use Rattle.run_states.specs.moved_states.Beside.{IsMovedIn, framed_machine}
+use Rattle.pass_proofs.proofs.run_agreement.Costs.{agrees_within_by_steps, compose_by}
+use Rattle.pass_proofs.specs.run_agreement.Agreements.{AgreesWithin}
+use Rattle.pass_proofs.specs.run_agreement.Costs.{IsNear, Through}
+use Rattle.pass_proofs.specs.run_agreement.Machines.{Machine, at}
+use Rattle.pass_proofs.specs.run_framed.Framed.{framed_given}
+use Rattle.run_access_worked.specs.run_plain.declared.state.PlainState.{PlainState}
+use Rattle.pass_proofs.specs.run_source.declared.state.State.{State}
+use Rattle.pass_proofs.specs.run_states.moved_states.Beside.{IsMovedIn, framed_machine}
 use Rattle.run_types.specs.States.{AreArguments}
 
 module _ (layouts : Layouts) (m : Module) (names : AreLocalsNamed m) (kept : AreExitsKept m) (behind : AllJumpBehind m)

@@ -3,43 +3,43 @@ use Rattle.std.proofs.Common.{◌≡◌, ◌≤◌, ◌<◌, ◌⊎◌, inl, inr
 use Rattle.std.proofs.lemmas.Bool.{false≢true}
 use Rattle.std.specs.List.{list_any}
 use Rattle.std.specs.Prelude.{None, Option, Some, not, slice_get, ◌&&◌, ◌||◌, ◌==◌}
-use Rattle.flow_solver.specs.Paths.{IsListed}
-use Rattle.ir_laws.proofs.facts.Lists.{phi_names}
-use Rattle.ir_laws.proofs.facts.Truth.{equal_numbers, holds, itself}
-use Rattle.ir_laws.proofs.paths.renamed.Uses.{stands_in}
-use Rattle.ir_laws.proofs.paths.uses.Paths.{place_of}
-use Rattle.ir_model.specs.Names.{function_at, is_local}
-use Rattle.ir_model.specs.Ty.{Ty}
-use Rattle.ir_model.specs.declared.instr.Instr.{Instr}
-use Rattle.ir_model.specs.declared.instr.Phi.{Phi}
-use Rattle.ir_model.specs.declared.module.Block.{Block}
-use Rattle.ir_model.specs.declared.module.Function.{Function}
-use Rattle.ir_model.specs.declared.module.Module.{Module}
-use Rattle.ir_model.specs.declared.module.Param.{Param}
-use Rattle.ir_model.specs.declared.operand.Arg.{Arg}
-use Rattle.ir_model.specs.declared.operand.Callee.{Callee}
-use Rattle.ir_model.specs.declared.operand.Intrinsic.{Intrinsic}
-use Rattle.ir_model.specs.declared.operand.Operand.{Operand}
-use Rattle.ir_paths.specs.Slots.{is_in_args}
-use Rattle.ir_paths.specs.declared.point.Point.{Point}
-use Rattle.pass_kept_proof.proofs.Read.{given_result}
-use Rattle.pass_kept_proof.specs.Crossing.{IsReachedWithout, after_without, first_without, is_param}
-use Rattle.pass_kept_proof.specs.Needed.{given_by, phis_give, reads_at}
+use Rattle.pass_proofs.specs.flow_solver.Paths.{IsListed}
+use Rattle.pass_proofs.proofs.ir_laws.facts.Lists.{phi_names}
+use Rattle.pass_proofs.proofs.ir_laws.facts.Truth.{equal_numbers, holds, itself}
+use Rattle.pass_proofs.proofs.ir_laws.paths.renamed.Uses.{stands_in}
+use Rattle.pass_proofs.proofs.ir_laws.paths.uses.Paths.{place_of}
+use Rattle.pass_proofs.specs.ir_model.Names.{function_at, is_local}
+use Rattle.pass_proofs.specs.ir_model.Ty.{Ty}
+use Rattle.pass_proofs.specs.ir_model.declared.instr.Instr.{Instr}
+use Rattle.pass_proofs.specs.ir_model.declared.instr.Phi.{Phi}
+use Rattle.pass_proofs.specs.ir_model.declared.module.Block.{Block}
+use Rattle.pass_proofs.specs.ir_model.declared.module.Function.{Function}
+use Rattle.pass_proofs.specs.ir_model.declared.module.Module.{Module}
+use Rattle.pass_proofs.specs.ir_model.declared.module.Param.{Param}
+use Rattle.pass_proofs.specs.ir_model.declared.operand.Arg.{Arg}
+use Rattle.pass_proofs.specs.ir_model.declared.operand.Callee.{Callee}
+use Rattle.pass_proofs.specs.ir_model.declared.operand.Intrinsic.{Intrinsic}
+use Rattle.pass_proofs.specs.ir_model.declared.operand.Operand.{Operand}
+use Rattle.pass_proofs.specs.ir_paths.Slots.{is_in_args}
+use Rattle.pass_proofs.specs.ir_paths.declared.point.Point.{Point}
+use Rattle.pass_proofs.proofs.pass_kept_proof.Read.{given_result}
+use Rattle.pass_proofs.specs.pass_kept_proof.Crossing.{IsReachedWithout, after_without, first_without, is_param}
+use Rattle.pass_proofs.specs.pass_kept_proof.Needed.{given_by, phis_give, reads_at}
 use Rattle.pass_proofs.proofs.kept.sources.Definite.{definite}
 use Rattle.pass_split_proof.proofs.code.Allocas.{by_instrs}
 use Rattle.pass_split_proof.proofs.ready.Begins.{phi_listed}
 use Rattle.pass_split_proof.proofs.ready.Rules.{at_instr, function_of_instr}
 use Rattle.pass_split_proof.specs.simulation.Premises.{AreAllocasAlone, IsEntryAlloca, MarksAlloca}
-use Rattle.rule_laws.proofs.rules.renamed.Uses.{result_spelt}
-use Rattle.rule_laws.proofs.rules.source_rules.Locals.{no_param, no_phi, result_below, same_result}
-use Rattle.rule_laws.proofs.rules.source_rules.Slots.{sized_alloca}
-use Rattle.rule_laws.proofs.rules.sources.Places.{instr_there, point}
-use Rattle.rule_laws.specs.rules.function_rules.Kept.{KeepsFunctionRules}
-use Rattle.rule_locals.specs.Entries.{allocates_late}
-use Rattle.rule_locals.specs.Instrs.{on_instr}
-use Rattle.rule_locals.specs.Markers.{is_marker, marks, marks_otherwise, marks_size, marks_slot, slot_size}
-use Rattle.run_laws.specs.changed.Changed.{result_of}
-use Rattle.run_step.specs.Step.{AtInstr, fetch, is_lifetime, phis_of}
+use Rattle.pass_proofs.proofs.rule_laws.rules.renamed.Uses.{result_spelt}
+use Rattle.pass_proofs.proofs.rule_laws.rules.source_rules.Locals.{no_param, no_phi, result_below, same_result}
+use Rattle.pass_proofs.proofs.rule_laws.rules.source_rules.Slots.{sized_alloca}
+use Rattle.pass_proofs.proofs.rule_laws.rules.sources.Places.{instr_there, point}
+use Rattle.pass_proofs.specs.rule_laws.rules.function_rules.Kept.{KeepsFunctionRules}
+use Rattle.pass_proofs.specs.rule_locals.Entries.{allocates_late}
+use Rattle.pass_proofs.specs.rule_locals.Instrs.{on_instr}
+use Rattle.pass_proofs.specs.rule_locals.Markers.{is_marker, marks, marks_otherwise, marks_size, marks_slot, slot_size}
+use Rattle.pass_proofs.specs.run_laws.changed.Changed.{result_of}
+use Rattle.pass_proofs.specs.run_step.Step.{AtInstr, fetch, is_lifetime, phis_of}
 
 -- ---- names among parameters and phis
 

@@ -1,12 +1,12 @@
 -- What rules give at an instruction that related states are at.
 use Rattle.std.proofs.Common.{◌≡◌, false, List, Some, refl}
 use Rattle.std.specs.Prelude.{ℤ, slice_get}
-use Rattle.frame_layout.specs.declared.layout.Layouts.{Layouts}
-use Rattle.ir_model.specs.Names.{function_at}
-use Rattle.ir_model.specs.declared.instr.Instr.{Instr}
-use Rattle.ir_model.specs.declared.module.Module.{Module}
-use Rattle.ir_model.specs.declared.operand.Intrinsic.{Intrinsic}
-use Rattle.ir_paths.specs.Windows.{is_call_of}
+use Rattle.pass_proofs.specs.frame_layout.declared.layout.Layouts.{Layouts}
+use Rattle.pass_proofs.specs.ir_model.Names.{function_at}
+use Rattle.pass_proofs.specs.ir_model.declared.instr.Instr.{Instr}
+use Rattle.pass_proofs.specs.ir_model.declared.module.Module.{Module}
+use Rattle.pass_proofs.specs.ir_model.declared.operand.Intrinsic.{Intrinsic}
+use Rattle.pass_proofs.specs.ir_paths.Windows.{is_call_of}
 use Rattle.pass_split_proof.proofs.ready.Begins.{BeginsBy, other_name}
 use Rattle.pass_split_proof.proofs.ready.Given.{begins_by, ruled_at}
 use Rattle.pass_split_proof.proofs.ready.Readable.{instr_readable}
@@ -16,11 +16,11 @@ use Rattle.pass_split_proof.specs.ready.Module.{IsFollowable, IsRuled}
 use Rattle.pass_split_proof.specs.simulation.Statement.{parts_given}
 use Rattle.pass_split_proof.specs.states.Related.{AreRelated}
 use Rattle.pass_split_proof.specs.steps.Operands.{IsReadable}
-use Rattle.run_framed.specs.Framed.{framed_given}
-use Rattle.run_laws.specs.changed.Changed.{Each, operands_of, result_of}
-use Rattle.run_plain.specs.declared.state.PlainState.{PlainState}
-use Rattle.run_source.specs.declared.state.State.{State}
-use Rattle.run_step.specs.Step.{AtInstr, fetch}
+use Rattle.pass_proofs.specs.run_framed.Framed.{framed_given}
+use Rattle.pass_proofs.specs.run_laws.changed.Changed.{Each, operands_of, result_of}
+use Rattle.run_access_worked.specs.run_plain.declared.state.PlainState.{PlainState}
+use Rattle.pass_proofs.specs.run_source.declared.state.State.{State}
+use Rattle.pass_proofs.specs.run_step.Step.{AtInstr, fetch}
 
 module _ (ls : Layouts) (m : Module) (w : IsFollowable ls m) (answers : List ℤ) (s : State) (t : PlainState)
     (r : AreRelated (framed_given m ls.coroutines answers) (parts_given ls m answers) s t) (i : Instr)

@@ -2,31 +2,31 @@
 use Rattle.std.proofs.Common.{◌≡◌, ◌<◌, inl, inr, ℕ, true, false, List, [], ◌∷◌, length, sym, ap, ◌∙◌, subst, arith}
 use Rattle.std.proofs.lemmas.Bool.{false≢true}
 use Rattle.std.specs.Prelude.{None, Option, Some, option_and_then, slice_get}
-use Rattle.flow_solver.specs.Paths.{IsListed}
-use Rattle.ir_laws.proofs.facts.Lists.{phi_names}
-use Rattle.ir_laws.proofs.paths.alike_functions.Lists.{each_where}
-use Rattle.ir_laws.proofs.paths.sources.Listed.{point_listed}
-use Rattle.ir_model.specs.Calls.{first_result}
-use Rattle.ir_model.specs.declared.instr.Instr.{Instr}
-use Rattle.ir_model.specs.declared.instr.Phi.{Phi}
-use Rattle.ir_model.specs.declared.module.Block.{Block}
-use Rattle.ir_model.specs.declared.module.Function.{Function}
-use Rattle.ir_model.specs.declared.module.Module.{Module}
-use Rattle.ir_model.specs.declared.operand.Allocator.{Allocator}
-use Rattle.ir_model.specs.declared.operand.Callee.{Callee}
-use Rattle.ir_model.specs.declared.operand.Intrinsic.{Intrinsic}
-use Rattle.ir_paths.specs.Windows.{call_result, instr_at, instr_in, is_call_of, points_where}
-use Rattle.ir_paths.specs.declared.point.Point.{Point}
-use Rattle.rule_laws.proofs.rules.shape.Stands.{begin_stands}
-use Rattle.rule_laws.proofs.rules.source_rules.Locals.{no_phi, phi_below, result_below, same_instr}
-use Rattle.rule_laws.proofs.rules.source_rules.Once.{one_begin}
-use Rattle.rule_laws.proofs.rules.sources.Places.{instr_there, point}
-use Rattle.rule_laws.specs.rules.function_rules.Kept.{KeepsFunctionRules}
-use Rattle.rule_shape.specs.OneOfEach.{wrong_call}
-use Rattle.run_laws.specs.changed.Changed.{Each, result_of}
-use Rattle.run_framed.specs.Framed.{begin_name}
-use Rattle.run_step.specs.Reads.{given_by, given_by_allocator, given_by_intrinsic}
-use Rattle.run_step.specs.Step.{AtInstr, fetch}
+use Rattle.pass_proofs.specs.flow_solver.Paths.{IsListed}
+use Rattle.pass_proofs.proofs.ir_laws.facts.Lists.{phi_names}
+use Rattle.pass_proofs.proofs.ir_laws.paths.alike_functions.Lists.{each_where}
+use Rattle.pass_proofs.proofs.ir_laws.paths.sources.Listed.{point_listed}
+use Rattle.pass_proofs.specs.ir_model.Calls.{first_result}
+use Rattle.pass_proofs.specs.ir_model.declared.instr.Instr.{Instr}
+use Rattle.pass_proofs.specs.ir_model.declared.instr.Phi.{Phi}
+use Rattle.pass_proofs.specs.ir_model.declared.module.Block.{Block}
+use Rattle.pass_proofs.specs.ir_model.declared.module.Function.{Function}
+use Rattle.pass_proofs.specs.ir_model.declared.module.Module.{Module}
+use Rattle.pass_proofs.specs.ir_model.declared.operand.Allocator.{Allocator}
+use Rattle.pass_proofs.specs.ir_model.declared.operand.Callee.{Callee}
+use Rattle.pass_proofs.specs.ir_model.declared.operand.Intrinsic.{Intrinsic}
+use Rattle.pass_proofs.specs.ir_paths.Windows.{call_result, instr_at, instr_in, is_call_of, points_where}
+use Rattle.pass_proofs.specs.ir_paths.declared.point.Point.{Point}
+use Rattle.pass_proofs.proofs.rule_laws.rules.shape.Stands.{begin_stands}
+use Rattle.pass_proofs.proofs.rule_laws.rules.source_rules.Locals.{no_phi, phi_below, result_below, same_instr}
+use Rattle.pass_proofs.proofs.rule_laws.rules.source_rules.Once.{one_begin}
+use Rattle.pass_proofs.proofs.rule_laws.rules.sources.Places.{instr_there, point}
+use Rattle.pass_proofs.specs.rule_laws.rules.function_rules.Kept.{KeepsFunctionRules}
+use Rattle.pass_proofs.specs.rule_shape.OneOfEach.{wrong_call}
+use Rattle.pass_proofs.specs.run_laws.changed.Changed.{Each, result_of}
+use Rattle.pass_proofs.specs.run_framed.Framed.{begin_name}
+use Rattle.pass_proofs.specs.run_step.Reads.{given_by, given_by_allocator, given_by_intrinsic}
+use Rattle.pass_proofs.specs.run_step.Step.{AtInstr, fetch}
 
 intrinsic_gives : (x : Intrinsic) (r : Option ℕ) (v : ℕ) → given_by_intrinsic x r ≡ Some v → r ≡ Some v
 intrinsic_gives Intrinsic.CoroSizeI32 r v e = e

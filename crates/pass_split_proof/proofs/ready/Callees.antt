@@ -2,29 +2,29 @@
 use Rattle.std.proofs.Common.{◌≡◌, ℕ, Bool, true, false, refl, sym, ap, ◌∙◌}
 use Rattle.std.specs.Prelude.{List, None, Option, Some, is_some, not, option_map, ◌||◌, ◌&&◌}
 use Rattle.std.specs.List.{list_all}
-use Rattle.frame_layout.specs.declared.layout.Layouts.{Layouts}
-use Rattle.ir_base.specs.declared.name.Name.{Name}
-use Rattle.ir_laws.proofs.facts.Truth.{and_second, holds}
-use Rattle.ir_model.specs.Names.{declaration_named, function_named, global_named}
-use Rattle.ir_model.specs.Ty.{Ty}
-use Rattle.ir_model.specs.declared.instr.Instr.{Instr}
-use Rattle.ir_model.specs.declared.module.Function.{Function}
-use Rattle.ir_model.specs.declared.module.Module.{Module}
-use Rattle.ir_model.specs.declared.operand.Arg.{Arg}
-use Rattle.ir_model.specs.declared.operand.Callee.{Callee}
-use Rattle.ir_parts.specs.Contents.{part_labels, part_operands, part_types}
-use Rattle.ir_parts.specs.Parts.{OfInstr, Part}
+use Rattle.pass_proofs.specs.frame_layout.declared.layout.Layouts.{Layouts}
+use Rattle.pass_proofs.specs.ir_base.declared.name.Name.{Name}
+use Rattle.pass_proofs.proofs.ir_laws.facts.Truth.{and_second, holds}
+use Rattle.pass_proofs.specs.ir_model.Names.{declaration_named, function_named, global_named}
+use Rattle.pass_proofs.specs.ir_model.Ty.{Ty}
+use Rattle.pass_proofs.specs.ir_model.declared.instr.Instr.{Instr}
+use Rattle.pass_proofs.specs.ir_model.declared.module.Function.{Function}
+use Rattle.pass_proofs.specs.ir_model.declared.module.Module.{Module}
+use Rattle.pass_proofs.specs.ir_model.declared.operand.Arg.{Arg}
+use Rattle.pass_proofs.specs.ir_model.declared.operand.Callee.{Callee}
+use Rattle.pass_proofs.specs.ir_parts.Contents.{part_labels, part_operands, part_types}
+use Rattle.pass_proofs.specs.ir_parts.Parts.{OfInstr, Part}
 use Rattle.pass_split_proof.proofs.ready.Rules.{at_instr}
 use Rattle.pass_split_proof.specs.code.Positions.{moved}
 use Rattle.pass_split_proof.specs.first_exits.Parted.{parted_module}
 use Rattle.pass_split_proof.specs.ready.Names.{HasMovedNames}
-use Rattle.rule_laws.specs.rules.function_rules.Kept.{KeepsFunctionRules}
-use Rattle.rule_locals.specs.Addresses.{is_no_function, points_to_functions}
-use Rattle.rule_locals.specs.Transfers.{breaks_transfers}
-use Rattle.rule_locals.specs.Instrs.{on_instr}
-use Rattle.rule_names.specs.Known.{is_label, is_value, knows_called, knows_name, knows_operand, knows_type, names_unknown}
-use Rattle.rule_names.specs.declared.stage.Stage.{Stage}
-use Rattle.run_step.specs.Step.{AtInstr, fetch}
+use Rattle.pass_proofs.specs.rule_laws.rules.function_rules.Kept.{KeepsFunctionRules}
+use Rattle.pass_proofs.specs.rule_locals.Addresses.{is_no_function, points_to_functions}
+use Rattle.pass_proofs.specs.rule_locals.Transfers.{breaks_transfers}
+use Rattle.pass_proofs.specs.rule_locals.Instrs.{on_instr}
+use Rattle.pass_proofs.specs.rule_names.Known.{is_label, is_value, knows_called, knows_name, knows_operand, knows_type, names_unknown}
+use Rattle.pass_proofs.specs.rule_names.declared.stage.Stage.{Stage}
+use Rattle.pass_proofs.specs.run_step.Step.{AtInstr, fetch}
 
 module _ (ls : Layouts) (m : Module) (names : HasMovedNames ls m) (functions : ℕ → ℕ)
     (moves : (k : ℕ) → functions k ≡ moved ls.coroutines m m.functions k) where

@@ -1,18 +1,18 @@
 -- Calls by names, and calls of allocators and deallocators, are ready in the parts.
 use Rattle.std.proofs.Common.{◌≡◌, ◌<◌, ◌^◌, ℕ, ◌+◌, Bool, true, List, Option, Some, None, refl, sym, ap, ◌∙◌, arith}
 use Rattle.std.specs.Prelude.{ℤ, slice_get}
-use Rattle.frame_layout.specs.declared.layout.Layouts.{Layouts}
-use Rattle.ir_base.specs.declared.name.Name.{Name}
-use Rattle.ir_base.specs.declared.outcome.Word.{Word}
-use Rattle.ir_laws.proofs.facts.same_names.Lists.{what_is_found}
-use Rattle.ir_model.specs.Names.{function_at, function_named, same_name}
-use Rattle.ir_model.specs.Ty.{Ty}
-use Rattle.ir_model.specs.declared.instr.Instr.{Instr}
-use Rattle.ir_model.specs.declared.module.Function.{Function}
-use Rattle.ir_model.specs.declared.module.Module.{Module}
-use Rattle.ir_model.specs.declared.operand.Allocator.{Allocator}
-use Rattle.ir_model.specs.declared.operand.Arg.{Arg}
-use Rattle.ir_model.specs.declared.operand.Callee.{Callee}
+use Rattle.pass_proofs.specs.frame_layout.declared.layout.Layouts.{Layouts}
+use Rattle.pass_proofs.specs.ir_base.declared.name.Name.{Name}
+use Rattle.pass_proofs.specs.ir_base.declared.outcome.Word.{Word}
+use Rattle.pass_proofs.proofs.ir_laws.facts.same_names.Lists.{what_is_found}
+use Rattle.pass_proofs.specs.ir_model.Names.{function_at, function_named, same_name}
+use Rattle.pass_proofs.specs.ir_model.Ty.{Ty}
+use Rattle.pass_proofs.specs.ir_model.declared.instr.Instr.{Instr}
+use Rattle.pass_proofs.specs.ir_model.declared.module.Function.{Function}
+use Rattle.pass_proofs.specs.ir_model.declared.module.Module.{Module}
+use Rattle.pass_proofs.specs.ir_model.declared.operand.Allocator.{Allocator}
+use Rattle.pass_proofs.specs.ir_model.declared.operand.Arg.{Arg}
+use Rattle.pass_proofs.specs.ir_model.declared.operand.Callee.{Callee}
 use Rattle.pass_split_proof.proofs.ready.At.{others, read, ruled}
 use Rattle.pass_split_proof.proofs.ready.Callees.{not_tail}
 use Rattle.pass_split_proof.proofs.ready.Given.{there_is}
@@ -24,12 +24,12 @@ use Rattle.pass_split_proof.specs.ready.Module.{IsFollowable}
 use Rattle.pass_split_proof.specs.simulation.Premises.{IsAt, IsAtPlace}
 use Rattle.pass_split_proof.specs.simulation.Statement.{parts_given}
 use Rattle.pass_split_proof.specs.states.Related.{AreRelated}
-use Rattle.run_framed.specs.Framed.{framed_given, given_ramp}
-use Rattle.run_memory.specs.declared.pointer.Value.{Value}
-use Rattle.run_plain.specs.declared.state.PlainState.{PlainState}
-use Rattle.run_source.specs.declared.state.State.{State}
-use Rattle.run_step.specs.Step.{AtInstr}
-use Rattle.run_step.specs.Values.{arg_values, nth}
+use Rattle.pass_proofs.specs.run_framed.Framed.{framed_given, given_ramp}
+use Rattle.pass_proofs.specs.run_memory.declared.pointer.Value.{Value}
+use Rattle.run_access_worked.specs.run_plain.declared.state.PlainState.{PlainState}
+use Rattle.pass_proofs.specs.run_source.declared.state.State.{State}
+use Rattle.pass_proofs.specs.run_step.Step.{AtInstr}
+use Rattle.pass_proofs.specs.run_step.Values.{arg_values, nth}
 
 found_there : (m : Module) (name : Name) (k : ℕ) → function_named m name ≡ Some k
     → slice_get m.functions k ≡ Some (function_at m k)

@@ -3,35 +3,35 @@ use Rattle.std.proofs.Common.{◌≡◌, ◌<◌, ◌≤◌, ℕ, ◌+◌, Bool,
 use Rattle.std.proofs.lemmas.Bool.{false≢true}
 use Rattle.std.proofs.lemmas.Option.{slice_get-map}
 use Rattle.std.specs.Prelude.{ℤ, None, Option, Some, is_some, option_and_then, option_map, slice_get, unwrap_or, ◌&&◌}
-use Rattle.frame_layout.specs.declared.layout.Layouts.{Layouts}
-use Rattle.ir_base.specs.declared.name.Name.{Name}
-use Rattle.ir_laws.proofs.facts.Truth.{and_first, and_second}
-use Rattle.ir_laws.proofs.paths.alike_functions.Lists.{each_where}
-use Rattle.ir_laws.proofs.paths.edges.Lists.{listed_at}
-use Rattle.ir_laws.proofs.paths.renamed.Uses.{stands_in}
-use Rattle.ir_laws.proofs.paths.replaced.Known.{of_listed}
-use Rattle.ir_model.specs.Calls.{first_result}
-use Rattle.ir_model.specs.Names.{declaration_named, function_at, function_named, global_named}
-use Rattle.ir_model.specs.Ty.{Ty, ptr}
-use Rattle.ir_model.specs.declared.instr.Instr.{Instr}
-use Rattle.ir_model.specs.declared.module.Block.{Block}
-use Rattle.ir_model.specs.declared.module.Function.{Function}
-use Rattle.ir_model.specs.declared.module.Module.{Module}
-use Rattle.ir_model.specs.declared.operand.Arg.{Arg}
-use Rattle.ir_model.specs.declared.operand.Callee.{Callee}
-use Rattle.ir_model.specs.declared.operand.Intrinsic.{Intrinsic}
-use Rattle.ir_model.specs.declared.operand.Operand.{Operand}
-use Rattle.ir_paths.specs.Slots.{allocas_of}
-use Rattle.ir_paths.specs.Windows.{call_result, instr_at, is_suspend_of, operand_at, points_where, suspend_of}
-use Rattle.ir_paths.specs.declared.point.Facts.{Facts}
-use Rattle.ir_paths.specs.declared.point.Point.{Point}
-use Rattle.pass_intrinsics.specs.Shapes.{save_of, shape_of, token_of}
-use Rattle.pass_intrinsics.specs.declared.shape.Part.{Part}
-use Rattle.pass_intrinsics.specs.declared.shape.Shape.{Shape}
-use Rattle.pass_intrinsics.specs.declared.shape.SuspendPoint.{SuspendPoint}
+use Rattle.pass_proofs.specs.frame_layout.declared.layout.Layouts.{Layouts}
+use Rattle.pass_proofs.specs.ir_base.declared.name.Name.{Name}
+use Rattle.pass_proofs.proofs.ir_laws.facts.Truth.{and_first, and_second}
+use Rattle.pass_proofs.proofs.ir_laws.paths.alike_functions.Lists.{each_where}
+use Rattle.pass_proofs.proofs.ir_laws.paths.edges.Lists.{listed_at}
+use Rattle.pass_proofs.proofs.ir_laws.paths.renamed.Uses.{stands_in}
+use Rattle.pass_proofs.proofs.ir_laws.paths.replaced.Known.{of_listed}
+use Rattle.pass_proofs.specs.ir_model.Calls.{first_result}
+use Rattle.pass_proofs.specs.ir_model.Names.{declaration_named, function_at, function_named, global_named}
+use Rattle.pass_proofs.specs.ir_model.Ty.{Ty, ptr}
+use Rattle.pass_proofs.specs.ir_model.declared.instr.Instr.{Instr}
+use Rattle.pass_proofs.specs.ir_model.declared.module.Block.{Block}
+use Rattle.pass_proofs.specs.ir_model.declared.module.Function.{Function}
+use Rattle.pass_proofs.specs.ir_model.declared.module.Module.{Module}
+use Rattle.pass_proofs.specs.ir_model.declared.operand.Arg.{Arg}
+use Rattle.pass_proofs.specs.ir_model.declared.operand.Callee.{Callee}
+use Rattle.pass_proofs.specs.ir_model.declared.operand.Intrinsic.{Intrinsic}
+use Rattle.pass_proofs.specs.ir_model.declared.operand.Operand.{Operand}
+use Rattle.pass_proofs.specs.ir_paths.Slots.{allocas_of}
+use Rattle.pass_proofs.specs.ir_paths.Windows.{call_result, instr_at, is_suspend_of, operand_at, points_where, suspend_of}
+use Rattle.pass_proofs.specs.ir_paths.declared.point.Facts.{Facts}
+use Rattle.pass_proofs.specs.ir_paths.declared.point.Point.{Point}
+use Rattle.pass_proofs.specs.pass_intrinsics.Shapes.{save_of, shape_of, token_of}
+use Rattle.pass_proofs.specs.pass_intrinsics.declared.shape.Part.{Part}
+use Rattle.pass_proofs.specs.pass_intrinsics.declared.shape.Shape.{Shape}
+use Rattle.pass_proofs.specs.pass_intrinsics.declared.shape.SuspendPoint.{SuspendPoint}
 use Rattle.pass_proofs.proofs.kept.sources.Typed.{calls_fit}
 use Rattle.pass_proofs.specs.split.rules.Reached.{IsLedTo}
-use Rattle.pass_split.specs.Given.{has_given_call}
+use Rattle.pass_proofs.specs.pass_split.Given.{has_given_call}
 use Rattle.pass_split_proof.proofs.code.Numbers.{is_call, point_of, there_by}
 use Rattle.pass_split_proof.proofs.ready.At.{read, ruled, there}
 use Rattle.pass_split_proof.proofs.ready.Begins.{begin_makes}
@@ -50,24 +50,24 @@ use Rattle.pass_split_proof.specs.simulation.Statement.{parts_given}
 use Rattle.pass_split_proof.specs.states.Instances.{IsLaidOut, is_held}
 use Rattle.pass_split_proof.specs.states.Related.{AreRelated}
 use Rattle.pass_split_proof.specs.steps.Operands.{IsReadable}
-use Rattle.rule_laws.proofs.rules.source_rules.Locals.{own_label, result_below}
-use Rattle.rule_laws.proofs.rules.sources.Places.{instr_there, point}
-use Rattle.rule_laws.proofs.rules.uses.Switched.{switched}
-use Rattle.rule_laws.specs.frames.replaced.Parted.{IsSmall}
-use Rattle.rule_types.specs.Signatures.{are_wanted, is_result}
-use Rattle.rule_types.specs.Wants.{any, intrinsic_params, intrinsic_result, is_ptr, is_token}
-use Rattle.rule_types.specs.declared.wants.Basic.{Basic}
-use Rattle.run_framed.specs.Framed.{framed_facts, framed_given, layout_of}
-use Rattle.run_laws.specs.changed.Changed.{Each, result_of, values_of}
-use Rattle.run_memory.specs.declared.pointer.Pointer.{Pointer}
-use Rattle.run_memory.specs.declared.pointer.Value.{Value}
-use Rattle.run_plain.specs.declared.state.PlainState.{PlainState}
-use Rattle.run_source.specs.declared.state.Instance.{Instance}
-use Rattle.run_source.specs.declared.state.Mode.{Mode}
-use Rattle.run_source.specs.declared.state.State.{State}
-use Rattle.run_source_tables.specs.Given.{facts_at}
-use Rattle.run_step.specs.Step.{AtInstr, label_of}
-use Rattle.run_step.specs.Values.{address_from, address_of}
+use Rattle.pass_proofs.proofs.rule_laws.rules.source_rules.Locals.{own_label, result_below}
+use Rattle.pass_proofs.proofs.rule_laws.rules.sources.Places.{instr_there, point}
+use Rattle.pass_proofs.proofs.rule_laws.rules.uses.Switched.{switched}
+use Rattle.pass_proofs.specs.rule_laws.frames.replaced.Parted.{IsSmall}
+use Rattle.pass_proofs.specs.rule_types.Signatures.{are_wanted, is_result}
+use Rattle.pass_proofs.specs.rule_types.Wants.{any, intrinsic_params, intrinsic_result, is_ptr, is_token}
+use Rattle.pass_proofs.specs.rule_types.declared.wants.Basic.{Basic}
+use Rattle.pass_proofs.specs.run_framed.Framed.{framed_facts, framed_given, layout_of}
+use Rattle.pass_proofs.specs.run_laws.changed.Changed.{Each, result_of, values_of}
+use Rattle.pass_proofs.specs.run_memory.declared.pointer.Pointer.{Pointer}
+use Rattle.pass_proofs.specs.run_memory.declared.pointer.Value.{Value}
+use Rattle.run_access_worked.specs.run_plain.declared.state.PlainState.{PlainState}
+use Rattle.pass_proofs.specs.run_source.declared.state.Instance.{Instance}
+use Rattle.pass_proofs.specs.run_source.declared.state.Mode.{Mode}
+use Rattle.pass_proofs.specs.run_source.declared.state.State.{State}
+use Rattle.pass_proofs.specs.run_source_tables.Given.{facts_at}
+use Rattle.pass_proofs.specs.run_step.Step.{AtInstr, label_of}
+use Rattle.pass_proofs.specs.run_step.Values.{address_from, address_of}
 
 -- ---- layouts, whatever answers a run is given
 

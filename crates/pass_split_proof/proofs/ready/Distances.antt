@@ -3,20 +3,20 @@ use Rattle.std.proofs.Common.{◌≡◌, ◌⊎◌, inl, inr, ℕ, ◌*◌, ◌-
 use Rattle.std.proofs.lemmas.Bool.{lt-ltb}
 use Rattle.std.proofs.Math.Nat.{mod-eq_of_lt}
 use Rattle.std.specs.Prelude.{None, Option, Some, unwrap_or, if◌then◌else◌}
-use Rattle.ir_model.specs.Layout.{field_type, size_of, unnamed}
-use Rattle.ir_model.specs.Ty.{Ty, Tys, array, int, named, ptr, structure, token}
-use Rattle.ir_model.specs.declared.module.Module.{Module}
-use Rattle.ir_model.specs.declared.operand.Arg.{Arg}
-use Rattle.ir_model.specs.declared.operand.Operand.{Operand}
+use Rattle.pass_proofs.specs.ir_model.Layout.{field_type, size_of, unnamed}
+use Rattle.pass_proofs.specs.ir_model.Ty.{Ty, Tys, array, int, named, ptr, structure, token}
+use Rattle.pass_proofs.specs.ir_model.declared.module.Module.{Module}
+use Rattle.pass_proofs.specs.ir_model.declared.operand.Arg.{Arg}
+use Rattle.pass_proofs.specs.ir_model.declared.operand.Operand.{Operand}
 use Rattle.pass_split_proof.specs.ready.Fields.{AreFieldIndices, AreInnerIndices, IsFieldIndex, number_in, type_inside}
-use Rattle.run_ints.specs.Numbers.{bits_of}
-use Rattle.run_ints.specs.declared.num.Num.{Num}
-use Rattle.run_laws.specs.changed.Changed.{Each}
-use Rattle.run_laws.specs.embedded.Related.{IsSameDistance}
-use Rattle.run_laws.specs.memory.Pointers.{Home, IsValue}
-use Rattle.run_memory.specs.declared.pointer.Pointer.{Pointer}
-use Rattle.run_memory.specs.declared.pointer.Value.{Value}
-use Rattle.run_step.specs.Values.{Env, arg_value, capped, distance, index_of, indices_of, inner_distance, number_at, number_of_width, operand_value, part_at, plus, times}
+use Rattle.pass_proofs.specs.run_ints.Numbers.{bits_of}
+use Rattle.pass_proofs.specs.run_ints.declared.num.Num.{Num}
+use Rattle.pass_proofs.specs.run_laws.changed.Changed.{Each}
+use Rattle.pass_proofs.specs.run_laws.embedded.Related.{IsSameDistance}
+use Rattle.pass_proofs.specs.run_laws.memory.Pointers.{Home, IsValue}
+use Rattle.pass_proofs.specs.run_memory.declared.pointer.Pointer.{Pointer}
+use Rattle.pass_proofs.specs.run_memory.declared.pointer.Value.{Value}
+use Rattle.pass_proofs.specs.run_step.Values.{Env, arg_value, capped, distance, index_of, indices_of, inner_distance, number_at, number_of_width, operand_value, part_at, plus, times}
 
 itself : (d : Option ℕ) → IsSameDistance d d
 itself None = tt

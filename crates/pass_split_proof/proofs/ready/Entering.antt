@@ -2,20 +2,20 @@
 use Rattle.std.proofs.Common.{◌≡◌, ◌<◌, ℕ, ◌+◌, Bool, true, false, List, length, refl, sym, ap, ◌∙◌, subst}
 use Rattle.std.proofs.lemmas.Bool.{false≢true}
 use Rattle.std.specs.Prelude.{ℤ, None, Option, Some, slice_get, unwrap_or}
-use Rattle.flow_solver.specs.Paths.{IsListed}
-use Rattle.frame_layout.specs.declared.layout.Layouts.{Layouts}
-use Rattle.ir_laws.proofs.paths.edges.Lists.{listed_at}
-use Rattle.ir_model.specs.Names.{function_at, no_function}
-use Rattle.ir_model.specs.declared.module.Function.{Function}
-use Rattle.ir_model.specs.declared.module.Module.{Module}
-use Rattle.pass_front.specs.Front.{allocas_of}
-use Rattle.pass_intrinsics.specs.Cuts.{goes_on}
-use Rattle.pass_intrinsics.specs.Shapes.{suspends_of}
-use Rattle.pass_intrinsics.specs.declared.shape.Part.{Part}
-use Rattle.pass_intrinsics.specs.declared.shape.Shape.{Shape}
-use Rattle.pass_intrinsics.specs.declared.shape.SuspendPoint.{SuspendPoint}
-use Rattle.pass_split.specs.Given.{has_given_call}
-use Rattle.pass_split.specs.Pieces.{going_on}
+use Rattle.pass_proofs.specs.flow_solver.Paths.{IsListed}
+use Rattle.pass_proofs.specs.frame_layout.declared.layout.Layouts.{Layouts}
+use Rattle.pass_proofs.proofs.ir_laws.paths.edges.Lists.{listed_at}
+use Rattle.pass_proofs.specs.ir_model.Names.{function_at, no_function}
+use Rattle.pass_proofs.specs.ir_model.declared.module.Function.{Function}
+use Rattle.pass_proofs.specs.ir_model.declared.module.Module.{Module}
+use Rattle.pass_proofs.specs.pass_front.Front.{allocas_of}
+use Rattle.pass_proofs.specs.pass_intrinsics.Cuts.{goes_on}
+use Rattle.pass_proofs.specs.pass_intrinsics.Shapes.{suspends_of}
+use Rattle.pass_proofs.specs.pass_intrinsics.declared.shape.Part.{Part}
+use Rattle.pass_proofs.specs.pass_intrinsics.declared.shape.Shape.{Shape}
+use Rattle.pass_proofs.specs.pass_intrinsics.declared.shape.SuspendPoint.{SuspendPoint}
+use Rattle.pass_proofs.specs.pass_split.Given.{has_given_call}
+use Rattle.pass_proofs.specs.pass_split.Pieces.{going_on}
 use Rattle.pass_split_proof.proofs.code.Entries.{later_entry}
 use Rattle.pass_split_proof.proofs.places.Transfers.{end_first}
 use Rattle.pass_split_proof.proofs.ready.Blocks.{is_alloca}
@@ -33,11 +33,11 @@ use Rattle.pass_split_proof.specs.simulation.Statement.{parts_given}
 use Rattle.pass_split_proof.specs.states.Activations.{RunsPart}
 use Rattle.pass_split_proof.specs.states.Related.{AreRelated}
 use Rattle.pass_split_proof.specs.steps.Returns.{IsReturnBlock}
-use Rattle.run_framed.specs.Framed.{framed_given, layout_of}
-use Rattle.run_plain.specs.declared.state.PlainState.{PlainState}
-use Rattle.run_source.specs.declared.state.Mode.{Mode}
-use Rattle.run_source.specs.declared.state.State.{State}
-use Rattle.run_step.specs.Step.{fetch}
+use Rattle.pass_proofs.specs.run_framed.Framed.{framed_given, layout_of}
+use Rattle.run_access_worked.specs.run_plain.declared.state.PlainState.{PlainState}
+use Rattle.pass_proofs.specs.run_source.declared.state.Mode.{Mode}
+use Rattle.pass_proofs.specs.run_source.declared.state.State.{State}
+use Rattle.pass_proofs.specs.run_step.Step.{fetch}
 
 -- ---- of a function and a part that goes on
 

@@ -1,19 +1,19 @@
 -- A function that is no coroutine is found in the parts by its name.
 use Rattle.std.proofs.Common.{◌≡◌, ℕ, ◌+◌, false, sym, ap, ◌∙◌, arith}
 use Rattle.std.specs.Prelude.{Some, slice_get}
-use Rattle.frame_layout.specs.declared.layout.Layouts.{Layouts}
-use Rattle.ir_laws.specs.facts.same_names.Short.{HaveShortNames}
-use Rattle.ir_model.specs.Names.{function_named}
-use Rattle.ir_model.specs.declared.module.Function.{Function}
-use Rattle.ir_model.specs.declared.module.Module.{Module}
+use Rattle.pass_proofs.specs.frame_layout.declared.layout.Layouts.{Layouts}
+use Rattle.pass_proofs.specs.ir_laws.facts.same_names.Short.{HaveShortNames}
+use Rattle.pass_proofs.specs.ir_model.Names.{function_named}
+use Rattle.pass_proofs.specs.ir_model.declared.module.Function.{Function}
+use Rattle.pass_proofs.specs.ir_model.declared.module.Module.{Module}
 use Rattle.pass_proofs.specs.exits.states.Exits.{exits_split}
-use Rattle.pass_split.specs.Given.{has_given_call}
+use Rattle.pass_proofs.specs.pass_split.Given.{has_given_call}
 use Rattle.pass_split_proof.proofs.code.Positions.{first_there, found_by_name, stands_moved}
 use Rattle.pass_split_proof.specs.code.Positions.{layout_at, moved}
 use Rattle.pass_split_proof.specs.first_exits.Parted.{parted_functions, parted_module}
 use Rattle.pass_split_proof.specs.simulation.Statement.{IsEntryOfParts}
-use Rattle.rule_laws.specs.rules.plain_rules.Items.{KeepsItemRules}
-use Rattle.rule_names.specs.declared.stage.Stage.{Stage}
+use Rattle.pass_proofs.specs.rule_laws.rules.plain_rules.Items.{KeepsItemRules}
+use Rattle.pass_proofs.specs.rule_names.declared.stage.Stage.{Stage}
 
 pub entry_moves : (ls : Layouts) (m : Module) → KeepsItemRules Stage.Source m → HaveShortNames m → (entry other : ℕ)
     (f g : Function) → slice_get (exits_split m).functions entry ≡ Some f → f.coroutine ≡ false

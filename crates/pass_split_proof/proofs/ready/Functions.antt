@@ -3,36 +3,36 @@ use Rattle.std.proofs.Common.{◌≡◌, ◌<◌, inl, ℕ, suc, Bool, true, fal
 use Rattle.std.proofs.lemmas.Bool.{false≢true}
 use Rattle.std.specs.List.{AllByRecursion}
 use Rattle.std.specs.Prelude.{ℤ, None, Option, Some, is_some, slice_get, unwrap_or, if◌then◌else◌}
-use Rattle.flow_solver.specs.Paths.{IsListed}
-use Rattle.frame_layout.specs.declared.layout.Layouts.{Layouts}
-use Rattle.ir_laws.proofs.paths.edges.Lists.{listed_at}
-use Rattle.ir_laws.proofs.paths.renamed.Uses.{stands_in}
-use Rattle.ir_laws.proofs.paths.woven_rules.Unbroken.{each_listed as each_of}
-use Rattle.ir_model.specs.Names.{function_at, no_function, position_of}
-use Rattle.ir_model.specs.Ty.{Ty}
-use Rattle.ir_model.specs.declared.instr.Instr.{Instr}
-use Rattle.ir_model.specs.declared.module.Block.{Block}
-use Rattle.ir_model.specs.declared.module.Function.{Function}
-use Rattle.ir_model.specs.declared.module.Module.{Module}
-use Rattle.ir_model.specs.declared.module.Param.{Param}
-use Rattle.ir_model.specs.declared.operand.Arg.{Arg}
-use Rattle.ir_model.specs.declared.operand.Callee.{Callee}
-use Rattle.ir_model.specs.declared.operand.Intrinsic.{Intrinsic}
-use Rattle.ir_paths.specs.Paths.{targets}
-use Rattle.ir_paths.specs.Windows.{is_call_of}
-use Rattle.pass_intrinsics.specs.Cuts.{token_in}
-use Rattle.pass_intrinsics.specs.Shapes.{save_of, shape_of, suspends_of}
-use Rattle.pass_intrinsics.specs.declared.shape.Part.{Part}
-use Rattle.pass_intrinsics.specs.declared.shape.Shape.{Shape}
-use Rattle.pass_intrinsics.specs.declared.shape.SuspendPoint.{SuspendPoint}
+use Rattle.pass_proofs.specs.flow_solver.Paths.{IsListed}
+use Rattle.pass_proofs.specs.frame_layout.declared.layout.Layouts.{Layouts}
+use Rattle.pass_proofs.proofs.ir_laws.paths.edges.Lists.{listed_at}
+use Rattle.pass_proofs.proofs.ir_laws.paths.renamed.Uses.{stands_in}
+use Rattle.pass_proofs.proofs.ir_laws.paths.woven_rules.Unbroken.{each_listed as each_of}
+use Rattle.pass_proofs.specs.ir_model.Names.{function_at, no_function, position_of}
+use Rattle.pass_proofs.specs.ir_model.Ty.{Ty}
+use Rattle.pass_proofs.specs.ir_model.declared.instr.Instr.{Instr}
+use Rattle.pass_proofs.specs.ir_model.declared.module.Block.{Block}
+use Rattle.pass_proofs.specs.ir_model.declared.module.Function.{Function}
+use Rattle.pass_proofs.specs.ir_model.declared.module.Module.{Module}
+use Rattle.pass_proofs.specs.ir_model.declared.module.Param.{Param}
+use Rattle.pass_proofs.specs.ir_model.declared.operand.Arg.{Arg}
+use Rattle.pass_proofs.specs.ir_model.declared.operand.Callee.{Callee}
+use Rattle.pass_proofs.specs.ir_model.declared.operand.Intrinsic.{Intrinsic}
+use Rattle.pass_proofs.specs.ir_paths.Paths.{targets}
+use Rattle.pass_proofs.specs.ir_paths.Windows.{is_call_of}
+use Rattle.pass_proofs.specs.pass_intrinsics.Cuts.{token_in}
+use Rattle.pass_proofs.specs.pass_intrinsics.Shapes.{save_of, shape_of, suspends_of}
+use Rattle.pass_proofs.specs.pass_intrinsics.declared.shape.Part.{Part}
+use Rattle.pass_proofs.specs.pass_intrinsics.declared.shape.Shape.{Shape}
+use Rattle.pass_proofs.specs.pass_intrinsics.declared.shape.SuspendPoint.{SuspendPoint}
 use Rattle.pass_proofs.proofs.kept.sources.Suspends.{is_switched}
 use Rattle.pass_proofs.proofs.kept.sources.Typed.{calls_fit, ends_fit, instrs_fit, loads_fit, names_given, param_named, phi_fits, phi_named}
 use Rattle.pass_proofs.proofs.split.edges.Cuttable.{IsCuttable}
 use Rattle.pass_proofs.proofs.split.edges.Sources.{cuttable}
 use Rattle.pass_proofs.proofs.split.rules.Reached.{led_is_flagged}
 use Rattle.pass_proofs.specs.split.rules.Reached.{HasTabledLabels, IsTabled}
-use Rattle.pass_split.specs.Parts.{goes_on_at, is_entered}
-use Rattle.pass_split.specs.Reached.{entry_of, is_flagged, reached, targets_in}
+use Rattle.pass_proofs.specs.pass_split.Parts.{goes_on_at, is_entered}
+use Rattle.pass_proofs.specs.pass_split.Reached.{entry_of, is_flagged, reached, targets_in}
 use Rattle.pass_split_proof.proofs.code.Numbers.{is_call, point_of, there_by}
 use Rattle.pass_split_proof.proofs.places.Transfers.{end_first}
 use Rattle.pass_split_proof.proofs.ready.Allocas.{allocas_alone}
@@ -47,16 +47,16 @@ use Rattle.pass_split_proof.proofs.ready.Rules.{function_of_instr, function_of_t
 use Rattle.pass_split_proof.specs.ready.Module.{IsFollowable}
 use Rattle.pass_split_proof.specs.simulation.Premises.{AreFunctionsMet, IsCoroutineThere, is_of_coroutines}
 use Rattle.pass_split_proof.specs.simulation.Statement.{parts_given}
-use Rattle.rule_laws.proofs.rules.source_rules.Locals.{own_label}
-use Rattle.rule_laws.proofs.rules.sources.Places.{instr_there, point}
-use Rattle.rule_laws.specs.rules.function_rules.Kept.{KeepsFunctionRules}
-use Rattle.rule_locals.specs.Intrinsics.{is_inner}
-use Rattle.rule_shape.specs.Suspends.{is_suspend}
-use Rattle.rule_values.specs.Kinds.{kind_of, value_kind}
-use Rattle.run_framed.specs.Framed.{framed_given, layout_of}
-use Rattle.run_hooks.specs.Reached.{HasSwitches}
-use Rattle.run_laws.specs.changed.Changed.{Each}
-use Rattle.run_step.specs.Step.{AtInstr, fetch, phis_of}
+use Rattle.pass_proofs.proofs.rule_laws.rules.source_rules.Locals.{own_label}
+use Rattle.pass_proofs.proofs.rule_laws.rules.sources.Places.{instr_there, point}
+use Rattle.pass_proofs.specs.rule_laws.rules.function_rules.Kept.{KeepsFunctionRules}
+use Rattle.pass_proofs.specs.rule_locals.Intrinsics.{is_inner}
+use Rattle.pass_proofs.specs.rule_shape.Suspends.{is_suspend}
+use Rattle.pass_proofs.specs.rule_values.Kinds.{kind_of, value_kind}
+use Rattle.pass_proofs.specs.run_framed.Framed.{framed_given, layout_of}
+use Rattle.run_types.specs.run_hooks.Reached.{HasSwitches}
+use Rattle.pass_proofs.specs.run_laws.changed.Changed.{Each}
+use Rattle.pass_proofs.specs.run_step.Step.{AtInstr, fetch, phis_of}
 use Rattle.run_types.specs.Rules.{FitsPhi, KeepsTypes}
 
 -- ---- suspends have tokens

@@ -5,33 +5,33 @@ use Rattle.std.proofs.lemmas.List.Folds.{list_any-append}
 use Rattle.std.specs.List.{list_any}
 use Rattle.std.proofs.lemmas.Option.{slice_get-map}
 use Rattle.std.specs.Prelude.{None, Option, Some, codes, is_some, option_map, slice_get, ◌&&◌, ◌||◌, ◌==◌, if◌then◌else◌}
-use Rattle.frame_layout.specs.declared.layout.Layouts.{Layouts}
-use Rattle.ir_base.specs.declared.name.Name.{Name}
-use Rattle.ir_laws.proofs.facts.Truth.{same_name-itself}
-use Rattle.ir_laws.proofs.facts.same_names.Lists.{what_is_found}
-use Rattle.ir_laws.specs.facts.same_names.Short.{HaveShortNames}
-use Rattle.ir_model.specs.Names.{declaration_named, function_named, global_named, noalloc_of, same_name}
-use Rattle.ir_model.specs.declared.instr.Instr.{Instr}
-use Rattle.ir_model.specs.declared.module.Block.{Block}
-use Rattle.ir_model.specs.declared.module.Declaration.{Declaration}
-use Rattle.ir_model.specs.declared.module.Function.{Function}
-use Rattle.ir_model.specs.declared.module.GlobalItem.{GlobalItem}
-use Rattle.ir_model.specs.declared.module.Module.{Module}
-use Rattle.ir_model.specs.declared.operand.Callee.{Callee}
-use Rattle.ir_tables.proofs.Tables.{same_name-same}
-use Rattle.pass_exits.specs.ExitBlocks.{with_exit_blocks}
+use Rattle.pass_proofs.specs.frame_layout.declared.layout.Layouts.{Layouts}
+use Rattle.pass_proofs.specs.ir_base.declared.name.Name.{Name}
+use Rattle.pass_proofs.proofs.ir_laws.facts.Truth.{same_name-itself}
+use Rattle.pass_proofs.proofs.ir_laws.facts.same_names.Lists.{what_is_found}
+use Rattle.pass_proofs.specs.ir_laws.facts.same_names.Short.{HaveShortNames}
+use Rattle.pass_proofs.specs.ir_model.Names.{declaration_named, function_named, global_named, noalloc_of, same_name}
+use Rattle.pass_proofs.specs.ir_model.declared.instr.Instr.{Instr}
+use Rattle.pass_proofs.specs.ir_model.declared.module.Block.{Block}
+use Rattle.pass_proofs.specs.ir_model.declared.module.Declaration.{Declaration}
+use Rattle.pass_proofs.specs.ir_model.declared.module.Function.{Function}
+use Rattle.pass_proofs.specs.ir_model.declared.module.GlobalItem.{GlobalItem}
+use Rattle.pass_proofs.specs.ir_model.declared.module.Module.{Module}
+use Rattle.pass_proofs.specs.ir_model.declared.operand.Callee.{Callee}
+use Rattle.pass_proofs.proofs.ir_tables.Tables.{same_name-same}
+use Rattle.pass_proofs.specs.pass_exits.ExitBlocks.{with_exit_blocks}
 use Rattle.pass_proofs.specs.exits.states.Exits.{exit_function, exits_split}
-use Rattle.pass_split.specs.Given.{called_by, called_from, called_in, called_names, has_given_call}
-use Rattle.pass_split.specs.declared.given.CalledName.{CalledName}
+use Rattle.pass_proofs.specs.pass_split.Given.{called_by, called_from, called_in, called_names, has_given_call}
+use Rattle.pass_proofs.specs.pass_split.declared.given.CalledName.{CalledName}
 use Rattle.pass_split_proof.proofs.code.Positions.{named_before}
 use Rattle.pass_split_proof.proofs.ready.Callees.{callee_known}
 use Rattle.pass_split_proof.specs.simulation.Given.{GivesNoFrame}
-use Rattle.rule_laws.specs.rules.function_rules.Kept.{KeepsFunctionRules}
-use Rattle.rule_laws.specs.rules.plain_rules.Items.{KeepsItemRules}
-use Rattle.rule_names.specs.Known.{knows_name}
-use Rattle.rule_names.specs.Reserved.{is_odd, is_part, is_part_of, is_reserved, part_name, suffixes}
-use Rattle.rule_names.specs.declared.stage.Stage.{Stage}
-use Rattle.run_step.specs.Step.{AtInstr, fetch, fetch_in, fetch_or}
+use Rattle.pass_proofs.specs.rule_laws.rules.function_rules.Kept.{KeepsFunctionRules}
+use Rattle.pass_proofs.specs.rule_laws.rules.plain_rules.Items.{KeepsItemRules}
+use Rattle.pass_proofs.specs.rule_names.Known.{knows_name}
+use Rattle.pass_proofs.specs.rule_names.Reserved.{is_odd, is_part, is_part_of, is_reserved, part_name, suffixes}
+use Rattle.pass_proofs.specs.rule_names.declared.stage.Stage.{Stage}
+use Rattle.pass_proofs.specs.run_step.Step.{AtInstr, fetch, fetch_in, fetch_or}
 
 -- ---- no instruction calls what passes a test
 

@@ -1,28 +1,28 @@
 -- Globals hold the same where coroutines are split: no initial value names a function (Y1).
 use Rattle.std.proofs.Common.{◌≡◌, ℕ, suc, true, List, [], ◌∷◌, map, refl, ap}
 use Rattle.std.specs.Prelude.{Some, is_some, slice_get}
-use Rattle.frame_layout.specs.declared.layout.Layouts.{Layouts}
-use Rattle.ir_laws.proofs.facts.Truth.{and_second, holds}
-use Rattle.ir_laws.specs.facts.same_names.Short.{HaveShortNames}
-use Rattle.ir_model.specs.Names.{global_named}
-use Rattle.ir_model.specs.Ty.{Ty}
-use Rattle.ir_model.specs.declared.module.GlobalItem.{GlobalItem}
-use Rattle.ir_model.specs.declared.module.Module.{Module}
-use Rattle.ir_model.specs.declared.operand.Operand.{Operand}
+use Rattle.pass_proofs.specs.frame_layout.declared.layout.Layouts.{Layouts}
+use Rattle.pass_proofs.proofs.ir_laws.facts.Truth.{and_second, holds}
+use Rattle.pass_proofs.specs.ir_laws.facts.same_names.Short.{HaveShortNames}
+use Rattle.pass_proofs.specs.ir_model.Names.{global_named}
+use Rattle.pass_proofs.specs.ir_model.Ty.{Ty}
+use Rattle.pass_proofs.specs.ir_model.declared.module.GlobalItem.{GlobalItem}
+use Rattle.pass_proofs.specs.ir_model.declared.module.Module.{Module}
+use Rattle.pass_proofs.specs.ir_model.declared.operand.Operand.{Operand}
 use Rattle.pass_proofs.specs.exits.states.Exits.{exits_split}
 use Rattle.pass_split_proof.proofs.ready.Moved.{names_moved}
 use Rattle.pass_split_proof.proofs.ready.Operands.{address_kept}
 use Rattle.pass_split_proof.specs.first_exits.Parted.{parted_module}
 use Rattle.pass_split_proof.specs.ready.Names.{HasMovedNames}
-use Rattle.rule_laws.specs.rules.plain_rules.Items.{KeepsItemRules}
-use Rattle.rule_names.specs.declared.stage.Stage.{Stage}
-use Rattle.rule_types.specs.Wants.{is_ptr}
-use Rattle.rule_values.specs.Initials.{fits_initial}
-use Rattle.run_memory.specs.Memory.{access_bytes, encode}
-use Rattle.run_memory.specs.declared.block.MemoryBlock.{MemoryBlock}
-use Rattle.run_memory.specs.declared.pointer.Value.{Value}
-use Rattle.run_step.specs.Step.{first_world, global_block}
-use Rattle.run_step.specs.Values.{access_of, operand_value, stored}
+use Rattle.pass_proofs.specs.rule_laws.rules.plain_rules.Items.{KeepsItemRules}
+use Rattle.pass_proofs.specs.rule_names.declared.stage.Stage.{Stage}
+use Rattle.pass_proofs.specs.rule_types.Wants.{is_ptr}
+use Rattle.pass_proofs.specs.rule_values.Initials.{fits_initial}
+use Rattle.pass_proofs.specs.run_memory.Memory.{access_bytes, encode}
+use Rattle.pass_proofs.specs.run_memory.declared.block.MemoryBlock.{MemoryBlock}
+use Rattle.pass_proofs.specs.run_memory.declared.pointer.Value.{Value}
+use Rattle.pass_proofs.specs.run_step.Step.{first_world, global_block}
+use Rattle.pass_proofs.specs.run_step.Values.{access_of, operand_value, stored}
 
 mapped : {A B : Type 0} (f g : A → B) (xs : List A) → ((k : ℕ) (x : A) → slice_get xs k ≡ Some x → f x ≡ g x)
     → map f xs ≡ map g xs

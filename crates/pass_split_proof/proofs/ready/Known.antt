@@ -2,21 +2,21 @@
 use Rattle.std.proofs.Common.{◌≡◌, ◌<◌, inl, inr, ℕ, Bool, true, false, List, [], ◌∷◌, length, refl, sym, ap, ◌∙◌, subst}
 use Rattle.std.specs.List.{list_all, list_any}
 use Rattle.std.specs.Prelude.{◌&&◌, ◌||◌, ◌==◌}
-use Rattle.flow_solver.specs.Paths.{IsListed}
-use Rattle.ir_laws.proofs.facts.Truth.{and_first, and_second, equal_numbers, holds}
-use Rattle.ir_model.specs.declared.instr.Instr.{Instr}
-use Rattle.ir_model.specs.declared.module.Function.{Function}
-use Rattle.ir_model.specs.declared.module.Module.{Module}
-use Rattle.ir_model.specs.declared.operand.Operand.{Operand}
-use Rattle.ir_parts.specs.Contents.{instr_operands, part_labels, part_operands, part_types}
-use Rattle.ir_parts.specs.Locals.{locals_of}
-use Rattle.ir_parts.specs.Parts.{OfInstr, Part}
-use Rattle.ir_parts.specs.declared.defined.Definition.{Definition}
+use Rattle.pass_proofs.specs.flow_solver.Paths.{IsListed}
+use Rattle.pass_proofs.proofs.ir_laws.facts.Truth.{and_first, and_second, equal_numbers, holds}
+use Rattle.pass_proofs.specs.ir_model.declared.instr.Instr.{Instr}
+use Rattle.pass_proofs.specs.ir_model.declared.module.Function.{Function}
+use Rattle.pass_proofs.specs.ir_model.declared.module.Module.{Module}
+use Rattle.pass_proofs.specs.ir_model.declared.operand.Operand.{Operand}
+use Rattle.pass_proofs.specs.ir_parts.Contents.{instr_operands, part_labels, part_operands, part_types}
+use Rattle.pass_proofs.specs.ir_parts.Locals.{locals_of}
+use Rattle.pass_proofs.specs.ir_parts.Parts.{OfInstr, Part}
+use Rattle.pass_proofs.specs.ir_parts.declared.defined.Definition.{Definition}
 use Rattle.pass_split_proof.proofs.ready.Rules.{at_instr}
-use Rattle.rule_laws.specs.rules.function_rules.Kept.{KeepsFunctionRules}
-use Rattle.rule_laws.specs.rules.source_rules.Named.{HasTabledLocals}
-use Rattle.rule_names.specs.Known.{is_kind, is_label, is_value, knows_called, knows_operand, knows_type, names_unknown}
-use Rattle.run_step.specs.Step.{AtInstr, fetch}
+use Rattle.pass_proofs.specs.rule_laws.rules.function_rules.Kept.{KeepsFunctionRules}
+use Rattle.pass_proofs.specs.rule_laws.rules.source_rules.Named.{HasTabledLocals}
+use Rattle.pass_proofs.specs.rule_names.Known.{is_kind, is_label, is_value, knows_called, knows_operand, knows_type, names_unknown}
+use Rattle.pass_proofs.specs.run_step.Step.{AtInstr, fetch}
 
 defined_low : (n v : ℕ) (ds : List Definition) → ((d : Definition) → IsListed d ds → d.name < n)
     → list_any (λ d. is_kind false d && (d.name == v)) ds ≡ true → v < n

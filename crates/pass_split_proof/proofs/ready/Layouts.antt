@@ -2,13 +2,13 @@
 use Rattle.std.proofs.Common.{◌≡◌, ◌<◌, inl, inr, ℕ, zero, suc, ◌+◌, Bool, true, false, cond, List, [], ◌∷◌, refl, sym, ap, ◌∙◌, subst, arith}
 use Rattle.std.proofs.lemmas.Bool.{false≢true}
 use Rattle.std.specs.Prelude.{None, Option, Some, find, slice_get, unwrap_or, ◌==◌, if◌then◌else◌}
-use Rattle.frame_layout.specs.declared.layout.Layout.{Layout}
-use Rattle.ir_laws.proofs.facts.Truth.{equal_numbers, itself, other_number}
-use Rattle.ir_model.specs.declared.module.Function.{Function}
-use Rattle.pass_split.specs.Parts.{first_layout, other_layouts}
+use Rattle.pass_proofs.specs.frame_layout.declared.layout.Layout.{Layout}
+use Rattle.pass_proofs.proofs.ir_laws.facts.Truth.{equal_numbers, itself, other_number}
+use Rattle.pass_proofs.specs.ir_model.declared.module.Function.{Function}
+use Rattle.pass_proofs.specs.pass_split.Parts.{first_layout, other_layouts}
 use Rattle.pass_split_proof.specs.code.Positions.{layout_at, layouts_from}
 use Rattle.pass_split_proof.specs.ready.Layouts.{AreLayoutsOf}
-use Rattle.run_framed.specs.Framed.{layout_of, no_layout}
+use Rattle.pass_proofs.specs.run_framed.Framed.{layout_of, no_layout}
 
 abbrev is_of : ℕ → Layout → Bool
 is_of n l = l.coroutine == n

@@ -3,21 +3,21 @@ use Rattle.std.proofs.Common.{◌≡◌, ℕ, zero, suc, Bool, true, false, List
 use Rattle.std.proofs.lemmas.Bool.{false≢true}
 use Rattle.std.specs.List.{list_any}
 use Rattle.std.specs.Prelude.{None, Option, Some, codes, is_some, slice_get, ◌&&◌, ◌||◌}
-use Rattle.frame_layout.specs.declared.layout.Layouts.{Layouts}
-use Rattle.ir_base.specs.declared.name.Name.{Name}
-use Rattle.ir_laws.proofs.facts.Truth.{same_name-itself}
-use Rattle.ir_laws.proofs.facts.same_names.Lists.{what_is_found}
-use Rattle.ir_laws.specs.facts.same_names.Short.{HaveShortNames}
-use Rattle.ir_model.specs.Names.{function_named, global_named, same_name}
-use Rattle.ir_model.specs.declared.module.Function.{Function}
-use Rattle.ir_model.specs.declared.module.Module.{Module}
-use Rattle.ir_tables.proofs.Tables.{same_name-same}
+use Rattle.pass_proofs.specs.frame_layout.declared.layout.Layouts.{Layouts}
+use Rattle.pass_proofs.specs.ir_base.declared.name.Name.{Name}
+use Rattle.pass_proofs.proofs.ir_laws.facts.Truth.{same_name-itself}
+use Rattle.pass_proofs.proofs.ir_laws.facts.same_names.Lists.{what_is_found}
+use Rattle.pass_proofs.specs.ir_laws.facts.same_names.Short.{HaveShortNames}
+use Rattle.pass_proofs.specs.ir_model.Names.{function_named, global_named, same_name}
+use Rattle.pass_proofs.specs.ir_model.declared.module.Function.{Function}
+use Rattle.pass_proofs.specs.ir_model.declared.module.Module.{Module}
+use Rattle.pass_proofs.proofs.ir_tables.Tables.{same_name-same}
 use Rattle.pass_proofs.specs.exits.states.Exits.{exits_split}
 use Rattle.pass_split_proof.proofs.code.Positions.{found_by_name, name_moves, named_before, others_stay}
 use Rattle.pass_split_proof.specs.ready.Names.{HasMovedNames}
-use Rattle.rule_laws.specs.rules.plain_rules.Items.{KeepsItemRules}
-use Rattle.rule_names.specs.Reserved.{is_odd, is_part, is_part_of, is_reserved, part_name, suffixes}
-use Rattle.rule_names.specs.declared.stage.Stage.{Stage}
+use Rattle.pass_proofs.specs.rule_laws.rules.plain_rules.Items.{KeepsItemRules}
+use Rattle.pass_proofs.specs.rule_names.Reserved.{is_odd, is_part, is_part_of, is_reserved, part_name, suffixes}
+use Rattle.pass_proofs.specs.rule_names.declared.stage.Stage.{Stage}
 
 module _ (ls : Layouts) (m : Module) (rules : KeepsItemRules Stage.Source m) (short : HaveShortNames m) where
   -- a function has a name that is no global's (N1)

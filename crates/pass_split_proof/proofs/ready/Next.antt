@@ -2,20 +2,20 @@
 use Rattle.std.proofs.Common.{◌≡◌, ℕ, zero, suc, ◌+◌, Bool, true, false, List, [], ◌∷◌, length, refl, sym, ap, ◌∙◌, arith}
 use Rattle.std.proofs.lemmas.Bool.{false≢true}
 use Rattle.std.specs.Prelude.{None, Option, Some, codes, slice_get, unwrap_or, if◌then◌else◌}
-use Rattle.frame_layout.specs.declared.layout.Layout.{Layout}
-use Rattle.frame_layout.specs.declared.layout.Layouts.{Layouts}
-use Rattle.ir_base.specs.declared.name.Name.{Name}
-use Rattle.ir_laws.proofs.facts.Lists.{get_behind, none_found}
-use Rattle.ir_laws.proofs.facts.Truth.{same_name-itself}
-use Rattle.ir_model.specs.Names.{function_at, function_named, no_function, same_name}
-use Rattle.ir_model.specs.declared.module.Function.{Function}
-use Rattle.ir_model.specs.declared.module.Module.{Module}
-use Rattle.pass_intrinsics.specs.Shapes.{part_name, shape_of}
-use Rattle.pass_intrinsics.specs.declared.shape.Part.{Part}
-use Rattle.pass_intrinsics.specs.declared.shape.Shape.{Shape}
+use Rattle.pass_proofs.specs.frame_layout.declared.layout.Layout.{Layout}
+use Rattle.pass_proofs.specs.frame_layout.declared.layout.Layouts.{Layouts}
+use Rattle.pass_proofs.specs.ir_base.declared.name.Name.{Name}
+use Rattle.pass_proofs.proofs.ir_laws.facts.Lists.{get_behind, none_found}
+use Rattle.pass_proofs.proofs.ir_laws.facts.Truth.{same_name-itself}
+use Rattle.pass_proofs.specs.ir_model.Names.{function_at, function_named, no_function, same_name}
+use Rattle.pass_proofs.specs.ir_model.declared.module.Function.{Function}
+use Rattle.pass_proofs.specs.ir_model.declared.module.Module.{Module}
+use Rattle.pass_proofs.specs.pass_intrinsics.Shapes.{part_name, shape_of}
+use Rattle.pass_proofs.specs.pass_intrinsics.declared.shape.Part.{Part}
+use Rattle.pass_proofs.specs.pass_intrinsics.declared.shape.Shape.{Shape}
 use Rattle.pass_proofs.specs.split.rules.Parted.{IsCleanup, IsDestroy, IsGivenRamp, IsPartOf, IsRamp, IsResume}
-use Rattle.pass_split.specs.Given.{has_given_call}
-use Rattle.pass_split.specs.Parts.{first_layout, layouts_after, marked_parts, plain_of, plain_shape}
+use Rattle.pass_proofs.specs.pass_split.Given.{has_given_call}
+use Rattle.pass_proofs.specs.pass_split.Parts.{first_layout, layouts_after, marked_parts, plain_of, plain_shape}
 use Rattle.pass_split_proof.proofs.code.Positions.{stands_moved}
 use Rattle.pass_split_proof.proofs.ready.Given.{there_is}
 use Rattle.pass_split_proof.specs.code.Positions.{layout_at, moved}

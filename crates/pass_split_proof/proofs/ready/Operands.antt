@@ -3,40 +3,40 @@ use Rattle.std.proofs.Common.{◌≡◌, ◌⊎◌, inl, inr, ℕ, Bool, true, f
 use Rattle.std.proofs.lemmas.Bool.{cases_eq, false≢true}
 use Rattle.std.specs.List.{list_all}
 use Rattle.std.specs.Prelude.{None, Option, Some, is_some, not, slice_get, ◌&&◌, ◌||◌}
-use Rattle.flow_solver.proofs.Lists.{listed_at}
-use Rattle.flow_solver.specs.Paths.{IsListed}
-use Rattle.frame_layout.specs.declared.layout.Layouts.{Layouts}
-use Rattle.ir_base.specs.declared.name.Name.{Name}
-use Rattle.ir_laws.proofs.facts.Truth.{and_first, and_second}
-use Rattle.ir_laws.proofs.paths.renamed.Uses.{stands_in}
-use Rattle.ir_model.specs.Names.{declaration_named, function_named, global_named}
-use Rattle.ir_model.specs.declared.instr.Instr.{Instr}
-use Rattle.ir_model.specs.declared.instr.Phi.{Phi}
-use Rattle.ir_model.specs.declared.module.Block.{Block}
-use Rattle.ir_model.specs.declared.module.Function.{Function}
-use Rattle.ir_model.specs.declared.module.GlobalItem.{GlobalItem}
-use Rattle.ir_model.specs.declared.module.Module.{Module}
-use Rattle.ir_model.specs.declared.operand.Callee.{Callee}
-use Rattle.ir_model.specs.declared.operand.Intrinsic.{Intrinsic}
-use Rattle.ir_model.specs.declared.operand.Operand.{Operand}
-use Rattle.ir_parts.specs.Contents.{ending_operands, instr_operands}
-use Rattle.ir_tables.proofs.Tables.{first_where-within}
+use Rattle.pass_proofs.proofs.flow_solver.Lists.{listed_at}
+use Rattle.pass_proofs.specs.flow_solver.Paths.{IsListed}
+use Rattle.pass_proofs.specs.frame_layout.declared.layout.Layouts.{Layouts}
+use Rattle.pass_proofs.specs.ir_base.declared.name.Name.{Name}
+use Rattle.pass_proofs.proofs.ir_laws.facts.Truth.{and_first, and_second}
+use Rattle.pass_proofs.proofs.ir_laws.paths.renamed.Uses.{stands_in}
+use Rattle.pass_proofs.specs.ir_model.Names.{declaration_named, function_named, global_named}
+use Rattle.pass_proofs.specs.ir_model.declared.instr.Instr.{Instr}
+use Rattle.pass_proofs.specs.ir_model.declared.instr.Phi.{Phi}
+use Rattle.pass_proofs.specs.ir_model.declared.module.Block.{Block}
+use Rattle.pass_proofs.specs.ir_model.declared.module.Function.{Function}
+use Rattle.pass_proofs.specs.ir_model.declared.module.GlobalItem.{GlobalItem}
+use Rattle.pass_proofs.specs.ir_model.declared.module.Module.{Module}
+use Rattle.pass_proofs.specs.ir_model.declared.operand.Callee.{Callee}
+use Rattle.pass_proofs.specs.ir_model.declared.operand.Intrinsic.{Intrinsic}
+use Rattle.pass_proofs.specs.ir_model.declared.operand.Operand.{Operand}
+use Rattle.pass_proofs.specs.ir_parts.Contents.{ending_operands, instr_operands}
+use Rattle.pass_proofs.proofs.ir_tables.Tables.{first_where-within}
 use Rattle.pass_split_proof.proofs.ready.Rules.{at_instr}
 use Rattle.pass_split_proof.specs.first_exits.Parted.{parted_module}
 use Rattle.pass_split_proof.specs.ready.Names.{HasMovedNames}
 use Rattle.pass_split_proof.specs.states.Values.{IsStopResult}
 use Rattle.pass_split_proof.specs.steps.Operands.{IsReadable, IsSameAddress}
-use Rattle.rule_laws.proofs.rules.sources.Places.{instr_there, point}
-use Rattle.rule_laws.proofs.rules.uses.Switched.{IsSwitched, not_in_instr, not_in_phi, not_switched_on, switched}
-use Rattle.rule_locals.specs.Addresses.{is_no_function}
-use Rattle.rule_locals.specs.Intrinsics.{first_misplaced, misplaces}
-use Rattle.rule_names.specs.declared.stage.Stage.{Stage}
-use Rattle.rule_shape.specs.Switches.{wrong_switch}
-use Rattle.rule_shape.specs.Uses.{phi_operands}
-use Rattle.rule_uses.specs.Uses.{locals_in}
-use Rattle.run_laws.specs.changed.Changed.{Each}
-use Rattle.run_step.specs.Step.{AtInstr, fetch}
-use Rattle.run_step.specs.Values.{address_from, address_of, pointer_to}
+use Rattle.pass_proofs.proofs.rule_laws.rules.sources.Places.{instr_there, point}
+use Rattle.pass_proofs.proofs.rule_laws.rules.uses.Switched.{IsSwitched, not_in_instr, not_in_phi, not_switched_on, switched}
+use Rattle.pass_proofs.specs.rule_locals.Addresses.{is_no_function}
+use Rattle.pass_proofs.specs.rule_locals.Intrinsics.{first_misplaced, misplaces}
+use Rattle.pass_proofs.specs.rule_names.declared.stage.Stage.{Stage}
+use Rattle.pass_proofs.specs.rule_shape.Switches.{wrong_switch}
+use Rattle.pass_proofs.specs.rule_shape.Uses.{phi_operands}
+use Rattle.pass_proofs.specs.rule_uses.Uses.{locals_in}
+use Rattle.pass_proofs.specs.run_laws.changed.Changed.{Each}
+use Rattle.pass_proofs.specs.run_step.Step.{AtInstr, fetch}
+use Rattle.pass_proofs.specs.run_step.Values.{address_from, address_of, pointer_to}
 
 -- ---- addresses
 

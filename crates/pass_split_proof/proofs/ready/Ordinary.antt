@@ -3,20 +3,20 @@ use Rattle.std.proofs.Common.{◌≡◌, ◌<◌, ◌≤◌, ◌/◌, ◌+◌, �
 use Rattle.std.proofs.lemmas.Bool.{false≢true}
 use Rattle.std.specs.List.{list_all}
 use Rattle.std.specs.Prelude.{ℤ, Option, option_map, ◌||◌, ◌==◌}
-use Rattle.frame_layout.specs.declared.layout.Layouts.{Layouts}
-use Rattle.ir_laws.proofs.facts.Truth.{and_first, equal_numbers, holds}
-use Rattle.ir_laws.specs.facts.counted.Widths.{has_width, is_width}
-use Rattle.ir_model.specs.Names.{declaration_named, function_at, function_named}
-use Rattle.ir_model.specs.Ty.{Ty, array, int, named, ptr, structure, token}
-use Rattle.ir_model.specs.declared.instr.Instr.{Instr}
-use Rattle.ir_model.specs.declared.module.Function.{Function}
-use Rattle.ir_model.specs.declared.module.Module.{Module}
-use Rattle.ir_model.specs.declared.operand.Arg.{Arg}
-use Rattle.ir_model.specs.declared.operand.Callee.{Callee}
-use Rattle.ir_model.specs.declared.operand.Intrinsic.{Intrinsic}
-use Rattle.ir_model.specs.declared.operand.Operand.{Operand}
-use Rattle.ir_parts.specs.Contents.{instr_types}
-use Rattle.ir_paths.specs.Windows.{is_call_of}
+use Rattle.pass_proofs.specs.frame_layout.declared.layout.Layouts.{Layouts}
+use Rattle.pass_proofs.proofs.ir_laws.facts.Truth.{and_first, equal_numbers, holds}
+use Rattle.pass_proofs.specs.ir_laws.facts.counted.Widths.{has_width, is_width}
+use Rattle.pass_proofs.specs.ir_model.Names.{declaration_named, function_at, function_named}
+use Rattle.pass_proofs.specs.ir_model.Ty.{Ty, array, int, named, ptr, structure, token}
+use Rattle.pass_proofs.specs.ir_model.declared.instr.Instr.{Instr}
+use Rattle.pass_proofs.specs.ir_model.declared.module.Function.{Function}
+use Rattle.pass_proofs.specs.ir_model.declared.module.Module.{Module}
+use Rattle.pass_proofs.specs.ir_model.declared.operand.Arg.{Arg}
+use Rattle.pass_proofs.specs.ir_model.declared.operand.Callee.{Callee}
+use Rattle.pass_proofs.specs.ir_model.declared.operand.Intrinsic.{Intrinsic}
+use Rattle.pass_proofs.specs.ir_model.declared.operand.Operand.{Operand}
+use Rattle.pass_proofs.specs.ir_parts.Contents.{instr_types}
+use Rattle.pass_proofs.specs.ir_paths.Windows.{is_call_of}
 use Rattle.pass_split_proof.proofs.ready.Begins.{gives_result, other_name}
 use Rattle.pass_split_proof.proofs.ready.Callees.{called_directly, callee_known, named_alike}
 use Rattle.pass_split_proof.proofs.ready.Distances.{same_distance}
@@ -36,20 +36,20 @@ use Rattle.pass_split_proof.specs.states.Values.{AreValuesOf}
 use Rattle.pass_split_proof.specs.steps.Operands.{IsReadable}
 use Rattle.pass_split_proof.specs.steps.Ordinary.{IsAtOrdinary, is_ordinary}
 use Rattle.pass_split_proof.specs.steps.Ready.{IsReadyInPart, moved_functions}
-use Rattle.rule_laws.specs.rules.counted.Widths.{is_of_other_width}
-use Rattle.run_framed.specs.Framed.{framed_context, framed_given}
-use Rattle.run_laws.proofs.changed.Kept.{distance_kept}
-use Rattle.run_laws.specs.changed.Changed.{Each, callee_at, operands_of, values_of}
-use Rattle.run_laws.specs.embedded.Related.{HasBytes, HasNoSlot, IsSameDistance}
-use Rattle.run_laws.specs.memory.Pointers.{IsValue}
-use Rattle.run_laws.specs.memory.Standing.{own_homes}
-use Rattle.run_laws.specs.transfer.Transfer.{AreSameDistances, IsNamedAlike, IsPointedAlike}
-use Rattle.run_memory.specs.Memory.{access_bytes}
-use Rattle.run_plain.specs.Plain.{plain_context}
-use Rattle.run_plain.specs.declared.state.PlainState.{PlainState}
-use Rattle.run_source.specs.declared.state.State.{State}
-use Rattle.run_step.specs.Step.{AtInstr, Context, fetch}
-use Rattle.run_step.specs.Values.{Env, access_of, arg_value, distance, indices_of}
+use Rattle.pass_proofs.specs.rule_laws.rules.counted.Widths.{is_of_other_width}
+use Rattle.pass_proofs.specs.run_framed.Framed.{framed_context, framed_given}
+use Rattle.pass_proofs.proofs.run_laws.changed.Kept.{distance_kept}
+use Rattle.pass_proofs.specs.run_laws.changed.Changed.{Each, callee_at, operands_of, values_of}
+use Rattle.pass_proofs.specs.run_laws.embedded.Related.{HasBytes, HasNoSlot, IsSameDistance}
+use Rattle.pass_proofs.specs.run_laws.memory.Pointers.{IsValue}
+use Rattle.pass_proofs.specs.run_laws.memory.Standing.{own_homes}
+use Rattle.pass_proofs.specs.run_laws.transfer.Transfer.{AreSameDistances, IsNamedAlike, IsPointedAlike}
+use Rattle.pass_proofs.specs.run_memory.Memory.{access_bytes}
+use Rattle.run_access_worked.specs.run_plain.Plain.{plain_context}
+use Rattle.run_access_worked.specs.run_plain.declared.state.PlainState.{PlainState}
+use Rattle.pass_proofs.specs.run_source.declared.state.State.{State}
+use Rattle.pass_proofs.specs.run_step.Step.{AtInstr, Context, fetch}
+use Rattle.pass_proofs.specs.run_step.Values.{Env, access_of, arg_value, distance, indices_of}
 
 -- ---- what is loaded or stored has a byte
 

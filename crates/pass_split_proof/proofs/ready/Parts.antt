@@ -2,26 +2,26 @@
 use Rattle.std.proofs.Common.{◌≡◌, ◌≤◌, ◌<◌, inl, inr, ℕ, ◌+◌, ◌-◌, Bool, true, false, List, [], ◌∷◌, ◌++◌, length, refl, sym, ap, ◌∙◌, subst, arith, length-append}
 use Rattle.std.proofs.lemmas.Bool.{false≢true}
 use Rattle.std.specs.Prelude.{ℤ, None, Option, Some, slice_get, slice_set, unwrap_or, if◌then◌else◌}
-use Rattle.frame_layout.specs.declared.layout.Layout.{Layout}
-use Rattle.frame_layout.specs.declared.layout.Layouts.{Layouts}
-use Rattle.ir_base.specs.declared.name.Name.{Name}
-use Rattle.ir_laws.proofs.facts.Lists.{set_length}
-use Rattle.ir_model.specs.Calls.{first_result}
-use Rattle.ir_model.specs.Names.{function_at}
-use Rattle.ir_model.specs.Ty.{ptr}
-use Rattle.ir_model.specs.declared.module.Block.{Block}
-use Rattle.ir_model.specs.declared.module.Function.{Function}
-use Rattle.ir_model.specs.declared.module.Module.{Module}
-use Rattle.ir_model.specs.declared.operand.Intrinsic.{Intrinsic}
-use Rattle.pass_intrinsics.specs.Cuts.{goes_on}
-use Rattle.pass_intrinsics.specs.Shapes.{first_name, shape_of}
-use Rattle.pass_intrinsics.specs.declared.shape.Part.{Part}
-use Rattle.pass_intrinsics.specs.declared.shape.Shape.{Shape}
+use Rattle.pass_proofs.specs.frame_layout.declared.layout.Layout.{Layout}
+use Rattle.pass_proofs.specs.frame_layout.declared.layout.Layouts.{Layouts}
+use Rattle.pass_proofs.specs.ir_base.declared.name.Name.{Name}
+use Rattle.pass_proofs.proofs.ir_laws.facts.Lists.{set_length}
+use Rattle.pass_proofs.specs.ir_model.Calls.{first_result}
+use Rattle.pass_proofs.specs.ir_model.Names.{function_at}
+use Rattle.pass_proofs.specs.ir_model.Ty.{ptr}
+use Rattle.pass_proofs.specs.ir_model.declared.module.Block.{Block}
+use Rattle.pass_proofs.specs.ir_model.declared.module.Function.{Function}
+use Rattle.pass_proofs.specs.ir_model.declared.module.Module.{Module}
+use Rattle.pass_proofs.specs.ir_model.declared.operand.Intrinsic.{Intrinsic}
+use Rattle.pass_proofs.specs.pass_intrinsics.Cuts.{goes_on}
+use Rattle.pass_proofs.specs.pass_intrinsics.Shapes.{first_name, shape_of}
+use Rattle.pass_proofs.specs.pass_intrinsics.declared.shape.Part.{Part}
+use Rattle.pass_proofs.specs.pass_intrinsics.declared.shape.Shape.{Shape}
 use Rattle.pass_proofs.specs.split.rules.Parted.{IsCleanup, IsDestroy, IsGivenRamp, IsPartOf, IsRamp, IsResume}
-use Rattle.pass_split.specs.Given.{has_given_call}
-use Rattle.pass_split.specs.Parts.{frame_mark, given_ramp_of, instr_names, later_part, mark_names, marked_parts, names_of, origins_for, plain_of, plain_shape, ramp_of, suspend_names}
-use Rattle.pass_split.specs.Pieces.{next_after}
-use Rattle.pass_split.specs.Reached.{pruned}
+use Rattle.pass_proofs.specs.pass_split.Given.{has_given_call}
+use Rattle.pass_proofs.specs.pass_split.Parts.{frame_mark, given_ramp_of, instr_names, later_part, mark_names, marked_parts, names_of, origins_for, plain_of, plain_shape, ramp_of, suspend_names}
+use Rattle.pass_proofs.specs.pass_split.Pieces.{next_after}
+use Rattle.pass_proofs.specs.pass_split.Reached.{pruned}
 use Rattle.pass_split_proof.proofs.code.Entries.{later_entry}
 use Rattle.pass_split_proof.proofs.code.Positions.{part_numbered, stands_moved}
 use Rattle.pass_split_proof.proofs.places.Laws.{front_of}
@@ -36,7 +36,7 @@ use Rattle.pass_split_proof.specs.simulation.Statement.{IsCoroutinePartable, par
 use Rattle.pass_split_proof.specs.steps.Calling.{TakesPointer}
 use Rattle.pass_split_proof.specs.steps.Calls.{IsCallee}
 use Rattle.pass_split_proof.specs.steps.Woken.{IsPartThere}
-use Rattle.run_framed.specs.Framed.{framed_given, layout_of}
+use Rattle.pass_proofs.specs.run_framed.Framed.{framed_given, layout_of}
 
 -- ---- the parts by their kinds
 

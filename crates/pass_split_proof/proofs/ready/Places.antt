@@ -1,32 +1,32 @@
 -- At a place of a function and its part the terminator reads nothing that a suspend gives.
 use Rattle.std.proofs.Common.{◌≡◌, ◌<◌, ℕ, true, length, refl, sym, ap, ◌∙◌, subst}
 use Rattle.std.specs.Prelude.{Option, Some, slice_get}
-use Rattle.flow_solver.specs.Paths.{IsListed}
-use Rattle.ir_laws.proofs.facts.Truth.{and_first, equal_numbers}
-use Rattle.ir_laws.proofs.paths.edges.Lists.{listed_at}
-use Rattle.ir_model.specs.Names.{is_local}
-use Rattle.ir_model.specs.declared.instr.Instr.{Instr}
-use Rattle.ir_model.specs.declared.instr.Terminator.{Terminator}
-use Rattle.ir_model.specs.declared.module.Block.{Block}
-use Rattle.ir_model.specs.declared.module.Function.{Function}
-use Rattle.ir_model.specs.declared.operand.Callee.{Callee}
-use Rattle.ir_model.specs.declared.operand.Intrinsic.{Intrinsic}
-use Rattle.ir_model.specs.declared.operand.Operand.{Operand}
-use Rattle.ir_parts.specs.Contents.{ending_operands}
-use Rattle.pass_intrinsics.specs.Shapes.{shape_of}
-use Rattle.pass_intrinsics.specs.declared.shape.Part.{Part}
-use Rattle.pass_intrinsics.specs.declared.shape.Shape.{Shape}
-use Rattle.pass_split.specs.Pieces.{redirected_term}
+use Rattle.pass_proofs.specs.flow_solver.Paths.{IsListed}
+use Rattle.pass_proofs.proofs.ir_laws.facts.Truth.{and_first, equal_numbers}
+use Rattle.pass_proofs.proofs.ir_laws.paths.edges.Lists.{listed_at}
+use Rattle.pass_proofs.specs.ir_model.Names.{is_local}
+use Rattle.pass_proofs.specs.ir_model.declared.instr.Instr.{Instr}
+use Rattle.pass_proofs.specs.ir_model.declared.instr.Terminator.{Terminator}
+use Rattle.pass_proofs.specs.ir_model.declared.module.Block.{Block}
+use Rattle.pass_proofs.specs.ir_model.declared.module.Function.{Function}
+use Rattle.pass_proofs.specs.ir_model.declared.operand.Callee.{Callee}
+use Rattle.pass_proofs.specs.ir_model.declared.operand.Intrinsic.{Intrinsic}
+use Rattle.pass_proofs.specs.ir_model.declared.operand.Operand.{Operand}
+use Rattle.pass_proofs.specs.ir_parts.Contents.{ending_operands}
+use Rattle.pass_proofs.specs.pass_intrinsics.Shapes.{shape_of}
+use Rattle.pass_proofs.specs.pass_intrinsics.declared.shape.Part.{Part}
+use Rattle.pass_proofs.specs.pass_intrinsics.declared.shape.Shape.{Shape}
+use Rattle.pass_proofs.specs.pass_split.Pieces.{redirected_term}
 use Rattle.pass_split_proof.proofs.places.Laws.{end_of}
 use Rattle.pass_split_proof.proofs.ready.Operands.{no_stop_outside, stop, stop_here}
 use Rattle.pass_split_proof.proofs.ready.Stops.{no_stop_switch, redirected_on, switched_on}
 use Rattle.pass_split_proof.specs.places.Places.{IsCodeOf, IsPlace, OfCoroutine, OfPlain}
 use Rattle.pass_split_proof.specs.states.Values.{IsStopResult}
-use Rattle.rule_laws.proofs.rules.source_rules.Locals.{result_below}
-use Rattle.rule_laws.proofs.rules.sources.Places.{instr_there, point, term_there}
-use Rattle.rule_shape.specs.Switches.{end_label, is_switch_on}
-use Rattle.rule_uses.specs.Uses.{locals_in}
-use Rattle.run_step.specs.Step.{AtTerm, fetch}
+use Rattle.pass_proofs.proofs.rule_laws.rules.source_rules.Locals.{result_below}
+use Rattle.pass_proofs.proofs.rule_laws.rules.sources.Places.{instr_there, point, term_there}
+use Rattle.pass_proofs.specs.rule_shape.Switches.{end_label, is_switch_on}
+use Rattle.pass_proofs.specs.rule_uses.Uses.{locals_in}
+use Rattle.pass_proofs.specs.run_step.Step.{AtTerm, fetch}
 
 local_is : (v : ℕ) (x : Operand) → is_local v x ≡ true → x ≡ Operand.Local v
 local_is v (Operand.Local n) e = ap Operand.Local (sym (equal_numbers v n e))

@@ -2,22 +2,22 @@
 use Rattle.std.proofs.Common.{◌≡◌, ℕ, ◌+◌, Bool, true, false, List, [], ◌∷◌, length, refl, subst}
 use Rattle.std.specs.List.{list_all}
 use Rattle.std.specs.Prelude.{None, Some, map, not, slice_get, ◌||◌, if◌then◌else◌, ◌==◌}
-use Rattle.flow_solver.specs.Paths.{IsListed}
-use Rattle.frame_layout.specs.declared.layout.Layouts.{Layouts}
-use Rattle.ir_base.specs.declared.outcome.Place.{Place}
-use Rattle.ir_laws.proofs.paths.uses.Paths.{place_of}
-use Rattle.ir_laws.proofs.paths.woven_rules.Unbroken.{each_listed as each_of}
-use Rattle.ir_model.specs.declared.instr.Incoming.{Incoming}
-use Rattle.ir_model.specs.declared.instr.Instr.{Instr}
-use Rattle.ir_model.specs.declared.instr.Phi.{Phi}
-use Rattle.ir_model.specs.declared.instr.Terminator.{Terminator}
-use Rattle.ir_model.specs.declared.module.Block.{Block}
-use Rattle.ir_model.specs.declared.module.Function.{Function}
-use Rattle.ir_model.specs.declared.module.Module.{Module}
-use Rattle.ir_model.specs.declared.operand.Callee.{Callee}
-use Rattle.ir_model.specs.declared.operand.Operand.{Operand}
-use Rattle.ir_parts.specs.Contents.{ending_operands, instr_operands, part_operands}
-use Rattle.ir_parts.specs.Parts.{Ending, OfInstr, OfPhi, Part, instr_place}
+use Rattle.pass_proofs.specs.flow_solver.Paths.{IsListed}
+use Rattle.pass_proofs.specs.frame_layout.declared.layout.Layouts.{Layouts}
+use Rattle.pass_proofs.specs.ir_base.declared.outcome.Place.{Place}
+use Rattle.pass_proofs.proofs.ir_laws.paths.uses.Paths.{place_of}
+use Rattle.pass_proofs.proofs.ir_laws.paths.woven_rules.Unbroken.{each_listed as each_of}
+use Rattle.pass_proofs.specs.ir_model.declared.instr.Incoming.{Incoming}
+use Rattle.pass_proofs.specs.ir_model.declared.instr.Instr.{Instr}
+use Rattle.pass_proofs.specs.ir_model.declared.instr.Phi.{Phi}
+use Rattle.pass_proofs.specs.ir_model.declared.instr.Terminator.{Terminator}
+use Rattle.pass_proofs.specs.ir_model.declared.module.Block.{Block}
+use Rattle.pass_proofs.specs.ir_model.declared.module.Function.{Function}
+use Rattle.pass_proofs.specs.ir_model.declared.module.Module.{Module}
+use Rattle.pass_proofs.specs.ir_model.declared.operand.Callee.{Callee}
+use Rattle.pass_proofs.specs.ir_model.declared.operand.Operand.{Operand}
+use Rattle.pass_proofs.specs.ir_parts.Contents.{ending_operands, instr_operands, part_operands}
+use Rattle.pass_proofs.specs.ir_parts.Parts.{Ending, OfInstr, OfPhi, Part, instr_place}
 use Rattle.pass_split_proof.proofs.ready.Operands.{all_readable, no_stop_outside, not_stopped, not_taken}
 use Rattle.pass_split_proof.proofs.ready.Rules.{at_ending, at_instr, at_phi}
 use Rattle.pass_split_proof.specs.first_exits.Parted.{parted_module}
@@ -25,12 +25,12 @@ use Rattle.pass_split_proof.specs.ready.Module.{IsRuled}
 use Rattle.pass_split_proof.specs.ready.Names.{HasMovedNames}
 use Rattle.pass_split_proof.specs.states.Values.{IsStopResult}
 use Rattle.pass_split_proof.specs.steps.Operands.{IsReadable}
-use Rattle.rule_locals.specs.Addresses.{calls_indirectly, is_no_function, points_to_functions}
-use Rattle.rule_shape.specs.Uses.{phi_operands}
-use Rattle.rule_uses.specs.Uses.{locals_in}
-use Rattle.rule_windows.specs.Points.{phi_count}
-use Rattle.run_laws.specs.changed.Changed.{Each, operands_of, operands_of_term}
-use Rattle.run_step.specs.Step.{AtInstr, fetch, incoming_from}
+use Rattle.pass_proofs.specs.rule_locals.Addresses.{calls_indirectly, is_no_function, points_to_functions}
+use Rattle.pass_proofs.specs.rule_shape.Uses.{phi_operands}
+use Rattle.pass_proofs.specs.rule_uses.Uses.{locals_in}
+use Rattle.pass_proofs.specs.rule_windows.Points.{phi_count}
+use Rattle.pass_proofs.specs.run_laws.changed.Changed.{Each, operands_of, operands_of_term}
+use Rattle.pass_proofs.specs.run_step.Step.{AtInstr, fetch, incoming_from}
 
 -- ---- operands, as steps list them
 

@@ -1,21 +1,21 @@
 -- What a rule says of what stands at a place of a function.
 use Rattle.std.proofs.Common.{◌≡◌, ℕ, ◌+◌, Bool, false, length, refl, sym, ◌∙◌}
 use Rattle.std.specs.Prelude.{None, Option, Some, slice_get, unwrap_or}
-use Rattle.ir_base.specs.declared.outcome.Place.{Place}
-use Rattle.ir_model.specs.Names.{function_at, no_function}
-use Rattle.ir_model.specs.declared.instr.Instr.{Instr}
-use Rattle.ir_model.specs.declared.instr.Phi.{Phi}
-use Rattle.ir_model.specs.declared.instr.Terminator.{Terminator}
-use Rattle.ir_model.specs.declared.module.Block.{Block}
-use Rattle.ir_model.specs.declared.module.Function.{Function}
-use Rattle.ir_model.specs.declared.module.Module.{Module}
-use Rattle.ir_parts.specs.Parts.{Part, OfPhi, OfInstr, Ending, first_part, instr_place, parts_of}
-use Rattle.rule_laws.proofs.rules.path_rules.Holding.{HoldsOf, of_parts}
-use Rattle.rule_laws.proofs.rules.renamed.Outside.{at_point}
-use Rattle.rule_laws.proofs.rules.renamed.Switches.{none_part}
-use Rattle.rule_laws.proofs.rules.sources.Places.{instr_there, point}
-use Rattle.rule_windows.specs.Points.{phi_count}
-use Rattle.run_step.specs.Step.{AtInstr, AtTerm, Fetched, Nowhere, fetch}
+use Rattle.pass_proofs.specs.ir_base.declared.outcome.Place.{Place}
+use Rattle.pass_proofs.specs.ir_model.Names.{function_at, no_function}
+use Rattle.pass_proofs.specs.ir_model.declared.instr.Instr.{Instr}
+use Rattle.pass_proofs.specs.ir_model.declared.instr.Phi.{Phi}
+use Rattle.pass_proofs.specs.ir_model.declared.instr.Terminator.{Terminator}
+use Rattle.pass_proofs.specs.ir_model.declared.module.Block.{Block}
+use Rattle.pass_proofs.specs.ir_model.declared.module.Function.{Function}
+use Rattle.pass_proofs.specs.ir_model.declared.module.Module.{Module}
+use Rattle.pass_proofs.specs.ir_parts.Parts.{Part, OfPhi, OfInstr, Ending, first_part, instr_place, parts_of}
+use Rattle.pass_proofs.proofs.rule_laws.rules.path_rules.Holding.{HoldsOf, of_parts}
+use Rattle.pass_proofs.proofs.rule_laws.rules.renamed.Outside.{at_point}
+use Rattle.pass_proofs.proofs.rule_laws.rules.renamed.Switches.{none_part}
+use Rattle.pass_proofs.proofs.rule_laws.rules.sources.Places.{instr_there, point}
+use Rattle.pass_proofs.specs.rule_windows.Points.{phi_count}
+use Rattle.pass_proofs.specs.run_step.Step.{AtInstr, AtTerm, Fetched, Nowhere, fetch}
 
 module _ (k : ℕ) (f : Function) (breaks : Place → Part → Bool) (none : first_part breaks (parts_of k f) ≡ None) where
   pub at_instr : (block at : ℕ) (i : Instr) → fetch f block at ≡ AtInstr i

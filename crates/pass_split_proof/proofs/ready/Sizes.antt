@@ -1,9 +1,9 @@
 -- The frame that a run gives a coroutine is as large as its layout says.
 use Rattle.std.proofs.Common.{◌≡◌, ◌⊎◌, inl, inr, ℕ, Bool, true, false, cond, List, [], ◌∷◌, map, refl, if◌then◌else◌}
 use Rattle.std.specs.Prelude.{Some, find, unwrap_or, ◌==◌}
-use Rattle.frame_layout.specs.declared.layout.Layout.{Layout}
-use Rattle.run_framed.specs.Framed.{frame_of_layout, layout_of, no_layout}
-use Rattle.run_source_tables.specs.Given.{frame_of}
+use Rattle.pass_proofs.specs.frame_layout.declared.layout.Layout.{Layout}
+use Rattle.pass_proofs.specs.run_framed.Framed.{frame_of_layout, layout_of, no_layout}
+use Rattle.pass_proofs.specs.run_source_tables.Given.{frame_of}
 
 pub frame_size : (layouts : List Layout) (k : ℕ)
     → (frame_of (map frame_of_layout layouts) k).size ≡ (layout_of layouts k).size

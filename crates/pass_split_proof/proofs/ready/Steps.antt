@@ -1,8 +1,8 @@
 -- All that steps ask is met by a module whose runs may be followed in its parts.
 use Rattle.std.proofs.Common.{List}
 use Rattle.std.specs.Prelude.{ℤ}
-use Rattle.frame_layout.specs.declared.layout.Layouts.{Layouts}
-use Rattle.ir_model.specs.declared.module.Module.{Module}
+use Rattle.pass_proofs.specs.frame_layout.declared.layout.Layouts.{Layouts}
+use Rattle.pass_proofs.specs.ir_model.declared.module.Module.{Module}
 use Rattle.pass_split_proof.proofs.ready.Blocks.{alloca_ready, marker_ready}
 use Rattle.pass_split_proof.proofs.ready.Calls.{allocator_ready, call_ready, deallocator_ready}
 use Rattle.pass_split_proof.proofs.ready.Coroutine.{begin_ready, save_ready, suspend_ready}
@@ -18,9 +18,9 @@ use Rattle.pass_split_proof.specs.simulation.Premises.{ArePlacesMet, ArePremises
 use Rattle.pass_split_proof.specs.simulation.Statement.{parts_given}
 use Rattle.pass_split_proof.specs.states.Related.{AreRelated}
 use Rattle.pass_split_proof.specs.whole.Whole.{PartsKeepCalls}
-use Rattle.run_framed.specs.Framed.{framed_given}
-use Rattle.run_plain.specs.declared.state.PlainState.{PlainState}
-use Rattle.run_source.specs.declared.state.State.{State}
+use Rattle.pass_proofs.specs.run_framed.Framed.{framed_given}
+use Rattle.run_access_worked.specs.run_plain.declared.state.PlainState.{PlainState}
+use Rattle.pass_proofs.specs.run_source.declared.state.State.{State}
 
 module _ (ls : Layouts) (m : Module) (w : IsFollowable ls m) (answers : List ℤ) where
   pub places_met : (s : State) (t : PlainState)

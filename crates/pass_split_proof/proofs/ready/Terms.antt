@@ -1,18 +1,18 @@
 -- Terminators are ready in the parts.
 use Rattle.std.proofs.Common.{◌≡◌, ℕ, List, refl, subst}
 use Rattle.std.specs.Prelude.{ℤ, None, Option, Some, slice_get}
-use Rattle.flow_solver.specs.Paths.{IsListed}
-use Rattle.frame_layout.specs.declared.layout.Layouts.{Layouts}
-use Rattle.ir_laws.proofs.paths.woven_rules.Unbroken.{each_listed as each_of}
-use Rattle.ir_model.specs.Names.{function_at, position_of}
-use Rattle.ir_model.specs.declared.instr.Phi.{Phi}
-use Rattle.ir_model.specs.declared.instr.Terminator.{Terminator}
-use Rattle.ir_model.specs.declared.module.Block.{Block}
-use Rattle.ir_model.specs.declared.module.Function.{Function}
-use Rattle.ir_model.specs.declared.module.Module.{Module}
-use Rattle.ir_parts.specs.Contents.{ending_operands}
-use Rattle.pass_intrinsics.specs.declared.shape.Part.{Part}
-use Rattle.pass_intrinsics.specs.declared.shape.Shape.{Shape}
+use Rattle.pass_proofs.specs.flow_solver.Paths.{IsListed}
+use Rattle.pass_proofs.specs.frame_layout.declared.layout.Layouts.{Layouts}
+use Rattle.pass_proofs.proofs.ir_laws.paths.woven_rules.Unbroken.{each_listed as each_of}
+use Rattle.pass_proofs.specs.ir_model.Names.{function_at, position_of}
+use Rattle.pass_proofs.specs.ir_model.declared.instr.Phi.{Phi}
+use Rattle.pass_proofs.specs.ir_model.declared.instr.Terminator.{Terminator}
+use Rattle.pass_proofs.specs.ir_model.declared.module.Block.{Block}
+use Rattle.pass_proofs.specs.ir_model.declared.module.Function.{Function}
+use Rattle.pass_proofs.specs.ir_model.declared.module.Module.{Module}
+use Rattle.pass_proofs.specs.ir_parts.Contents.{ending_operands}
+use Rattle.pass_proofs.specs.pass_intrinsics.declared.shape.Part.{Part}
+use Rattle.pass_proofs.specs.pass_intrinsics.declared.shape.Shape.{Shape}
 use Rattle.pass_split_proof.proofs.ready.Begins.{BeginsBy, other_phi}
 use Rattle.pass_split_proof.proofs.ready.Given.{begins_by, ruled_at}
 use Rattle.pass_split_proof.proofs.ready.Places.{not_read}
@@ -28,14 +28,14 @@ use Rattle.pass_split_proof.specs.simulation.Statement.{parts_given}
 use Rattle.pass_split_proof.specs.states.Related.{AreRelated}
 use Rattle.pass_split_proof.specs.steps.Branches.{AreReadablePhis}
 use Rattle.pass_split_proof.specs.steps.Operands.{IsReadable}
-use Rattle.rule_laws.proofs.rules.sources.Places.{term_there}
-use Rattle.rule_uses.specs.Uses.{locals_in}
-use Rattle.run_framed.specs.Framed.{FramedGiven, framed_given}
-use Rattle.run_laws.specs.changed.Changed.{Each, operands_of_term}
-use Rattle.run_plain.specs.Plain.{PlainGiven}
-use Rattle.run_plain.specs.declared.state.PlainState.{PlainState}
-use Rattle.run_source.specs.declared.state.State.{State}
-use Rattle.run_step.specs.Step.{AtTerm, fetch, label_of, phis_of}
+use Rattle.pass_proofs.proofs.rule_laws.rules.sources.Places.{term_there}
+use Rattle.pass_proofs.specs.rule_uses.Uses.{locals_in}
+use Rattle.pass_proofs.specs.run_framed.Framed.{FramedGiven, framed_given}
+use Rattle.pass_proofs.specs.run_laws.changed.Changed.{Each, operands_of_term}
+use Rattle.run_access_worked.specs.run_plain.Plain.{PlainGiven}
+use Rattle.run_access_worked.specs.run_plain.declared.state.PlainState.{PlainState}
+use Rattle.pass_proofs.specs.run_source.declared.state.State.{State}
+use Rattle.pass_proofs.specs.run_step.Step.{AtTerm, fetch, label_of, phis_of}
 
 -- ---- of a function
 

@@ -2,14 +2,14 @@
 use Rattle.std.proofs.Common.{◌≡◌, ℕ, ◌+◌, ◌-◌, ◌<◌, length, Option, sym, subst, arith, if◌then◌else◌}
 use Rattle.std.proofs.lemmas.Option.{slice_get_within}
 use Rattle.std.specs.Prelude.{slice_get, ◌==◌}
-use Rattle.ir_laws.proofs.paths.renamed.Uses.{stands_in}
-use Rattle.ir_model.specs.declared.instr.Instr.{Instr}
-use Rattle.ir_model.specs.declared.module.Block.{Block}
-use Rattle.ir_model.specs.declared.module.Function.{Function}
-use Rattle.ir_paths.specs.Windows.{end_block}
+use Rattle.pass_proofs.proofs.ir_laws.paths.renamed.Uses.{stands_in}
+use Rattle.pass_proofs.specs.ir_model.declared.instr.Instr.{Instr}
+use Rattle.pass_proofs.specs.ir_model.declared.module.Block.{Block}
+use Rattle.pass_proofs.specs.ir_model.declared.module.Function.{Function}
+use Rattle.pass_proofs.specs.ir_paths.Windows.{end_block}
 use Rattle.pass_split_proof.specs.states.Related.{ahead_in, instrs_of, steps_ahead}
-use Rattle.rule_laws.proofs.rules.sources.Places.{instr_there}
-use Rattle.run_step.specs.Step.{AtInstr, fetch}
+use Rattle.pass_proofs.proofs.rule_laws.rules.sources.Places.{instr_there}
+use Rattle.pass_proofs.specs.run_step.Step.{AtInstr, fetch}
 
 -- what lies behind the block
 abbrev far : Function → ℕ → ℕ

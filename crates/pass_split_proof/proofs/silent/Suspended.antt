@@ -2,17 +2,17 @@
 use Rattle.std.proofs.Common.{◌≡◌, ℕ, ◌+◌, ◌<◌, ◌≤◌, ⊎_elim, Bool, true, false, length, Some, refl, sym, ap, ◌∙◌, subst, arith}
 use Rattle.std.proofs.lemmas.Bool.{cases_eq, false≢true}
 use Rattle.std.specs.Prelude.{negsuc}
-use Rattle.ir_base.specs.declared.outcome.Outcome.{Outcome}
-use Rattle.ir_laws.proofs.facts.Truth.{equal_numbers}
-use Rattle.ir_model.specs.Names.{function_at, is_local}
-use Rattle.ir_model.specs.declared.instr.Instr.{Instr}
-use Rattle.ir_model.specs.declared.instr.Terminator.{Terminator}
-use Rattle.ir_model.specs.declared.module.Function.{Function}
-use Rattle.ir_model.specs.declared.operand.Callee.{Callee}
-use Rattle.ir_model.specs.declared.operand.Intrinsic.{Intrinsic}
-use Rattle.ir_model.specs.declared.operand.Operand.{Operand}
-use Rattle.pass_intrinsics.specs.declared.shape.Part.{Part}
-use Rattle.pass_intrinsics.specs.declared.shape.Shape.{Shape}
+use Rattle.pass_proofs.specs.ir_base.declared.outcome.Outcome.{Outcome}
+use Rattle.pass_proofs.proofs.ir_laws.facts.Truth.{equal_numbers}
+use Rattle.pass_proofs.specs.ir_model.Names.{function_at, is_local}
+use Rattle.pass_proofs.specs.ir_model.declared.instr.Instr.{Instr}
+use Rattle.pass_proofs.specs.ir_model.declared.instr.Terminator.{Terminator}
+use Rattle.pass_proofs.specs.ir_model.declared.module.Function.{Function}
+use Rattle.pass_proofs.specs.ir_model.declared.operand.Callee.{Callee}
+use Rattle.pass_proofs.specs.ir_model.declared.operand.Intrinsic.{Intrinsic}
+use Rattle.pass_proofs.specs.ir_model.declared.operand.Operand.{Operand}
+use Rattle.pass_proofs.specs.pass_intrinsics.declared.shape.Part.{Part}
+use Rattle.pass_proofs.specs.pass_intrinsics.declared.shape.Shape.{Shape}
 use Rattle.pass_split_proof.proofs.places.Laws.{stop_of}
 use Rattle.pass_split_proof.proofs.places.Stops.{stop_there}
 use Rattle.pass_split_proof.proofs.silent.Measure.{next_lower}
@@ -27,18 +27,18 @@ use Rattle.pass_split_proof.specs.states.Going.{moved_to, placed_at}
 use Rattle.pass_split_proof.specs.states.Memories.{homes_of}
 use Rattle.pass_split_proof.specs.states.Related.{AreRelated, credit_of}
 use Rattle.pass_split_proof.specs.states.Values.{AreValuesOf, IsStopResult}
-use Rattle.rule_shape.specs.Suspends.{is_suspend}
-use Rattle.run_framed.specs.Framed.{FramedGiven, framed_step}
-use Rattle.run_laws.proofs.transfer.Sets.{set_elsewhere, set_length}
-use Rattle.run_laws.specs.memory.Pointers.{IsValue}
-use Rattle.run_memory.specs.declared.pointer.Value.{Value}
-use Rattle.run_plain.specs.Plain.{PlainGiven, plain_work}
-use Rattle.run_plain.specs.declared.state.PlainState.{PlainState}
-use Rattle.run_source.specs.Source.{suspend}
-use Rattle.run_source.specs.State.{function_of, gives, or_undefined, work_of}
-use Rattle.run_source.specs.declared.state.State.{State}
-use Rattle.run_step.specs.Step.{AtInstr, AtTerm, Coro, fetch, set_value}
-use Rattle.run_step.specs.Values.{Env, arg_value, integer, operand_value, value_in, with_value}
+use Rattle.pass_proofs.specs.rule_shape.Suspends.{is_suspend}
+use Rattle.pass_proofs.specs.run_framed.Framed.{FramedGiven, framed_step}
+use Rattle.pass_proofs.proofs.run_laws.transfer.Sets.{set_elsewhere, set_length}
+use Rattle.pass_proofs.specs.run_laws.memory.Pointers.{IsValue}
+use Rattle.pass_proofs.specs.run_memory.declared.pointer.Value.{Value}
+use Rattle.run_access_worked.specs.run_plain.Plain.{PlainGiven, plain_work}
+use Rattle.run_access_worked.specs.run_plain.declared.state.PlainState.{PlainState}
+use Rattle.pass_proofs.specs.run_source.Source.{suspend}
+use Rattle.pass_proofs.specs.run_source.State.{function_of, gives, or_undefined, work_of}
+use Rattle.pass_proofs.specs.run_source.declared.state.State.{State}
+use Rattle.pass_proofs.specs.run_step.Step.{AtInstr, AtTerm, Coro, fetch, set_value}
+use Rattle.pass_proofs.specs.run_step.Values.{Env, arg_value, integer, operand_value, value_in, with_value}
 
 local_is : (v : ℕ) (x : Operand) → is_local v x ≡ true → x ≡ Operand.Local v
 local_is v (Operand.Local n) e = ap Operand.Local (sym (equal_numbers v n e))

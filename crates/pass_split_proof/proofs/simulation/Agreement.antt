@@ -1,20 +1,20 @@
 -- Where the states of the parts' run stand beside those of the framed run, the runs agree within 4.
 use Rattle.std.proofs.Common.{ℕ, ◌≤◌, Bool, true, false, List, arith}
 use Rattle.std.specs.Prelude.{ℤ}
-use Rattle.frame_layout.specs.declared.layout.Layouts.{Layouts}
-use Rattle.ir_base.specs.declared.outcome.Word.{Word}
-use Rattle.ir_model.specs.declared.module.Module.{Module}
+use Rattle.pass_proofs.specs.frame_layout.declared.layout.Layouts.{Layouts}
+use Rattle.pass_proofs.specs.ir_base.declared.outcome.Word.{Word}
+use Rattle.pass_proofs.specs.ir_model.declared.module.Module.{Module}
 use Rattle.pass_cleanup.specs.Cleaned.{plain_machine}
 use Rattle.pass_split_proof.specs.first_exits.Parted.{parted_module}
 use Rattle.pass_split_proof.specs.simulation.Statement.{IsEntryOfParts, PartsKeepStates, parts_given}
 use Rattle.pass_split_proof.specs.states.Related.{AreRelated, Follows, part_price, price_of}
-use Rattle.run_agreement.proofs.Costs.{agrees_within_by_steps}
-use Rattle.run_agreement.specs.Agreements.{AgreesWithin}
-use Rattle.run_agreement.specs.Costs.{IsNear}
-use Rattle.run_agreement.specs.Machines.{at}
-use Rattle.run_framed.specs.Framed.{framed_given}
-use Rattle.run_states.specs.moved_states.Beside.{framed_machine}
-use Rattle.run_step.specs.Step.{AtInstr, AtTerm, Fetched, Nowhere}
+use Rattle.pass_proofs.proofs.run_agreement.Costs.{agrees_within_by_steps}
+use Rattle.pass_proofs.specs.run_agreement.Agreements.{AgreesWithin}
+use Rattle.pass_proofs.specs.run_agreement.Costs.{IsNear}
+use Rattle.pass_proofs.specs.run_agreement.Machines.{at}
+use Rattle.pass_proofs.specs.run_framed.Framed.{framed_given}
+use Rattle.pass_proofs.specs.run_states.moved_states.Beside.{framed_machine}
+use Rattle.pass_proofs.specs.run_step.Step.{AtInstr, AtTerm, Fetched, Nowhere}
 
 pub price_within : (behind : Bool) (x : Fetched) → price_of behind x ≤ 4
 price_within true x = omega arith

@@ -2,10 +2,10 @@
 use Rattle.std.proofs.Common.{◌≡◌, ℕ, zero, suc, ◌+◌, ◌-◌, ◌<◌, ◌≤◌, ◌⊎◌, inl, inr, ⊎_elim, List, map, refl, sym, ap, ◌∙◌, subst, arith}
 use Rattle.std.specs.Prelude.{ℤ}
 use Rattle.std.proofs.lemmas.Bool.{cases_lt}
-use Rattle.frame_layout.specs.declared.layout.Layouts.{Layouts}
-use Rattle.ir_base.specs.declared.outcome.Outcome.{Outcome}
-use Rattle.ir_base.specs.declared.outcome.Word.{Word}
-use Rattle.ir_model.specs.declared.module.Module.{Module}
+use Rattle.pass_proofs.specs.frame_layout.declared.layout.Layouts.{Layouts}
+use Rattle.pass_proofs.specs.ir_base.declared.outcome.Outcome.{Outcome}
+use Rattle.pass_proofs.specs.ir_base.declared.outcome.Word.{Word}
+use Rattle.pass_proofs.specs.ir_model.declared.module.Module.{Module}
 use Rattle.pass_cleanup.specs.Cleaned.{plain_machine}
 use Rattle.pass_split_proof.proofs.simulation.Agreement.{price_within}
 use Rattle.pass_split_proof.proofs.simulation.Weights.{weight_some, weight_within}
@@ -13,19 +13,19 @@ use Rattle.pass_split_proof.specs.first_exits.Parted.{parted_module}
 use Rattle.pass_split_proof.specs.simulation.Followed.{AreStepsFollowed, IsFollowed, ShowsOn}
 use Rattle.pass_split_proof.specs.simulation.Statement.{IsEntryOfParts, PartsKeepStates, parts_given}
 use Rattle.pass_split_proof.specs.states.Related.{AreRelated, Follows, IsFollowing, IsOn, credit_of, fetched_at, is_behind_suspend, measure, part_price, weight}
-use Rattle.run_agreement.proofs.Costs.{weaken_by}
-use Rattle.run_agreement.proofs.PricedLockstep.{AdvanceBy, IsPassed, SimulatesBy, lockstep_by}
-use Rattle.run_agreement.proofs.Runs.{iterate-add}
-use Rattle.run_agreement.proofs.Shows.{ShowsSame}
-use Rattle.run_agreement.specs.Costs.{AgreesBy, IsNear, cost_from}
-use Rattle.run_agreement.specs.Machines.{IsFine, IsRunning, Machine, iterate}
-use Rattle.run_framed.specs.Framed.{FramedGiven, framed_advance, framed_given, framed_state_at, framed_step}
-use Rattle.run_plain.specs.Plain.{PlainGiven, plain_advance, plain_first, plain_step}
-use Rattle.run_plain.specs.declared.state.PlainState.{PlainState}
-use Rattle.run_source.specs.Source.{first_state}
-use Rattle.run_source.specs.declared.state.State.{State}
-use Rattle.run_states.specs.moved_states.Beside.{framed_machine}
-use Rattle.run_step.specs.Runs.{seen_event}
+use Rattle.pass_proofs.proofs.run_agreement.Costs.{weaken_by}
+use Rattle.pass_proofs.proofs.run_agreement.PricedLockstep.{AdvanceBy, IsPassed, SimulatesBy, lockstep_by}
+use Rattle.pass_proofs.proofs.run_agreement.Runs.{iterate-add}
+use Rattle.pass_proofs.proofs.run_agreement.Shows.{ShowsSame}
+use Rattle.pass_proofs.specs.run_agreement.Costs.{AgreesBy, IsNear, cost_from}
+use Rattle.pass_proofs.specs.run_agreement.Machines.{IsFine, IsRunning, Machine, iterate}
+use Rattle.pass_proofs.specs.run_framed.Framed.{FramedGiven, framed_advance, framed_given, framed_state_at, framed_step}
+use Rattle.run_access_worked.specs.run_plain.Plain.{PlainGiven, plain_advance, plain_first, plain_step}
+use Rattle.run_access_worked.specs.run_plain.declared.state.PlainState.{PlainState}
+use Rattle.pass_proofs.specs.run_source.Source.{first_state}
+use Rattle.pass_proofs.specs.run_source.declared.state.State.{State}
+use Rattle.pass_proofs.specs.run_states.moved_states.Beside.{framed_machine}
+use Rattle.pass_proofs.specs.run_step.Runs.{seen_event}
 
 -- ---- the account of one step
 

@@ -1,10 +1,10 @@
 -- The states in which the runs start stand beside each other.
 use Rattle.std.proofs.Common.{◌≡◌, ℕ, suc, ◌≤◌, arith, false, List, [], ◌∷◌, length, map, refl, sym, ap, ◌∙◌, subst, inr}
 use Rattle.std.proofs.lemmas.Bool.{false≢true}
-use Rattle.ir_base.specs.declared.outcome.Word.{Word}
-use Rattle.ir_model.specs.Names.{function_at}
-use Rattle.ir_model.specs.declared.module.Function.{Function}
-use Rattle.pass_intrinsics.specs.declared.shape.Part.{Part}
+use Rattle.pass_proofs.specs.ir_base.declared.outcome.Word.{Word}
+use Rattle.pass_proofs.specs.ir_model.Names.{function_at}
+use Rattle.pass_proofs.specs.ir_model.declared.module.Function.{Function}
+use Rattle.pass_proofs.specs.pass_intrinsics.declared.shape.Part.{Part}
 use Rattle.pass_split_proof.proofs.states.Started.{frames_start, worlds_start}
 use Rattle.pass_split_proof.proofs.states.Values.{entries_stand, entry_length}
 use Rattle.pass_split_proof.specs.places.Places.{IsCodeOf, IsPlace}
@@ -12,16 +12,16 @@ use Rattle.pass_split_proof.specs.states.Activations.{Inside}
 use Rattle.pass_split_proof.specs.states.Instances.{part_position}
 use Rattle.pass_split_proof.specs.states.Memories.{AreContents, AreWorldsBeside, homes_of}
 use Rattle.pass_split_proof.specs.states.Related.{AreRelated}
-use Rattle.pass_split.specs.Parts.{plain_shape}
-use Rattle.run_framed.specs.Framed.{FramedGiven}
-use Rattle.run_laws.specs.embedded.Related.{AreValues}
-use Rattle.run_laws.specs.memory.Pointers.{Home}
-use Rattle.run_memory.specs.declared.pointer.Value.{Value}
-use Rattle.run_plain.specs.Plain.{PlainGiven, plain_first}
-use Rattle.run_source.specs.Source.{first_state}
-use Rattle.run_source.specs.declared.state.Mode.{Mode}
-use Rattle.run_step.specs.Step.{first_world, global_block}
-use Rattle.run_step.specs.declared.world.World.{World}
+use Rattle.pass_proofs.specs.pass_split.Parts.{plain_shape}
+use Rattle.pass_proofs.specs.run_framed.Framed.{FramedGiven}
+use Rattle.pass_proofs.specs.run_laws.embedded.Related.{AreValues}
+use Rattle.pass_proofs.specs.run_laws.memory.Pointers.{Home}
+use Rattle.pass_proofs.specs.run_memory.declared.pointer.Value.{Value}
+use Rattle.run_access_worked.specs.run_plain.Plain.{PlainGiven, plain_first}
+use Rattle.pass_proofs.specs.run_source.Source.{first_state}
+use Rattle.pass_proofs.specs.run_source.declared.state.Mode.{Mode}
+use Rattle.pass_proofs.specs.run_step.Step.{first_world, global_block}
+use Rattle.pass_proofs.specs.run_step.declared.world.World.{World}
 
 -- words stand for themselves
 pub words_stand : (homes : List Home) (args : List Word) → AreValues homes (map Value.Int args) (map Value.Int args)

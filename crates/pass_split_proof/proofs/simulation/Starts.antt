@@ -1,13 +1,13 @@
 -- The runs of a framed module and of its parts start in states beside each other.
 use Rattle.std.proofs.Common.{◌≡◌, ℕ, ◌+◌, ◌≤◌, Bool, false, List, [], ◌∷◌, ◌++◌, length, Option, Some, refl, sym, ap, ◌∙◌, subst, arith, length-append}
 use Rattle.std.specs.Prelude.{ℤ, slice_get, unwrap_or, if◌then◌else◌}
-use Rattle.frame_layout.specs.declared.layout.Layouts.{Layouts}
-use Rattle.ir_base.specs.declared.name.Name.{Name}
-use Rattle.ir_base.specs.declared.outcome.Word.{Word}
-use Rattle.ir_model.specs.Names.{function_at, no_function}
-use Rattle.ir_model.specs.declared.module.Function.{Function}
-use Rattle.ir_model.specs.declared.module.Module.{Module}
-use Rattle.pass_intrinsics.specs.declared.shape.Part.{Part}
+use Rattle.pass_proofs.specs.frame_layout.declared.layout.Layouts.{Layouts}
+use Rattle.pass_proofs.specs.ir_base.declared.name.Name.{Name}
+use Rattle.pass_proofs.specs.ir_base.declared.outcome.Word.{Word}
+use Rattle.pass_proofs.specs.ir_model.Names.{function_at, no_function}
+use Rattle.pass_proofs.specs.ir_model.declared.module.Function.{Function}
+use Rattle.pass_proofs.specs.ir_model.declared.module.Module.{Module}
+use Rattle.pass_proofs.specs.pass_intrinsics.declared.shape.Part.{Part}
 use Rattle.pass_split_proof.proofs.code.Positions.{stands_moved}
 use Rattle.pass_split_proof.proofs.places.Laws.{front_of}
 use Rattle.pass_split_proof.proofs.simulation.Started.{starts_related}
@@ -16,12 +16,12 @@ use Rattle.pass_split_proof.specs.first_exits.Parted.{parted_function, parted_mo
 use Rattle.pass_split_proof.specs.places.Places.{IsCodeOf, IsPlace, OfPlain}
 use Rattle.pass_split_proof.specs.simulation.Statement.{IsEntryOfParts, IsPartable, parts_given}
 use Rattle.pass_split_proof.specs.states.Related.{AreRelated}
-use Rattle.pass_split.specs.Given.{has_given_call}
-use Rattle.pass_split.specs.Parts.{marked_parts, plain_of, plain_shape}
-use Rattle.rule_laws.specs.rules.function_rules.Kept.{KeepsFunctionRules}
-use Rattle.run_framed.specs.Framed.{framed_given}
-use Rattle.run_plain.specs.Plain.{plain_first}
-use Rattle.run_source.specs.Source.{first_state}
+use Rattle.pass_proofs.specs.pass_split.Given.{has_given_call}
+use Rattle.pass_proofs.specs.pass_split.Parts.{marked_parts, plain_of, plain_shape}
+use Rattle.pass_proofs.specs.rule_laws.rules.function_rules.Kept.{KeepsFunctionRules}
+use Rattle.pass_proofs.specs.run_framed.Framed.{framed_given}
+use Rattle.run_access_worked.specs.run_plain.Plain.{plain_first}
+use Rattle.pass_proofs.specs.run_source.Source.{first_state}
 
 more_names : (xs ys : List Name) → length xs ≤ length (xs ++ ys)
 more_names xs ys = let e = length-append xs ys in omega arith

@@ -1,10 +1,10 @@
 -- What steps weigh, and what they have.
 use Rattle.std.proofs.Common.{◌≤◌, Bool, true, false, arith}
-use Rattle.ir_model.specs.declared.instr.Instr.{Instr}
-use Rattle.ir_model.specs.declared.operand.Callee.{Callee}
-use Rattle.ir_model.specs.declared.operand.Intrinsic.{Intrinsic}
+use Rattle.pass_proofs.specs.ir_model.declared.instr.Instr.{Instr}
+use Rattle.pass_proofs.specs.ir_model.declared.operand.Callee.{Callee}
+use Rattle.pass_proofs.specs.ir_model.declared.operand.Intrinsic.{Intrinsic}
 use Rattle.pass_split_proof.specs.states.Related.{price_of, weight, weight_of_intrinsic}
-use Rattle.run_step.specs.Step.{AtInstr, AtTerm, Fetched, Nowhere}
+use Rattle.pass_proofs.specs.run_step.Step.{AtInstr, AtTerm, Fetched, Nowhere}
 
 one_low : 1 ≤ 4
 one_low = omega arith

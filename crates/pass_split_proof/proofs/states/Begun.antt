@@ -11,16 +11,16 @@ use Rattle.pass_split_proof.specs.states.Begun.{IsFreshBlock}
 use Rattle.pass_split_proof.specs.states.Instances.{AreLaidFrames, IsControl, IsLaidOut, LiesAligned, is_held, is_held_in}
 use Rattle.pass_split_proof.specs.states.Memories.{AreBeside, AreTwins, AreTwinsAt}
 use Rattle.run_access_worked.proofs.Begun.{get_more, judge_more}
-use Rattle.run_framed.specs.Framed.{FramedGiven, covers, frame_rights, is_open_byte, layout_of}
-use Rattle.run_laws.proofs.memory.Written.{changed_elsewhere, changed_here, same_some}
-use Rattle.run_laws.specs.memory.Pointers.{IsByte}
-use Rattle.run_laws.specs.memory.Standing.{IsOpen, byte_of, own_homes}
-use Rattle.run_laws_worked.proofs.Frames.{no_judge}
-use Rattle.run_laws.specs.changed.Changed.{Each}
-use Rattle.run_memory.specs.Memory.{is_live, owned_to, with_block}
-use Rattle.run_memory.specs.declared.block.Byte.{Byte}
-use Rattle.run_memory.specs.declared.block.MemoryBlock.{MemoryBlock}
-use Rattle.run_source.specs.declared.state.Instance.{Instance}
+use Rattle.pass_proofs.specs.run_framed.Framed.{FramedGiven, covers, frame_rights, is_open_byte, layout_of}
+use Rattle.pass_proofs.proofs.run_laws.memory.Written.{changed_elsewhere, changed_here, same_some}
+use Rattle.pass_proofs.specs.run_laws.memory.Pointers.{IsByte}
+use Rattle.pass_proofs.specs.run_laws.memory.Standing.{IsOpen, byte_of, own_homes}
+use Rattle.run_access_worked.proofs.run_laws_worked.Frames.{no_judge}
+use Rattle.pass_proofs.specs.run_laws.changed.Changed.{Each}
+use Rattle.pass_proofs.specs.run_memory.Memory.{is_live, owned_to, with_block}
+use Rattle.pass_proofs.specs.run_memory.declared.block.Byte.{Byte}
+use Rattle.pass_proofs.specs.run_memory.declared.block.MemoryBlock.{MemoryBlock}
+use Rattle.pass_proofs.specs.run_source.declared.state.Instance.{Instance}
 
 -- ---- no instance lies in it
 

@@ -3,27 +3,27 @@ use Rattle.std.proofs.Common.{◌≡◌, ℕ, ◌+◌, ◌<◌, ◌≤◌, inl, 
 use Rattle.std.specs.Prelude.{slice_get, is_some}
 use Rattle.std.proofs.lemmas.Bool.{false≢true}
 use Rattle.std.proofs.lemmas.Option.{slice_get_within}
-use Rattle.ir_model.specs.declared.ir_type.IntWidth.{IntWidth}
-use Rattle.ir_paths.specs.declared.point.Point.{Point}
-use Rattle.pass_intrinsics.specs.Shapes.{index_bytes}
+use Rattle.pass_proofs.specs.ir_model.declared.ir_type.IntWidth.{IntWidth}
+use Rattle.pass_proofs.specs.ir_paths.declared.point.Point.{Point}
+use Rattle.pass_proofs.specs.pass_intrinsics.Shapes.{index_bytes}
 use Rattle.pass_split_proof.proofs.states.OwnHomes.{own_home}
 use Rattle.pass_split_proof.specs.states.Instances.{AreFrames, AreLaidFrames, IsControl, IsHeaded, IsIndexed, IsSavedAt, LiesAligned, address_of_part, index_length, is_held, is_held_in, resumer_of, shape_at}
 use Rattle.pass_split_proof.specs.states.Memories.{homes_of}
-use Rattle.run_framed.specs.Framed.{FramedGiven, frame_rights, layout_of}
-use Rattle.run_laws.proofs.access.Done.{free_held}
-use Rattle.run_laws.proofs.access.Reading.{as_many}
-use Rattle.run_laws.proofs.memory.Itself.{owner_rights_fit}
-use Rattle.run_laws.specs.access.Changed.{IsFree, KeepsFree}
-use Rattle.run_laws.specs.access.Lines.{Holds}
-use Rattle.run_laws.specs.embedded.Refilled.{AreRefilled, IsRefilled}
-use Rattle.run_laws.specs.memory.Pointers.{Home}
-use Rattle.run_memory.proofs.Digits.{length-encode}
-use Rattle.run_memory.specs.Memory.{digits, encode, is_live, owner_rights}
-use Rattle.run_memory.specs.declared.block.Byte.{Byte}
-use Rattle.run_memory.specs.declared.block.Kind.{Kind}
-use Rattle.run_memory.specs.declared.block.MemoryBlock.{MemoryBlock}
-use Rattle.run_memory.specs.declared.pointer.Value.{Value}
-use Rattle.run_source.specs.declared.state.Instance.{Instance}
+use Rattle.pass_proofs.specs.run_framed.Framed.{FramedGiven, frame_rights, layout_of}
+use Rattle.pass_proofs.proofs.run_laws.access.Done.{free_held}
+use Rattle.pass_proofs.proofs.run_laws.access.Reading.{as_many}
+use Rattle.pass_proofs.proofs.run_laws.memory.Itself.{owner_rights_fit}
+use Rattle.pass_proofs.specs.run_laws.access.Changed.{IsFree, KeepsFree}
+use Rattle.pass_proofs.specs.run_laws.access.Lines.{Holds}
+use Rattle.pass_proofs.specs.run_laws.embedded.Refilled.{AreRefilled, IsRefilled}
+use Rattle.pass_proofs.specs.run_laws.memory.Pointers.{Home}
+use Rattle.pass_proofs.proofs.run_memory.Digits.{length-encode}
+use Rattle.pass_proofs.specs.run_memory.Memory.{digits, encode, is_live, owner_rights}
+use Rattle.pass_proofs.specs.run_memory.declared.block.Byte.{Byte}
+use Rattle.pass_proofs.specs.run_memory.declared.block.Kind.{Kind}
+use Rattle.pass_proofs.specs.run_memory.declared.block.MemoryBlock.{MemoryBlock}
+use Rattle.pass_proofs.specs.run_memory.declared.pointer.Value.{Value}
+use Rattle.pass_proofs.specs.run_source.declared.state.Instance.{Instance}
 
 -- ---- what is free
 

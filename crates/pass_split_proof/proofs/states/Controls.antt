@@ -8,17 +8,17 @@ use Rattle.pass_split_proof.proofs.states.OwnHomes.{own_home}
 use Rattle.pass_split_proof.proofs.states.Written.{written_apart}
 use Rattle.pass_split_proof.specs.states.Instances.{AreLaidFrames, IsControl, is_held}
 use Rattle.pass_split_proof.specs.states.Memories.{AreBeside, homes_of}
-use Rattle.run_framed.specs.Framed.{FramedGiven, frame_rights}
-use Rattle.run_laws.proofs.access.Done.{other_held, write_away}
-use Rattle.run_laws.proofs.memory.Itself.{owner_rights_fit}
-use Rattle.run_laws.specs.access.Lines.{AreDisjoint, Holds, refilled_at}
-use Rattle.run_laws.specs.memory.Pointers.{Home, home_of}
-use Rattle.run_laws.specs.memory.Standing.{IsAway}
-use Rattle.run_laws_worked.proofs.Frames.{frame_rights_fit}
-use Rattle.run_memory.specs.Memory.{is_live, owner_rights}
-use Rattle.run_memory.specs.declared.block.Byte.{Byte}
-use Rattle.run_memory.specs.declared.block.MemoryBlock.{MemoryBlock}
-use Rattle.run_source.specs.declared.state.Instance.{Instance}
+use Rattle.pass_proofs.specs.run_framed.Framed.{FramedGiven, frame_rights}
+use Rattle.pass_proofs.proofs.run_laws.access.Done.{other_held, write_away}
+use Rattle.pass_proofs.proofs.run_laws.memory.Itself.{owner_rights_fit}
+use Rattle.pass_proofs.specs.run_laws.access.Lines.{AreDisjoint, Holds, refilled_at}
+use Rattle.pass_proofs.specs.run_laws.memory.Pointers.{Home, home_of}
+use Rattle.pass_proofs.specs.run_laws.memory.Standing.{IsAway}
+use Rattle.run_access_worked.proofs.run_laws_worked.Frames.{frame_rights_fit}
+use Rattle.pass_proofs.specs.run_memory.Memory.{is_live, owner_rights}
+use Rattle.pass_proofs.specs.run_memory.declared.block.Byte.{Byte}
+use Rattle.pass_proofs.specs.run_memory.declared.block.MemoryBlock.{MemoryBlock}
+use Rattle.pass_proofs.specs.run_source.declared.state.Instance.{Instance}
 
 -- two ranges of which no byte is one of both
 pub apart_disjoint : (b o len c p len' : ℕ) → 0 < len → 0 < len' → ((i j : ℕ) → i < len → j < len' → c ≡ b

@@ -9,18 +9,18 @@ use Rattle.pass_split_proof.proofs.states.OwnHomes.{own_extends}
 use Rattle.pass_split_proof.proofs.states.Standing.{open_bytes, twins_stand}
 use Rattle.pass_split_proof.specs.states.Instances.{AreFrames, AreLaidFrames, is_held, is_held_in}
 use Rattle.pass_split_proof.specs.states.Memories.{AreBeside, AreTwins, AreTwinsAt, IsTwin, homes_of, plain_kind}
-use Rattle.run_framed.specs.Framed.{FramedGiven}
-use Rattle.run_laws.proofs.access.Held.{grown_held}
-use Rattle.run_laws.proofs.memory.Homes.{byte_on}
-use Rattle.run_laws.proofs.memory.Written.{same_some}
-use Rattle.run_laws_worked.proofs.Frames.{blank_byte}
-use Rattle.run_laws.specs.memory.Pointers.{Extends, IsByte}
-use Rattle.run_laws.specs.memory.Standing.{blank_block, byte_of, own_homes}
-use Rattle.run_memory.specs.Memory.{owner_rights}
-use Rattle.run_memory.specs.declared.block.Byte.{Byte}
-use Rattle.run_memory.specs.declared.block.Kind.{Kind}
-use Rattle.run_memory.specs.declared.block.MemoryBlock.{MemoryBlock}
-use Rattle.run_source.specs.declared.state.Instance.{Instance}
+use Rattle.pass_proofs.specs.run_framed.Framed.{FramedGiven}
+use Rattle.pass_proofs.proofs.run_laws.access.Held.{grown_held}
+use Rattle.pass_proofs.proofs.run_laws.memory.Homes.{byte_on}
+use Rattle.pass_proofs.proofs.run_laws.memory.Written.{same_some}
+use Rattle.run_access_worked.proofs.run_laws_worked.Frames.{blank_byte}
+use Rattle.pass_proofs.specs.run_laws.memory.Pointers.{Extends, IsByte}
+use Rattle.pass_proofs.specs.run_laws.memory.Standing.{blank_block, byte_of, own_homes}
+use Rattle.pass_proofs.specs.run_memory.Memory.{owner_rights}
+use Rattle.pass_proofs.specs.run_memory.declared.block.Byte.{Byte}
+use Rattle.pass_proofs.specs.run_memory.declared.block.Kind.{Kind}
+use Rattle.pass_proofs.specs.run_memory.declared.block.MemoryBlock.{MemoryBlock}
+use Rattle.pass_proofs.specs.run_source.declared.state.Instance.{Instance}
 
 -- ---- one block more
 

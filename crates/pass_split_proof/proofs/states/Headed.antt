@@ -2,8 +2,8 @@
 use Rattle.std.proofs.Common.{◌≡◌, ◌≢◌, ℕ, ◌+◌, ◌%◌, ◌<◌, ◌≤◌, ◌⊎◌, inl, inr, true, false, not, List, [], ◌∷◌, ◌++◌, length, Option, Some, refl, sym, ap, ◌∙◌, subst, arith}
 use Rattle.std.specs.Prelude.{slice_get}
 use Rattle.std.proofs.lemmas.Bool.{and_from, and_right}
-use Rattle.ir_paths.specs.declared.point.Point.{Point}
-use Rattle.pass_intrinsics.specs.declared.shape.Part.{Part}
+use Rattle.pass_proofs.specs.ir_paths.declared.point.Point.{Point}
+use Rattle.pass_proofs.specs.pass_intrinsics.declared.shape.Part.{Part}
 use Rattle.pass_split_proof.proofs.states.Begun.{begun_beside, laid_more, old_held, parted}
 use Rattle.pass_split_proof.proofs.states.Closed.{headed_held}
 use Rattle.pass_split_proof.proofs.states.Controls.{control_beside, others_move}
@@ -13,21 +13,21 @@ use Rattle.pass_split_proof.proofs.states.Written.{range_holds}
 use Rattle.pass_split_proof.specs.states.Begun.{BeginsIn, IsFreshBlock, IsNewInstance, with_header}
 use Rattle.pass_split_proof.specs.states.Instances.{AreFrames, AreLaidFrames, IsControl, IsHeaded, IsLaidOut, StandsThere, address_of_part, is_destroyer, is_held, lives_in}
 use Rattle.pass_split_proof.specs.states.Memories.{AreBeside}
-use Rattle.run_framed.specs.Framed.{FramedGiven, layout_of}
-use Rattle.run_laws.proofs.access.Ranges.{write_held}
-use Rattle.run_laws.proofs.memory.Itself.{owner_rights_fit}
-use Rattle.run_laws.proofs.memory.Written.{changed_here}
-use Rattle.run_laws.specs.access.Lines.{Holds, refilled_at}
-use Rattle.run_laws.specs.memory.Standing.{IsAlignment}
-use Rattle.run_memory.proofs.Digits.{length-encode}
-use Rattle.run_memory.specs.Memory.{encode, owned_to, owner_rights, same_kind, with_block}
-use Rattle.run_memory.specs.declared.block.Byte.{Byte}
-use Rattle.run_memory.specs.declared.block.Kind.{Kind}
-use Rattle.run_memory.specs.declared.block.MemoryBlock.{MemoryBlock}
-use Rattle.run_memory.specs.declared.pointer.Value.{Value}
-use Rattle.run_source.specs.State.{is_finished}
-use Rattle.run_source.specs.declared.state.Instance.{Instance}
-use Rattle.run_source.specs.declared.state.Status.{Status}
+use Rattle.pass_proofs.specs.run_framed.Framed.{FramedGiven, layout_of}
+use Rattle.pass_proofs.proofs.run_laws.access.Ranges.{write_held}
+use Rattle.pass_proofs.proofs.run_laws.memory.Itself.{owner_rights_fit}
+use Rattle.pass_proofs.proofs.run_laws.memory.Written.{changed_here}
+use Rattle.pass_proofs.specs.run_laws.access.Lines.{Holds, refilled_at}
+use Rattle.pass_proofs.specs.run_laws.memory.Standing.{IsAlignment}
+use Rattle.pass_proofs.proofs.run_memory.Digits.{length-encode}
+use Rattle.pass_proofs.specs.run_memory.Memory.{encode, owned_to, owner_rights, same_kind, with_block}
+use Rattle.pass_proofs.specs.run_memory.declared.block.Byte.{Byte}
+use Rattle.pass_proofs.specs.run_memory.declared.block.Kind.{Kind}
+use Rattle.pass_proofs.specs.run_memory.declared.block.MemoryBlock.{MemoryBlock}
+use Rattle.pass_proofs.specs.run_memory.declared.pointer.Value.{Value}
+use Rattle.pass_proofs.specs.run_source.State.{is_finished}
+use Rattle.pass_proofs.specs.run_source.declared.state.Instance.{Instance}
+use Rattle.pass_proofs.specs.run_source.declared.state.Status.{Status}
 
 -- 8 is met up to 8, from the start and from 8 on
 small_alignments : (a k : ℕ) → IsAlignment a → a ≤ 8 → k ≡ 16 → (0 % a ≡ 0) × ((8 % a ≡ 0) × (a ≤ k))

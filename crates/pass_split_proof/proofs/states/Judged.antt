@@ -3,13 +3,13 @@ use Rattle.std.proofs.Common.{◌≡◌, ℕ, suc, ◌+◌, ◌-◌, ◌<◌, �
 use Rattle.std.specs.Prelude.{slice_get, option_and_then, option_map}
 use Rattle.std.specs.List.{list_any}
 use Rattle.std.proofs.lemmas.Bool.{and_from, and_left, and_right, le-leb, le-ltb, lt-leb, lt-ltb}
-use Rattle.frame_layout.specs.declared.layout.PlacedField.{PlacedField}
+use Rattle.pass_proofs.specs.frame_layout.declared.layout.PlacedField.{PlacedField}
 use Rattle.pass_split_proof.specs.states.Instances.{IsControl, IsLaidOut, index_length}
-use Rattle.run_framed.specs.Framed.{FramedGiven, covers, field_opens, frame_rights, is_open_byte, is_open_kind, judge_of, layout_of}
-use Rattle.run_laws.proofs.memory.Written.{same_some}
-use Rattle.run_memory.specs.declared.block.MemoryBlock.{MemoryBlock}
-use Rattle.run_source.specs.State.{last_from, numbered, or_else}
-use Rattle.run_source.specs.declared.state.Instance.{Instance}
+use Rattle.pass_proofs.specs.run_framed.Framed.{FramedGiven, covers, field_opens, frame_rights, is_open_byte, is_open_kind, judge_of, layout_of}
+use Rattle.pass_proofs.proofs.run_laws.memory.Written.{same_some}
+use Rattle.pass_proofs.specs.run_memory.declared.block.MemoryBlock.{MemoryBlock}
+use Rattle.pass_proofs.specs.run_source.State.{last_from, numbered, or_else}
+use Rattle.pass_proofs.specs.run_source.declared.state.Instance.{Instance}
 
 -- ---- the last instance has the byte
 

@@ -8,18 +8,18 @@ use Rattle.pass_split_proof.proofs.states.Standing.{open_bytes, twins_stand}
 use Rattle.pass_split_proof.proofs.states.Written.{length-changed}
 use Rattle.pass_split_proof.specs.states.Instances.{AreFrames, AreLaidFrames, LiesAligned, is_held, is_held_in}
 use Rattle.pass_split_proof.specs.states.Memories.{AreBeside, AreTwins, AreTwinsAt, IsTwin, LivesAs}
-use Rattle.run_framed.specs.Framed.{FramedGiven}
-use Rattle.run_laws.proofs.access.Held.{same_held}
-use Rattle.run_laws.proofs.memory.Written.{changed_elsewhere, changed_here, same_some}
-use Rattle.run_laws.specs.memory.Pointers.{IsByte}
-use Rattle.run_laws.specs.memory.Standing.{byte_of, own_homes}
-use Rattle.run_memory.specs.Memory.{ended, is_killed, is_live, killed, killed_block, owner_rights, with_block}
-use Rattle.run_memory.specs.declared.block.Kind.{Kind}
-use Rattle.run_memory.specs.declared.block.Life.{Life}
-use Rattle.run_memory.specs.declared.block.MemoryBlock.{MemoryBlock}
-use Rattle.run_source.specs.declared.state.Instance.{Instance}
-use Rattle.run_step.specs.Step.{without_slots}
-use Rattle.run_step.specs.declared.world.Slot.{Slot}
+use Rattle.pass_proofs.specs.run_framed.Framed.{FramedGiven}
+use Rattle.pass_proofs.proofs.run_laws.access.Held.{same_held}
+use Rattle.pass_proofs.proofs.run_laws.memory.Written.{changed_elsewhere, changed_here, same_some}
+use Rattle.pass_proofs.specs.run_laws.memory.Pointers.{IsByte}
+use Rattle.pass_proofs.specs.run_laws.memory.Standing.{byte_of, own_homes}
+use Rattle.pass_proofs.specs.run_memory.Memory.{ended, is_killed, is_live, killed, killed_block, owner_rights, with_block}
+use Rattle.pass_proofs.specs.run_memory.declared.block.Kind.{Kind}
+use Rattle.pass_proofs.specs.run_memory.declared.block.Life.{Life}
+use Rattle.pass_proofs.specs.run_memory.declared.block.MemoryBlock.{MemoryBlock}
+use Rattle.pass_proofs.specs.run_source.declared.state.Instance.{Instance}
+use Rattle.pass_proofs.specs.run_step.Step.{without_slots}
+use Rattle.pass_proofs.specs.run_step.declared.world.Slot.{Slot}
 
 -- ---- both change a block
 

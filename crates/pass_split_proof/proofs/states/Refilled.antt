@@ -2,14 +2,14 @@
 use Rattle.std.proofs.Common.{◌≡◌, ◌<◌, ◌^◌, List, length, Option, Some, None, sym, ap, ◌∙◌, subst}
 use Rattle.std.specs.Prelude.{slice_get}
 use Rattle.pass_split_proof.specs.states.Memories.{AreTwins, AreTwinsAt, IsTwin, LivesAs, plain_kind}
-use Rattle.run_laws.proofs.access.Reading.{as_many}
-use Rattle.run_laws.specs.access.Changed.{WritesOnly}
-use Rattle.run_laws.specs.access.Accessed.{Span}
-use Rattle.run_laws.specs.embedded.Refilled.{IsRefilled}
-use Rattle.run_memory.specs.Memory.{bytes_in, is_killed}
-use Rattle.run_memory.specs.declared.block.Byte.{Byte}
-use Rattle.run_memory.specs.declared.block.Life.{Life}
-use Rattle.run_memory.specs.declared.block.MemoryBlock.{MemoryBlock}
+use Rattle.pass_proofs.proofs.run_laws.access.Reading.{as_many}
+use Rattle.pass_proofs.specs.run_laws.access.Changed.{WritesOnly}
+use Rattle.pass_proofs.specs.run_laws.access.Accessed.{Span}
+use Rattle.pass_proofs.specs.run_laws.embedded.Refilled.{IsRefilled}
+use Rattle.pass_proofs.specs.run_memory.Memory.{bytes_in, is_killed}
+use Rattle.pass_proofs.specs.run_memory.declared.block.Byte.{Byte}
+use Rattle.pass_proofs.specs.run_memory.declared.block.Life.{Life}
+use Rattle.pass_proofs.specs.run_memory.declared.block.MemoryBlock.{MemoryBlock}
 
 -- the plain block of a block, with this life and these bytes
 abbrev plain_with : Life → List Byte → MemoryBlock → MemoryBlock

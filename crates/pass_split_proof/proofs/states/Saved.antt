@@ -3,11 +3,11 @@
 use Rattle.std.proofs.Common.{◌≡◌, ◌≢◌, ℕ, ◌+◌, ◌-◌, ◌%◌, ◌<◌, ◌≤◌, ◌⊎◌, inl, inr, ⊎_elim, Bool, true, false, List, length, Option, Some, None, refl, sym, ap, ◌∙◌, subst, arith}
 use Rattle.std.specs.Prelude.{slice_get}
 use Rattle.std.proofs.lemmas.Bool.{and_parts, false≢true}
-use Rattle.flow_solver.proofs.Lists.{set_cases}
-use Rattle.ir_model.specs.Names.{function_at}
-use Rattle.ir_model.specs.declared.ir_type.IntWidth.{IntWidth}
-use Rattle.ir_paths.specs.declared.point.Point.{Point}
-use Rattle.pass_intrinsics.specs.Shapes.{index_bytes}
+use Rattle.pass_proofs.proofs.flow_solver.Lists.{set_cases}
+use Rattle.pass_proofs.specs.ir_model.Names.{function_at}
+use Rattle.pass_proofs.specs.ir_model.declared.ir_type.IntWidth.{IntWidth}
+use Rattle.pass_proofs.specs.ir_paths.declared.point.Point.{Point}
+use Rattle.pass_proofs.specs.pass_intrinsics.Shapes.{index_bytes}
 use Rattle.pass_split_proof.proofs.states.Closed.{headed_held, index_some}
 use Rattle.pass_split_proof.proofs.states.Controls.{control_beside, others_move}
 use Rattle.pass_split_proof.proofs.states.Standing.{divides}
@@ -19,22 +19,22 @@ use Rattle.pass_proofs.specs.split.rules.Reached.{IsLedTo}
 use Rattle.pass_split_proof.specs.states.Instances.{AreFrames, IsControl, IsHeaded, IsLaidOut, IsSavedAt, LiesAligned, address_of_part, in_state, index_length, is_held, lives_in, resumer_of, shape_at}
 use Rattle.pass_split_proof.specs.states.Memories.{AreBeside, plain_kind}
 use Rattle.pass_split_proof.specs.states.Saved.{SavesIn, index_at, with_index, with_save}
-use Rattle.run_framed.specs.Framed.{FramedGiven, layout_of}
-use Rattle.run_laws.proofs.access.Done.{other_held}
-use Rattle.run_laws.proofs.access.Ranges.{write_held}
-use Rattle.run_laws.proofs.memory.Itself.{owner_rights_fit}
-use Rattle.run_laws.proofs.memory.Written.{same_some}
-use Rattle.run_laws.specs.access.Lines.{Holds}
-use Rattle.run_laws.specs.memory.Standing.{IsAlignment}
-use Rattle.run_memory.proofs.Digits.{length-encode}
-use Rattle.run_memory.specs.Memory.{digits, encode, is_live, owner_rights, same_kind}
-use Rattle.run_memory.specs.declared.block.Byte.{Byte}
-use Rattle.run_memory.specs.declared.block.Kind.{Kind}
-use Rattle.run_memory.specs.declared.block.MemoryBlock.{MemoryBlock}
-use Rattle.run_memory.specs.declared.pointer.Value.{Value}
-use Rattle.run_source.specs.declared.state.Instance.{Instance}
-use Rattle.run_source.specs.declared.state.Saved.{Saved}
-use Rattle.run_source.specs.declared.state.Status.{Status}
+use Rattle.pass_proofs.specs.run_framed.Framed.{FramedGiven, layout_of}
+use Rattle.pass_proofs.proofs.run_laws.access.Done.{other_held}
+use Rattle.pass_proofs.proofs.run_laws.access.Ranges.{write_held}
+use Rattle.pass_proofs.proofs.run_laws.memory.Itself.{owner_rights_fit}
+use Rattle.pass_proofs.proofs.run_laws.memory.Written.{same_some}
+use Rattle.pass_proofs.specs.run_laws.access.Lines.{Holds}
+use Rattle.pass_proofs.specs.run_laws.memory.Standing.{IsAlignment}
+use Rattle.pass_proofs.proofs.run_memory.Digits.{length-encode}
+use Rattle.pass_proofs.specs.run_memory.Memory.{digits, encode, is_live, owner_rights, same_kind}
+use Rattle.pass_proofs.specs.run_memory.declared.block.Byte.{Byte}
+use Rattle.pass_proofs.specs.run_memory.declared.block.Kind.{Kind}
+use Rattle.pass_proofs.specs.run_memory.declared.block.MemoryBlock.{MemoryBlock}
+use Rattle.pass_proofs.specs.run_memory.declared.pointer.Value.{Value}
+use Rattle.pass_proofs.specs.run_source.declared.state.Instance.{Instance}
+use Rattle.pass_proofs.specs.run_source.declared.state.Saved.{Saved}
+use Rattle.pass_proofs.specs.run_source.declared.state.Status.{Status}
 
 -- ---- the block of a frame that is there
 

@@ -8,15 +8,15 @@ use Rattle.pass_split_proof.proofs.states.OwnHomes.{own_home, own_length}
 use Rattle.pass_split_proof.proofs.states.Twins.{twin_at, twin_full, twin_lives, unowned}
 use Rattle.pass_split_proof.specs.states.Instances.{LiesAligned}
 use Rattle.pass_split_proof.specs.states.Memories.{AreTwins, IsTwin, homes_of, plain_kind}
-use Rattle.run_framed.specs.Framed.{FramedGiven, frame_rights, judge_of, layout_of, meets_in}
-use Rattle.run_laws.proofs.memory.Written.{same_some}
-use Rattle.run_laws.specs.embedded.Making.{whole_home}
-use Rattle.run_laws.specs.memory.Pointers.{Home, IsByte}
-use Rattle.run_laws.specs.memory.Standing.{Embeds, HasRights, IsAlignment, IsOpen, Stands, byte_of}
-use Rattle.run_memory.specs.Memory.{is_live, meets, owner_rights, same_kind}
-use Rattle.run_memory.specs.declared.block.Kind.{Kind}
-use Rattle.run_memory.specs.declared.block.MemoryBlock.{MemoryBlock}
-use Rattle.run_source.specs.declared.state.Instance.{Instance}
+use Rattle.pass_proofs.specs.run_framed.Framed.{FramedGiven, frame_rights, judge_of, layout_of, meets_in}
+use Rattle.pass_proofs.proofs.run_laws.memory.Written.{same_some}
+use Rattle.pass_proofs.specs.run_laws.embedded.Making.{whole_home}
+use Rattle.pass_proofs.specs.run_laws.memory.Pointers.{Home, IsByte}
+use Rattle.pass_proofs.specs.run_laws.memory.Standing.{Embeds, HasRights, IsAlignment, IsOpen, Stands, byte_of}
+use Rattle.pass_proofs.specs.run_memory.Memory.{is_live, meets, owner_rights, same_kind}
+use Rattle.pass_proofs.specs.run_memory.declared.block.Kind.{Kind}
+use Rattle.pass_proofs.specs.run_memory.declared.block.MemoryBlock.{MemoryBlock}
+use Rattle.pass_proofs.specs.run_source.declared.state.Instance.{Instance}
 
 -- ---- alignments
 

@@ -1,25 +1,25 @@
 -- The worlds in which the runs start stand beside each other.
 use Rattle.std.proofs.Common.{◌≡◌, ℕ, zero, suc, ◌<◌, ◌^◌, Bool, true, false, List, [], ◌∷◌, length, map, Some, refl, sym, ap, ◌∙◌, subst, if◌then◌else◌}
 use Rattle.std.specs.Prelude.{slice_get}
-use Rattle.ir_model.specs.declared.module.GlobalItem.{GlobalItem}
-use Rattle.ir_model.specs.declared.module.Module.{Module}
+use Rattle.pass_proofs.specs.ir_model.declared.module.GlobalItem.{GlobalItem}
+use Rattle.pass_proofs.specs.ir_model.declared.module.Module.{Module}
 use Rattle.pass_split_proof.proofs.states.OwnHomes.{own_home, own_pointer}
 use Rattle.pass_split_proof.proofs.states.Standing.{twins_stand}
 use Rattle.pass_split_proof.specs.states.Instances.{AreFrames}
 use Rattle.pass_split_proof.specs.states.Memories.{AreContents, AreTwins, AreTwinsAt, AreWorldsBeside, IsTwin, plain_kind}
-use Rattle.run_framed.specs.Framed.{FramedGiven}
-use Rattle.run_laws.proofs.memory.Written.{same_some}
-use Rattle.run_laws.specs.memory.Pointers.{Home, IsByte}
-use Rattle.run_laws.specs.memory.Standing.{AreOffsets, byte_of, own_homes}
-use Rattle.run_memory.proofs.Digits.{length-encode}
-use Rattle.run_memory.specs.Memory.{access_bytes}
-use Rattle.run_memory.specs.declared.block.Byte.{Byte}
-use Rattle.run_memory.specs.declared.block.Kind.{Kind}
-use Rattle.run_memory.specs.declared.block.MemoryBlock.{MemoryBlock}
-use Rattle.run_memory.specs.declared.pointer.Pointer.{Pointer}
-use Rattle.run_source.specs.declared.state.Instance.{Instance}
-use Rattle.run_step.specs.Step.{first_world, global_block}
-use Rattle.run_step.specs.Values.{access_of, operand_value, stored}
+use Rattle.pass_proofs.specs.run_framed.Framed.{FramedGiven}
+use Rattle.pass_proofs.proofs.run_laws.memory.Written.{same_some}
+use Rattle.pass_proofs.specs.run_laws.memory.Pointers.{Home, IsByte}
+use Rattle.pass_proofs.specs.run_laws.memory.Standing.{AreOffsets, byte_of, own_homes}
+use Rattle.pass_proofs.proofs.run_memory.Digits.{length-encode}
+use Rattle.pass_proofs.specs.run_memory.Memory.{access_bytes}
+use Rattle.pass_proofs.specs.run_memory.declared.block.Byte.{Byte}
+use Rattle.pass_proofs.specs.run_memory.declared.block.Kind.{Kind}
+use Rattle.pass_proofs.specs.run_memory.declared.block.MemoryBlock.{MemoryBlock}
+use Rattle.pass_proofs.specs.run_memory.declared.pointer.Pointer.{Pointer}
+use Rattle.pass_proofs.specs.run_source.declared.state.Instance.{Instance}
+use Rattle.pass_proofs.specs.run_step.Step.{first_world, global_block}
+use Rattle.pass_proofs.specs.run_step.Values.{access_of, operand_value, stored}
 
 -- a byte stands for itself
 pub byte_itself : (n : ℕ) (c : Byte) → AreOffsets n c → IsByte (own_homes 0 n) c c

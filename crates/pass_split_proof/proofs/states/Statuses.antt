@@ -1,20 +1,20 @@
 -- An instance is resumed, saved, released, freed or at its end: its frame stays where it is, and holds what it should.
 use Rattle.std.proofs.Common.{◌≡◌, ℕ, ◌<◌, ◌⊎◌, ⊎_elim, Bool, true, false, List, [], length, Option, Some, refl, sym, ap, ◌∙◌, subst}
 use Rattle.std.specs.Prelude.{slice_get, slice_set, is_some}
-use Rattle.flow_solver.proofs.Lists.{set_cases}
-use Rattle.ir_paths.specs.declared.point.Point.{Point}
+use Rattle.pass_proofs.proofs.flow_solver.Lists.{set_cases}
+use Rattle.pass_proofs.specs.ir_paths.declared.point.Point.{Point}
 use Rattle.pass_split_proof.specs.states.Instances.{AreFrames, AreLaidFrames, IsControl, IsHeaded, LiesAligned, is_held}
 use Rattle.pass_split_proof.specs.states.Memories.{AreBeside, homes_of}
 use Rattle.run_access_worked.proofs.Ended.{rights_same, set_frames}
-use Rattle.run_framed.specs.Framed.{FramedGiven, frame_rights}
-use Rattle.run_laws.specs.memory.Standing.{Embeds}
-use Rattle.run_memory.specs.Memory.{Rights, is_live, owner_rights}
-use Rattle.run_memory.specs.declared.block.Kind.{Kind}
-use Rattle.run_memory.specs.declared.block.MemoryBlock.{MemoryBlock}
-use Rattle.run_memory.specs.declared.pointer.Value.{Value}
-use Rattle.run_source.specs.declared.state.Instance.{Instance}
-use Rattle.run_source.specs.declared.state.Saved.{Saved}
-use Rattle.run_source.specs.declared.state.Status.{Status}
+use Rattle.pass_proofs.specs.run_framed.Framed.{FramedGiven, frame_rights}
+use Rattle.pass_proofs.specs.run_laws.memory.Standing.{Embeds}
+use Rattle.pass_proofs.specs.run_memory.Memory.{Rights, is_live, owner_rights}
+use Rattle.pass_proofs.specs.run_memory.declared.block.Kind.{Kind}
+use Rattle.pass_proofs.specs.run_memory.declared.block.MemoryBlock.{MemoryBlock}
+use Rattle.pass_proofs.specs.run_memory.declared.pointer.Value.{Value}
+use Rattle.pass_proofs.specs.run_source.declared.state.Instance.{Instance}
+use Rattle.pass_proofs.specs.run_source.declared.state.Saved.{Saved}
+use Rattle.pass_proofs.specs.run_source.declared.state.Status.{Status}
 
 module _ (g : FramedGiven) (xs : List Instance) (m n : List MemoryBlock) (i : ℕ) (x : Instance)
     (e : slice_get xs i ≡ Some x)

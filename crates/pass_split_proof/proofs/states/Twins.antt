@@ -4,20 +4,20 @@ use Rattle.std.specs.Prelude.{slice_get, ◌==◌}
 use Rattle.std.proofs.lemmas.Bool.{false≢true}
 use Rattle.pass_split_proof.proofs.states.OwnHomes.{own_home, own_seen}
 use Rattle.pass_split_proof.specs.states.Memories.{AreTwins, AreTwinsAt, AreWorldsBeside, IsTwin, LivesAs, homes_of}
-use Rattle.run_framed.specs.Framed.{FramedGiven, frame_rights}
-use Rattle.run_laws.proofs.transfer.Carried.{muted_none}
-use Rattle.run_laws.specs.embedded.Related.{AreWorlds, moved_event}
-use Rattle.run_laws.specs.memory.Pointers.{Home, home_of}
-use Rattle.run_laws.specs.memory.Standing.{AreBoundsKept, AreNullsKept, HasBounds}
-use Rattle.run_laws.specs.transfer.Transfer.{AreOver}
-use Rattle.run_memory.specs.Memory.{Rights, is_killed, is_live, may_compare_at, owner_rights}
-use Rattle.run_memory.specs.Pointers.{moved}
-use Rattle.run_memory.specs.declared.block.Life.{Life}
-use Rattle.run_memory.specs.declared.block.MemoryBlock.{MemoryBlock}
-use Rattle.run_memory.specs.declared.pointer.Offset.{Offset}
-use Rattle.run_source.specs.declared.state.Instance.{Instance}
-use Rattle.ir_base.specs.declared.outcome.Event.{Event}
-use Rattle.run_step.specs.declared.world.World.{World}
+use Rattle.pass_proofs.specs.run_framed.Framed.{FramedGiven, frame_rights}
+use Rattle.pass_proofs.proofs.run_laws.transfer.Carried.{muted_none}
+use Rattle.pass_proofs.specs.run_laws.embedded.Related.{AreWorlds, moved_event}
+use Rattle.pass_proofs.specs.run_laws.memory.Pointers.{Home, home_of}
+use Rattle.pass_proofs.specs.run_laws.memory.Standing.{AreBoundsKept, AreNullsKept, HasBounds}
+use Rattle.pass_proofs.specs.run_laws.transfer.Transfer.{AreOver}
+use Rattle.pass_proofs.specs.run_memory.Memory.{Rights, is_killed, is_live, may_compare_at, owner_rights}
+use Rattle.pass_proofs.specs.run_memory.Pointers.{moved}
+use Rattle.pass_proofs.specs.run_memory.declared.block.Life.{Life}
+use Rattle.pass_proofs.specs.run_memory.declared.block.MemoryBlock.{MemoryBlock}
+use Rattle.pass_proofs.specs.run_memory.declared.pointer.Offset.{Offset}
+use Rattle.pass_proofs.specs.run_source.declared.state.Instance.{Instance}
+use Rattle.pass_proofs.specs.ir_base.declared.outcome.Event.{Event}
+use Rattle.pass_proofs.specs.run_step.declared.world.World.{World}
 
 -- ---- a block and its twin
 

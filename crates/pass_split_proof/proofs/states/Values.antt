@@ -2,18 +2,18 @@
 use Rattle.std.proofs.Common.{◌≡◌, ℕ, zero, suc, ◌≤◌, List, [], ◌∷◌, length, replicate, Option, Some, None, refl, sym, ap, ◌∙◌, subst, ⊎_elim, arith}
 use Rattle.std.proofs.lemmas.Bool.{cases_eq}
 use Rattle.std.proofs.lemmas.List.{length-replicate}
-use Rattle.ir_model.specs.declared.module.Function.{Function}
-use Rattle.ir_model.specs.declared.module.Param.{Param}
+use Rattle.pass_proofs.specs.ir_model.declared.module.Function.{Function}
+use Rattle.pass_proofs.specs.ir_model.declared.module.Param.{Param}
 use Rattle.pass_split_proof.specs.states.Values.{AreValuesOf, IsStopResult}
-use Rattle.run_laws.proofs.memory.Homes.{value_on}
-use Rattle.run_laws.proofs.memory.Written.{same_some}
-use Rattle.run_laws.proofs.transfer.Sets.{set_length, sets_name}
-use Rattle.run_laws.specs.embedded.Related.{AreValues}
-use Rattle.run_laws.specs.memory.Pointers.{Extends, Home, IsValue}
-use Rattle.run_laws.specs.transfer.Transfer.{AreSet}
-use Rattle.run_memory.specs.declared.pointer.Value.{Value}
-use Rattle.run_step.specs.Step.{entry_values, with_params}
-use Rattle.run_step.specs.Values.{Env, value_in, with_value}
+use Rattle.pass_proofs.proofs.run_laws.memory.Homes.{value_on}
+use Rattle.pass_proofs.proofs.run_laws.memory.Written.{same_some}
+use Rattle.pass_proofs.proofs.run_laws.transfer.Sets.{set_length, sets_name}
+use Rattle.pass_proofs.specs.run_laws.embedded.Related.{AreValues}
+use Rattle.pass_proofs.specs.run_laws.memory.Pointers.{Extends, Home, IsValue}
+use Rattle.pass_proofs.specs.run_laws.transfer.Transfer.{AreSet}
+use Rattle.pass_proofs.specs.run_memory.declared.pointer.Value.{Value}
+use Rattle.pass_proofs.specs.run_step.Step.{entry_values, with_params}
+use Rattle.pass_proofs.specs.run_step.Values.{Env, value_in, with_value}
 
 -- a step sets a name, or none
 pub values_set : (f : Function) (homes : List Home) (given : Option ℕ) (env other env' other' : Env)

@@ -2,12 +2,12 @@
 use Rattle.std.proofs.Common.{◌≡◌, ℕ, zero, suc, ◌+◌, ◌%◌, ◌<◌, ◌≤◌, ◌⊎◌, inl, inr, Bool, true, false, List, [], ◌∷◌, length, Some, None, refl, sym, ap, ◌∙◌, subst, arith, if◌then◌else◌}
 use Rattle.std.specs.Prelude.{nat_le, slice_get}
 use Rattle.std.proofs.lemmas.Bool.{false≢true}
-use Rattle.frame_layout.specs.declared.layout.FieldKind.{FieldKind}
-use Rattle.frame_layout.specs.declared.layout.PlacedField.{PlacedField}
-use Rattle.ir_model.specs.Names.{function_at}
-use Rattle.ir_model.specs.declared.ir_type.IntWidth.{IntWidth}
-use Rattle.pass_intrinsics.specs.Shapes.{index_bytes, suspends_of}
-use Rattle.pass_intrinsics.specs.declared.shape.Part.{Part}
+use Rattle.pass_proofs.specs.frame_layout.declared.layout.FieldKind.{FieldKind}
+use Rattle.pass_proofs.specs.frame_layout.declared.layout.PlacedField.{PlacedField}
+use Rattle.pass_proofs.specs.ir_model.Names.{function_at}
+use Rattle.pass_proofs.specs.ir_model.declared.ir_type.IntWidth.{IntWidth}
+use Rattle.pass_proofs.specs.pass_intrinsics.Shapes.{index_bytes, suspends_of}
+use Rattle.pass_proofs.specs.pass_intrinsics.declared.shape.Part.{Part}
 use Rattle.pass_split_proof.proofs.states.Fresh.{blank_twin}
 use Rattle.pass_split_proof.proofs.states.Headed.{begins}
 use Rattle.pass_split_proof.proofs.states.Standing.{twins_stand}
@@ -15,16 +15,16 @@ use Rattle.pass_split_proof.proofs.states.Started.{frames_start}
 use Rattle.pass_split_proof.specs.states.Begun.{BeginsIn}
 use Rattle.pass_split_proof.specs.states.Instances.{IsLaidOut, index_length}
 use Rattle.pass_split_proof.specs.states.Memories.{AreBeside, AreTwins, AreTwinsAt}
-use Rattle.run_framed.specs.Framed.{is_open_kind}
-use Rattle.run_laws.proofs.memory.Written.{same_some}
-use Rattle.run_laws.specs.memory.Standing.{blank_block, byte_of, own_homes}
-use Rattle.run_laws_worked.proofs.Frames.{blank_byte}
-use Rattle.run_laws_worked.specs.Worked.{an_instance, frame_given, owned_block, worked_layout}
-use Rattle.run_memory.specs.declared.block.Kind.{Kind}
-use Rattle.run_memory.specs.declared.block.MemoryBlock.{MemoryBlock}
-use Rattle.run_memory.specs.declared.pointer.Value.{Value}
-use Rattle.run_source.specs.declared.state.Instance.{Instance}
-use Rattle.run_source_tables.specs.Given.{Given}
+use Rattle.pass_proofs.specs.run_framed.Framed.{is_open_kind}
+use Rattle.pass_proofs.proofs.run_laws.memory.Written.{same_some}
+use Rattle.pass_proofs.specs.run_laws.memory.Standing.{blank_block, byte_of, own_homes}
+use Rattle.run_access_worked.proofs.run_laws_worked.Frames.{blank_byte}
+use Rattle.run_access_worked.specs.run_laws_worked.Worked.{an_instance, frame_given, owned_block, worked_layout}
+use Rattle.pass_proofs.specs.run_memory.declared.block.Kind.{Kind}
+use Rattle.pass_proofs.specs.run_memory.declared.block.MemoryBlock.{MemoryBlock}
+use Rattle.pass_proofs.specs.run_memory.declared.pointer.Value.{Value}
+use Rattle.pass_proofs.specs.run_source.declared.state.Instance.{Instance}
+use Rattle.pass_proofs.specs.run_source_tables.Given.{Given}
 
 abbrev block : MemoryBlock
 block = blank_block 48 16 Kind.Allocator

@@ -6,14 +6,14 @@ use Rattle.std.proofs.lemmas.List.{length-take-le}
 use Rattle.pass_split_proof.proofs.states.Standing.{same_writable}
 use Rattle.pass_split_proof.proofs.states.Twins.{twin_at, twin_full, twin_lives, unowned}
 use Rattle.pass_split_proof.specs.states.Memories.{AreTwins, AreTwinsAt, IsTwin}
-use Rattle.run_laws.proofs.memory.Written.{changed_elsewhere, changed_here}
-use Rattle.run_laws.specs.access.Lines.{Holds, refilled_at}
-use Rattle.run_laws.specs.memory.Standing.{IsAlignment}
-use Rattle.run_memory.proofs.Kept.{length-written}
-use Rattle.run_memory.specs.Memory.{is_live, owner_rights, same_kind, with_bytes, with_block, written}
-use Rattle.run_memory.specs.declared.block.Byte.{Byte}
-use Rattle.run_memory.specs.declared.block.Kind.{Kind}
-use Rattle.run_memory.specs.declared.block.MemoryBlock.{MemoryBlock}
+use Rattle.pass_proofs.proofs.run_laws.memory.Written.{changed_elsewhere, changed_here}
+use Rattle.pass_proofs.specs.run_laws.access.Lines.{Holds, refilled_at}
+use Rattle.pass_proofs.specs.run_laws.memory.Standing.{IsAlignment}
+use Rattle.pass_proofs.proofs.run_memory.Kept.{length-written}
+use Rattle.pass_proofs.specs.run_memory.Memory.{is_live, owner_rights, same_kind, with_bytes, with_block, written}
+use Rattle.pass_proofs.specs.run_memory.declared.block.Byte.{Byte}
+use Rattle.pass_proofs.specs.run_memory.declared.block.Kind.{Kind}
+use Rattle.pass_proofs.specs.run_memory.declared.block.MemoryBlock.{MemoryBlock}
 
 -- ---- a range of a live block
 

@@ -3,13 +3,13 @@ use Rattle.std.proofs.Common.{◌≡◌, ℕ, ◌<◌, ◌≤◌, true, false, L
 use Rattle.std.specs.Prelude.{slice_get}
 use Rattle.std.proofs.lemmas.Bool.{false≢true}
 use Rattle.std.proofs.lemmas.Option.{slice_get_within}
-use Rattle.ir_base.specs.declared.outcome.Outcome.{Outcome}
-use Rattle.ir_model.specs.Names.{function_at, position_of}
-use Rattle.ir_model.specs.Ty.{ptr}
-use Rattle.ir_model.specs.declared.operand.Operand.{Operand}
-use Rattle.pass_intrinsics.specs.Lowered.{begin_stores, destroyed_by}
-use Rattle.pass_intrinsics.specs.declared.shape.Part.{Part}
-use Rattle.pass_intrinsics.specs.declared.shape.Shape.{Shape}
+use Rattle.pass_proofs.specs.ir_base.declared.outcome.Outcome.{Outcome}
+use Rattle.pass_proofs.specs.ir_model.Names.{function_at, position_of}
+use Rattle.pass_proofs.specs.ir_model.Ty.{ptr}
+use Rattle.pass_proofs.specs.ir_model.declared.operand.Operand.{Operand}
+use Rattle.pass_proofs.specs.pass_intrinsics.Lowered.{begin_stores, destroyed_by}
+use Rattle.pass_proofs.specs.pass_intrinsics.declared.shape.Part.{Part}
+use Rattle.pass_proofs.specs.pass_intrinsics.declared.shape.Shape.{Shape}
 use Rattle.pass_split_proof.proofs.states.Advanced.{KeepsFrames, all_beside_on}
 use Rattle.pass_split_proof.proofs.states.Headed.{begins}
 use Rattle.pass_split_proof.proofs.states.Judged.{get_new}
@@ -29,23 +29,23 @@ use Rattle.pass_split_proof.specs.states.Related.{AreRelated}
 use Rattle.pass_split_proof.specs.states.Values.{AreValuesOf}
 use Rattle.pass_split_proof.specs.steps.Begins.{HasBeginCode, begun_to}
 use Rattle.run_access_worked.proofs.Begun.{get_more}
-use Rattle.run_framed.specs.Framed.{FramedGiven, layout_of}
-use Rattle.run_laws.proofs.transfer.Sets.{set_elsewhere, set_length, sets_name}
-use Rattle.run_laws.specs.access.Lines.{Runs, pointer_at, refilled_at}
-use Rattle.run_laws.specs.memory.Pointers.{Extends, Home}
-use Rattle.run_laws.specs.memory.Standing.{own_homes}
-use Rattle.run_memory.specs.Memory.{encode, owned_to, with_block}
-use Rattle.run_memory.specs.declared.block.MemoryBlock.{MemoryBlock}
-use Rattle.run_memory.specs.declared.pointer.Pointer.{Pointer}
-use Rattle.run_memory.specs.declared.pointer.Value.{Value}
-use Rattle.run_plain.specs.Plain.{PlainGiven, plain_context, plain_function, plain_step, plain_work}
-use Rattle.run_plain.specs.declared.state.PlainState.{PlainState}
-use Rattle.run_source.specs.State.{frame_address_of}
-use Rattle.run_source.specs.declared.state.Instance.{Instance}
-use Rattle.run_source.specs.declared.state.State.{State}
-use Rattle.run_step.specs.Runs.{iterate}
-use Rattle.run_step.specs.Step.{Work, set_memory, set_value, value_at}
-use Rattle.run_step.specs.Values.{Env, value_in, with_value}
+use Rattle.pass_proofs.specs.run_framed.Framed.{FramedGiven, layout_of}
+use Rattle.pass_proofs.proofs.run_laws.transfer.Sets.{set_elsewhere, set_length, sets_name}
+use Rattle.pass_proofs.specs.run_laws.access.Lines.{Runs, pointer_at, refilled_at}
+use Rattle.pass_proofs.specs.run_laws.memory.Pointers.{Extends, Home}
+use Rattle.pass_proofs.specs.run_laws.memory.Standing.{own_homes}
+use Rattle.pass_proofs.specs.run_memory.Memory.{encode, owned_to, with_block}
+use Rattle.pass_proofs.specs.run_memory.declared.block.MemoryBlock.{MemoryBlock}
+use Rattle.pass_proofs.specs.run_memory.declared.pointer.Pointer.{Pointer}
+use Rattle.pass_proofs.specs.run_memory.declared.pointer.Value.{Value}
+use Rattle.run_access_worked.specs.run_plain.Plain.{PlainGiven, plain_context, plain_function, plain_step, plain_work}
+use Rattle.run_access_worked.specs.run_plain.declared.state.PlainState.{PlainState}
+use Rattle.pass_proofs.specs.run_source.State.{frame_address_of}
+use Rattle.pass_proofs.specs.run_source.declared.state.Instance.{Instance}
+use Rattle.pass_proofs.specs.run_source.declared.state.State.{State}
+use Rattle.pass_proofs.specs.run_step.Runs.{iterate}
+use Rattle.pass_proofs.specs.run_step.Step.{Work, set_memory, set_value, value_at}
+use Rattle.pass_proofs.specs.run_step.Values.{Env, value_in, with_value}
 
 -- ---- one instance more
 

@@ -2,11 +2,11 @@
 use Rattle.std.proofs.Common.{◌≡◌, ℕ, ◌+◌, ◌≤◌, true, false, List, [], ◌∷◌, length, Option, Some, None, refl, sym, ap, ◌∙◌, subst, arith}
 use Rattle.std.specs.Prelude.{unwrap_or}
 use Rattle.std.proofs.lemmas.Bool.{false≢true}
-use Rattle.ir_model.specs.Names.{function_at}
-use Rattle.ir_model.specs.declared.instr.Instr.{Instr}
-use Rattle.ir_model.specs.declared.module.Function.{Function}
-use Rattle.pass_intrinsics.specs.declared.shape.Part.{Part}
-use Rattle.pass_intrinsics.specs.declared.shape.Shape.{Shape}
+use Rattle.pass_proofs.specs.ir_model.Names.{function_at}
+use Rattle.pass_proofs.specs.ir_model.declared.instr.Instr.{Instr}
+use Rattle.pass_proofs.specs.ir_model.declared.module.Function.{Function}
+use Rattle.pass_proofs.specs.pass_intrinsics.declared.shape.Part.{Part}
+use Rattle.pass_proofs.specs.pass_intrinsics.declared.shape.Shape.{Shape}
 use Rattle.pass_split_proof.proofs.states.Advanced.{KeepsFrames, all_beside_on, frame_on, same_frames}
 use Rattle.pass_split_proof.proofs.states.Killed.{returned_beside, returned_frames}
 use Rattle.pass_split_proof.proofs.states.Values.{values_set}
@@ -17,25 +17,25 @@ use Rattle.pass_split_proof.specs.states.Instances.{AreFrames}
 use Rattle.pass_split_proof.specs.states.Memories.{AreBeside, AreWorldsBeside, homes_of}
 use Rattle.pass_split_proof.specs.states.Related.{AreRelated}
 use Rattle.pass_split_proof.specs.states.Values.{AreValuesOf}
-use Rattle.run_framed.specs.Framed.{FramedGiven}
-use Rattle.run_laws.proofs.transfer.Sets.{set_elsewhere, set_length, sets_result}
-use Rattle.run_laws.specs.memory.Pointers.{Extends, Home, IsValue}
-use Rattle.run_laws.specs.memory.Standing.{own_homes}
-use Rattle.run_memory.specs.Memory.{killed, killed_block}
-use Rattle.run_memory.specs.declared.block.MemoryBlock.{MemoryBlock}
-use Rattle.run_memory.specs.declared.pointer.Value.{Value}
-use Rattle.run_plain.specs.Plain.{PlainGiven, plain_given_back}
-use Rattle.run_plain.specs.declared.state.PlainActivation.{PlainActivation}
-use Rattle.run_plain.specs.declared.state.PlainState.{PlainState}
-use Rattle.run_source.specs.Source.{given_back}
-use Rattle.run_source.specs.declared.state.Activation.{Activation}
-use Rattle.run_source.specs.declared.state.Instance.{Instance}
-use Rattle.run_source.specs.declared.state.Mode.{Mode}
-use Rattle.run_source.specs.declared.state.State.{State}
-use Rattle.rule_shape.specs.Suspends.{is_suspend}
-use Rattle.run_step.specs.Step.{AtInstr, fetch, without_slots}
-use Rattle.run_step.specs.declared.world.Slot.{Slot}
-use Rattle.run_step.specs.Values.{Env, value_in, with_result}
+use Rattle.pass_proofs.specs.run_framed.Framed.{FramedGiven}
+use Rattle.pass_proofs.proofs.run_laws.transfer.Sets.{set_elsewhere, set_length, sets_result}
+use Rattle.pass_proofs.specs.run_laws.memory.Pointers.{Extends, Home, IsValue}
+use Rattle.pass_proofs.specs.run_laws.memory.Standing.{own_homes}
+use Rattle.pass_proofs.specs.run_memory.Memory.{killed, killed_block}
+use Rattle.pass_proofs.specs.run_memory.declared.block.MemoryBlock.{MemoryBlock}
+use Rattle.pass_proofs.specs.run_memory.declared.pointer.Value.{Value}
+use Rattle.run_access_worked.specs.run_plain.Plain.{PlainGiven, plain_given_back}
+use Rattle.run_access_worked.specs.run_plain.declared.state.PlainActivation.{PlainActivation}
+use Rattle.run_access_worked.specs.run_plain.declared.state.PlainState.{PlainState}
+use Rattle.pass_proofs.specs.run_source.Source.{given_back}
+use Rattle.pass_proofs.specs.run_source.declared.state.Activation.{Activation}
+use Rattle.pass_proofs.specs.run_source.declared.state.Instance.{Instance}
+use Rattle.pass_proofs.specs.run_source.declared.state.Mode.{Mode}
+use Rattle.pass_proofs.specs.run_source.declared.state.State.{State}
+use Rattle.pass_proofs.specs.rule_shape.Suspends.{is_suspend}
+use Rattle.pass_proofs.specs.run_step.Step.{AtInstr, fetch, without_slots}
+use Rattle.pass_proofs.specs.run_step.declared.world.Slot.{Slot}
+use Rattle.pass_proofs.specs.run_step.Values.{Env, value_in, with_result}
 
 -- ---- an activation that waits
 

@@ -3,23 +3,23 @@ use Rattle.std.proofs.Common.{◌≡◌, ℕ, zero, suc, ◌+◌, ◌<◌, ◌�
 use Rattle.std.specs.Prelude.{nat_le, pos, slice_get}
 use Rattle.std.proofs.Math.Nat.{mod-eq_of_lt}
 use Rattle.std.proofs.lemmas.Option.{slice_get_within}
-use Rattle.frame_layout.specs.declared.layout.Layout.{Layout}
-use Rattle.ir_base.specs.declared.outcome.Outcome.{Outcome}
-use Rattle.ir_model.specs.Names.{position_of}
-use Rattle.ir_model.specs.Ty.{int}
-use Rattle.ir_model.specs.TypeView.{bits_of}
-use Rattle.ir_model.specs.declared.instr.Instr.{Instr}
-use Rattle.ir_model.specs.declared.instr.Phi.{Phi}
-use Rattle.ir_model.specs.declared.instr.Terminator.{Terminator}
-use Rattle.ir_model.specs.declared.ir_type.IntWidth.{IntWidth}
-use Rattle.ir_model.specs.declared.module.Function.{Function}
-use Rattle.ir_model.specs.declared.operand.Operand.{Operand}
-use Rattle.pass_front.specs.Front.{allocas_of}
-use Rattle.pass_intrinsics.specs.Lowered.{address}
-use Rattle.pass_intrinsics.specs.Shapes.{back_label, index_bytes, index_name, none_label, shape_of, slot_name}
-use Rattle.pass_intrinsics.specs.declared.shape.Part.{Part}
-use Rattle.pass_intrinsics.specs.declared.shape.Shape.{Shape}
-use Rattle.pass_intrinsics.specs.declared.shape.SuspendPoint.{SuspendPoint}
+use Rattle.pass_proofs.specs.frame_layout.declared.layout.Layout.{Layout}
+use Rattle.pass_proofs.specs.ir_base.declared.outcome.Outcome.{Outcome}
+use Rattle.pass_proofs.specs.ir_model.Names.{position_of}
+use Rattle.pass_proofs.specs.ir_model.Ty.{int}
+use Rattle.pass_proofs.specs.ir_model.TypeView.{bits_of}
+use Rattle.pass_proofs.specs.ir_model.declared.instr.Instr.{Instr}
+use Rattle.pass_proofs.specs.ir_model.declared.instr.Phi.{Phi}
+use Rattle.pass_proofs.specs.ir_model.declared.instr.Terminator.{Terminator}
+use Rattle.pass_proofs.specs.ir_model.declared.ir_type.IntWidth.{IntWidth}
+use Rattle.pass_proofs.specs.ir_model.declared.module.Function.{Function}
+use Rattle.pass_proofs.specs.ir_model.declared.operand.Operand.{Operand}
+use Rattle.pass_proofs.specs.pass_front.Front.{allocas_of}
+use Rattle.pass_proofs.specs.pass_intrinsics.Lowered.{address}
+use Rattle.pass_proofs.specs.pass_intrinsics.Shapes.{back_label, index_bytes, index_name, none_label, shape_of, slot_name}
+use Rattle.pass_proofs.specs.pass_intrinsics.declared.shape.Part.{Part}
+use Rattle.pass_proofs.specs.pass_intrinsics.declared.shape.Shape.{Shape}
+use Rattle.pass_proofs.specs.pass_intrinsics.declared.shape.SuspendPoint.{SuspendPoint}
 use Rattle.pass_split_proof.proofs.code.Dispatch.{index_leads_back, wide}
 use Rattle.pass_split_proof.proofs.steps.Saves.{set_there}
 use Rattle.pass_split_proof.proofs.steps.Settled.{plain_does}
@@ -29,17 +29,17 @@ use Rattle.pass_split_proof.specs.code.Entry.{GoesBack}
 use Rattle.pass_split_proof.specs.states.Going.{stands_at}
 use Rattle.pass_split_proof.specs.steps.Dispatch.{IsAtIndex, indexed_work}
 use Rattle.pass_split_proof.specs.steps.Small.{IsIndexWidth}
-use Rattle.pass_split.specs.Parts.{cases_from, entry_term, or_zero}
-use Rattle.pass_split.specs.Pieces.{going_on, redirected}
-use Rattle.pass_split.specs.Reached.{reached}
-use Rattle.run_laws.proofs.transfer.Sets.{set_length}
-use Rattle.run_laws.specs.access.Lines.{pointer_at}
-use Rattle.run_memory.specs.declared.pointer.Value.{Value}
-use Rattle.run_plain.specs.Plain.{PlainGiven, plain_context, plain_function, plain_go_to, plain_settled, plain_step, plain_work}
-use Rattle.run_plain.specs.declared.state.PlainState.{PlainState}
-use Rattle.run_step.specs.Runs.{iterate}
-use Rattle.run_step.specs.Step.{AtInstr, AtTerm, Done, GoTo, Work, fetch, label_of, phi_values, set_value, switch, term_action, with_all}
-use Rattle.run_step.specs.Values.{literal}
+use Rattle.pass_proofs.specs.pass_split.Parts.{cases_from, entry_term, or_zero}
+use Rattle.pass_proofs.specs.pass_split.Pieces.{going_on, redirected}
+use Rattle.pass_proofs.specs.pass_split.Reached.{reached}
+use Rattle.pass_proofs.proofs.run_laws.transfer.Sets.{set_length}
+use Rattle.pass_proofs.specs.run_laws.access.Lines.{pointer_at}
+use Rattle.pass_proofs.specs.run_memory.declared.pointer.Value.{Value}
+use Rattle.run_access_worked.specs.run_plain.Plain.{PlainGiven, plain_context, plain_function, plain_go_to, plain_settled, plain_step, plain_work}
+use Rattle.run_access_worked.specs.run_plain.declared.state.PlainState.{PlainState}
+use Rattle.pass_proofs.specs.run_step.Runs.{iterate}
+use Rattle.pass_proofs.specs.run_step.Step.{AtInstr, AtTerm, Done, GoTo, Work, fetch, label_of, phi_values, set_value, switch, term_action, with_all}
+use Rattle.pass_proofs.specs.run_step.Values.{literal}
 
 pub width_is_one : (n : ℕ) → IsIndexWidth (if nat_le n 256 then IntWidth.I8 else IntWidth.I16)
 width_is_one n = on (nat_le n 256)

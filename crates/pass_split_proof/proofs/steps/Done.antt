@@ -1,30 +1,30 @@
 -- An ordinary step that is done in a framed run is done in a part.
 use Rattle.std.proofs.Common.{◌≡◌, ℕ, ◌≤◌, false, List, [], ◌∷◌, length, refl, sym, subst}
 use Rattle.std.specs.Prelude.{ℤ}
-use Rattle.ir_model.specs.declared.module.Function.{Function}
-use Rattle.ir_model.specs.declared.module.Module.{Module}
+use Rattle.pass_proofs.specs.ir_model.declared.module.Function.{Function}
+use Rattle.pass_proofs.specs.ir_model.declared.module.Module.{Module}
 use Rattle.pass_split_proof.proofs.states.Refilled.{written_twins}
 use Rattle.pass_split_proof.proofs.states.Twins.{IsTwinOf, beside_of, full_twin, over_of, source_at, twin_at, twin_full}
 use Rattle.pass_split_proof.specs.states.Memories.{AreTwins, AreWorldsBeside, homes_of}
 use Rattle.pass_split_proof.specs.steps.Done.{IsDoneToo, ours, part_maps, theirs}
-use Rattle.run_framed.specs.Framed.{FramedGiven, frame_rights}
-use Rattle.run_laws.proofs.access.Bytes.{bytes_left}
-use Rattle.run_laws.proofs.access.Reading.{as_many}
-use Rattle.run_laws.proofs.access.Touched.{free_untouched}
-use Rattle.run_laws.proofs.memory.Itself.{owner_rights_fit}
-use Rattle.run_laws.proofs.transfer.Over.{step_over}
-use Rattle.run_laws.specs.access.Accessed.{Span, writes}
-use Rattle.run_laws.specs.access.Changed.{IsDefined, IsFull, KeepsFree, LeavesBytes, LeavesFree, WritesOnly}
-use Rattle.run_laws.specs.access.Touched.{AreTouches, touch_of}
-use Rattle.run_laws.specs.changed.Changed.{Each}
-use Rattle.run_laws.specs.embedded.Related.{HasNoSlot}
-use Rattle.run_laws.specs.memory.Pointers.{Home, IsValue}
-use Rattle.run_laws.specs.memory.Standing.{own_homes}
-use Rattle.run_laws.specs.transfer.Transfer.{AreJoined, AreOver, GoesOver, IsTransferred, Maps, args_at, given_at}
-use Rattle.run_laws_worked.proofs.Frames.{frame_rights_fit}
-use Rattle.run_memory.specs.declared.block.MemoryBlock.{MemoryBlock}
-use Rattle.run_source.specs.declared.state.Instance.{Instance}
-use Rattle.run_step.specs.Step.{Action, Context, Done, Fetched, Work, action_of}
+use Rattle.pass_proofs.specs.run_framed.Framed.{FramedGiven, frame_rights}
+use Rattle.pass_proofs.proofs.run_laws.access.Bytes.{bytes_left}
+use Rattle.pass_proofs.proofs.run_laws.access.Reading.{as_many}
+use Rattle.pass_proofs.proofs.run_laws.access.Touched.{free_untouched}
+use Rattle.pass_proofs.proofs.run_laws.memory.Itself.{owner_rights_fit}
+use Rattle.pass_proofs.proofs.run_laws.transfer.Over.{step_over}
+use Rattle.pass_proofs.specs.run_laws.access.Accessed.{Span, writes}
+use Rattle.pass_proofs.specs.run_laws.access.Changed.{IsDefined, IsFull, KeepsFree, LeavesBytes, LeavesFree, WritesOnly}
+use Rattle.pass_proofs.specs.run_laws.access.Touched.{AreTouches, touch_of}
+use Rattle.pass_proofs.specs.run_laws.changed.Changed.{Each}
+use Rattle.pass_proofs.specs.run_laws.embedded.Related.{HasNoSlot}
+use Rattle.pass_proofs.specs.run_laws.memory.Pointers.{Home, IsValue}
+use Rattle.pass_proofs.specs.run_laws.memory.Standing.{own_homes}
+use Rattle.pass_proofs.specs.run_laws.transfer.Transfer.{AreJoined, AreOver, GoesOver, IsTransferred, Maps, args_at, given_at}
+use Rattle.run_access_worked.proofs.run_laws_worked.Frames.{frame_rights_fit}
+use Rattle.pass_proofs.specs.run_memory.declared.block.MemoryBlock.{MemoryBlock}
+use Rattle.pass_proofs.specs.run_source.declared.state.Instance.{Instance}
+use Rattle.pass_proofs.specs.run_step.Step.{Action, Context, Done, Fetched, Work, action_of}
 
 pub each_of : {A : Type 0} (P : A → Type 0) → ((x : A) → P x) → (xs : List A) → Each P xs
 each_of P f [] = tt

@@ -1,8 +1,8 @@
 -- A call of a function, or of the ramp of a coroutine, in both runs.
 use Rattle.std.proofs.Common.{◌≡◌, ℕ, ◌+◌, Bool, true, false, List, Option, Some, refl, sym, ap, ◌∙◌, if◌then◌else◌}
 use Rattle.std.proofs.lemmas.Bool.{false≢true}
-use Rattle.ir_model.specs.Names.{function_at}
-use Rattle.pass_intrinsics.specs.declared.shape.Part.{Part}
+use Rattle.pass_proofs.specs.ir_model.Names.{function_at}
+use Rattle.pass_proofs.specs.pass_intrinsics.declared.shape.Part.{Part}
 use Rattle.pass_split_proof.proofs.states.Advanced.{same_frames}
 use Rattle.pass_split_proof.proofs.states.Values.{entries_stand, entry_length}
 use Rattle.pass_split_proof.proofs.steps.Calls.{pushes_related}
@@ -12,16 +12,16 @@ use Rattle.pass_split_proof.specs.states.Instances.{part_position}
 use Rattle.pass_split_proof.specs.states.Memories.{homes_of}
 use Rattle.pass_split_proof.specs.states.Related.{AreRelated}
 use Rattle.pass_split_proof.specs.steps.Calls.{IsCallee}
-use Rattle.run_framed.specs.Framed.{FramedGiven}
-use Rattle.run_laws.specs.embedded.Related.{AreValues}
-use Rattle.run_laws.specs.memory.Pointers.{Home}
-use Rattle.run_memory.specs.declared.pointer.Value.{Value}
-use Rattle.run_plain.specs.Plain.{PlainGiven, plain_call, plain_called}
-use Rattle.run_plain.specs.declared.state.PlainState.{PlainState}
-use Rattle.run_source.specs.Source.{called, enter, mode_of}
-use Rattle.run_source.specs.declared.state.Instance.{Instance}
-use Rattle.run_source.specs.declared.state.Mode.{Mode}
-use Rattle.run_source.specs.declared.state.State.{State}
+use Rattle.pass_proofs.specs.run_framed.Framed.{FramedGiven}
+use Rattle.pass_proofs.specs.run_laws.embedded.Related.{AreValues}
+use Rattle.pass_proofs.specs.run_laws.memory.Pointers.{Home}
+use Rattle.pass_proofs.specs.run_memory.declared.pointer.Value.{Value}
+use Rattle.run_access_worked.specs.run_plain.Plain.{PlainGiven, plain_call, plain_called}
+use Rattle.run_access_worked.specs.run_plain.declared.state.PlainState.{PlainState}
+use Rattle.pass_proofs.specs.run_source.Source.{called, enter, mode_of}
+use Rattle.pass_proofs.specs.run_source.declared.state.Instance.{Instance}
+use Rattle.pass_proofs.specs.run_source.declared.state.Mode.{Mode}
+use Rattle.pass_proofs.specs.run_source.declared.state.State.{State}
 
 kind_of_mode : (coroutine : Bool) → RunsPart (if coroutine then Mode.Ramp else Mode.Plain) Part.Ramp
 kind_of_mode true = refl

@@ -1,14 +1,14 @@
 -- Steps of the framed run and what the parts' run does for them: the account of one, of none and of several.
 use Rattle.std.proofs.Common.{◌≡◌, ℕ, zero, suc, ◌+◌, ◌<◌, ◌≤◌, inl, inr, Bool, true, false, Option, None, Result, Ok, Err, refl, sym, ap, ◌∙◌, subst, arith}
 use Rattle.std.specs.Prelude.{slice_get, unwrap_or}
-use Rattle.ir_base.specs.declared.cause.Cause.{Cause}
-use Rattle.ir_base.specs.declared.outcome.Outcome.{Outcome}
-use Rattle.ir_model.specs.Names.{function_at, position_of}
-use Rattle.ir_model.specs.declared.instr.Instr.{Instr}
-use Rattle.ir_model.specs.declared.instr.Terminator.{Terminator}
-use Rattle.ir_model.specs.declared.operand.Callee.{Callee}
-use Rattle.ir_model.specs.declared.operand.Intrinsic.{Intrinsic}
-use Rattle.pass_intrinsics.specs.Shapes.{is_end}
+use Rattle.pass_proofs.specs.ir_base.declared.cause.Cause.{Cause}
+use Rattle.pass_proofs.specs.ir_base.declared.outcome.Outcome.{Outcome}
+use Rattle.pass_proofs.specs.ir_model.Names.{function_at, position_of}
+use Rattle.pass_proofs.specs.ir_model.declared.instr.Instr.{Instr}
+use Rattle.pass_proofs.specs.ir_model.declared.instr.Terminator.{Terminator}
+use Rattle.pass_proofs.specs.ir_model.declared.operand.Callee.{Callee}
+use Rattle.pass_proofs.specs.ir_model.declared.operand.Intrinsic.{Intrinsic}
+use Rattle.pass_proofs.specs.pass_intrinsics.Shapes.{is_end}
 use Rattle.pass_split_proof.proofs.simulation.Weights.{weight_some}
 use Rattle.pass_split_proof.proofs.steps.Branches.{edges_from, edges_related, left_by}
 use Rattle.pass_split_proof.proofs.steps.Ordinary.{steps_beside}
@@ -20,15 +20,15 @@ use Rattle.pass_split_proof.specs.states.Going.{stands_at}
 use Rattle.pass_split_proof.specs.states.Related.{AreRelated, IsOn, credit_of, fetched_at, is_behind_suspend, measure, part_price, price_of, weight}
 use Rattle.pass_split_proof.specs.steps.Branches.{AreReadablePhis, Entered}
 use Rattle.pass_split_proof.specs.steps.Ordinary.{IsAtOrdinary}
-use Rattle.run_agreement.specs.Machines.{IsFine, iterate}
-use Rattle.run_framed.specs.Framed.{FramedGiven, framed_act, framed_advance, framed_context, framed_next, framed_step, given_call}
-use Rattle.run_plain.specs.Plain.{PlainGiven, plain_function, plain_go_to, plain_step, plain_work}
-use Rattle.run_plain.specs.declared.state.PlainState.{PlainState}
-use Rattle.run_source.specs.Source.{go_to, left_windows}
-use Rattle.run_source.specs.State.{function_of, or_undefined, settled, work_of}
-use Rattle.run_source.specs.declared.state.State.{State}
-use Rattle.run_source_tables.specs.Given.{Given}
-use Rattle.run_step.specs.Step.{Action, AtInstr, AtTerm, Done, Fetched, GoTo, Work, action_of, fetch, label_of, phis_of}
+use Rattle.pass_proofs.specs.run_agreement.Machines.{IsFine, iterate}
+use Rattle.pass_proofs.specs.run_framed.Framed.{FramedGiven, framed_act, framed_advance, framed_context, framed_next, framed_step, given_call}
+use Rattle.run_access_worked.specs.run_plain.Plain.{PlainGiven, plain_function, plain_go_to, plain_step, plain_work}
+use Rattle.run_access_worked.specs.run_plain.declared.state.PlainState.{PlainState}
+use Rattle.pass_proofs.specs.run_source.Source.{go_to, left_windows}
+use Rattle.pass_proofs.specs.run_source.State.{function_of, or_undefined, settled, work_of}
+use Rattle.pass_proofs.specs.run_source.declared.state.State.{State}
+use Rattle.pass_proofs.specs.run_source_tables.Given.{Given}
+use Rattle.pass_proofs.specs.run_step.Step.{Action, AtInstr, AtTerm, Done, Fetched, GoTo, Work, action_of, fetch, label_of, phis_of}
 
 -- ---- a step of the framed run
 

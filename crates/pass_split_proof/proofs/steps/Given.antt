@@ -1,14 +1,14 @@
 -- A value that a coro intrinsic gives leaves the states beside each other.
 use Rattle.std.proofs.Common.{◌≡◌, ℕ, ◌+◌, ◌<◌, ◌≤◌, ◌^◌, false, length, Some, refl, sym, ap, ◌∙◌, subst, arith}
 use Rattle.std.specs.Prelude.{pos}
-use Rattle.ir_model.specs.Names.{function_at}
-use Rattle.ir_model.specs.Ty.{ptr}
-use Rattle.ir_model.specs.declared.instr.Instr.{Instr}
-use Rattle.ir_model.specs.declared.operand.Callee.{Callee}
-use Rattle.ir_model.specs.declared.operand.Intrinsic.{Intrinsic}
-use Rattle.ir_model.specs.declared.operand.Operand.{Operand}
-use Rattle.pass_intrinsics.specs.Lowered.{address}
-use Rattle.pass_intrinsics.specs.declared.shape.Part.{Part}
+use Rattle.pass_proofs.specs.ir_model.Names.{function_at}
+use Rattle.pass_proofs.specs.ir_model.Ty.{ptr}
+use Rattle.pass_proofs.specs.ir_model.declared.instr.Instr.{Instr}
+use Rattle.pass_proofs.specs.ir_model.declared.operand.Callee.{Callee}
+use Rattle.pass_proofs.specs.ir_model.declared.operand.Intrinsic.{Intrinsic}
+use Rattle.pass_proofs.specs.ir_model.declared.operand.Operand.{Operand}
+use Rattle.pass_proofs.specs.pass_intrinsics.Lowered.{address}
+use Rattle.pass_proofs.specs.pass_intrinsics.declared.shape.Part.{Part}
 use Rattle.pass_split_proof.proofs.states.Advanced.{advanced, same_frames}
 use Rattle.pass_split_proof.proofs.states.OwnHomes.{own_home, own_pointer}
 use Rattle.pass_split_proof.proofs.states.Values.{values_set}
@@ -21,21 +21,21 @@ use Rattle.pass_split_proof.specs.states.Memories.{homes_of}
 use Rattle.pass_split_proof.specs.states.Related.{AreRelated}
 use Rattle.pass_split_proof.specs.states.Values.{AreValuesOf}
 use Rattle.pass_split_proof.specs.steps.Given.{IsAtFrame}
-use Rattle.pass_split.specs.Pieces.{begins_again}
-use Rattle.run_framed.specs.Framed.{FramedGiven}
-use Rattle.run_laws.proofs.memory.Written.{same_some}
-use Rattle.run_laws.proofs.transfer.Sets.{set_elsewhere, set_length, sets_name}
-use Rattle.run_laws.specs.access.Lines.{pointer_at}
-use Rattle.run_laws.specs.memory.Pointers.{Home, IsValue}
-use Rattle.run_laws.specs.memory.Standing.{own_homes}
-use Rattle.run_memory.specs.Pointers.{offset_of}
-use Rattle.run_memory.specs.declared.pointer.Value.{Value}
-use Rattle.run_plain.specs.Plain.{PlainGiven, plain_context, plain_function, plain_settled, plain_step, plain_work}
-use Rattle.run_plain.specs.declared.state.PlainState.{PlainState}
-use Rattle.run_source.specs.State.{frame_address_of, function_of, gives, work_of}
-use Rattle.run_source.specs.declared.state.State.{State}
-use Rattle.run_step.specs.Step.{AtInstr, Done, instr_action, set_value, value_at}
-use Rattle.run_step.specs.Values.{value_in, with_value}
+use Rattle.pass_proofs.specs.pass_split.Pieces.{begins_again}
+use Rattle.pass_proofs.specs.run_framed.Framed.{FramedGiven}
+use Rattle.pass_proofs.proofs.run_laws.memory.Written.{same_some}
+use Rattle.pass_proofs.proofs.run_laws.transfer.Sets.{set_elsewhere, set_length, sets_name}
+use Rattle.pass_proofs.specs.run_laws.access.Lines.{pointer_at}
+use Rattle.pass_proofs.specs.run_laws.memory.Pointers.{Home, IsValue}
+use Rattle.pass_proofs.specs.run_laws.memory.Standing.{own_homes}
+use Rattle.pass_proofs.specs.run_memory.Pointers.{offset_of}
+use Rattle.pass_proofs.specs.run_memory.declared.pointer.Value.{Value}
+use Rattle.run_access_worked.specs.run_plain.Plain.{PlainGiven, plain_context, plain_function, plain_settled, plain_step, plain_work}
+use Rattle.run_access_worked.specs.run_plain.declared.state.PlainState.{PlainState}
+use Rattle.pass_proofs.specs.run_source.State.{frame_address_of, function_of, gives, work_of}
+use Rattle.pass_proofs.specs.run_source.declared.state.State.{State}
+use Rattle.pass_proofs.specs.run_step.Step.{AtInstr, Done, instr_action, set_value, value_at}
+use Rattle.pass_proofs.specs.run_step.Values.{value_in, with_value}
 
 -- an address in a block that there is stands for itself
 pub address_itself : (k b o : ℕ) → b < k → o < 2 ^ 64 → IsValue (own_homes 0 k) (pointer_at b o) (pointer_at b o)

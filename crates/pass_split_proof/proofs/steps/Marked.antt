@@ -1,22 +1,22 @@
 -- A part executes what stands for an instruction, and jumps to the block of the mark behind it.
 use Rattle.std.proofs.Common.{◌≡◌, ℕ, ◌+◌, List, [], length, refl, ap, ◌∙◌}
 use Rattle.std.specs.Prelude.{slice_get}
-use Rattle.ir_base.specs.declared.outcome.Outcome.{Outcome}
-use Rattle.ir_model.specs.Names.{position_of}
-use Rattle.ir_model.specs.declared.instr.Instr.{Instr}
-use Rattle.ir_model.specs.declared.instr.Phi.{Phi}
-use Rattle.ir_model.specs.declared.instr.Terminator.{Terminator}
+use Rattle.pass_proofs.specs.ir_base.declared.outcome.Outcome.{Outcome}
+use Rattle.pass_proofs.specs.ir_model.Names.{position_of}
+use Rattle.pass_proofs.specs.ir_model.declared.instr.Instr.{Instr}
+use Rattle.pass_proofs.specs.ir_model.declared.instr.Phi.{Phi}
+use Rattle.pass_proofs.specs.ir_model.declared.instr.Terminator.{Terminator}
 use Rattle.pass_split_proof.proofs.steps.Settled.{plain_does}
 use Rattle.pass_split_proof.specs.places.Places.{Remain}
 use Rattle.pass_split_proof.specs.states.Going.{stands_at}
 use Rattle.run_access_worked.proofs.Machines.{plain_line}
 use Rattle.run_access_worked.specs.Machines.{plain_ahead}
-use Rattle.run_agreement.proofs.Runs.{iterate-add}
-use Rattle.run_laws.specs.access.Lines.{Runs}
-use Rattle.run_plain.specs.Plain.{PlainGiven, plain_context, plain_function, plain_go_to, plain_step, plain_work}
-use Rattle.run_plain.specs.declared.state.PlainState.{PlainState}
-use Rattle.run_step.specs.Runs.{iterate}
-use Rattle.run_step.specs.Step.{AtTerm, GoTo, Work, label_of, phi_values, phis_of, with_all}
+use Rattle.pass_proofs.proofs.run_agreement.Runs.{iterate-add}
+use Rattle.pass_proofs.specs.run_laws.access.Lines.{Runs}
+use Rattle.run_access_worked.specs.run_plain.Plain.{PlainGiven, plain_context, plain_function, plain_go_to, plain_step, plain_work}
+use Rattle.run_access_worked.specs.run_plain.declared.state.PlainState.{PlainState}
+use Rattle.pass_proofs.specs.run_step.Runs.{iterate}
+use Rattle.pass_proofs.specs.run_step.Step.{AtTerm, GoTo, Work, label_of, phi_values, phis_of, with_all}
 
 module _ (h : PlainGiven) (t : PlainState) (running : t.outcome ≡ Outcome.Running) (line : List Instr) (mark : ℕ)
     (x : Work)

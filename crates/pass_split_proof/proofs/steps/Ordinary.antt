@@ -2,18 +2,18 @@
 use Rattle.std.proofs.Common.{◌≡◌, ℕ, ◌+◌, Bool, true, false, List, [], ◌∷◌, length, Option, refl, sym, ap, ◌∙◌, subst, if◌then◌else◌}
 use Rattle.std.proofs.lemmas.Bool.{false≢true}
 use Rattle.std.specs.Prelude.{ℤ}
-use Rattle.ir_model.specs.Ty.{Ty}
-use Rattle.ir_model.specs.declared.instr.Instr.{Instr}
-use Rattle.ir_model.specs.declared.instr.Terminator.{Terminator}
-use Rattle.ir_model.specs.declared.module.Function.{Function}
-use Rattle.ir_model.specs.declared.operand.Arg.{Arg}
-use Rattle.ir_model.specs.declared.operand.Callee.{Callee}
-use Rattle.ir_model.specs.declared.operand.Intrinsic.{Intrinsic}
-use Rattle.pass_intrinsics.specs.Cuts.{cut_at, goes_on}
-use Rattle.pass_intrinsics.specs.Lowered.{lowered}
-use Rattle.pass_intrinsics.specs.declared.cuts.Cut.{Cut}
-use Rattle.pass_intrinsics.specs.declared.shape.Part.{Part}
-use Rattle.pass_intrinsics.specs.declared.shape.Shape.{Shape}
+use Rattle.pass_proofs.specs.ir_model.Ty.{Ty}
+use Rattle.pass_proofs.specs.ir_model.declared.instr.Instr.{Instr}
+use Rattle.pass_proofs.specs.ir_model.declared.instr.Terminator.{Terminator}
+use Rattle.pass_proofs.specs.ir_model.declared.module.Function.{Function}
+use Rattle.pass_proofs.specs.ir_model.declared.operand.Arg.{Arg}
+use Rattle.pass_proofs.specs.ir_model.declared.operand.Callee.{Callee}
+use Rattle.pass_proofs.specs.ir_model.declared.operand.Intrinsic.{Intrinsic}
+use Rattle.pass_proofs.specs.pass_intrinsics.Cuts.{cut_at, goes_on}
+use Rattle.pass_proofs.specs.pass_intrinsics.Lowered.{lowered}
+use Rattle.pass_proofs.specs.pass_intrinsics.declared.cuts.Cut.{Cut}
+use Rattle.pass_proofs.specs.pass_intrinsics.declared.shape.Part.{Part}
+use Rattle.pass_proofs.specs.pass_intrinsics.declared.shape.Shape.{Shape}
 use Rattle.pass_split_proof.proofs.places.Coded.{has_code}
 use Rattle.pass_split_proof.proofs.steps.Ready.{done}
 use Rattle.pass_split_proof.proofs.steps.Settled.{settled_related, settles}
@@ -23,14 +23,14 @@ use Rattle.pass_split_proof.specs.states.Related.{AreRelated}
 use Rattle.pass_split_proof.specs.steps.Done.{IsDoneToo, theirs}
 use Rattle.pass_split_proof.specs.steps.Ordinary.{IsAtOrdinary, StepsBeside, is_ordinary}
 use Rattle.pass_split_proof.specs.steps.Ready.{IsReadyInPart}
-use Rattle.pass_split.specs.Pieces.{begins_again, is_begin}
-use Rattle.run_framed.specs.Framed.{FramedGiven, framed_context}
-use Rattle.run_laws.specs.access.Lines.{StandAt}
-use Rattle.run_plain.specs.Plain.{PlainGiven, plain_context, plain_function, plain_work}
-use Rattle.run_plain.specs.declared.state.PlainState.{PlainState}
-use Rattle.run_source.specs.State.{function_of, settled, work_of}
-use Rattle.run_source.specs.declared.state.State.{State}
-use Rattle.run_step.specs.Step.{AtInstr, Done, Work, action_of, fetch}
+use Rattle.pass_proofs.specs.pass_split.Pieces.{begins_again, is_begin}
+use Rattle.pass_proofs.specs.run_framed.Framed.{FramedGiven, framed_context}
+use Rattle.pass_proofs.specs.run_laws.access.Lines.{StandAt}
+use Rattle.run_access_worked.specs.run_plain.Plain.{PlainGiven, plain_context, plain_function, plain_work}
+use Rattle.run_access_worked.specs.run_plain.declared.state.PlainState.{PlainState}
+use Rattle.pass_proofs.specs.run_source.State.{function_of, settled, work_of}
+use Rattle.pass_proofs.specs.run_source.declared.state.State.{State}
+use Rattle.pass_proofs.specs.run_step.Step.{AtInstr, Done, Work, action_of, fetch}
 
 -- ---- ordinary instructions are copied
 

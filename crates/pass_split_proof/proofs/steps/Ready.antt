@@ -1,10 +1,10 @@
 -- An instruction that may be read in a part is of one shape with itself there, and touches the same.
 use Rattle.std.proofs.Common.{◌≡◌, ℕ, ◌≤◌, Bool, true, false, List, [], ◌∷◌, length, refl}
 use Rattle.std.specs.Prelude.{ℤ}
-use Rattle.ir_model.specs.declared.instr.Instr.{Instr}
-use Rattle.ir_model.specs.declared.module.Function.{Function}
-use Rattle.ir_model.specs.declared.module.Module.{Module}
-use Rattle.ir_model.specs.declared.operand.Operand.{Operand}
+use Rattle.pass_proofs.specs.ir_model.declared.instr.Instr.{Instr}
+use Rattle.pass_proofs.specs.ir_model.declared.module.Function.{Function}
+use Rattle.pass_proofs.specs.ir_model.declared.module.Module.{Module}
+use Rattle.pass_proofs.specs.ir_model.declared.operand.Operand.{Operand}
 use Rattle.pass_split_proof.proofs.steps.Done.{done_too}
 use Rattle.pass_split_proof.proofs.steps.Operands.{operand_stands, operands_are}
 use Rattle.pass_split_proof.specs.states.Memories.{AreWorldsBeside, homes_of}
@@ -12,14 +12,14 @@ use Rattle.pass_split_proof.specs.states.Values.{AreValuesOf}
 use Rattle.pass_split_proof.specs.steps.Done.{IsDoneToo, ours, theirs}
 use Rattle.pass_split_proof.specs.steps.Operands.{IsReadable}
 use Rattle.pass_split_proof.specs.steps.Ready.{IsReadyInPart, moved_functions}
-use Rattle.run_framed.specs.Framed.{FramedGiven}
-use Rattle.run_laws.proofs.access.Touched.{same_touches}
-use Rattle.run_laws.proofs.transfer.Alone.{here_itself}
-use Rattle.run_laws.specs.changed.Changed.{Each, operands_of}
-use Rattle.run_laws.specs.memory.Pointers.{Home, IsValue}
-use Rattle.run_laws.specs.transfer.Transfer.{IsTransferred, StandsFor, looks_at}
-use Rattle.run_source.specs.declared.state.Instance.{Instance}
-use Rattle.run_step.specs.Step.{AtInstr, Context, Done, Work, action_of}
+use Rattle.pass_proofs.specs.run_framed.Framed.{FramedGiven}
+use Rattle.pass_proofs.proofs.run_laws.access.Touched.{same_touches}
+use Rattle.pass_proofs.proofs.run_laws.transfer.Alone.{here_itself}
+use Rattle.pass_proofs.specs.run_laws.changed.Changed.{Each, operands_of}
+use Rattle.pass_proofs.specs.run_laws.memory.Pointers.{Home, IsValue}
+use Rattle.pass_proofs.specs.run_laws.transfer.Transfer.{IsTransferred, StandsFor, looks_at}
+use Rattle.pass_proofs.specs.run_source.declared.state.Instance.{Instance}
+use Rattle.pass_proofs.specs.run_step.Step.{AtInstr, Context, Done, Work, action_of}
 
 module _ (g : FramedGiven) (instances : List Instance) (m n : Module) (answers : List ℤ) (f q : Function)
     (functions : ℕ → ℕ)

@@ -1,18 +1,18 @@
 -- A resume is followed in a part: where the part goes on behind it, and where it returns.
 use Rattle.std.proofs.Common.{◌≡◌, ℕ, zero, suc, ◌+◌, ◌<◌, ◌≤◌, ◌^◌, Bool, false, List, ◌∷◌, length, None, Some, Ok, refl, sym, ap, ◌∙◌, subst, arith, if◌then◌else◌}
 use Rattle.std.proofs.lemmas.Bool.{false≢true}
-use Rattle.ir_base.specs.declared.outcome.Outcome.{Outcome}
-use Rattle.ir_model.specs.Names.{function_at}
-use Rattle.ir_model.specs.declared.instr.Instr.{Instr}
-use Rattle.ir_model.specs.declared.instr.Terminator.{Terminator}
-use Rattle.ir_model.specs.declared.module.Function.{Function}
-use Rattle.ir_model.specs.declared.operand.Callee.{Callee}
-use Rattle.ir_model.specs.declared.operand.Intrinsic.{Intrinsic}
-use Rattle.ir_paths.specs.Windows.{resume_label}
-use Rattle.pass_intrinsics.specs.Cuts.{cut_at, goes_on, next_suspend, transfers}
-use Rattle.pass_intrinsics.specs.Lowered.{resume_call}
-use Rattle.pass_intrinsics.specs.declared.cuts.Cut.{Cut}
-use Rattle.pass_intrinsics.specs.declared.shape.Part.{Part}
+use Rattle.pass_proofs.specs.ir_base.declared.outcome.Outcome.{Outcome}
+use Rattle.pass_proofs.specs.ir_model.Names.{function_at}
+use Rattle.pass_proofs.specs.ir_model.declared.instr.Instr.{Instr}
+use Rattle.pass_proofs.specs.ir_model.declared.instr.Terminator.{Terminator}
+use Rattle.pass_proofs.specs.ir_model.declared.module.Function.{Function}
+use Rattle.pass_proofs.specs.ir_model.declared.operand.Callee.{Callee}
+use Rattle.pass_proofs.specs.ir_model.declared.operand.Intrinsic.{Intrinsic}
+use Rattle.pass_proofs.specs.ir_paths.Windows.{resume_label}
+use Rattle.pass_proofs.specs.pass_intrinsics.Cuts.{cut_at, goes_on, next_suspend, transfers}
+use Rattle.pass_proofs.specs.pass_intrinsics.Lowered.{resume_call}
+use Rattle.pass_proofs.specs.pass_intrinsics.declared.cuts.Cut.{Cut}
+use Rattle.pass_proofs.specs.pass_intrinsics.declared.shape.Part.{Part}
 use Rattle.pass_split_proof.proofs.places.Coded.{has_code}
 use Rattle.pass_split_proof.proofs.steps.Calling.{resume_calls, resume_quiet}
 use Rattle.pass_split_proof.proofs.steps.Followed.{fine_ok, framed_does}
@@ -34,25 +34,25 @@ use Rattle.pass_split_proof.specs.steps.Called.{HasCalled}
 use Rattle.pass_split_proof.specs.steps.Calling.{IsCallable, calling}
 use Rattle.pass_split_proof.specs.steps.Resuming.{CanWake, IsAtWaking}
 use Rattle.pass_split_proof.specs.steps.Woken.{IsWoken}
-use Rattle.pass_split.specs.Pieces.{begins_again}
-use Rattle.run_agreement.proofs.Runs.{iterate-add}
-use Rattle.run_agreement.specs.Machines.{iterate, IsFine}
-use Rattle.run_framed.specs.Framed.{FramedGiven, continue_framed, framed_step}
-use Rattle.run_laws.proofs.transfer.Sets.{set_elsewhere, set_length}
-use Rattle.run_laws.specs.access.Lines.{Holds, StandAt}
-use Rattle.run_memory.specs.Memory.{encode, owner_rights}
-use Rattle.run_memory.specs.declared.pointer.Pointer.{Pointer}
-use Rattle.run_memory.specs.declared.pointer.Value.{Value}
-use Rattle.run_plain.specs.Plain.{PlainGiven, counted, plain_function, plain_step, plain_work}
-use Rattle.run_plain.specs.declared.state.PlainState.{PlainState}
-use Rattle.run_source.specs.Source.{resume}
-use Rattle.run_source.specs.State.{function_of, or_undefined}
-use Rattle.run_source.specs.declared.state.Instance.{Instance}
-use Rattle.run_source.specs.declared.state.Mode.{Mode}
-use Rattle.run_source.specs.declared.state.State.{State}
-use Rattle.run_source_tables.specs.Given.{is_final}
-use Rattle.run_step.specs.Step.{AtInstr, AtTerm, Coro, fetch}
-use Rattle.run_step.specs.Values.{Env, arg_value, value_in, with_value}
+use Rattle.pass_proofs.specs.pass_split.Pieces.{begins_again}
+use Rattle.pass_proofs.proofs.run_agreement.Runs.{iterate-add}
+use Rattle.pass_proofs.specs.run_agreement.Machines.{iterate, IsFine}
+use Rattle.pass_proofs.specs.run_framed.Framed.{FramedGiven, continue_framed, framed_step}
+use Rattle.pass_proofs.proofs.run_laws.transfer.Sets.{set_elsewhere, set_length}
+use Rattle.pass_proofs.specs.run_laws.access.Lines.{Holds, StandAt}
+use Rattle.pass_proofs.specs.run_memory.Memory.{encode, owner_rights}
+use Rattle.pass_proofs.specs.run_memory.declared.pointer.Pointer.{Pointer}
+use Rattle.pass_proofs.specs.run_memory.declared.pointer.Value.{Value}
+use Rattle.run_access_worked.specs.run_plain.Plain.{PlainGiven, counted, plain_function, plain_step, plain_work}
+use Rattle.run_access_worked.specs.run_plain.declared.state.PlainState.{PlainState}
+use Rattle.pass_proofs.specs.run_source.Source.{resume}
+use Rattle.pass_proofs.specs.run_source.State.{function_of, or_undefined}
+use Rattle.pass_proofs.specs.run_source.declared.state.Instance.{Instance}
+use Rattle.pass_proofs.specs.run_source.declared.state.Mode.{Mode}
+use Rattle.pass_proofs.specs.run_source.declared.state.State.{State}
+use Rattle.pass_proofs.specs.run_source_tables.Given.{is_final}
+use Rattle.pass_proofs.specs.run_step.Step.{AtInstr, AtTerm, Coro, fetch}
+use Rattle.pass_proofs.specs.run_step.Values.{Env, arg_value, value_in, with_value}
 
 module _ (g : FramedGiven) (h : PlainGiven) (s : State) (t : PlainState) (r : AreRelated g h s t)
     (k : IsAtWaking g h s t r Intrinsic.CoroResume) where

@@ -1,7 +1,7 @@
 -- An instruction that is done in both runs leaves the states beside each other.
 use Rattle.std.proofs.Common.{◌≡◌, ℕ, ◌+◌, ◌≤◌, false, length, Some, refl, sym, ap, ◌∙◌, subst, arith}
-use Rattle.ir_base.specs.declared.outcome.Outcome.{Outcome}
-use Rattle.ir_model.specs.Names.{function_at}
+use Rattle.pass_proofs.specs.ir_base.declared.outcome.Outcome.{Outcome}
+use Rattle.pass_proofs.specs.ir_model.Names.{function_at}
 use Rattle.pass_split_proof.proofs.states.Advanced.{advanced, same_frames}
 use Rattle.pass_split_proof.proofs.states.Closed.{frames_stay}
 use Rattle.pass_split_proof.proofs.states.Values.{values_set}
@@ -11,16 +11,16 @@ use Rattle.pass_split_proof.specs.states.Memories.{homes_of}
 use Rattle.pass_split_proof.specs.states.Related.{AreRelated}
 use Rattle.pass_split_proof.specs.states.Values.{AreValuesOf}
 use Rattle.pass_split_proof.specs.steps.Done.{IsDoneToo}
-use Rattle.run_framed.specs.Framed.{FramedGiven}
-use Rattle.run_laws.proofs.access.Reading.{as_many}
-use Rattle.run_laws.specs.memory.Pointers.{Extends}
-use Rattle.run_laws.specs.memory.Standing.{own_homes}
-use Rattle.run_laws.specs.transfer.Transfer.{given_at}
-use Rattle.run_plain.specs.Plain.{PlainGiven, plain_advance, plain_context, plain_function, plain_or_undefined, plain_act, plain_settled, plain_step, plain_work}
-use Rattle.run_plain.specs.declared.state.PlainState.{PlainState}
-use Rattle.run_source.specs.State.{settled, work_of}
-use Rattle.run_source.specs.declared.state.State.{State}
-use Rattle.run_step.specs.Step.{Action, Done, Fetched, Work, action_of, fetch}
+use Rattle.pass_proofs.specs.run_framed.Framed.{FramedGiven}
+use Rattle.pass_proofs.proofs.run_laws.access.Reading.{as_many}
+use Rattle.pass_proofs.specs.run_laws.memory.Pointers.{Extends}
+use Rattle.pass_proofs.specs.run_laws.memory.Standing.{own_homes}
+use Rattle.pass_proofs.specs.run_laws.transfer.Transfer.{given_at}
+use Rattle.run_access_worked.specs.run_plain.Plain.{PlainGiven, plain_advance, plain_context, plain_function, plain_or_undefined, plain_act, plain_settled, plain_step, plain_work}
+use Rattle.run_access_worked.specs.run_plain.declared.state.PlainState.{PlainState}
+use Rattle.pass_proofs.specs.run_source.State.{settled, work_of}
+use Rattle.pass_proofs.specs.run_source.declared.state.State.{State}
+use Rattle.pass_proofs.specs.run_step.Step.{Action, Done, Fetched, Work, action_of, fetch}
 
 -- a step of the parts' run that does something
 pub plain_does : (h : PlainGiven) (t : PlainState) (there : Fetched) (a : Action) → t.outcome ≡ Outcome.Running

@@ -1,11 +1,11 @@
 -- An alloca makes a slot in both runs.
 use Rattle.std.proofs.Common.{◌≡◌, ℕ, suc, ◌+◌, ◌<◌, ◌≤◌, ◌^◌, Bool, true, false, List, ◌∷◌, length, Option, Some, refl, sym, ap, ◌∙◌, subst, arith}
 use Rattle.std.proofs.lemmas.Bool.{false≢true}
-use Rattle.ir_model.specs.Names.{function_at}
-use Rattle.ir_model.specs.declared.module.Function.{Function}
-use Rattle.ir_paths.specs.Slots.{allocas_of}
-use Rattle.pass_intrinsics.specs.declared.shape.Part.{Part}
-use Rattle.pass_intrinsics.specs.declared.shape.Shape.{Shape}
+use Rattle.pass_proofs.specs.ir_model.Names.{function_at}
+use Rattle.pass_proofs.specs.ir_model.declared.module.Function.{Function}
+use Rattle.pass_proofs.specs.ir_paths.Slots.{allocas_of}
+use Rattle.pass_proofs.specs.pass_intrinsics.declared.shape.Part.{Part}
+use Rattle.pass_proofs.specs.pass_intrinsics.declared.shape.Shape.{Shape}
 use Rattle.pass_split_proof.proofs.states.Advanced.{advanced, same_frames}
 use Rattle.pass_split_proof.proofs.states.Fresh.{fresh_beside, fresh_frames, grown_length}
 use Rattle.pass_split_proof.proofs.states.Killed.{all_stay, dead_beside, dead_frames, ends, ends_alone, stays}
@@ -21,26 +21,26 @@ use Rattle.pass_split_proof.specs.states.Memories.{AreBeside, homes_of, plain_ki
 use Rattle.pass_split_proof.specs.states.Related.{AreRelated}
 use Rattle.pass_split_proof.specs.states.Values.{AreValuesOf}
 use Rattle.pass_split_proof.specs.steps.Slots.{slot_memory, with_made}
-use Rattle.run_framed.specs.Framed.{FramedGiven}
-use Rattle.run_laws.proofs.transfer.Sets.{sets_result}
-use Rattle.run_laws.specs.memory.Pointers.{Extends}
-use Rattle.run_laws.specs.memory.Standing.{blank_block, own_homes}
-use Rattle.run_laws.specs.transfer.Transfer.{AreSet}
-use Rattle.run_memory.specs.Memory.{end, ended, fresh}
-use Rattle.run_memory.specs.declared.block.Kind.{Kind}
-use Rattle.run_memory.specs.declared.block.MemoryBlock.{MemoryBlock}
-use Rattle.run_plain.specs.Plain.{PlainGiven, plain_settled, plain_slot, plain_work}
-use Rattle.run_plain.specs.declared.state.PlainActivation.{PlainActivation}
-use Rattle.run_plain.specs.declared.state.PlainState.{PlainState}
-use Rattle.run_source.specs.Source.{is_among}
-use Rattle.run_source.specs.State.{settled, with_slots, work_of}
-use Rattle.run_source.specs.declared.state.Activation.{Activation}
-use Rattle.run_source.specs.declared.state.Instance.{Instance}
-use Rattle.run_source.specs.declared.state.Mode.{Mode}
-use Rattle.run_source.specs.declared.state.State.{State}
-use Rattle.run_step.specs.Step.{Work}
-use Rattle.run_step.specs.Values.{pointer_to, with_result}
-use Rattle.run_step.specs.declared.world.Slot.{Slot}
+use Rattle.pass_proofs.specs.run_framed.Framed.{FramedGiven}
+use Rattle.pass_proofs.proofs.run_laws.transfer.Sets.{sets_result}
+use Rattle.pass_proofs.specs.run_laws.memory.Pointers.{Extends}
+use Rattle.pass_proofs.specs.run_laws.memory.Standing.{blank_block, own_homes}
+use Rattle.pass_proofs.specs.run_laws.transfer.Transfer.{AreSet}
+use Rattle.pass_proofs.specs.run_memory.Memory.{end, ended, fresh}
+use Rattle.pass_proofs.specs.run_memory.declared.block.Kind.{Kind}
+use Rattle.pass_proofs.specs.run_memory.declared.block.MemoryBlock.{MemoryBlock}
+use Rattle.run_access_worked.specs.run_plain.Plain.{PlainGiven, plain_settled, plain_slot, plain_work}
+use Rattle.run_access_worked.specs.run_plain.declared.state.PlainActivation.{PlainActivation}
+use Rattle.run_access_worked.specs.run_plain.declared.state.PlainState.{PlainState}
+use Rattle.pass_proofs.specs.run_source.Source.{is_among}
+use Rattle.pass_proofs.specs.run_source.State.{settled, with_slots, work_of}
+use Rattle.pass_proofs.specs.run_source.declared.state.Activation.{Activation}
+use Rattle.pass_proofs.specs.run_source.declared.state.Instance.{Instance}
+use Rattle.pass_proofs.specs.run_source.declared.state.Mode.{Mode}
+use Rattle.pass_proofs.specs.run_source.declared.state.State.{State}
+use Rattle.pass_proofs.specs.run_step.Step.{Work}
+use Rattle.pass_proofs.specs.run_step.Values.{pointer_to, with_result}
+use Rattle.pass_proofs.specs.run_step.declared.world.Slot.{Slot}
 
 -- ---- a slot more
 

@@ -3,26 +3,26 @@
 use Rattle.std.proofs.Common.{◌≡◌, ℕ, ◌%◌, ◌^◌, ◌<◌, ◌≤◌, Bool, List, length, refl, ap, ◌∙◌, subst, arith, if◌then◌else◌, ◌==◌, ◌&&◌}
 use Rattle.std.specs.Prelude.{pos}
 use Rattle.std.proofs.lemmas.Bool.{lt-ltb}
-use Rattle.ir_model.specs.Ty.{int, ptr}
-use Rattle.ir_model.specs.TypeView.{bits_of}
-use Rattle.ir_model.specs.declared.instr.Instr.{Instr}
-use Rattle.ir_model.specs.declared.ir_type.IntWidth.{IntWidth}
-use Rattle.ir_model.specs.declared.operand.Operand.{Operand}
-use Rattle.pass_intrinsics.specs.Lowered.{load_pointer, number_arg, pointer_arg, store_pointer}
-use Rattle.pass_intrinsics.specs.Shapes.{index_bytes}
+use Rattle.pass_proofs.specs.ir_model.Ty.{int, ptr}
+use Rattle.pass_proofs.specs.ir_model.TypeView.{bits_of}
+use Rattle.pass_proofs.specs.ir_model.declared.instr.Instr.{Instr}
+use Rattle.pass_proofs.specs.ir_model.declared.ir_type.IntWidth.{IntWidth}
+use Rattle.pass_proofs.specs.ir_model.declared.operand.Operand.{Operand}
+use Rattle.pass_proofs.specs.pass_intrinsics.Lowered.{load_pointer, number_arg, pointer_arg, store_pointer}
+use Rattle.pass_proofs.specs.pass_intrinsics.Shapes.{index_bytes}
 use Rattle.pass_split_proof.specs.steps.Small.{IsIndexWidth}
-use Rattle.run_ints.specs.declared.num.Num.{Num}
-use Rattle.run_laws.proofs.access.Done.{load_done, store_done}
-use Rattle.run_laws.proofs.access.Loaded.{stored_back}
-use Rattle.run_laws.specs.access.Lines.{Holds, pointer_at, refilled_at}
-use Rattle.run_memory.proofs.Digits.{length-encode}
-use Rattle.run_memory.specs.Memory.{decode, digits, encode}
-use Rattle.run_memory.specs.declared.block.Byte.{Byte}
-use Rattle.run_memory.specs.declared.pointer.Access.{Access}
-use Rattle.run_memory.specs.declared.pointer.Pointer.{Pointer}
-use Rattle.run_memory.specs.declared.pointer.Value.{Value}
-use Rattle.run_step.specs.Step.{Context, Done, Work, instr_action, set_memory, set_value, value_at}
-use Rattle.run_step.specs.Values.{integer, stored, value_of}
+use Rattle.pass_proofs.specs.run_ints.declared.num.Num.{Num}
+use Rattle.pass_proofs.proofs.run_laws.access.Done.{load_done, store_done}
+use Rattle.pass_proofs.proofs.run_laws.access.Loaded.{stored_back}
+use Rattle.pass_proofs.specs.run_laws.access.Lines.{Holds, pointer_at, refilled_at}
+use Rattle.pass_proofs.proofs.run_memory.Digits.{length-encode}
+use Rattle.pass_proofs.specs.run_memory.Memory.{decode, digits, encode}
+use Rattle.pass_proofs.specs.run_memory.declared.block.Byte.{Byte}
+use Rattle.pass_proofs.specs.run_memory.declared.pointer.Access.{Access}
+use Rattle.pass_proofs.specs.run_memory.declared.pointer.Pointer.{Pointer}
+use Rattle.pass_proofs.specs.run_memory.declared.pointer.Value.{Value}
+use Rattle.pass_proofs.specs.run_step.Step.{Context, Done, Work, instr_action, set_memory, set_value, value_at}
+use Rattle.pass_proofs.specs.run_step.Values.{integer, stored, value_of}
 
 -- numbers that an index holds
 

@@ -2,26 +2,26 @@
 use Rattle.std.proofs.Common.{◌≡◌, ℕ, Bool, true, false, not, List, Option, None, Some, Result, Ok, refl, sym, ap, ◌∙◌}
 use Rattle.std.specs.Prelude.{slice_get, option_and_then, option_map, ◌==◌}
 use Rattle.std.proofs.lemmas.Bool.{and_parts, eqb-true}
-use Rattle.ir_base.specs.declared.cause.Cause.{Cause}
-use Rattle.ir_model.specs.Names.{function_at}
-use Rattle.ir_paths.specs.Windows.{destroy_label, resume_label}
-use Rattle.ir_paths.specs.declared.point.Point.{Point}
+use Rattle.pass_proofs.specs.ir_base.declared.cause.Cause.{Cause}
+use Rattle.pass_proofs.specs.ir_model.Names.{function_at}
+use Rattle.pass_proofs.specs.ir_paths.Windows.{destroy_label, resume_label}
+use Rattle.pass_proofs.specs.ir_paths.declared.point.Point.{Point}
 use Rattle.pass_split_proof.proofs.states.Judged.{numbering}
 use Rattle.pass_split_proof.specs.steps.Woken.{IsWoken}
-use Rattle.run_framed.specs.Framed.{FramedGiven, continue_framed}
-use Rattle.run_laws.proofs.memory.Written.{same_some}
-use Rattle.run_memory.specs.declared.pointer.Offset.{Offset}
-use Rattle.run_memory.specs.declared.pointer.Pointer.{Pointer}
-use Rattle.run_memory.specs.declared.pointer.Value.{Value}
-use Rattle.run_source.proofs.Indexes.{last-passes}
-use Rattle.run_source.specs.Source.{Sleeper, destroy, resume, sleeper_of}
-use Rattle.run_source.specs.State.{began_at, frame_address_of, instance_at, last_from, last_where, numbered}
-use Rattle.run_source.specs.declared.state.Instance.{Instance}
-use Rattle.run_source.specs.declared.state.State.{State}
-use Rattle.run_source.specs.declared.state.Status.{Status}
-use Rattle.run_source_tables.specs.Given.{is_final}
-use Rattle.run_step.specs.Results.{and_then, found, ok_if}
-use Rattle.run_step.specs.Values.{Env}
+use Rattle.pass_proofs.specs.run_framed.Framed.{FramedGiven, continue_framed}
+use Rattle.pass_proofs.proofs.run_laws.memory.Written.{same_some}
+use Rattle.pass_proofs.specs.run_memory.declared.pointer.Offset.{Offset}
+use Rattle.pass_proofs.specs.run_memory.declared.pointer.Pointer.{Pointer}
+use Rattle.pass_proofs.specs.run_memory.declared.pointer.Value.{Value}
+use Rattle.pass_proofs.proofs.run_source.Indexes.{last-passes}
+use Rattle.pass_proofs.specs.run_source.Source.{Sleeper, destroy, resume, sleeper_of}
+use Rattle.pass_proofs.specs.run_source.State.{began_at, frame_address_of, instance_at, last_from, last_where, numbered}
+use Rattle.pass_proofs.specs.run_source.declared.state.Instance.{Instance}
+use Rattle.pass_proofs.specs.run_source.declared.state.State.{State}
+use Rattle.pass_proofs.specs.run_source.declared.state.Status.{Status}
+use Rattle.pass_proofs.specs.run_source_tables.Given.{is_final}
+use Rattle.pass_proofs.specs.run_step.Results.{and_then, found, ok_if}
+use Rattle.pass_proofs.specs.run_step.Values.{Env}
 
 -- ---- the instance at an address
 

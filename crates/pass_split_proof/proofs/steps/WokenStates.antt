@@ -3,15 +3,15 @@ use Rattle.std.proofs.Common.{◌≡◌, ℕ, zero, suc, ◌+◌, ◌-◌, ◌<�
 use Rattle.std.specs.Prelude.{slice_get, slice_set, ◌||◌, ◌==◌}
 use Rattle.std.proofs.lemmas.List.{length-replicate}
 use Rattle.std.proofs.lemmas.Bool.{cases_lt, eq-eqb, or_left, or_right}
-use Rattle.ir_base.specs.declared.outcome.Outcome.{Outcome}
-use Rattle.ir_model.specs.Names.{function_at, position_of}
-use Rattle.ir_model.specs.declared.instr.Phi.{Phi}
-use Rattle.ir_model.specs.declared.module.Function.{Function}
-use Rattle.pass_front.specs.Front.{allocas_of}
-use Rattle.pass_intrinsics.specs.Shapes.{back_label, index_name, slot_name, suspends_of}
-use Rattle.pass_intrinsics.specs.declared.shape.Part.{Part}
-use Rattle.pass_intrinsics.specs.declared.shape.Shape.{Shape}
-use Rattle.pass_intrinsics.specs.declared.shape.SuspendPoint.{SuspendPoint}
+use Rattle.pass_proofs.specs.ir_base.declared.outcome.Outcome.{Outcome}
+use Rattle.pass_proofs.specs.ir_model.Names.{function_at, position_of}
+use Rattle.pass_proofs.specs.ir_model.declared.instr.Phi.{Phi}
+use Rattle.pass_proofs.specs.ir_model.declared.module.Function.{Function}
+use Rattle.pass_proofs.specs.pass_front.Front.{allocas_of}
+use Rattle.pass_proofs.specs.pass_intrinsics.Shapes.{back_label, index_name, slot_name, suspends_of}
+use Rattle.pass_proofs.specs.pass_intrinsics.declared.shape.Part.{Part}
+use Rattle.pass_proofs.specs.pass_intrinsics.declared.shape.Shape.{Shape}
+use Rattle.pass_proofs.specs.pass_intrinsics.declared.shape.SuspendPoint.{SuspendPoint}
 use Rattle.pass_split_proof.proofs.steps.Calling.{IsCounted, counted_is, counted_related}
 use Rattle.pass_split_proof.proofs.steps.Calls.{result_length}
 use Rattle.pass_split_proof.proofs.steps.Dispatched.{leads_on, quiet_on}
@@ -31,26 +31,26 @@ use Rattle.pass_split_proof.specs.states.Values.{AreValuesOf}
 use Rattle.pass_split_proof.specs.steps.Called.{HasCalled}
 use Rattle.pass_split_proof.specs.steps.Dispatch.{IsAtIndex, indexed_work}
 use Rattle.pass_split_proof.specs.steps.Woken.{IsWaking, IsWoken}
-use Rattle.pass_split.specs.Parts.{or_zero}
-use Rattle.pass_split.specs.Pieces.{going_on, redirected}
-use Rattle.run_agreement.proofs.Runs.{iterate-add}
-use Rattle.run_agreement.specs.Machines.{iterate}
-use Rattle.run_framed.specs.Framed.{FramedGiven, alloca_from, continue_framed, enter_after, framed_step, layout_of, reentry_values}
-use Rattle.run_laws.proofs.transfer.Sets.{set_elsewhere, set_length}
-use Rattle.run_laws.specs.access.Lines.{pointer_at}
-use Rattle.run_laws.specs.memory.Pointers.{Home}
-use Rattle.run_memory.specs.declared.pointer.Value.{Value}
-use Rattle.run_plain.specs.Plain.{PlainGiven, counted, plain_called, plain_go_to, plain_step}
-use Rattle.run_plain.specs.declared.state.PlainState.{PlainState}
-use Rattle.run_source.specs.Source.{push, resumed}
-use Rattle.run_source.specs.State.{frame_address_of, with_status}
-use Rattle.run_source.specs.declared.state.Instance.{Instance}
-use Rattle.run_source.specs.declared.state.Mode.{Mode}
-use Rattle.run_source.specs.declared.state.State.{State}
-use Rattle.run_source.specs.declared.state.Status.{Status}
-use Rattle.run_step.specs.Step.{Fetched, Work, entry_values, fetch, label_of, phi_values, phis_of, with_all}
-use Rattle.run_step.specs.Values.{Env, value_in, with_value}
-use Rattle.run_step.specs.declared.world.World.{World}
+use Rattle.pass_proofs.specs.pass_split.Parts.{or_zero}
+use Rattle.pass_proofs.specs.pass_split.Pieces.{going_on, redirected}
+use Rattle.pass_proofs.proofs.run_agreement.Runs.{iterate-add}
+use Rattle.pass_proofs.specs.run_agreement.Machines.{iterate}
+use Rattle.pass_proofs.specs.run_framed.Framed.{FramedGiven, alloca_from, continue_framed, enter_after, framed_step, layout_of, reentry_values}
+use Rattle.pass_proofs.proofs.run_laws.transfer.Sets.{set_elsewhere, set_length}
+use Rattle.pass_proofs.specs.run_laws.access.Lines.{pointer_at}
+use Rattle.pass_proofs.specs.run_laws.memory.Pointers.{Home}
+use Rattle.pass_proofs.specs.run_memory.declared.pointer.Value.{Value}
+use Rattle.run_access_worked.specs.run_plain.Plain.{PlainGiven, counted, plain_called, plain_go_to, plain_step}
+use Rattle.run_access_worked.specs.run_plain.declared.state.PlainState.{PlainState}
+use Rattle.pass_proofs.specs.run_source.Source.{push, resumed}
+use Rattle.pass_proofs.specs.run_source.State.{frame_address_of, with_status}
+use Rattle.pass_proofs.specs.run_source.declared.state.Instance.{Instance}
+use Rattle.pass_proofs.specs.run_source.declared.state.Mode.{Mode}
+use Rattle.pass_proofs.specs.run_source.declared.state.State.{State}
+use Rattle.pass_proofs.specs.run_source.declared.state.Status.{Status}
+use Rattle.pass_proofs.specs.run_step.Step.{Fetched, Work, entry_values, fetch, label_of, phi_values, phis_of, with_all}
+use Rattle.pass_proofs.specs.run_step.Values.{Env, value_in, with_value}
+use Rattle.pass_proofs.specs.run_step.declared.world.World.{World}
 
 abbrev no_one : Option Value
 no_one = None

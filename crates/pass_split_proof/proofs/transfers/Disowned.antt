@@ -7,15 +7,15 @@ use Rattle.pass_split_proof.proofs.states.Standing.{open_bytes, twins_stand}
 use Rattle.pass_split_proof.proofs.states.Written.{length-changed}
 use Rattle.pass_split_proof.specs.states.Instances.{AreFrames, AreLaidFrames, is_held, is_held_in}
 use Rattle.pass_split_proof.specs.states.Memories.{AreBeside, AreTwins, AreTwinsAt}
-use Rattle.run_framed.specs.Framed.{FramedGiven, is_stack_block}
-use Rattle.run_laws.proofs.memory.Written.{changed_elsewhere, changed_here, same_some}
-use Rattle.run_laws.specs.memory.Pointers.{IsByte}
-use Rattle.run_laws.specs.memory.Standing.{byte_of, own_homes}
-use Rattle.run_memory.specs.Memory.{disown, disowned, is_live, same_kind}
-use Rattle.run_memory.specs.declared.block.Byte.{Byte}
-use Rattle.run_memory.specs.declared.block.Kind.{Kind}
-use Rattle.run_memory.specs.declared.block.MemoryBlock.{MemoryBlock}
-use Rattle.run_source.specs.declared.state.Instance.{Instance}
+use Rattle.pass_proofs.specs.run_framed.Framed.{FramedGiven, is_stack_block}
+use Rattle.pass_proofs.proofs.run_laws.memory.Written.{changed_elsewhere, changed_here, same_some}
+use Rattle.pass_proofs.specs.run_laws.memory.Pointers.{IsByte}
+use Rattle.pass_proofs.specs.run_laws.memory.Standing.{byte_of, own_homes}
+use Rattle.pass_proofs.specs.run_memory.Memory.{disown, disowned, is_live, same_kind}
+use Rattle.pass_proofs.specs.run_memory.declared.block.Byte.{Byte}
+use Rattle.pass_proofs.specs.run_memory.declared.block.Kind.{Kind}
+use Rattle.pass_proofs.specs.run_memory.declared.block.MemoryBlock.{MemoryBlock}
+use Rattle.pass_proofs.specs.run_source.declared.state.Instance.{Instance}
 use Rattle.std.specs.Option.{option_map_or}
 
 module _ (g : FramedGiven) (xs : List Instance) (m n : List MemoryBlock) (b : ℕ) (stack : is_stack_block m b ≡ true)

@@ -13,21 +13,21 @@ use Rattle.pass_split_proof.specs.states.Instances.{AreFrames, in_state, is_give
 use Rattle.pass_split_proof.specs.states.Memories.{AreBeside, homes_of}
 use Rattle.pass_split_proof.specs.states.Related.{AreRelated}
 use Rattle.pass_split_proof.specs.states.Values.{AreValuesOf}
-use Rattle.ir_model.specs.Names.{function_at}
-use Rattle.run_framed.specs.Framed.{FramedGiven, disown_given, framed_finish, is_stack_block}
-use Rattle.run_laws.specs.memory.Pointers.{Extends}
-use Rattle.run_laws.specs.memory.Standing.{own_homes}
-use Rattle.run_memory.specs.Memory.{disown, disowned}
-use Rattle.run_memory.specs.declared.block.MemoryBlock.{MemoryBlock}
-use Rattle.run_plain.specs.Plain.{PlainGiven, plain_work}
-use Rattle.run_plain.specs.declared.state.PlainState.{PlainState}
-use Rattle.run_source.specs.Source.{change_own, slots_of}
-use Rattle.run_source.specs.State.{is_finished, own_instance, with_instance, with_memory}
-use Rattle.run_source.specs.declared.state.Instance.{Instance}
-use Rattle.run_source.specs.declared.state.State.{State}
-use Rattle.run_source.specs.declared.state.Status.{Status}
-use Rattle.run_step.specs.Step.{without_slots}
-use Rattle.run_step.specs.declared.world.Slot.{Slot}
+use Rattle.pass_proofs.specs.ir_model.Names.{function_at}
+use Rattle.pass_proofs.specs.run_framed.Framed.{FramedGiven, disown_given, framed_finish, is_stack_block}
+use Rattle.pass_proofs.specs.run_laws.memory.Pointers.{Extends}
+use Rattle.pass_proofs.specs.run_laws.memory.Standing.{own_homes}
+use Rattle.pass_proofs.specs.run_memory.Memory.{disown, disowned}
+use Rattle.pass_proofs.specs.run_memory.declared.block.MemoryBlock.{MemoryBlock}
+use Rattle.run_access_worked.specs.run_plain.Plain.{PlainGiven, plain_work}
+use Rattle.run_access_worked.specs.run_plain.declared.state.PlainState.{PlainState}
+use Rattle.pass_proofs.specs.run_source.Source.{change_own, slots_of}
+use Rattle.pass_proofs.specs.run_source.State.{is_finished, own_instance, with_instance, with_memory}
+use Rattle.pass_proofs.specs.run_source.declared.state.Instance.{Instance}
+use Rattle.pass_proofs.specs.run_source.declared.state.State.{State}
+use Rattle.pass_proofs.specs.run_source.declared.state.Status.{Status}
+use Rattle.pass_proofs.specs.run_step.Step.{without_slots}
+use Rattle.pass_proofs.specs.run_step.declared.world.Slot.{Slot}
 
 -- the framed run with other instances and another memory
 abbrev pub changed_to : State → List Instance → List MemoryBlock → State

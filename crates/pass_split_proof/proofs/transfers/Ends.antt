@@ -1,13 +1,13 @@
 -- A resumed activation returns at its end, in both runs.
 use Rattle.std.proofs.Common.{◌≡◌, ℕ, ◌+◌, ◌≤◌, Bool, true, false, List, [], ◌∷◌, Option, None, refl, sym, ap, ◌∙◌, subst, arith, if◌then◌else◌}
-use Rattle.ir_base.specs.declared.outcome.Outcome.{Outcome}
-use Rattle.ir_model.specs.Ty.{Ty}
-use Rattle.ir_model.specs.declared.instr.Instr.{Instr}
-use Rattle.ir_model.specs.declared.instr.Terminator.{Terminator}
-use Rattle.ir_model.specs.declared.operand.Arg.{Arg}
-use Rattle.ir_model.specs.declared.operand.Callee.{Callee}
-use Rattle.ir_model.specs.declared.operand.Intrinsic.{Intrinsic}
-use Rattle.pass_intrinsics.specs.Shapes.{is_end}
+use Rattle.pass_proofs.specs.ir_base.declared.outcome.Outcome.{Outcome}
+use Rattle.pass_proofs.specs.ir_model.Ty.{Ty}
+use Rattle.pass_proofs.specs.ir_model.declared.instr.Instr.{Instr}
+use Rattle.pass_proofs.specs.ir_model.declared.instr.Terminator.{Terminator}
+use Rattle.pass_proofs.specs.ir_model.declared.operand.Arg.{Arg}
+use Rattle.pass_proofs.specs.ir_model.declared.operand.Callee.{Callee}
+use Rattle.pass_proofs.specs.ir_model.declared.operand.Intrinsic.{Intrinsic}
+use Rattle.pass_proofs.specs.pass_intrinsics.Shapes.{is_end}
 use Rattle.pass_split_proof.proofs.steps.Calls.{returns_related}
 use Rattle.pass_split_proof.proofs.steps.Followed.{framed_does, one_followed}
 use Rattle.pass_split_proof.proofs.steps.Settled.{plain_does}
@@ -18,16 +18,16 @@ use Rattle.pass_split_proof.specs.states.Activations.{AreAllWaiting, is_entering
 use Rattle.pass_split_proof.specs.states.Memories.{homes_of}
 use Rattle.pass_split_proof.specs.states.Related.{AreRelated, credit_of, left_of_call, left_of_calls}
 use Rattle.pass_split_proof.specs.transfers.Passing.{IsAtEnd}
-use Rattle.run_framed.specs.Framed.{FramedGiven, framed_finish, framed_step}
-use Rattle.run_plain.specs.Plain.{PlainGiven, plain_or_undefined, plain_pop, plain_returned, plain_step}
-use Rattle.run_plain.specs.declared.state.PlainActivation.{PlainActivation}
-use Rattle.run_plain.specs.declared.state.PlainState.{PlainState}
-use Rattle.run_source.specs.Source.{after_end, pop, returned}
-use Rattle.run_source.specs.State.{or_undefined}
-use Rattle.run_source.specs.declared.state.Activation.{Activation}
-use Rattle.run_source.specs.declared.state.Mode.{Mode}
-use Rattle.run_source.specs.declared.state.State.{State}
-use Rattle.run_step.specs.Step.{AtInstr, AtTerm, Coro, Return}
+use Rattle.pass_proofs.specs.run_framed.Framed.{FramedGiven, framed_finish, framed_step}
+use Rattle.run_access_worked.specs.run_plain.Plain.{PlainGiven, plain_or_undefined, plain_pop, plain_returned, plain_step}
+use Rattle.run_access_worked.specs.run_plain.declared.state.PlainActivation.{PlainActivation}
+use Rattle.run_access_worked.specs.run_plain.declared.state.PlainState.{PlainState}
+use Rattle.pass_proofs.specs.run_source.Source.{after_end, pop, returned}
+use Rattle.pass_proofs.specs.run_source.State.{or_undefined}
+use Rattle.pass_proofs.specs.run_source.declared.state.Activation.{Activation}
+use Rattle.pass_proofs.specs.run_source.declared.state.Mode.{Mode}
+use Rattle.pass_proofs.specs.run_source.declared.state.State.{State}
+use Rattle.pass_proofs.specs.run_step.Step.{AtInstr, AtTerm, Coro, Return}
 
 -- the end is a call
 record IsEndCall (i : Instr) : Type 0 where

@@ -2,24 +2,24 @@
 use Rattle.std.proofs.Common.{◌≡◌, ℕ, ◌+◌, ◌<◌, ◌≤◌, Bool, true, false, List, [], ◌∷◌, length, Option, Some, Result, Ok, refl, sym, ap, ◌∙◌, subst, ⊎_elim, arith}
 use Rattle.std.specs.Prelude.{is_some, negsuc, slice_get}
 use Rattle.std.proofs.lemmas.Bool.{cases_eq, eqb-true, false≢true}
-use Rattle.ir_base.specs.declared.cause.Cause.{Cause}
-use Rattle.ir_model.specs.Names.{is_local, position_of}
-use Rattle.ir_model.specs.Ty.{Ty}
-use Rattle.ir_model.specs.declared.instr.Case.{Case}
-use Rattle.ir_model.specs.declared.instr.Instr.{Instr}
-use Rattle.ir_model.specs.declared.instr.Phi.{Phi}
-use Rattle.ir_model.specs.declared.instr.Terminator.{Terminator}
-use Rattle.ir_model.specs.declared.module.Function.{Function}
-use Rattle.ir_model.specs.declared.module.Module.{Module}
-use Rattle.ir_model.specs.declared.operand.Arg.{Arg}
-use Rattle.ir_model.specs.declared.operand.Callee.{Callee}
-use Rattle.ir_model.specs.declared.operand.Intrinsic.{Intrinsic}
-use Rattle.ir_model.specs.declared.operand.Operand.{Operand}
-use Rattle.ir_paths.specs.Windows.{call_result, end_block, operand_at}
-use Rattle.pass_intrinsics.specs.Cuts.{goes_on, token_in}
-use Rattle.pass_intrinsics.specs.Shapes.{save_of, token_of}
-use Rattle.pass_intrinsics.specs.declared.shape.Part.{Part}
-use Rattle.pass_intrinsics.specs.declared.shape.Shape.{Shape}
+use Rattle.pass_proofs.specs.ir_base.declared.cause.Cause.{Cause}
+use Rattle.pass_proofs.specs.ir_model.Names.{is_local, position_of}
+use Rattle.pass_proofs.specs.ir_model.Ty.{Ty}
+use Rattle.pass_proofs.specs.ir_model.declared.instr.Case.{Case}
+use Rattle.pass_proofs.specs.ir_model.declared.instr.Instr.{Instr}
+use Rattle.pass_proofs.specs.ir_model.declared.instr.Phi.{Phi}
+use Rattle.pass_proofs.specs.ir_model.declared.instr.Terminator.{Terminator}
+use Rattle.pass_proofs.specs.ir_model.declared.module.Function.{Function}
+use Rattle.pass_proofs.specs.ir_model.declared.module.Module.{Module}
+use Rattle.pass_proofs.specs.ir_model.declared.operand.Arg.{Arg}
+use Rattle.pass_proofs.specs.ir_model.declared.operand.Callee.{Callee}
+use Rattle.pass_proofs.specs.ir_model.declared.operand.Intrinsic.{Intrinsic}
+use Rattle.pass_proofs.specs.ir_model.declared.operand.Operand.{Operand}
+use Rattle.pass_proofs.specs.ir_paths.Windows.{call_result, end_block, operand_at}
+use Rattle.pass_proofs.specs.pass_intrinsics.Cuts.{goes_on, token_in}
+use Rattle.pass_proofs.specs.pass_intrinsics.Shapes.{save_of, token_of}
+use Rattle.pass_proofs.specs.pass_intrinsics.declared.shape.Part.{Part}
+use Rattle.pass_proofs.specs.pass_intrinsics.declared.shape.Shape.{Shape}
 use Rattle.pass_split_proof.proofs.places.Transfers.{end_first}
 use Rattle.pass_split_proof.proofs.steps.Branches.{left_by}
 use Rattle.pass_split_proof.proofs.steps.Followed.{fine_ok, framed_does, none_followed}
@@ -36,25 +36,25 @@ use Rattle.pass_split_proof.specs.states.Related.{AreRelated, credit_of}
 use Rattle.pass_split_proof.specs.states.Values.{AreValuesOf, IsStopResult}
 use Rattle.pass_split_proof.specs.steps.Branches.{Entered, Stayed}
 use Rattle.pass_split_proof.specs.transfers.Passing.{IsPassing}
-use Rattle.rule_laws.proofs.rules.source_rules.Locals.{result_below}
-use Rattle.rule_laws.proofs.rules.sources.Places.{instr_there}
-use Rattle.rule_shape.specs.Suspends.{is_suspend}
-use Rattle.rule_shape.specs.Switches.{are_both}
-use Rattle.run_agreement.specs.Machines.{IsFine}
-use Rattle.run_framed.specs.Framed.{FramedGiven, framed_step}
-use Rattle.run_laws.proofs.transfer.Sets.{set_elsewhere, set_length}
-use Rattle.run_laws.specs.changed.Changed.{result_of}
-use Rattle.run_laws.specs.memory.Pointers.{IsValue}
-use Rattle.run_memory.specs.declared.pointer.Value.{Value}
-use Rattle.run_plain.specs.Plain.{PlainGiven, plain_function}
-use Rattle.run_plain.specs.declared.state.PlainState.{PlainState}
-use Rattle.run_source.specs.Source.{go_to, left_windows, save_before}
-use Rattle.run_source.specs.State.{function_of, gives, or_undefined}
-use Rattle.run_source.specs.declared.state.Mode.{Mode}
-use Rattle.run_source.specs.declared.state.State.{State}
-use Rattle.run_step.specs.Results.{and_then}
-use Rattle.run_step.specs.Step.{AtInstr, AtTerm, Coro, GoTo, fetch, label_of, phi_values, with_all}
-use Rattle.run_step.specs.Values.{Env, arg_value, integer, operand_value, value_in, with_value}
+use Rattle.pass_proofs.proofs.rule_laws.rules.source_rules.Locals.{result_below}
+use Rattle.pass_proofs.proofs.rule_laws.rules.sources.Places.{instr_there}
+use Rattle.pass_proofs.specs.rule_shape.Suspends.{is_suspend}
+use Rattle.pass_proofs.specs.rule_shape.Switches.{are_both}
+use Rattle.pass_proofs.specs.run_agreement.Machines.{IsFine}
+use Rattle.pass_proofs.specs.run_framed.Framed.{FramedGiven, framed_step}
+use Rattle.pass_proofs.proofs.run_laws.transfer.Sets.{set_elsewhere, set_length}
+use Rattle.pass_proofs.specs.run_laws.changed.Changed.{result_of}
+use Rattle.pass_proofs.specs.run_laws.memory.Pointers.{IsValue}
+use Rattle.pass_proofs.specs.run_memory.declared.pointer.Value.{Value}
+use Rattle.run_access_worked.specs.run_plain.Plain.{PlainGiven, plain_function}
+use Rattle.run_access_worked.specs.run_plain.declared.state.PlainState.{PlainState}
+use Rattle.pass_proofs.specs.run_source.Source.{go_to, left_windows, save_before}
+use Rattle.pass_proofs.specs.run_source.State.{function_of, gives, or_undefined}
+use Rattle.pass_proofs.specs.run_source.declared.state.Mode.{Mode}
+use Rattle.pass_proofs.specs.run_source.declared.state.State.{State}
+use Rattle.pass_proofs.specs.run_step.Results.{and_then}
+use Rattle.pass_proofs.specs.run_step.Step.{AtInstr, AtTerm, Coro, GoTo, fetch, label_of, phi_values, with_all}
+use Rattle.pass_proofs.specs.run_step.Values.{Env, arg_value, integer, operand_value, value_in, with_value}
 
 -- ---- a suspend with a token
 

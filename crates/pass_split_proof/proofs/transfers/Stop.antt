@@ -3,27 +3,27 @@ use Rattle.std.proofs.Common.{◌≡◌, ℕ, ◌≤◌, Bool, true, false, List
 use Rattle.std.specs.Prelude.{negsuc, pos, slice_get, option_map, ◌&&◌, ◌%◌, ◌^◌}
 use Rattle.std.proofs.Math.Nat.{mod-le}
 use Rattle.std.proofs.lemmas.Bool.{and_parts, eqb-true, ne_eqb, or_cases}
-use Rattle.frame_layout.specs.declared.layout.Layout.{Layout}
-use Rattle.ir_model.specs.Names.{declaration_named, function_named, global_named, position_of}
-use Rattle.ir_model.specs.Ty.{Ty, int}
-use Rattle.ir_model.specs.declared.instr.Case.{Case}
-use Rattle.ir_model.specs.declared.module.Block.{Block}
-use Rattle.ir_model.specs.declared.module.Function.{Function}
-use Rattle.ir_model.specs.declared.module.Module.{Module}
-use Rattle.ir_model.specs.declared.operand.Arg.{Arg}
-use Rattle.ir_model.specs.declared.operand.Operand.{Operand}
-use Rattle.ir_paths.specs.Windows.{end_block, is_number}
-use Rattle.pass_intrinsics.specs.Shapes.{shape_of}
+use Rattle.pass_proofs.specs.frame_layout.declared.layout.Layout.{Layout}
+use Rattle.pass_proofs.specs.ir_model.Names.{declaration_named, function_named, global_named, position_of}
+use Rattle.pass_proofs.specs.ir_model.Ty.{Ty, int}
+use Rattle.pass_proofs.specs.ir_model.declared.instr.Case.{Case}
+use Rattle.pass_proofs.specs.ir_model.declared.module.Block.{Block}
+use Rattle.pass_proofs.specs.ir_model.declared.module.Function.{Function}
+use Rattle.pass_proofs.specs.ir_model.declared.module.Module.{Module}
+use Rattle.pass_proofs.specs.ir_model.declared.operand.Arg.{Arg}
+use Rattle.pass_proofs.specs.ir_model.declared.operand.Operand.{Operand}
+use Rattle.pass_proofs.specs.ir_paths.Windows.{end_block, is_number}
+use Rattle.pass_proofs.specs.pass_intrinsics.Shapes.{shape_of}
 use Rattle.pass_proofs.proofs.split.edges.Rules.{end_is, the_end}
 use Rattle.pass_proofs.specs.split.rules.Splittable.{IsSplittable}
-use Rattle.rule_laws.proofs.frames.edges.Shaped.{same_end}
-use Rattle.rule_laws.proofs.rules.source_rules.Locals.{own_label}
-use Rattle.rule_shape.specs.Switches.{are_both, end_label as switch_end}
-use Rattle.run_ints.specs.Numbers.{word_of}
-use Rattle.run_memory.specs.declared.pointer.Value.{Value}
-use Rattle.run_step.specs.Step.{GoTo, is_word, switch, target_of}
-use Rattle.run_step.specs.Values.{Env, address_from, arg_value, integer, literal, operand_value}
-use Rattle.ir_base.specs.declared.outcome.Word.{Word}
+use Rattle.pass_proofs.proofs.rule_laws.frames.edges.Shaped.{same_end}
+use Rattle.pass_proofs.proofs.rule_laws.rules.source_rules.Locals.{own_label}
+use Rattle.pass_proofs.specs.rule_shape.Switches.{are_both, end_label as switch_end}
+use Rattle.pass_proofs.specs.run_ints.Numbers.{word_of}
+use Rattle.pass_proofs.specs.run_memory.declared.pointer.Value.{Value}
+use Rattle.pass_proofs.specs.run_step.Step.{GoTo, is_word, switch, target_of}
+use Rattle.pass_proofs.specs.run_step.Values.{Env, address_from, arg_value, integer, literal, operand_value}
+use Rattle.pass_proofs.specs.ir_base.declared.outcome.Word.{Word}
 
 -- ---- the value of a suspend is neither 0 nor 1
 

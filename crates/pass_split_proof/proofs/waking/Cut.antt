@@ -1,11 +1,11 @@
 -- How a part is cut at a resume and at a destroy, and in which activations.
 use Rattle.std.proofs.Common.{◌≡◌, ℕ, ◌⊎◌, inl, inr, true, false, Option, None, Some, refl, sym, ap, ◌∙◌, if◌then◌else◌}
 use Rattle.std.proofs.lemmas.Bool.{false≢true}
-use Rattle.pass_intrinsics.specs.Cuts.{goes_on, transfers}
-use Rattle.pass_intrinsics.specs.declared.cuts.Cut.{Cut}
-use Rattle.pass_intrinsics.specs.declared.shape.Part.{Part}
+use Rattle.pass_proofs.specs.pass_intrinsics.Cuts.{goes_on, transfers}
+use Rattle.pass_proofs.specs.pass_intrinsics.declared.cuts.Cut.{Cut}
+use Rattle.pass_proofs.specs.pass_intrinsics.declared.shape.Part.{Part}
 use Rattle.pass_split_proof.specs.states.Activations.{RunsPart, is_entering}
-use Rattle.run_source.specs.declared.state.Mode.{Mode}
+use Rattle.pass_proofs.specs.run_source.declared.state.Mode.{Mode}
 
 -- a resume stays or transfers, and transfers where the part goes on
 pub stays_or : (part : Part) (o : Option ℕ) (c : Cut) → (if goes_on part then transfers o else Cut.Stays) ≡ c

@@ -1,17 +1,17 @@
 -- A destroy is followed in a part: it calls the part that the header names.
 use Rattle.std.proofs.Common.{◌≡◌, ℕ, ◌+◌, ◌<◌, ◌≤◌, ◌^◌, false, List, ◌∷◌, length, Ok, Some, refl, sym, ap, ◌∙◌, subst, arith}
 use Rattle.std.proofs.lemmas.Bool.{false≢true}
-use Rattle.ir_model.specs.Names.{function_at}
-use Rattle.ir_model.specs.declared.instr.Instr.{Instr}
-use Rattle.ir_model.specs.declared.instr.Terminator.{Terminator}
-use Rattle.ir_model.specs.declared.module.Function.{Function}
-use Rattle.ir_model.specs.declared.operand.Callee.{Callee}
-use Rattle.ir_model.specs.declared.operand.Intrinsic.{Intrinsic}
-use Rattle.ir_paths.specs.Windows.{destroy_label}
-use Rattle.pass_intrinsics.specs.Cuts.{cut_at}
-use Rattle.pass_intrinsics.specs.Lowered.{destroy_call}
-use Rattle.pass_intrinsics.specs.declared.cuts.Cut.{Cut}
-use Rattle.pass_intrinsics.specs.declared.shape.Part.{Part}
+use Rattle.pass_proofs.specs.ir_model.Names.{function_at}
+use Rattle.pass_proofs.specs.ir_model.declared.instr.Instr.{Instr}
+use Rattle.pass_proofs.specs.ir_model.declared.instr.Terminator.{Terminator}
+use Rattle.pass_proofs.specs.ir_model.declared.module.Function.{Function}
+use Rattle.pass_proofs.specs.ir_model.declared.operand.Callee.{Callee}
+use Rattle.pass_proofs.specs.ir_model.declared.operand.Intrinsic.{Intrinsic}
+use Rattle.pass_proofs.specs.ir_paths.Windows.{destroy_label}
+use Rattle.pass_proofs.specs.pass_intrinsics.Cuts.{cut_at}
+use Rattle.pass_proofs.specs.pass_intrinsics.Lowered.{destroy_call}
+use Rattle.pass_proofs.specs.pass_intrinsics.declared.cuts.Cut.{Cut}
+use Rattle.pass_proofs.specs.pass_intrinsics.declared.shape.Part.{Part}
 use Rattle.pass_split_proof.proofs.places.Coded.{has_code}
 use Rattle.pass_split_proof.proofs.steps.Calling.{destroy_calls, destroy_quiet}
 use Rattle.pass_split_proof.proofs.steps.Followed.{fine_ok, framed_does}
@@ -33,21 +33,21 @@ use Rattle.pass_split_proof.specs.steps.Calling.{IsCallable, TakesPointer}
 use Rattle.pass_split_proof.specs.steps.Resuming.{CanWake, IsAtWaking}
 use Rattle.pass_split_proof.specs.steps.Woken.{IsWoken}
 use Rattle.pass_split_proof.specs.waking.Able.{CanBeDestroyed}
-use Rattle.run_agreement.specs.Machines.{IsFine}
-use Rattle.run_framed.specs.Framed.{FramedGiven, continue_framed, framed_step}
-use Rattle.run_laws.proofs.transfer.Sets.{set_elsewhere, set_length}
-use Rattle.run_laws.specs.access.Lines.{Holds, StandAt, pointer_at}
-use Rattle.run_memory.specs.Memory.{encode, owner_rights}
-use Rattle.run_memory.specs.declared.pointer.Pointer.{Pointer}
-use Rattle.run_memory.specs.declared.pointer.Value.{Value}
-use Rattle.run_plain.specs.Plain.{PlainGiven, plain_function}
-use Rattle.run_plain.specs.declared.state.PlainState.{PlainState}
-use Rattle.run_source.specs.Source.{destroy}
-use Rattle.run_source.specs.State.{function_of, or_undefined}
-use Rattle.run_source.specs.declared.state.Instance.{Instance}
-use Rattle.run_source.specs.declared.state.State.{State}
-use Rattle.run_step.specs.Step.{AtInstr, Coro}
-use Rattle.run_step.specs.Values.{Env, arg_value, value_in, with_value}
+use Rattle.pass_proofs.specs.run_agreement.Machines.{IsFine}
+use Rattle.pass_proofs.specs.run_framed.Framed.{FramedGiven, continue_framed, framed_step}
+use Rattle.pass_proofs.proofs.run_laws.transfer.Sets.{set_elsewhere, set_length}
+use Rattle.pass_proofs.specs.run_laws.access.Lines.{Holds, StandAt, pointer_at}
+use Rattle.pass_proofs.specs.run_memory.Memory.{encode, owner_rights}
+use Rattle.pass_proofs.specs.run_memory.declared.pointer.Pointer.{Pointer}
+use Rattle.pass_proofs.specs.run_memory.declared.pointer.Value.{Value}
+use Rattle.run_access_worked.specs.run_plain.Plain.{PlainGiven, plain_function}
+use Rattle.run_access_worked.specs.run_plain.declared.state.PlainState.{PlainState}
+use Rattle.pass_proofs.specs.run_source.Source.{destroy}
+use Rattle.pass_proofs.specs.run_source.State.{function_of, or_undefined}
+use Rattle.pass_proofs.specs.run_source.declared.state.Instance.{Instance}
+use Rattle.pass_proofs.specs.run_source.declared.state.State.{State}
+use Rattle.pass_proofs.specs.run_step.Step.{AtInstr, Coro}
+use Rattle.pass_proofs.specs.run_step.Values.{Env, arg_value, value_in, with_value}
 
 module _ (g : FramedGiven) (h : PlainGiven) (s : State) (t : PlainState) (r : AreRelated g h s t)
     (k : IsAtWaking g h s t r Intrinsic.CoroDestroy) where

@@ -2,19 +2,19 @@
 use Rattle.std.proofs.Common.{◌≡◌, ℕ, ◌+◌, ◌⊎◌, inl, inr, true, List, [], ◌∷◌, refl, sym, ap, ◌∙◌}
 use Rattle.std.specs.Prelude.{slice_get}
 use Rattle.std.proofs.lemmas.Bool.{false≢true}
-use Rattle.ir_base.specs.declared.outcome.Outcome.{Outcome}
-use Rattle.ir_model.specs.Names.{position_of}
-use Rattle.ir_model.specs.declared.instr.Instr.{Instr}
-use Rattle.ir_model.specs.declared.instr.Phi.{Phi}
-use Rattle.ir_model.specs.declared.instr.Terminator.{Terminator}
-use Rattle.ir_model.specs.declared.module.Function.{Function}
-use Rattle.ir_model.specs.declared.operand.Callee.{Callee}
-use Rattle.ir_model.specs.declared.operand.Intrinsic.{Intrinsic}
-use Rattle.pass_intrinsics.specs.Cuts.{cut_at, goes_on, next_suspend}
-use Rattle.pass_intrinsics.specs.Shapes.{pass_label}
-use Rattle.pass_intrinsics.specs.declared.cuts.Cut.{Cut}
-use Rattle.pass_intrinsics.specs.declared.shape.Part.{Part}
-use Rattle.pass_intrinsics.specs.declared.shape.Shape.{Shape}
+use Rattle.pass_proofs.specs.ir_base.declared.outcome.Outcome.{Outcome}
+use Rattle.pass_proofs.specs.ir_model.Names.{position_of}
+use Rattle.pass_proofs.specs.ir_model.declared.instr.Instr.{Instr}
+use Rattle.pass_proofs.specs.ir_model.declared.instr.Phi.{Phi}
+use Rattle.pass_proofs.specs.ir_model.declared.instr.Terminator.{Terminator}
+use Rattle.pass_proofs.specs.ir_model.declared.module.Function.{Function}
+use Rattle.pass_proofs.specs.ir_model.declared.operand.Callee.{Callee}
+use Rattle.pass_proofs.specs.ir_model.declared.operand.Intrinsic.{Intrinsic}
+use Rattle.pass_proofs.specs.pass_intrinsics.Cuts.{cut_at, goes_on, next_suspend}
+use Rattle.pass_proofs.specs.pass_intrinsics.Shapes.{pass_label}
+use Rattle.pass_proofs.specs.pass_intrinsics.declared.cuts.Cut.{Cut}
+use Rattle.pass_proofs.specs.pass_intrinsics.declared.shape.Part.{Part}
+use Rattle.pass_proofs.specs.pass_intrinsics.declared.shape.Shape.{Shape}
 use Rattle.pass_split_proof.proofs.places.Coded.{has_code}
 use Rattle.pass_split_proof.proofs.places.Stops.{stop_there}
 use Rattle.pass_split_proof.proofs.places.Transfers.{suspend_behind}
@@ -28,16 +28,16 @@ use Rattle.pass_split_proof.specs.states.Going.{stands_at}
 use Rattle.pass_split_proof.specs.states.Related.{AreRelated}
 use Rattle.pass_split_proof.specs.steps.Resuming.{IsAtWaking}
 use Rattle.pass_split_proof.specs.waking.Able.{CanBeResumed}
-use Rattle.rule_shape.specs.Suspends.{is_suspend}
-use Rattle.run_agreement.specs.Machines.{IsFine}
-use Rattle.run_framed.specs.Framed.{FramedGiven, framed_step}
-use Rattle.run_laws.specs.access.Lines.{StandAt}
-use Rattle.run_plain.specs.Plain.{PlainGiven, plain_function, plain_step, plain_work}
-use Rattle.run_plain.specs.declared.state.PlainState.{PlainState}
-use Rattle.run_source.specs.State.{function_of}
-use Rattle.run_source.specs.declared.state.State.{State}
-use Rattle.run_step.specs.Step.{AtInstr, AtTerm, GoTo, fetch, label_of, phi_values, phis_of, with_all}
-use Rattle.run_step.specs.Values.{arg_value}
+use Rattle.pass_proofs.specs.rule_shape.Suspends.{is_suspend}
+use Rattle.pass_proofs.specs.run_agreement.Machines.{IsFine}
+use Rattle.pass_proofs.specs.run_framed.Framed.{FramedGiven, framed_step}
+use Rattle.pass_proofs.specs.run_laws.access.Lines.{StandAt}
+use Rattle.run_access_worked.specs.run_plain.Plain.{PlainGiven, plain_function, plain_step, plain_work}
+use Rattle.run_access_worked.specs.run_plain.declared.state.PlainState.{PlainState}
+use Rattle.pass_proofs.specs.run_source.State.{function_of}
+use Rattle.pass_proofs.specs.run_source.declared.state.State.{State}
+use Rattle.pass_proofs.specs.run_step.Step.{AtInstr, AtTerm, GoTo, fetch, label_of, phi_values, phis_of, with_all}
+use Rattle.pass_proofs.specs.run_step.Values.{arg_value}
 
 -- a jump to a block without phis
 pub jumps_bare : (h : PlainGiven) (t : PlainState) (label : ℕ) → t.outcome ≡ Outcome.Running

@@ -3,18 +3,18 @@ use Rattle.std.proofs.Common.{◌≡◌, ℕ, Bool, true, false, not, Option, So
 use Rattle.std.specs.Prelude.{is_some, slice_get}
 use Rattle.std.specs.Option.{option_map_or}
 use Rattle.std.proofs.lemmas.Bool.{and_from, and_parts, eq-eqb, false≢true}
-use Rattle.ir_model.specs.declared.module.Module.{Module}
+use Rattle.pass_proofs.specs.ir_model.declared.module.Module.{Module}
 use Rattle.pass_split_proof.specs.ends.Ending.{HasOwnFrame}
 use Rattle.pass_split_proof.specs.held.Kept.{IsKeptState, IsNoHeap, is_heap_in, is_kept_in}
 use Rattle.pass_split_proof.specs.marking.Markers.{HoldsNoFrame}
 use Rattle.pass_split_proof.specs.own_blocks.Own.{IsOwnState}
 use Rattle.pass_split_proof.specs.states.Instances.{is_given_in, is_held, lives_in}
-use Rattle.run_memory.specs.Memory.{is_live, same_kind}
-use Rattle.run_memory.specs.declared.block.Kind.{Kind}
-use Rattle.run_memory.specs.declared.block.MemoryBlock.{MemoryBlock}
-use Rattle.run_source.specs.State.{is_finished, is_suspended}
-use Rattle.run_source.specs.declared.state.Instance.{Instance}
-use Rattle.run_source.specs.declared.state.State.{State}
+use Rattle.pass_proofs.specs.run_memory.Memory.{is_live, same_kind}
+use Rattle.pass_proofs.specs.run_memory.declared.block.Kind.{Kind}
+use Rattle.pass_proofs.specs.run_memory.declared.block.MemoryBlock.{MemoryBlock}
+use Rattle.pass_proofs.specs.run_source.State.{is_finished, is_suspended}
+use Rattle.pass_proofs.specs.run_source.declared.state.Instance.{Instance}
+use Rattle.pass_proofs.specs.run_source.declared.state.State.{State}
 
 -- a block of an allocator is no stack block
 no_stack : (o : Option MemoryBlock) → is_heap_in o ≡ true → option_map_or (λ (x : MemoryBlock).

@@ -1,14 +1,14 @@
 -- Instructions that are done, or stuck: they call no function and no coro intrinsic, make no slot and free no block.
 use Rattle.std.proofs.Common.{◌≡◌, ℕ, Bool, true, false, List, Option, Some, None, Result, Ok, Err, if◌then◌else◌}
-use Rattle.ir_base.specs.declared.cause.Cause.{Cause}
-use Rattle.ir_base.specs.declared.ops.Pred.{Pred}
-use Rattle.ir_base.specs.declared.outcome.Word.{Word}
-use Rattle.ir_model.specs.Ty.{Ty, array, int, named, ptr, structure, token}
-use Rattle.ir_model.specs.declared.instr.Instr.{Instr}
-use Rattle.run_memory.specs.Memory.{compare}
-use Rattle.run_memory.specs.declared.pointer.Value.{Value}
-use Rattle.run_step.specs.Step.{Action, Context, Done, Stuck, Work, compared, copied_bytes, done, if_alignment, instr_action, is_alignment, named_call, observed, set_memory, with_length, words_of}
-use Rattle.run_step.specs.Values.{address, nth}
+use Rattle.pass_proofs.specs.ir_base.declared.cause.Cause.{Cause}
+use Rattle.pass_proofs.specs.ir_base.declared.ops.Pred.{Pred}
+use Rattle.pass_proofs.specs.ir_base.declared.outcome.Word.{Word}
+use Rattle.pass_proofs.specs.ir_model.Ty.{Ty, array, int, named, ptr, structure, token}
+use Rattle.pass_proofs.specs.ir_model.declared.instr.Instr.{Instr}
+use Rattle.pass_proofs.specs.run_memory.Memory.{compare}
+use Rattle.pass_proofs.specs.run_memory.declared.pointer.Value.{Value}
+use Rattle.pass_proofs.specs.run_step.Step.{Action, Context, Done, Stuck, Work, compared, copied_bytes, done, if_alignment, instr_action, is_alignment, named_call, observed, set_memory, with_length, words_of}
+use Rattle.pass_proofs.specs.run_step.Values.{address, nth}
 
 abbrev pub IsQuietAction : Action → Type 0
 IsQuietAction (Done w) = Unit {0}

@@ -1,11 +1,11 @@
 -- Each step of framed runs in which no call gives a frame is followed, and states are kept beside each other.
 use Rattle.std.proofs.Common.{◌≡◌, ℕ, false, List, Option, None, Some, sym, ap, ◌∙◌, subst, arith}
 use Rattle.std.specs.Prelude.{ℤ, unwrap_or}
-use Rattle.frame_layout.specs.declared.layout.Layouts.{Layouts}
-use Rattle.ir_base.specs.declared.outcome.Word.{Word}
-use Rattle.ir_model.specs.Names.{function_at, no_function}
-use Rattle.ir_model.specs.declared.module.Function.{Function}
-use Rattle.ir_model.specs.declared.module.Module.{Module}
+use Rattle.pass_proofs.specs.frame_layout.declared.layout.Layouts.{Layouts}
+use Rattle.pass_proofs.specs.ir_base.declared.outcome.Word.{Word}
+use Rattle.pass_proofs.specs.ir_model.Names.{function_at, no_function}
+use Rattle.pass_proofs.specs.ir_model.declared.module.Function.{Function}
+use Rattle.pass_proofs.specs.ir_model.declared.module.Module.{Module}
 use Rattle.pass_cleanup.specs.Cleaned.{plain_machine}
 use Rattle.pass_split_proof.proofs.held.Runs.{runs_kept}
 use Rattle.pass_split_proof.proofs.own_blocks.Runs.{runs_mark_none, runs_own}
@@ -23,20 +23,20 @@ use Rattle.pass_split_proof.specs.simulation.Premises.{ArePremisesMet}
 use Rattle.pass_split_proof.specs.simulation.Statement.{IsEntryOfParts, IsPartable, parts_given}
 use Rattle.pass_split_proof.specs.states.Related.{AreRelated, Follows, part_price}
 use Rattle.pass_split_proof.specs.whole.Whole.{PartsKeepCalls}
-use Rattle.run_agreement.proofs.Costs.{agrees_within_by_steps}
-use Rattle.run_agreement.specs.Agreements.{AgreesWithin}
-use Rattle.run_agreement.specs.Costs.{IsNear}
-use Rattle.run_agreement.specs.Machines.{at, iterate}
-use Rattle.run_framed.specs.Framed.{FramedGiven, framed_given, framed_state_at, framed_step}
-use Rattle.run_hooks.proofs.Keeping.{framed_keeps}
-use Rattle.run_hooks.proofs.Reaching.{states_reached}
-use Rattle.run_hooks.proofs.Steps.{framed_steps, same_runs}
-use Rattle.run_hooks.specs.Hooks.{step_of}
-use Rattle.run_hooks.specs.Meanings.{framed_hooks}
-use Rattle.run_hooks.specs.Reached.{IsReachedState}
-use Rattle.run_plain.specs.Plain.{PlainGiven}
-use Rattle.run_source.specs.Source.{first_state}
-use Rattle.run_states.specs.moved_states.Beside.{framed_machine}
+use Rattle.pass_proofs.proofs.run_agreement.Costs.{agrees_within_by_steps}
+use Rattle.pass_proofs.specs.run_agreement.Agreements.{AgreesWithin}
+use Rattle.pass_proofs.specs.run_agreement.Costs.{IsNear}
+use Rattle.pass_proofs.specs.run_agreement.Machines.{at, iterate}
+use Rattle.pass_proofs.specs.run_framed.Framed.{FramedGiven, framed_given, framed_state_at, framed_step}
+use Rattle.run_types.proofs.run_hooks.Keeping.{framed_keeps}
+use Rattle.run_types.proofs.run_hooks.Reaching.{states_reached}
+use Rattle.run_types.proofs.run_hooks.Steps.{framed_steps, same_runs}
+use Rattle.run_types.specs.run_hooks.Hooks.{step_of}
+use Rattle.run_types.specs.run_hooks.Meanings.{framed_hooks}
+use Rattle.run_types.specs.run_hooks.Reached.{IsReachedState}
+use Rattle.run_access_worked.specs.run_plain.Plain.{PlainGiven}
+use Rattle.pass_proofs.specs.run_source.Source.{first_state}
+use Rattle.pass_proofs.specs.run_states.moved_states.Beside.{framed_machine}
 use Rattle.run_types.proofs.Meanings.{framed_keeps_fitting}
 use Rattle.run_types.proofs.Runs.{states_fit}
 use Rattle.run_types.specs.Rules.{KeepsGivenTypes}

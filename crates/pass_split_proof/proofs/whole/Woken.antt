@@ -2,20 +2,20 @@
 use Rattle.std.proofs.Common.{◌≡◌, ℕ, zero, suc, true, false, List, [], ◌∷◌, Option, Some, None, refl, sym, ap, ◌∙◌, subst}
 use Rattle.std.specs.Prelude.{slice_get}
 use Rattle.std.proofs.lemmas.Bool.{false≢true}
-use Rattle.flow_solver.proofs.Lists.{listed_at}
-use Rattle.flow_solver.specs.Paths.{IsListed}
+use Rattle.pass_proofs.proofs.flow_solver.Lists.{listed_at}
+use Rattle.pass_proofs.specs.flow_solver.Paths.{IsListed}
 use Rattle.pass_split_proof.specs.steps.Returns.{IsReturnBlock}
-use Rattle.ir_model.specs.Names.{function_at, position_of}
-use Rattle.ir_model.specs.declared.instr.Instr.{Instr}
-use Rattle.ir_model.specs.declared.module.Block.{Block}
-use Rattle.ir_model.specs.declared.module.Function.{Function}
-use Rattle.ir_paths.specs.Windows.{destroy_label, resume_label}
-use Rattle.pass_intrinsics.specs.Cuts.{goes_on}
-use Rattle.pass_intrinsics.specs.Shapes.{suspends_of}
-use Rattle.pass_intrinsics.specs.declared.shape.Part.{Part}
-use Rattle.pass_intrinsics.specs.declared.shape.SuspendPoint.{SuspendPoint}
-use Rattle.pass_kept_proof.specs.Related.{AreSoundInstances, IsSoundStatus}
-use Rattle.pass_split.specs.Pieces.{going_on}
+use Rattle.pass_proofs.specs.ir_model.Names.{function_at, position_of}
+use Rattle.pass_proofs.specs.ir_model.declared.instr.Instr.{Instr}
+use Rattle.pass_proofs.specs.ir_model.declared.module.Block.{Block}
+use Rattle.pass_proofs.specs.ir_model.declared.module.Function.{Function}
+use Rattle.pass_proofs.specs.ir_paths.Windows.{destroy_label, resume_label}
+use Rattle.pass_proofs.specs.pass_intrinsics.Cuts.{goes_on}
+use Rattle.pass_proofs.specs.pass_intrinsics.Shapes.{suspends_of}
+use Rattle.pass_proofs.specs.pass_intrinsics.declared.shape.Part.{Part}
+use Rattle.pass_proofs.specs.pass_intrinsics.declared.shape.SuspendPoint.{SuspendPoint}
+use Rattle.pass_proofs.specs.pass_kept_proof.Related.{AreSoundInstances, IsSoundStatus}
+use Rattle.pass_proofs.specs.pass_split.Pieces.{going_on}
 use Rattle.pass_split_proof.proofs.whole.Held.{suspended_held}
 use Rattle.pass_split_proof.specs.held.Kept.{IsKeptState}
 use Rattle.pass_split_proof.specs.own_blocks.Own.{IsOwnState}
@@ -25,16 +25,16 @@ use Rattle.pass_split_proof.specs.states.Related.{AreRelated}
 use Rattle.pass_split_proof.specs.steps.Resuming.{CanWake}
 use Rattle.pass_split_proof.specs.steps.Woken.{IsWoken}
 use Rattle.pass_split_proof.specs.waking.Able.{CanBeDestroyed, CanBeResumed}
-use Rattle.run_framed.specs.Framed.{FramedGiven}
-use Rattle.run_hooks.specs.Reached.{IsReachedState}
-use Rattle.run_memory.specs.declared.pointer.Value.{Value}
-use Rattle.run_plain.specs.Plain.{PlainGiven}
-use Rattle.run_plain.specs.declared.state.PlainState.{PlainState}
-use Rattle.run_source.specs.State.{is_suspended}
-use Rattle.run_source.specs.declared.state.Instance.{Instance}
-use Rattle.run_source.specs.declared.state.State.{State}
-use Rattle.run_source_tables.specs.Given.{Given, is_final}
-use Rattle.run_step.specs.Step.{AtInstr, fetch, fetch_in, label_of}
+use Rattle.pass_proofs.specs.run_framed.Framed.{FramedGiven}
+use Rattle.run_types.specs.run_hooks.Reached.{IsReachedState}
+use Rattle.pass_proofs.specs.run_memory.declared.pointer.Value.{Value}
+use Rattle.run_access_worked.specs.run_plain.Plain.{PlainGiven}
+use Rattle.run_access_worked.specs.run_plain.declared.state.PlainState.{PlainState}
+use Rattle.pass_proofs.specs.run_source.State.{is_suspended}
+use Rattle.pass_proofs.specs.run_source.declared.state.Instance.{Instance}
+use Rattle.pass_proofs.specs.run_source.declared.state.State.{State}
+use Rattle.pass_proofs.specs.run_source_tables.Given.{Given, is_final}
+use Rattle.pass_proofs.specs.run_step.Step.{AtInstr, fetch, fetch_in, label_of}
 
 -- a block stands where an instruction does
 pub own_block : (f : Function) (block at : ℕ) (i : Instr) → fetch f block at ≡ AtInstr i

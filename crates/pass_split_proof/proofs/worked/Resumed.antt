@@ -1,6 +1,6 @@
 -- A worked begin, save and resume: memories stand beside each other behind each.
 use Rattle.std.proofs.Common.{inl, false, List, [], ◌∷◌, Option, None, Some, refl}
-use Rattle.pass_intrinsics.specs.declared.shape.Part.{Part}
+use Rattle.pass_proofs.specs.pass_intrinsics.declared.shape.Part.{Part}
 use Rattle.pass_proofs.specs.split.rules.Reached.{Entry, IsLedTo}
 use Rattle.pass_split_proof.proofs.states.Saved.{saves}
 use Rattle.pass_split_proof.proofs.states.Worked.{after, laid}
@@ -11,10 +11,10 @@ use Rattle.pass_split_proof.specs.states.Instances.{IsSavedAt, address_of_part}
 use Rattle.pass_split_proof.specs.states.Saved.{SavesIn}
 use Rattle.pass_split_proof.specs.steps.Branches.{Left}
 use Rattle.pass_split_proof.specs.worked.Resumed.{AreWorked, a_coroutine, a_given, a_suspend, begun_memory, framed_memory, given_frame, saved_memory, sleeping, woken}
-use Rattle.run_laws.specs.memory.Standing.{blank_block}
-use Rattle.run_laws_worked.specs.Worked.{an_instance}
-use Rattle.run_memory.specs.declared.block.Kind.{Kind}
-use Rattle.run_memory.specs.declared.pointer.Value.{Value}
+use Rattle.pass_proofs.specs.run_laws.memory.Standing.{blank_block}
+use Rattle.run_access_worked.specs.run_laws_worked.Worked.{an_instance}
+use Rattle.pass_proofs.specs.run_memory.declared.block.Kind.{Kind}
+use Rattle.pass_proofs.specs.run_memory.declared.pointer.Value.{Value}
 
 -- ---- the suspend
 

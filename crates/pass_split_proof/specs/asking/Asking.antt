@@ -1,17 +1,17 @@
 -- A call that asks for a frame or its promise, which the framed run and its part are at.
 use Rattle.std.specs.Prelude.{◌≡◌, ℕ, true, Some, find, slice_get}
-use Rattle.frame_layout.specs.declared.layout.PlacedField.{PlacedField}
-use Rattle.ir_model.specs.declared.operand.Intrinsic.{Intrinsic}
+use Rattle.pass_proofs.specs.frame_layout.declared.layout.PlacedField.{PlacedField}
+use Rattle.pass_proofs.specs.ir_model.declared.operand.Intrinsic.{Intrinsic}
 use Rattle.pass_split_proof.specs.states.Instances.{IsLaidOut, is_held}
 use Rattle.pass_split_proof.specs.states.Related.{AreRelated}
 use Rattle.pass_split_proof.specs.steps.Resuming.{IsAtWaking}
 use Rattle.pass_split_proof.specs.steps.Woken.{IsWoken}
-use Rattle.run_framed.specs.Framed.{FramedGiven, is_promise_kind, layout_of}
-use Rattle.run_memory.specs.declared.pointer.Value.{Value}
-use Rattle.run_plain.specs.Plain.{PlainGiven}
-use Rattle.run_plain.specs.declared.state.PlainState.{PlainState}
-use Rattle.run_source.specs.declared.state.Instance.{Instance}
-use Rattle.run_source.specs.declared.state.State.{State}
+use Rattle.pass_proofs.specs.run_framed.Framed.{FramedGiven, is_promise_kind, layout_of}
+use Rattle.pass_proofs.specs.run_memory.declared.pointer.Value.{Value}
+use Rattle.run_access_worked.specs.run_plain.Plain.{PlainGiven}
+use Rattle.run_access_worked.specs.run_plain.declared.state.PlainState.{PlainState}
+use Rattle.pass_proofs.specs.run_source.declared.state.Instance.{Instance}
+use Rattle.pass_proofs.specs.run_source.declared.state.State.{State}
 
 -- The framed run is at a call of one of the two with an address, and the part is at the same place. The name of the
 -- frame isn't set.

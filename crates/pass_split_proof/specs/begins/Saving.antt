@@ -1,29 +1,29 @@
 -- A save that the framed run is at, and its part too.
 use Rattle.std.specs.Prelude.{◌≡◌, ℕ, ◌<◌, Bool, true, false, List, Option, Some, length, slice_get}
-use Rattle.ir_model.specs.Names.{function_at}
-use Rattle.ir_model.specs.Ty.{Ty}
-use Rattle.ir_model.specs.declared.instr.Instr.{Instr}
-use Rattle.ir_model.specs.declared.operand.Arg.{Arg}
-use Rattle.ir_model.specs.declared.operand.Callee.{Callee}
-use Rattle.ir_model.specs.declared.operand.Intrinsic.{Intrinsic}
-use Rattle.ir_paths.specs.Windows.{suspend_of}
-use Rattle.ir_paths.specs.declared.point.Point.{Point}
-use Rattle.pass_intrinsics.specs.declared.shape.Part.{Part}
+use Rattle.pass_proofs.specs.ir_model.Names.{function_at}
+use Rattle.pass_proofs.specs.ir_model.Ty.{Ty}
+use Rattle.pass_proofs.specs.ir_model.declared.instr.Instr.{Instr}
+use Rattle.pass_proofs.specs.ir_model.declared.operand.Arg.{Arg}
+use Rattle.pass_proofs.specs.ir_model.declared.operand.Callee.{Callee}
+use Rattle.pass_proofs.specs.ir_model.declared.operand.Intrinsic.{Intrinsic}
+use Rattle.pass_proofs.specs.ir_paths.Windows.{suspend_of}
+use Rattle.pass_proofs.specs.ir_paths.declared.point.Point.{Point}
+use Rattle.pass_proofs.specs.pass_intrinsics.declared.shape.Part.{Part}
 use Rattle.pass_proofs.specs.split.rules.Reached.{IsLedTo}
 use Rattle.pass_split_proof.specs.code.Numbers.{IsNumbered}
 use Rattle.pass_split_proof.specs.places.Places.{IsPlace}
 use Rattle.pass_split_proof.specs.states.Activations.{is_entering}
 use Rattle.pass_split_proof.specs.states.Instances.{IsLaidOut, address_of_part, is_held}
 use Rattle.pass_split_proof.specs.states.Related.{AreRelated}
-use Rattle.rule_laws.specs.frames.replaced.Parted.{IsSmall}
-use Rattle.run_framed.specs.Framed.{FramedGiven}
-use Rattle.run_plain.specs.Plain.{PlainGiven}
-use Rattle.run_plain.specs.declared.state.PlainState.{PlainState}
-use Rattle.run_source.specs.State.{function_of}
-use Rattle.run_source.specs.declared.state.Instance.{Instance}
-use Rattle.run_source.specs.declared.state.State.{State}
-use Rattle.run_step.specs.Step.{AtInstr, fetch}
-use Rattle.run_step.specs.Values.{address_of}
+use Rattle.pass_proofs.specs.rule_laws.frames.replaced.Parted.{IsSmall}
+use Rattle.pass_proofs.specs.run_framed.Framed.{FramedGiven}
+use Rattle.run_access_worked.specs.run_plain.Plain.{PlainGiven}
+use Rattle.run_access_worked.specs.run_plain.declared.state.PlainState.{PlainState}
+use Rattle.pass_proofs.specs.run_source.State.{function_of}
+use Rattle.pass_proofs.specs.run_source.declared.state.Instance.{Instance}
+use Rattle.pass_proofs.specs.run_source.declared.state.State.{State}
+use Rattle.pass_proofs.specs.run_step.Step.{AtInstr, fetch}
+use Rattle.pass_proofs.specs.run_step.Values.{address_of}
 
 -- The framed run is at a save of a coroutine, and the part is at the same place. A path leads to the save's suspend. The
 -- frame is there unless it is freed, and the part that a resume calls is found by its name.

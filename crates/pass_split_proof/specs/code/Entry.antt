@@ -1,24 +1,24 @@
 -- How a part begins that goes on behind a suspend: its allocas, the index, and a switch that leads back.
 use Rattle.std.specs.Prelude.{◌≡◌, ℕ, true, List, [], length, slice_get, Some, None, ◌+◌, ◌∷◌, ◌<◌, pos}
-use Rattle.ir_model.specs.Names.{position_of}
-use Rattle.ir_model.specs.Ty.{Ty, int}
-use Rattle.ir_model.specs.TypeView.{bits_of}
-use Rattle.ir_model.specs.declared.instr.Instr.{Instr}
-use Rattle.ir_model.specs.declared.module.Function.{Function}
-use Rattle.ir_model.specs.declared.operand.Operand.{Operand}
-use Rattle.pass_front.specs.Front.{allocas_of}
-use Rattle.pass_intrinsics.specs.Lowered.{address}
-use Rattle.pass_intrinsics.specs.Shapes.{back_label, index_bytes, index_name, slot_name}
-use Rattle.pass_intrinsics.specs.declared.shape.Part.{Part}
-use Rattle.pass_intrinsics.specs.declared.shape.Shape.{Shape}
-use Rattle.pass_intrinsics.specs.declared.shape.SuspendPoint.{SuspendPoint}
+use Rattle.pass_proofs.specs.ir_model.Names.{position_of}
+use Rattle.pass_proofs.specs.ir_model.Ty.{Ty, int}
+use Rattle.pass_proofs.specs.ir_model.TypeView.{bits_of}
+use Rattle.pass_proofs.specs.ir_model.declared.instr.Instr.{Instr}
+use Rattle.pass_proofs.specs.ir_model.declared.module.Function.{Function}
+use Rattle.pass_proofs.specs.ir_model.declared.operand.Operand.{Operand}
+use Rattle.pass_proofs.specs.pass_front.Front.{allocas_of}
+use Rattle.pass_proofs.specs.pass_intrinsics.Lowered.{address}
+use Rattle.pass_proofs.specs.pass_intrinsics.Shapes.{back_label, index_bytes, index_name, slot_name}
+use Rattle.pass_proofs.specs.pass_intrinsics.declared.shape.Part.{Part}
+use Rattle.pass_proofs.specs.pass_intrinsics.declared.shape.Shape.{Shape}
+use Rattle.pass_proofs.specs.pass_intrinsics.declared.shape.SuspendPoint.{SuspendPoint}
 use Rattle.pass_split_proof.specs.places.Places.{JumpsOn, Leads}
-use Rattle.pass_split.specs.Parts.{entry_term, is_entered, or_zero}
-use Rattle.pass_split.specs.Pieces.{going_on, redirected}
-use Rattle.pass_split.specs.Reached.{reached}
-use Rattle.run_framed.specs.Framed.{alloca_from}
-use Rattle.run_laws.specs.access.Lines.{StandAt}
-use Rattle.run_step.specs.Step.{AtInstr, AtTerm, fetch}
+use Rattle.pass_proofs.specs.pass_split.Parts.{entry_term, is_entered, or_zero}
+use Rattle.pass_proofs.specs.pass_split.Pieces.{going_on, redirected}
+use Rattle.pass_proofs.specs.pass_split.Reached.{reached}
+use Rattle.pass_proofs.specs.run_framed.Framed.{alloca_from}
+use Rattle.pass_proofs.specs.run_laws.access.Lines.{StandAt}
+use Rattle.pass_proofs.specs.run_step.Step.{AtInstr, AtTerm, fetch}
 
 -- an alloca stands in the entry block
 pub record IsAllocaAt (f : Function) (at : ℕ) : Type 0 where

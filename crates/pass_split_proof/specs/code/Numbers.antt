@@ -1,12 +1,12 @@
 -- The numbers of suspends, by which parts go on.
 use Rattle.std.specs.Prelude.{◌≡◌, ℕ, slice_get, Some}
-use Rattle.ir_model.specs.declared.module.Function.{Function}
-use Rattle.ir_paths.specs.Windows.{destroy_label, resume_label}
-use Rattle.ir_paths.specs.declared.point.Point.{Point}
-use Rattle.pass_intrinsics.specs.Shapes.{suspends_of}
-use Rattle.pass_intrinsics.specs.declared.shape.SuspendPoint.{SuspendPoint}
-use Rattle.run_source_tables.specs.Given.{is_final}
-use Rattle.run_step.specs.Step.{label_of}
+use Rattle.pass_proofs.specs.ir_model.declared.module.Function.{Function}
+use Rattle.pass_proofs.specs.ir_paths.Windows.{destroy_label, resume_label}
+use Rattle.pass_proofs.specs.ir_paths.declared.point.Point.{Point}
+use Rattle.pass_proofs.specs.pass_intrinsics.Shapes.{suspends_of}
+use Rattle.pass_proofs.specs.pass_intrinsics.declared.shape.SuspendPoint.{SuspendPoint}
+use Rattle.pass_proofs.specs.run_source_tables.Given.{is_final}
+use Rattle.pass_proofs.specs.run_step.Step.{label_of}
 
 -- the suspend of a number, as it stands at a point of the function
 pub record IsNumbered (f : Function) (p : Point) (j : ℕ) : Type 0 where

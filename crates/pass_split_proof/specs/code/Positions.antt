@@ -1,12 +1,12 @@
 -- Where the functions of a module stand once its coroutines are split.
 use Rattle.std.specs.Prelude.{ℕ, zero, suc, Bool, true, false, List, [], length, ◌+◌, ◌∷◌}
-use Rattle.frame_layout.specs.declared.layout.Layout.{Layout}
-use Rattle.ir_model.specs.declared.module.Function.{Function}
-use Rattle.ir_model.specs.declared.module.Module.{Module}
-use Rattle.pass_intrinsics.specs.declared.shape.Part.{Part}
+use Rattle.pass_proofs.specs.frame_layout.declared.layout.Layout.{Layout}
+use Rattle.pass_proofs.specs.ir_model.declared.module.Function.{Function}
+use Rattle.pass_proofs.specs.ir_model.declared.module.Module.{Module}
+use Rattle.pass_proofs.specs.pass_intrinsics.declared.shape.Part.{Part}
 use Rattle.pass_split_proof.specs.first_exits.Parted.{parted_function}
-use Rattle.pass_split.specs.Given.{has_given_call}
-use Rattle.pass_split.specs.Parts.{first_layout, layouts_after}
+use Rattle.pass_proofs.specs.pass_split.Given.{has_given_call}
+use Rattle.pass_proofs.specs.pass_split.Parts.{first_layout, layouts_after}
 
 -- the layouts that are left for the k-th function and those behind it
 abbrev pub layouts_from : List Layout → List Function → ℕ → List Layout

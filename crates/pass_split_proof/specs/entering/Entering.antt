@@ -1,7 +1,7 @@
 -- An activation that goes on behind a suspend, at one of the allocas that it makes again first.
 use Rattle.std.specs.Prelude.{◌≡◌, ℕ, ◌<◌, length}
-use Rattle.ir_model.specs.Names.{function_at}
-use Rattle.pass_front.specs.Front.{allocas_of}
+use Rattle.pass_proofs.specs.ir_model.Names.{function_at}
+use Rattle.pass_proofs.specs.pass_front.Front.{allocas_of}
 use Rattle.pass_split_proof.specs.code.Entry.{HasFrontAllocas}
 use Rattle.pass_split_proof.specs.making.Blocks.{IsAlloca}
 use Rattle.pass_split_proof.specs.places.Places.{StartsWithEnd}
@@ -9,12 +9,12 @@ use Rattle.pass_split_proof.specs.states.Instances.{IsLaidOut, shape_at}
 use Rattle.pass_split_proof.specs.states.Related.{AreRelated}
 use Rattle.pass_split_proof.specs.steps.Woken.{IsPartThere}
 use Rattle.pass_split_proof.specs.steps.Returns.{IsReturnBlock}
-use Rattle.run_framed.specs.Framed.{FramedGiven}
-use Rattle.run_plain.specs.Plain.{PlainGiven}
-use Rattle.run_plain.specs.declared.state.PlainState.{PlainState}
-use Rattle.run_source.specs.State.{function_of}
-use Rattle.run_source.specs.declared.state.Mode.{Mode}
-use Rattle.run_source.specs.declared.state.State.{State}
+use Rattle.pass_proofs.specs.run_framed.Framed.{FramedGiven}
+use Rattle.run_access_worked.specs.run_plain.Plain.{PlainGiven}
+use Rattle.run_access_worked.specs.run_plain.declared.state.PlainState.{PlainState}
+use Rattle.pass_proofs.specs.run_source.State.{function_of}
+use Rattle.pass_proofs.specs.run_source.declared.state.Mode.{Mode}
+use Rattle.pass_proofs.specs.run_source.declared.state.State.{State}
 
 -- The framed run is at the alloca of that place in the entry block, and the part at the same one. The allocas stand in
 -- front in both.

@@ -1,28 +1,28 @@
 -- States of a framed run in which no call gives a frame: frames begin blocks of allocators, and allocas that are behind
 -- an activation have given it blocks of their own.
 use Rattle.std.specs.Prelude.{◌≡◌, ℕ, ◌<◌, Bool, true, false, List, [], ◌∷◌, length, slice_get, Some, None, Option, is_none}
-use Rattle.ir_base.specs.declared.name.Name.{Name}
-use Rattle.ir_model.specs.Names.{function_at}
-use Rattle.ir_model.specs.Ty.{Ty}
-use Rattle.ir_model.specs.declared.instr.Instr.{Instr}
-use Rattle.ir_model.specs.declared.module.Function.{Function}
-use Rattle.ir_model.specs.declared.module.Module.{Module}
-use Rattle.ir_model.specs.declared.operand.Arg.{Arg}
-use Rattle.ir_model.specs.declared.operand.Callee.{Callee}
-use Rattle.ir_model.specs.declared.operand.Intrinsic.{Intrinsic}
+use Rattle.pass_proofs.specs.ir_base.declared.name.Name.{Name}
+use Rattle.pass_proofs.specs.ir_model.Names.{function_at}
+use Rattle.pass_proofs.specs.ir_model.Ty.{Ty}
+use Rattle.pass_proofs.specs.ir_model.declared.instr.Instr.{Instr}
+use Rattle.pass_proofs.specs.ir_model.declared.module.Function.{Function}
+use Rattle.pass_proofs.specs.ir_model.declared.module.Module.{Module}
+use Rattle.pass_proofs.specs.ir_model.declared.operand.Arg.{Arg}
+use Rattle.pass_proofs.specs.ir_model.declared.operand.Callee.{Callee}
+use Rattle.pass_proofs.specs.ir_model.declared.operand.Intrinsic.{Intrinsic}
 use Rattle.pass_split_proof.specs.held.Kept.{IsNoHeap, is_heap_in}
 use Rattle.pass_split_proof.specs.simulation.Premises.{AreAllocasAlone, IsEntryAlloca, is_of_coroutines}
-use Rattle.run_framed.specs.Framed.{given_ramp}
-use Rattle.run_memory.specs.declared.block.MemoryBlock.{MemoryBlock}
-use Rattle.run_memory.specs.declared.pointer.Offset.{Offset}
-use Rattle.run_memory.specs.declared.pointer.Pointer.{Pointer}
-use Rattle.run_memory.specs.declared.pointer.Value.{Value}
-use Rattle.run_source.specs.declared.state.Activation.{Activation}
-use Rattle.run_source.specs.declared.state.Instance.{Instance}
-use Rattle.run_source.specs.declared.state.Mode.{Mode}
-use Rattle.run_source.specs.declared.state.State.{State}
-use Rattle.run_step.specs.Step.{AtInstr, fetch}
-use Rattle.run_step.specs.Values.{Env, value_in}
+use Rattle.pass_proofs.specs.run_framed.Framed.{given_ramp}
+use Rattle.pass_proofs.specs.run_memory.declared.block.MemoryBlock.{MemoryBlock}
+use Rattle.pass_proofs.specs.run_memory.declared.pointer.Offset.{Offset}
+use Rattle.pass_proofs.specs.run_memory.declared.pointer.Pointer.{Pointer}
+use Rattle.pass_proofs.specs.run_memory.declared.pointer.Value.{Value}
+use Rattle.pass_proofs.specs.run_source.declared.state.Activation.{Activation}
+use Rattle.pass_proofs.specs.run_source.declared.state.Instance.{Instance}
+use Rattle.pass_proofs.specs.run_source.declared.state.Mode.{Mode}
+use Rattle.pass_proofs.specs.run_source.declared.state.State.{State}
+use Rattle.pass_proofs.specs.run_step.Step.{AtInstr, fetch}
+use Rattle.pass_proofs.specs.run_step.Values.{Env, value_in}
 
 -- ---- what is asked of the module
 

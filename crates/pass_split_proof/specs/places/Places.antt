@@ -1,38 +1,38 @@
 -- Where the code of a function stands in what splitting makes of it: a part of a coroutine, or the function turned.
 use Rattle.std.specs.Prelude.{◌≡◌, ℕ, true, false, List, [], map, length, slice_get, Some, None, ◌+◌, ◌∷◌, ◌++◌, ◌≤◌}
-use Rattle.frame_layout.specs.declared.layout.Layout.{Layout}
-use Rattle.flow_solver.specs.Paths.{IsListed}
-use Rattle.rule_laws.specs.rules.function_rules.Kept.{KeepsFunctionRules}
-use Rattle.ir_model.specs.Names.{is_local, position_of}
-use Rattle.ir_model.specs.Ty.{Ty}
-use Rattle.ir_model.specs.declared.instr.Case.{Case}
-use Rattle.ir_model.specs.declared.instr.Instr.{Instr}
-use Rattle.ir_model.specs.declared.instr.Phi.{Phi}
-use Rattle.ir_model.specs.declared.instr.Terminator.{Terminator}
-use Rattle.ir_model.specs.declared.module.Block.{Block}
-use Rattle.ir_model.specs.declared.module.Function.{Function}
-use Rattle.ir_model.specs.declared.module.Module.{Module}
-use Rattle.ir_model.specs.declared.operand.Arg.{Arg}
-use Rattle.ir_model.specs.declared.operand.Operand.{Operand}
-use Rattle.ir_paths.specs.Paths.{targets}
-use Rattle.ir_paths.specs.Windows.{call_result}
-use Rattle.pass_intrinsics.specs.Cuts.{cut_at, token_in}
-use Rattle.pass_intrinsics.specs.Lowered.{lowered, names_taken, number_of_save}
-use Rattle.pass_intrinsics.specs.Shapes.{done_label, is_end, pass_label, shape_of}
-use Rattle.pass_intrinsics.specs.declared.cuts.Cut.{Cut}
-use Rattle.pass_intrinsics.specs.declared.shape.Part.{Part}
-use Rattle.pass_intrinsics.specs.declared.shape.Shape.{Shape}
+use Rattle.pass_proofs.specs.frame_layout.declared.layout.Layout.{Layout}
+use Rattle.pass_proofs.specs.flow_solver.Paths.{IsListed}
+use Rattle.pass_proofs.specs.rule_laws.rules.function_rules.Kept.{KeepsFunctionRules}
+use Rattle.pass_proofs.specs.ir_model.Names.{is_local, position_of}
+use Rattle.pass_proofs.specs.ir_model.Ty.{Ty}
+use Rattle.pass_proofs.specs.ir_model.declared.instr.Case.{Case}
+use Rattle.pass_proofs.specs.ir_model.declared.instr.Instr.{Instr}
+use Rattle.pass_proofs.specs.ir_model.declared.instr.Phi.{Phi}
+use Rattle.pass_proofs.specs.ir_model.declared.instr.Terminator.{Terminator}
+use Rattle.pass_proofs.specs.ir_model.declared.module.Block.{Block}
+use Rattle.pass_proofs.specs.ir_model.declared.module.Function.{Function}
+use Rattle.pass_proofs.specs.ir_model.declared.module.Module.{Module}
+use Rattle.pass_proofs.specs.ir_model.declared.operand.Arg.{Arg}
+use Rattle.pass_proofs.specs.ir_model.declared.operand.Operand.{Operand}
+use Rattle.pass_proofs.specs.ir_paths.Paths.{targets}
+use Rattle.pass_proofs.specs.ir_paths.Windows.{call_result}
+use Rattle.pass_proofs.specs.pass_intrinsics.Cuts.{cut_at, token_in}
+use Rattle.pass_proofs.specs.pass_intrinsics.Lowered.{lowered, names_taken, number_of_save}
+use Rattle.pass_proofs.specs.pass_intrinsics.Shapes.{done_label, is_end, pass_label, shape_of}
+use Rattle.pass_proofs.specs.pass_intrinsics.declared.cuts.Cut.{Cut}
+use Rattle.pass_proofs.specs.pass_intrinsics.declared.shape.Part.{Part}
+use Rattle.pass_proofs.specs.pass_intrinsics.declared.shape.Shape.{Shape}
 use Rattle.pass_proofs.specs.split.rules.Parted.{IsPartOf}
 use Rattle.pass_proofs.specs.split.rules.Pieced.{ArePieces}
 use Rattle.pass_proofs.specs.split.rules.Reached.{IsLedTo}
 use Rattle.pass_proofs.specs.split.rules.Splittable.{IsSplittable}
-use Rattle.pass_split.specs.Parts.{plain_of, plain_shape}
-use Rattle.pass_split.specs.Pieces.{begins_again, origin_in, redirected, stop_label}
-use Rattle.pass_split.specs.declared.origin.Origin.{Origin}
-use Rattle.rule_shape.specs.Suspends.{is_suspend}
-use Rattle.rule_shape.specs.Switches.{are_both}
-use Rattle.run_laws.specs.access.Lines.{StandAt}
-use Rattle.run_step.specs.Step.{AtInstr, AtTerm, fetch, incoming_from, label_of, phis_of}
+use Rattle.pass_proofs.specs.pass_split.Parts.{plain_of, plain_shape}
+use Rattle.pass_proofs.specs.pass_split.Pieces.{begins_again, origin_in, redirected, stop_label}
+use Rattle.pass_proofs.specs.pass_split.declared.origin.Origin.{Origin}
+use Rattle.pass_proofs.specs.rule_shape.Suspends.{is_suspend}
+use Rattle.pass_proofs.specs.rule_shape.Switches.{are_both}
+use Rattle.pass_proofs.specs.run_laws.access.Lines.{StandAt}
+use Rattle.pass_proofs.specs.run_step.Step.{AtInstr, AtTerm, fetch, incoming_from, label_of, phis_of}
 
 -- g is one of the functions that splitting makes of a function f that breaks no rule, by a shape and as a part
 pub data IsCodeOf (f g : Function) : Shape → Part → Type 0 where

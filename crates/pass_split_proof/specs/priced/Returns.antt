@@ -1,10 +1,10 @@
 -- Blocks behind suspends that end in jumps, so that no edge of theirs leaves a window.
 use Rattle.std.specs.Prelude.{◌≡◌, ◌≤◌, ℕ, true, false, Some, length, slice_get}
-use Rattle.ir_model.specs.declared.instr.Terminator.{Terminator}
-use Rattle.ir_model.specs.declared.module.Block.{Block}
-use Rattle.ir_model.specs.declared.module.Function.{Function}
-use Rattle.ir_model.specs.declared.module.Module.{Module}
-use Rattle.pass_intrinsics.specs.Shapes.{suspends_of}
+use Rattle.pass_proofs.specs.ir_model.declared.instr.Terminator.{Terminator}
+use Rattle.pass_proofs.specs.ir_model.declared.module.Block.{Block}
+use Rattle.pass_proofs.specs.ir_model.declared.module.Function.{Function}
+use Rattle.pass_proofs.specs.ir_model.declared.module.Module.{Module}
+use Rattle.pass_proofs.specs.pass_intrinsics.Shapes.{suspends_of}
 use Rattle.pass_split_proof.specs.states.Related.{is_return_label}
 
 pub record JumpsBehind (f : Function) : Type 0 where

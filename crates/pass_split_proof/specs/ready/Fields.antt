@@ -1,10 +1,10 @@
 -- The indices of getelementptrs that lead into structures.
 use Rattle.std.specs.Prelude.{◌≡◌, ◌<◌, ◌^◌, ℕ, List, [], ◌∷◌, pos}
-use Rattle.ir_model.specs.Layout.{field_type, unnamed}
-use Rattle.ir_model.specs.Ty.{Ty, array, int, structure}
-use Rattle.ir_model.specs.declared.module.Module.{Module}
-use Rattle.ir_model.specs.declared.operand.Arg.{Arg}
-use Rattle.ir_model.specs.declared.operand.Operand.{Operand}
+use Rattle.pass_proofs.specs.ir_model.Layout.{field_type, unnamed}
+use Rattle.pass_proofs.specs.ir_model.Ty.{Ty, array, int, structure}
+use Rattle.pass_proofs.specs.ir_model.declared.module.Module.{Module}
+use Rattle.pass_proofs.specs.ir_model.declared.operand.Arg.{Arg}
+use Rattle.pass_proofs.specs.ir_model.declared.operand.Operand.{Operand}
 
 -- the field of a literal
 abbrev pub number_in : Operand → ℕ

@@ -1,7 +1,7 @@
 -- Layouts of the coroutines of a module in order, each with its coroutine's number.
 use Rattle.std.specs.Prelude.{◌≡◌, ◌⊎◌, ◌+◌, ℕ, true, false, List, [], ◌∷◌}
-use Rattle.frame_layout.specs.declared.layout.Layout.{Layout}
-use Rattle.ir_model.specs.declared.module.Function.{Function}
+use Rattle.pass_proofs.specs.frame_layout.declared.layout.Layout.{Layout}
+use Rattle.pass_proofs.specs.ir_model.declared.module.Function.{Function}
 
 -- of functions, the first of which has a number
 abbrev pub AreLayoutsOf : ℕ → List Function → List Layout → Type 0

@@ -1,31 +1,31 @@
 -- What a framed module has, so that each place of its runs has what the laws of steps ask there.
 use Rattle.std.specs.Prelude.{◌≡◌, ℕ, Bool, true, false, List, [], None, Some, codes, find, is_some, slice_get}
-use Rattle.frame_layout.specs.declared.layout.Layouts.{Layouts}
-use Rattle.frame_layout.specs.declared.layout.PlacedField.{PlacedField}
-use Rattle.ir_model.specs.Names.{function_named, position_of}
-use Rattle.ir_model.specs.Ty.{Ty}
-use Rattle.ir_model.specs.declared.instr.Instr.{Instr}
-use Rattle.ir_model.specs.declared.module.Function.{Function}
-use Rattle.ir_model.specs.declared.module.Module.{Module}
-use Rattle.ir_model.specs.declared.operand.Arg.{Arg}
-use Rattle.ir_model.specs.declared.operand.Intrinsic.{Intrinsic}
-use Rattle.ir_model.specs.declared.operand.Operand.{Operand}
-use Rattle.ir_paths.specs.Paths.{Leads}
-use Rattle.ir_paths.specs.Windows.{call_result, is_call_of, suspend_of}
-use Rattle.ir_paths.specs.declared.point.Point.{Point}
-use Rattle.pass_intrinsics.specs.Shapes.{part_name, shape_of}
-use Rattle.pass_kept_proof.specs.SuspendRules.{IsCallAt}
+use Rattle.pass_proofs.specs.frame_layout.declared.layout.Layouts.{Layouts}
+use Rattle.pass_proofs.specs.frame_layout.declared.layout.PlacedField.{PlacedField}
+use Rattle.pass_proofs.specs.ir_model.Names.{function_named, position_of}
+use Rattle.pass_proofs.specs.ir_model.Ty.{Ty}
+use Rattle.pass_proofs.specs.ir_model.declared.instr.Instr.{Instr}
+use Rattle.pass_proofs.specs.ir_model.declared.module.Function.{Function}
+use Rattle.pass_proofs.specs.ir_model.declared.module.Module.{Module}
+use Rattle.pass_proofs.specs.ir_model.declared.operand.Arg.{Arg}
+use Rattle.pass_proofs.specs.ir_model.declared.operand.Intrinsic.{Intrinsic}
+use Rattle.pass_proofs.specs.ir_model.declared.operand.Operand.{Operand}
+use Rattle.pass_proofs.specs.ir_paths.Paths.{Leads}
+use Rattle.pass_proofs.specs.ir_paths.Windows.{call_result, is_call_of, suspend_of}
+use Rattle.pass_proofs.specs.ir_paths.declared.point.Point.{Point}
+use Rattle.pass_proofs.specs.pass_intrinsics.Shapes.{part_name, shape_of}
+use Rattle.pass_proofs.specs.pass_kept_proof.SuspendRules.{IsCallAt}
 use Rattle.pass_split_proof.specs.ready.Fields.{AreInnerIndices}
 use Rattle.pass_split_proof.specs.ready.Names.{HasMovedNames}
 use Rattle.pass_split_proof.specs.simulation.Statement.{IsPartable}
-use Rattle.rule_laws.specs.frames.replaced.Parted.{IsSmall}
-use Rattle.rule_laws.specs.rules.counted.Widths.{first_other_width}
-use Rattle.rule_laws.specs.rules.function_rules.Kept.{KeepsFunctionRules}
-use Rattle.rule_shape.specs.OneOfEach.{wrong_call}
-use Rattle.rule_shape.specs.Suspends.{is_suspend}
-use Rattle.rule_shape.specs.Switches.{wrong_switch}
-use Rattle.run_framed.specs.Framed.{is_promise_kind, layout_of, no_layout}
-use Rattle.run_step.specs.Step.{AtInstr, fetch}
+use Rattle.pass_proofs.specs.rule_laws.frames.replaced.Parted.{IsSmall}
+use Rattle.pass_proofs.specs.rule_laws.rules.counted.Widths.{first_other_width}
+use Rattle.pass_proofs.specs.rule_laws.rules.function_rules.Kept.{KeepsFunctionRules}
+use Rattle.pass_proofs.specs.rule_shape.OneOfEach.{wrong_call}
+use Rattle.pass_proofs.specs.rule_shape.Suspends.{is_suspend}
+use Rattle.pass_proofs.specs.rule_shape.Switches.{wrong_switch}
+use Rattle.pass_proofs.specs.run_framed.Framed.{is_promise_kind, layout_of, no_layout}
+use Rattle.pass_proofs.specs.run_step.Step.{AtInstr, fetch}
 
 -- A function at a position breaks no rule of functions, and as a coroutine neither K2 nor K3. Its integers have the
 -- widths of the grammar.

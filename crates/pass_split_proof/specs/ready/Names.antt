@@ -1,10 +1,10 @@
 -- What the names of a module are in the module of its parts.
 use Rattle.std.specs.Prelude.{◌≡◌, ℕ, true, None, Some, is_some, slice_get, ◌||◌}
-use Rattle.frame_layout.specs.declared.layout.Layouts.{Layouts}
-use Rattle.ir_base.specs.declared.name.Name.{Name}
-use Rattle.ir_model.specs.Names.{declaration_named, function_named, global_named}
-use Rattle.ir_model.specs.declared.module.Function.{Function}
-use Rattle.ir_model.specs.declared.module.Module.{Module}
+use Rattle.pass_proofs.specs.frame_layout.declared.layout.Layouts.{Layouts}
+use Rattle.pass_proofs.specs.ir_base.declared.name.Name.{Name}
+use Rattle.pass_proofs.specs.ir_model.Names.{declaration_named, function_named, global_named}
+use Rattle.pass_proofs.specs.ir_model.declared.module.Function.{Function}
+use Rattle.pass_proofs.specs.ir_model.declared.module.Module.{Module}
 use Rattle.pass_split_proof.specs.code.Positions.{moved}
 use Rattle.pass_split_proof.specs.first_exits.Parted.{parted_module}
 

@@ -1,13 +1,13 @@
 -- What the parts' run does for one step of the framed run, and the account of it.
 use Rattle.std.specs.Prelude.{◌≡◌, ℕ, List, ◌+◌, ◌≤◌, ◌<◌, ◌⊎◌}
-use Rattle.ir_base.specs.declared.outcome.Outcome.{Outcome}
-use Rattle.ir_base.specs.declared.outcome.Word.{Word}
+use Rattle.pass_proofs.specs.ir_base.declared.outcome.Outcome.{Outcome}
+use Rattle.pass_proofs.specs.ir_base.declared.outcome.Word.{Word}
 use Rattle.pass_split_proof.specs.states.Related.{AreRelated, IsOn, credit_of, fetched_at, measure, part_price, weight}
-use Rattle.run_agreement.specs.Machines.{IsFine, iterate}
-use Rattle.run_framed.specs.Framed.{FramedGiven, framed_state_at, framed_step}
-use Rattle.run_plain.specs.Plain.{PlainGiven, plain_step}
-use Rattle.run_plain.specs.declared.state.PlainState.{PlainState}
-use Rattle.run_source.specs.declared.state.State.{State}
+use Rattle.pass_proofs.specs.run_agreement.Machines.{IsFine, iterate}
+use Rattle.pass_proofs.specs.run_framed.Framed.{FramedGiven, framed_state_at, framed_step}
+use Rattle.run_access_worked.specs.run_plain.Plain.{PlainGiven, plain_step}
+use Rattle.run_access_worked.specs.run_plain.declared.state.PlainState.{PlainState}
+use Rattle.pass_proofs.specs.run_source.declared.state.State.{State}
 
 -- the framed run goes on, and shows what it showed
 pub record ShowsOn (s u : State) : Type 0 where

@@ -1,16 +1,16 @@
 -- What splitting keeps of a run, and what it asks of the module.
 use Rattle.std.specs.Prelude.{◌≡◌, ℕ, ℤ, true, false, List, [], slice_get, Some, is_some}
-use Rattle.frame_layout.specs.declared.layout.Layouts.{Layouts}
-use Rattle.ir_base.specs.declared.outcome.Word.{Word}
-use Rattle.flow_solver.specs.Paths.{IsListed}
-use Rattle.ir_laws.specs.facts.sound_states.Named.{AreLocalsNamed}
-use Rattle.rule_laws.specs.rules.function_rules.Kept.{KeepsFunctionRules}
-use Rattle.ir_model.specs.declared.module.Block.{Block}
-use Rattle.ir_model.specs.declared.module.Function.{Function}
-use Rattle.ir_model.specs.declared.module.Module.{Module}
+use Rattle.pass_proofs.specs.frame_layout.declared.layout.Layouts.{Layouts}
+use Rattle.pass_proofs.specs.ir_base.declared.outcome.Word.{Word}
+use Rattle.pass_proofs.specs.flow_solver.Paths.{IsListed}
+use Rattle.pass_proofs.specs.ir_laws.facts.sound_states.Named.{AreLocalsNamed}
+use Rattle.pass_proofs.specs.rule_laws.rules.function_rules.Kept.{KeepsFunctionRules}
+use Rattle.pass_proofs.specs.ir_model.declared.module.Block.{Block}
+use Rattle.pass_proofs.specs.ir_model.declared.module.Function.{Function}
+use Rattle.pass_proofs.specs.ir_model.declared.module.Module.{Module}
 use Rattle.pass_cleanup.specs.Cleaned.{plain_machine}
-use Rattle.pass_intrinsics.specs.Shapes.{suspends_of}
-use Rattle.pass_intrinsics.specs.declared.shape.SuspendPoint.{SuspendPoint}
+use Rattle.pass_proofs.specs.pass_intrinsics.Shapes.{suspends_of}
+use Rattle.pass_proofs.specs.pass_intrinsics.declared.shape.SuspendPoint.{SuspendPoint}
 use Rattle.pass_split_proof.specs.code.Positions.{layout_at, moved}
 use Rattle.pass_split_proof.specs.first_exits.Parted.{parted_module}
 use Rattle.pass_proofs.specs.split.rules.Splittable.{IsSplittable}
@@ -18,11 +18,11 @@ use Rattle.pass_split_proof.specs.states.Instances.{IsLaidOut}
 use Rattle.pass_split_proof.specs.states.Memories.{AreContents}
 use Rattle.pass_split_proof.specs.states.Related.{AreRelated, Follows, part_price}
 use Rattle.pass_split_proof.specs.steps.Returns.{IsReturnBlock}
-use Rattle.run_agreement.specs.Costs.{AgreesBy, IsNear}
-use Rattle.run_framed.specs.Framed.{framed_given, layout_of}
-use Rattle.run_plain.specs.Plain.{PlainGiven}
-use Rattle.run_states.specs.moved_states.Beside.{framed_machine}
-use Rattle.run_step.specs.Step.{first_world}
+use Rattle.pass_proofs.specs.run_agreement.Costs.{AgreesBy, IsNear}
+use Rattle.pass_proofs.specs.run_framed.Framed.{framed_given, layout_of}
+use Rattle.run_access_worked.specs.run_plain.Plain.{PlainGiven}
+use Rattle.pass_proofs.specs.run_states.moved_states.Beside.{framed_machine}
+use Rattle.pass_proofs.specs.run_step.Step.{first_world}
 
 -- ---- what is asked
 

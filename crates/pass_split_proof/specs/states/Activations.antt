@@ -1,40 +1,40 @@
 -- The activations of a framed run and those of the run of its parts, one beside the other.
 use Rattle.std.specs.Prelude.{◌≡◌, ℕ, ◌+◌, ◌<◌, ◌⊎◌, Bool, true, false, List, [], ◌∷◌, length, slice_get, Some, None, Option, negsuc}
-use Rattle.ir_model.specs.Names.{function_at, position_of}
-use Rattle.ir_model.specs.declared.instr.Case.{Case}
-use Rattle.ir_model.specs.declared.instr.Instr.{Instr}
-use Rattle.ir_model.specs.declared.instr.Terminator.{Terminator}
-use Rattle.ir_model.specs.declared.module.Function.{Function}
-use Rattle.ir_model.specs.declared.module.Module.{Module}
-use Rattle.ir_model.specs.declared.operand.Arg.{Arg}
-use Rattle.ir_paths.specs.Slots.{allocas_of}
-use Rattle.pass_front.specs.Front.{allocas_of as front_allocas}
-use Rattle.pass_intrinsics.specs.Cuts.{goes_on}
-use Rattle.pass_intrinsics.specs.declared.shape.Part.{Part}
-use Rattle.pass_intrinsics.specs.declared.shape.Shape.{Shape}
-use Rattle.pass_intrinsics.specs.declared.shape.SuspendPoint.{SuspendPoint}
+use Rattle.pass_proofs.specs.ir_model.Names.{function_at, position_of}
+use Rattle.pass_proofs.specs.ir_model.declared.instr.Case.{Case}
+use Rattle.pass_proofs.specs.ir_model.declared.instr.Instr.{Instr}
+use Rattle.pass_proofs.specs.ir_model.declared.instr.Terminator.{Terminator}
+use Rattle.pass_proofs.specs.ir_model.declared.module.Function.{Function}
+use Rattle.pass_proofs.specs.ir_model.declared.module.Module.{Module}
+use Rattle.pass_proofs.specs.ir_model.declared.operand.Arg.{Arg}
+use Rattle.pass_proofs.specs.ir_paths.Slots.{allocas_of}
+use Rattle.pass_proofs.specs.pass_front.Front.{allocas_of as front_allocas}
+use Rattle.pass_proofs.specs.pass_intrinsics.Cuts.{goes_on}
+use Rattle.pass_proofs.specs.pass_intrinsics.declared.shape.Part.{Part}
+use Rattle.pass_proofs.specs.pass_intrinsics.declared.shape.Shape.{Shape}
+use Rattle.pass_proofs.specs.pass_intrinsics.declared.shape.SuspendPoint.{SuspendPoint}
 use Rattle.pass_split_proof.specs.places.Places.{Enters, IsCodeOf, IsPlace, IsStop}
 use Rattle.pass_split_proof.specs.states.Instances.{IsIndexed, part_position, shape_at}
-use Rattle.pass_split.specs.Parts.{is_entered, plain_shape}
-use Rattle.pass_split.specs.Pieces.{going_on}
-use Rattle.pass_split.specs.Reached.{reached}
+use Rattle.pass_proofs.specs.pass_split.Parts.{is_entered, plain_shape}
+use Rattle.pass_proofs.specs.pass_split.Pieces.{going_on}
+use Rattle.pass_proofs.specs.pass_split.Reached.{reached}
 use Rattle.pass_split_proof.specs.states.Values.{AreValuesOf}
-use Rattle.rule_shape.specs.Suspends.{is_suspend}
-use Rattle.rule_shape.specs.Switches.{are_both}
-use Rattle.run_framed.specs.Framed.{FramedGiven}
-use Rattle.run_laws.specs.changed.Changed.{Each}
-use Rattle.run_laws.specs.memory.Pointers.{Home}
-use Rattle.run_memory.specs.declared.block.MemoryBlock.{MemoryBlock}
-use Rattle.run_memory.specs.declared.pointer.Value.{Value}
-use Rattle.run_plain.specs.declared.state.PlainActivation.{PlainActivation}
-use Rattle.run_source.specs.Source.{is_among}
-use Rattle.run_source.specs.State.{frame_address_of}
-use Rattle.run_source.specs.declared.state.Activation.{Activation}
-use Rattle.run_source.specs.declared.state.Instance.{Instance}
-use Rattle.run_source.specs.declared.state.Mode.{Mode}
-use Rattle.run_step.specs.Step.{AtInstr, AtTerm, fetch}
-use Rattle.run_step.specs.Values.{arg_value, integer, value_in}
-use Rattle.run_step.specs.declared.world.Slot.{Slot}
+use Rattle.pass_proofs.specs.rule_shape.Suspends.{is_suspend}
+use Rattle.pass_proofs.specs.rule_shape.Switches.{are_both}
+use Rattle.pass_proofs.specs.run_framed.Framed.{FramedGiven}
+use Rattle.pass_proofs.specs.run_laws.changed.Changed.{Each}
+use Rattle.pass_proofs.specs.run_laws.memory.Pointers.{Home}
+use Rattle.pass_proofs.specs.run_memory.declared.block.MemoryBlock.{MemoryBlock}
+use Rattle.pass_proofs.specs.run_memory.declared.pointer.Value.{Value}
+use Rattle.run_access_worked.specs.run_plain.declared.state.PlainActivation.{PlainActivation}
+use Rattle.pass_proofs.specs.run_source.Source.{is_among}
+use Rattle.pass_proofs.specs.run_source.State.{frame_address_of}
+use Rattle.pass_proofs.specs.run_source.declared.state.Activation.{Activation}
+use Rattle.pass_proofs.specs.run_source.declared.state.Instance.{Instance}
+use Rattle.pass_proofs.specs.run_source.declared.state.Mode.{Mode}
+use Rattle.pass_proofs.specs.run_step.Step.{AtInstr, AtTerm, fetch}
+use Rattle.pass_proofs.specs.run_step.Values.{arg_value, integer, value_in}
+use Rattle.pass_proofs.specs.run_step.declared.world.Slot.{Slot}
 
 -- ---- the part that an activation runs
 

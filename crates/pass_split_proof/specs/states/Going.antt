@@ -1,16 +1,16 @@
 -- Where the topmost activations of both runs go on.
 use Rattle.std.specs.Prelude.{ℕ, Bool, List, Option}
-use Rattle.run_memory.specs.declared.pointer.Value.{Value}
-use Rattle.run_plain.specs.Plain.{plain_given_back}
-use Rattle.run_plain.specs.declared.state.PlainActivation.{PlainActivation}
-use Rattle.run_plain.specs.declared.state.PlainState.{PlainState}
-use Rattle.run_source.specs.Source.{given_back}
-use Rattle.run_source.specs.declared.state.Activation.{Activation}
-use Rattle.run_source.specs.declared.state.Instance.{Instance}
-use Rattle.run_source.specs.declared.state.State.{State}
-use Rattle.run_step.specs.Step.{Work, without_slots}
-use Rattle.run_step.specs.Values.{Env}
-use Rattle.run_step.specs.declared.world.World.{World}
+use Rattle.pass_proofs.specs.run_memory.declared.pointer.Value.{Value}
+use Rattle.run_access_worked.specs.run_plain.Plain.{plain_given_back}
+use Rattle.run_access_worked.specs.run_plain.declared.state.PlainActivation.{PlainActivation}
+use Rattle.run_access_worked.specs.run_plain.declared.state.PlainState.{PlainState}
+use Rattle.pass_proofs.specs.run_source.Source.{given_back}
+use Rattle.pass_proofs.specs.run_source.declared.state.Activation.{Activation}
+use Rattle.pass_proofs.specs.run_source.declared.state.Instance.{Instance}
+use Rattle.pass_proofs.specs.run_source.declared.state.State.{State}
+use Rattle.pass_proofs.specs.run_step.Step.{Work, without_slots}
+use Rattle.pass_proofs.specs.run_step.Values.{Env}
+use Rattle.pass_proofs.specs.run_step.declared.world.World.{World}
 
 -- an activation at a place, with other values, which has left or hasn't
 abbrev pub moved_to : Activation → ℕ → ℕ → Env → Bool → Activation

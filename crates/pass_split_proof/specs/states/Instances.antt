@@ -2,28 +2,28 @@
 -- touches.
 use Rattle.std.specs.Prelude.{◌≡◌, ◌≢◌, ℕ, ◌+◌, ◌<◌, ◌≤◌, ◌%◌, ◌^◌, ◌⊎◌, Bool, true, false, not, List, [], length, slice_get, Some, Option, is_some, ◌&&◌, if◌then◌else◌}
 use Rattle.std.specs.Option.{option_map_or}
-use Rattle.frame_layout.specs.declared.layout.PlacedField.{PlacedField}
-use Rattle.ir_model.specs.Names.{function_at}
-use Rattle.ir_paths.specs.declared.point.Point.{Point}
-use Rattle.pass_intrinsics.specs.Shapes.{index_bytes, shape_of}
-use Rattle.pass_intrinsics.specs.declared.shape.Part.{Part}
-use Rattle.pass_intrinsics.specs.declared.shape.Shape.{Shape}
-use Rattle.pass_intrinsics.specs.declared.shape.SuspendPoint.{SuspendPoint}
+use Rattle.pass_proofs.specs.frame_layout.declared.layout.PlacedField.{PlacedField}
+use Rattle.pass_proofs.specs.ir_model.Names.{function_at}
+use Rattle.pass_proofs.specs.ir_paths.declared.point.Point.{Point}
+use Rattle.pass_proofs.specs.pass_intrinsics.Shapes.{index_bytes, shape_of}
+use Rattle.pass_proofs.specs.pass_intrinsics.declared.shape.Part.{Part}
+use Rattle.pass_proofs.specs.pass_intrinsics.declared.shape.Shape.{Shape}
+use Rattle.pass_proofs.specs.pass_intrinsics.declared.shape.SuspendPoint.{SuspendPoint}
 use Rattle.pass_split_proof.specs.code.Numbers.{IsNumbered}
 use Rattle.pass_split_proof.specs.code.Positions.{is_given, moved, number_of}
 use Rattle.pass_proofs.specs.split.rules.Reached.{IsLedTo}
-use Rattle.pass_split.specs.Given.{has_given_call}
-use Rattle.run_framed.specs.Framed.{FramedGiven, frame_rights, is_open_kind, layout_of}
-use Rattle.run_laws.specs.access.Lines.{Holds}
-use Rattle.run_memory.specs.Memory.{digits, encode, is_live, owner_rights, same_kind}
-use Rattle.run_memory.specs.declared.block.Kind.{Kind}
-use Rattle.run_memory.specs.declared.block.MemoryBlock.{MemoryBlock}
-use Rattle.run_memory.specs.declared.pointer.Pointer.{Pointer}
-use Rattle.run_memory.specs.declared.pointer.Value.{Value}
-use Rattle.run_source.specs.State.{is_finished}
-use Rattle.run_source.specs.declared.state.Instance.{Instance}
-use Rattle.run_source.specs.declared.state.Saved.{Saved}
-use Rattle.run_source.specs.declared.state.Status.{Status}
+use Rattle.pass_proofs.specs.pass_split.Given.{has_given_call}
+use Rattle.pass_proofs.specs.run_framed.Framed.{FramedGiven, frame_rights, is_open_kind, layout_of}
+use Rattle.pass_proofs.specs.run_laws.access.Lines.{Holds}
+use Rattle.pass_proofs.specs.run_memory.Memory.{digits, encode, is_live, owner_rights, same_kind}
+use Rattle.pass_proofs.specs.run_memory.declared.block.Kind.{Kind}
+use Rattle.pass_proofs.specs.run_memory.declared.block.MemoryBlock.{MemoryBlock}
+use Rattle.pass_proofs.specs.run_memory.declared.pointer.Pointer.{Pointer}
+use Rattle.pass_proofs.specs.run_memory.declared.pointer.Value.{Value}
+use Rattle.pass_proofs.specs.run_source.State.{is_finished}
+use Rattle.pass_proofs.specs.run_source.declared.state.Instance.{Instance}
+use Rattle.pass_proofs.specs.run_source.declared.state.Saved.{Saved}
+use Rattle.pass_proofs.specs.run_source.declared.state.Status.{Status}
 
 -- ---- where the parts of a coroutine are
 

@@ -1,16 +1,16 @@
 -- The memory of a framed run and that of the run of its parts: block by block, each at its own number.
 use Rattle.std.specs.Prelude.{◌≡◌, ℕ, false, List, length, slice_get, None, Some, Option, ◌<◌, ◌^◌}
-use Rattle.ir_model.specs.declared.module.Module.{Module}
-use Rattle.run_framed.specs.Framed.{FramedGiven, frame_rights}
-use Rattle.run_laws.specs.memory.Pointers.{Home}
-use Rattle.run_laws.specs.memory.Standing.{AreOffsets, Embeds, byte_of, own_homes}
-use Rattle.run_memory.specs.Memory.{is_killed, owner_rights}
-use Rattle.run_memory.specs.declared.block.Kind.{Kind}
-use Rattle.run_memory.specs.declared.block.Life.{Life}
-use Rattle.run_memory.specs.declared.block.MemoryBlock.{MemoryBlock}
-use Rattle.run_source.specs.declared.state.Instance.{Instance}
-use Rattle.run_step.specs.Step.{first_world}
-use Rattle.run_step.specs.declared.world.World.{World}
+use Rattle.pass_proofs.specs.ir_model.declared.module.Module.{Module}
+use Rattle.pass_proofs.specs.run_framed.Framed.{FramedGiven, frame_rights}
+use Rattle.pass_proofs.specs.run_laws.memory.Pointers.{Home}
+use Rattle.pass_proofs.specs.run_laws.memory.Standing.{AreOffsets, Embeds, byte_of, own_homes}
+use Rattle.pass_proofs.specs.run_memory.Memory.{is_killed, owner_rights}
+use Rattle.pass_proofs.specs.run_memory.declared.block.Kind.{Kind}
+use Rattle.pass_proofs.specs.run_memory.declared.block.Life.{Life}
+use Rattle.pass_proofs.specs.run_memory.declared.block.MemoryBlock.{MemoryBlock}
+use Rattle.pass_proofs.specs.run_source.declared.state.Instance.{Instance}
+use Rattle.pass_proofs.specs.run_step.Step.{first_world}
+use Rattle.pass_proofs.specs.run_step.declared.world.World.{World}
 
 -- a slot of a coroutine is a stack block of its part
 abbrev pub plain_kind : Kind → Kind

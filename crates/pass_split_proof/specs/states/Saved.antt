@@ -1,17 +1,17 @@
 -- A save: what the parts' run has written into the frame behind it.
 use Rattle.std.specs.Prelude.{◌≡◌, ℕ, ◌+◌, Bool, List, Option, length, slice_set}
-use Rattle.ir_paths.specs.declared.point.Point.{Point}
+use Rattle.pass_proofs.specs.ir_paths.declared.point.Point.{Point}
 use Rattle.pass_split_proof.specs.states.Instances.{AreFrames, in_state, index_length}
 use Rattle.pass_split_proof.specs.states.Memories.{AreBeside}
-use Rattle.run_framed.specs.Framed.{FramedGiven, layout_of}
-use Rattle.run_laws.specs.access.Lines.{Holds, refilled_at}
-use Rattle.run_memory.specs.Memory.{digits, encode, owner_rights}
-use Rattle.run_memory.specs.declared.block.Byte.{Byte}
-use Rattle.run_memory.specs.declared.block.MemoryBlock.{MemoryBlock}
-use Rattle.run_memory.specs.declared.pointer.Value.{Value}
-use Rattle.run_source.specs.declared.state.Instance.{Instance}
-use Rattle.run_source.specs.declared.state.Saved.{Saved}
-use Rattle.run_source.specs.declared.state.Status.{Status}
+use Rattle.pass_proofs.specs.run_framed.Framed.{FramedGiven, layout_of}
+use Rattle.pass_proofs.specs.run_laws.access.Lines.{Holds, refilled_at}
+use Rattle.pass_proofs.specs.run_memory.Memory.{digits, encode, owner_rights}
+use Rattle.pass_proofs.specs.run_memory.declared.block.Byte.{Byte}
+use Rattle.pass_proofs.specs.run_memory.declared.block.MemoryBlock.{MemoryBlock}
+use Rattle.pass_proofs.specs.run_memory.declared.pointer.Value.{Value}
+use Rattle.pass_proofs.specs.run_source.declared.state.Instance.{Instance}
+use Rattle.pass_proofs.specs.run_source.declared.state.Saved.{Saved}
+use Rattle.pass_proofs.specs.run_source.declared.state.Status.{Status}
 
 -- where the index of an instance lies in its block
 abbrev pub index_at : FramedGiven → Instance → ℕ

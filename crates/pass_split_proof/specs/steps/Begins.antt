@@ -1,23 +1,23 @@
 -- A begin in both runs: what is asked, and what comes of it.
 use Rattle.std.specs.Prelude.{◌≡◌, ℕ, ◌+◌, ◌<◌, ◌≤◌, Some, List, [], ◌∷◌, ◌++◌, length, slice_get}
-use Rattle.ir_model.specs.Names.{function_at, position_of}
-use Rattle.ir_model.specs.declared.instr.Terminator.{Terminator}
-use Rattle.ir_model.specs.declared.operand.Operand.{Operand}
-use Rattle.pass_intrinsics.specs.Lowered.{begin_stores, destroyed_by}
-use Rattle.pass_intrinsics.specs.declared.shape.Part.{Part}
+use Rattle.pass_proofs.specs.ir_model.Names.{function_at, position_of}
+use Rattle.pass_proofs.specs.ir_model.declared.instr.Terminator.{Terminator}
+use Rattle.pass_proofs.specs.ir_model.declared.operand.Operand.{Operand}
+use Rattle.pass_proofs.specs.pass_intrinsics.Lowered.{begin_stores, destroyed_by}
+use Rattle.pass_proofs.specs.pass_intrinsics.declared.shape.Part.{Part}
 use Rattle.pass_split_proof.specs.places.Places.{IsPlace, Remain}
 use Rattle.pass_split_proof.specs.states.Begun.{with_header}
 use Rattle.pass_split_proof.specs.states.Instances.{StandsThere, address_of_part, destroyer_of, shape_at}
 use Rattle.pass_split_proof.specs.states.Related.{AreRelated}
-use Rattle.run_framed.specs.Framed.{FramedGiven}
-use Rattle.run_laws.specs.access.Lines.{pointer_at}
-use Rattle.run_memory.specs.declared.block.MemoryBlock.{MemoryBlock}
-use Rattle.run_plain.specs.Plain.{PlainGiven, plain_function}
-use Rattle.run_plain.specs.declared.state.PlainState.{PlainState}
-use Rattle.run_source.specs.declared.state.Instance.{Instance}
-use Rattle.run_source.specs.declared.state.State.{State}
-use Rattle.run_step.specs.Step.{Work, phis_of}
-use Rattle.run_step.specs.Values.{Env, address_of, with_value}
+use Rattle.pass_proofs.specs.run_framed.Framed.{FramedGiven}
+use Rattle.pass_proofs.specs.run_laws.access.Lines.{pointer_at}
+use Rattle.pass_proofs.specs.run_memory.declared.block.MemoryBlock.{MemoryBlock}
+use Rattle.run_access_worked.specs.run_plain.Plain.{PlainGiven, plain_function}
+use Rattle.run_access_worked.specs.run_plain.declared.state.PlainState.{PlainState}
+use Rattle.pass_proofs.specs.run_source.declared.state.Instance.{Instance}
+use Rattle.pass_proofs.specs.run_source.declared.state.State.{State}
+use Rattle.pass_proofs.specs.run_step.Step.{Work, phis_of}
+use Rattle.pass_proofs.specs.run_step.Values.{Env, address_of, with_value}
 
 -- the framed run behind a begin: an instance more, which the topmost activation has
 abbrev pub begun_to : State → Instance → List MemoryBlock → Env → State

@@ -1,18 +1,18 @@
 -- An edge that both runs take.
 use Rattle.std.specs.Prelude.{◌≡◌, ℕ, Bool, true, List, Some, slice_get, slice_set}
-use Rattle.ir_model.specs.Names.{position_of}
-use Rattle.ir_model.specs.declared.instr.Phi.{Phi}
-use Rattle.ir_model.specs.declared.module.Function.{Function}
-use Rattle.ir_model.specs.declared.module.Module.{Module}
+use Rattle.pass_proofs.specs.ir_model.Names.{position_of}
+use Rattle.pass_proofs.specs.ir_model.declared.instr.Phi.{Phi}
+use Rattle.pass_proofs.specs.ir_model.declared.module.Function.{Function}
+use Rattle.pass_proofs.specs.ir_model.declared.module.Module.{Module}
 use Rattle.pass_split_proof.specs.states.Going.{goes_to}
 use Rattle.pass_split_proof.specs.steps.Operands.{IsReadable}
-use Rattle.run_laws.specs.changed.Changed.{Each}
-use Rattle.run_source.specs.State.{function_of, is_suspended}
-use Rattle.run_source.specs.declared.state.Instance.{Instance}
-use Rattle.run_source.specs.declared.state.State.{State}
-use Rattle.run_source.specs.declared.state.Status.{Status}
-use Rattle.run_source_tables.specs.Given.{Given}
-use Rattle.run_step.specs.Step.{incoming_from, label_of, values_in}
+use Rattle.pass_proofs.specs.run_laws.changed.Changed.{Each}
+use Rattle.pass_proofs.specs.run_source.State.{function_of, is_suspended}
+use Rattle.pass_proofs.specs.run_source.declared.state.Instance.{Instance}
+use Rattle.pass_proofs.specs.run_source.declared.state.State.{State}
+use Rattle.pass_proofs.specs.run_source.declared.state.Status.{Status}
+use Rattle.pass_proofs.specs.run_source_tables.Given.{Given}
+use Rattle.pass_proofs.specs.run_step.Step.{incoming_from, label_of, values_in}
 
 -- phis that take from a label what may be read, and don't set the name of the frame
 pub record AreReadablePhis (m n : Module) (f : Function) (label begin : ℕ) (phis : List Phi) : Type 0 where

@@ -1,13 +1,13 @@
 -- Functions that both runs call.
 use Rattle.std.specs.Prelude.{◌≡◌, ℕ, ◌≤◌, length}
-use Rattle.ir_model.specs.Names.{function_at}
-use Rattle.ir_model.specs.declared.module.Module.{Module}
-use Rattle.pass_intrinsics.specs.declared.shape.Part.{Part}
-use Rattle.pass_intrinsics.specs.declared.shape.Shape.{Shape}
+use Rattle.pass_proofs.specs.ir_model.Names.{function_at}
+use Rattle.pass_proofs.specs.ir_model.declared.module.Module.{Module}
+use Rattle.pass_proofs.specs.pass_intrinsics.declared.shape.Part.{Part}
+use Rattle.pass_proofs.specs.pass_intrinsics.declared.shape.Shape.{Shape}
 use Rattle.pass_split_proof.specs.places.Places.{IsCodeOf, IsPlace}
 use Rattle.pass_split_proof.specs.states.Activations.{IsShapeOf}
 use Rattle.pass_split_proof.specs.states.Instances.{part_position}
-use Rattle.run_framed.specs.Framed.{FramedGiven}
+use Rattle.pass_proofs.specs.run_framed.Framed.{FramedGiven}
 
 -- a function has its first part at its position there, with its parameters, and begins where that does
 pub record IsCallee (g : FramedGiven) (h : Module) (func : ℕ) : Type 0 where

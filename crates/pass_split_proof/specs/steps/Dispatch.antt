@@ -1,25 +1,25 @@
 -- A part that goes on behind a suspend loads the index, and goes where it leads.
 use Rattle.std.specs.Prelude.{◌≡◌, ℕ, ◌+◌, ◌<◌, ◌^◌, true, length, slice_get, Some}
-use Rattle.frame_layout.specs.declared.layout.Layout.{Layout}
-use Rattle.ir_base.specs.declared.outcome.Outcome.{Outcome}
-use Rattle.ir_model.specs.TypeView.{bits_of}
-use Rattle.ir_model.specs.declared.module.Function.{Function}
-use Rattle.pass_front.specs.Front.{allocas_of}
-use Rattle.pass_intrinsics.specs.Shapes.{index_bytes, index_name, shape_of, slot_name}
-use Rattle.pass_intrinsics.specs.declared.shape.Part.{Part}
-use Rattle.pass_intrinsics.specs.declared.shape.Shape.{Shape}
-use Rattle.pass_intrinsics.specs.declared.shape.SuspendPoint.{SuspendPoint}
+use Rattle.pass_proofs.specs.frame_layout.declared.layout.Layout.{Layout}
+use Rattle.pass_proofs.specs.ir_base.declared.outcome.Outcome.{Outcome}
+use Rattle.pass_proofs.specs.ir_model.TypeView.{bits_of}
+use Rattle.pass_proofs.specs.ir_model.declared.module.Function.{Function}
+use Rattle.pass_proofs.specs.pass_front.Front.{allocas_of}
+use Rattle.pass_proofs.specs.pass_intrinsics.Shapes.{index_bytes, index_name, shape_of, slot_name}
+use Rattle.pass_proofs.specs.pass_intrinsics.declared.shape.Part.{Part}
+use Rattle.pass_proofs.specs.pass_intrinsics.declared.shape.Shape.{Shape}
+use Rattle.pass_proofs.specs.pass_intrinsics.declared.shape.SuspendPoint.{SuspendPoint}
 use Rattle.pass_split_proof.specs.code.Entry.{HasEntry}
-use Rattle.pass_split.specs.Parts.{is_entered}
-use Rattle.pass_split.specs.Reached.{reached}
-use Rattle.rule_laws.specs.frames.replaced.Parted.{IsSmall}
-use Rattle.run_laws.specs.access.Lines.{Holds, pointer_at}
-use Rattle.run_memory.specs.Memory.{digits, owner_rights}
-use Rattle.run_memory.specs.declared.pointer.Value.{Value}
-use Rattle.run_plain.specs.Plain.{PlainGiven, plain_function}
-use Rattle.run_plain.specs.declared.state.PlainState.{PlainState}
-use Rattle.run_step.specs.Step.{Work, set_value}
-use Rattle.run_step.specs.Values.{value_in}
+use Rattle.pass_proofs.specs.pass_split.Parts.{is_entered}
+use Rattle.pass_proofs.specs.pass_split.Reached.{reached}
+use Rattle.pass_proofs.specs.rule_laws.frames.replaced.Parted.{IsSmall}
+use Rattle.pass_proofs.specs.run_laws.access.Lines.{Holds, pointer_at}
+use Rattle.pass_proofs.specs.run_memory.Memory.{digits, owner_rights}
+use Rattle.pass_proofs.specs.run_memory.declared.pointer.Value.{Value}
+use Rattle.run_access_worked.specs.run_plain.Plain.{PlainGiven, plain_function}
+use Rattle.run_access_worked.specs.run_plain.declared.state.PlainState.{PlainState}
+use Rattle.pass_proofs.specs.run_step.Step.{Work, set_value}
+use Rattle.pass_proofs.specs.run_step.Values.{value_in}
 
 -- The part's allocas are behind it. Its parameter is the address of a frame, whose index is that of a suspend at which
 -- the part may go on.

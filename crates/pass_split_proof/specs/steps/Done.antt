@@ -1,15 +1,15 @@
 -- An ordinary step of a framed run that is done, and the same step of a part.
 use Rattle.std.specs.Prelude.{◌≡◌, ℕ, ℤ, List}
-use Rattle.ir_model.specs.declared.module.Function.{Function}
-use Rattle.ir_model.specs.declared.module.Module.{Module}
+use Rattle.pass_proofs.specs.ir_model.declared.module.Function.{Function}
+use Rattle.pass_proofs.specs.ir_model.declared.module.Module.{Module}
 use Rattle.pass_split_proof.specs.states.Memories.{AreWorldsBeside, homes_of}
-use Rattle.run_framed.specs.Framed.{FramedGiven, frame_rights}
-use Rattle.run_laws.specs.access.Changed.{KeepsFree}
-use Rattle.run_laws.specs.embedded.Refilled.{AreRefilled}
-use Rattle.run_laws.specs.transfer.Transfer.{AreSet, Maps, given_at}
-use Rattle.run_memory.specs.Memory.{owner_rights}
-use Rattle.run_source.specs.declared.state.Instance.{Instance}
-use Rattle.run_step.specs.Step.{Context, Done, Fetched, Work, action_of}
+use Rattle.pass_proofs.specs.run_framed.Framed.{FramedGiven, frame_rights}
+use Rattle.pass_proofs.specs.run_laws.access.Changed.{KeepsFree}
+use Rattle.pass_proofs.specs.run_laws.embedded.Refilled.{AreRefilled}
+use Rattle.pass_proofs.specs.run_laws.transfer.Transfer.{AreSet, Maps, given_at}
+use Rattle.pass_proofs.specs.run_memory.Memory.{owner_rights}
+use Rattle.pass_proofs.specs.run_source.declared.state.Instance.{Instance}
+use Rattle.pass_proofs.specs.run_step.Step.{Context, Done, Fetched, Work, action_of}
 
 -- the contexts of a step of the framed run and of one of its parts' run
 abbrev pub ours : FramedGiven → List Instance → Module → List ℤ → Function → Context

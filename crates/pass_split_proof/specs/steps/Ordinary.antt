@@ -1,20 +1,20 @@
 -- Instructions that parts have as they are, and a step in which both runs do one.
 use Rattle.std.specs.Prelude.{◌≡◌, ℕ, Bool, true, false, Some}
-use Rattle.ir_base.specs.declared.outcome.Outcome.{Outcome}
-use Rattle.ir_model.specs.Names.{function_at}
-use Rattle.ir_model.specs.declared.instr.Instr.{Instr}
+use Rattle.pass_proofs.specs.ir_base.declared.outcome.Outcome.{Outcome}
+use Rattle.pass_proofs.specs.ir_model.Names.{function_at}
+use Rattle.pass_proofs.specs.ir_model.declared.instr.Instr.{Instr}
 use Rattle.pass_cleanup.specs.Cleanup.{is_kept_callee}
 use Rattle.pass_split_proof.specs.places.Places.{IsPlace}
 use Rattle.pass_split_proof.specs.states.Activations.{is_entering}
 use Rattle.pass_split_proof.specs.states.Related.{AreRelated}
 use Rattle.pass_split_proof.specs.steps.Ready.{IsReadyInPart}
-use Rattle.run_framed.specs.Framed.{FramedGiven, framed_context}
-use Rattle.run_plain.specs.Plain.{PlainGiven, plain_context, plain_step}
-use Rattle.run_plain.specs.declared.state.PlainState.{PlainState}
-use Rattle.run_source.specs.State.{function_of, settled}
-use Rattle.run_source.specs.declared.state.State.{State}
-use Rattle.run_step.specs.Reads.{given_by}
-use Rattle.run_step.specs.Step.{AtInstr, Work, fetch}
+use Rattle.pass_proofs.specs.run_framed.Framed.{FramedGiven, framed_context}
+use Rattle.run_access_worked.specs.run_plain.Plain.{PlainGiven, plain_context, plain_step}
+use Rattle.run_access_worked.specs.run_plain.declared.state.PlainState.{PlainState}
+use Rattle.pass_proofs.specs.run_source.State.{function_of, settled}
+use Rattle.pass_proofs.specs.run_source.declared.state.State.{State}
+use Rattle.pass_proofs.specs.run_step.Reads.{given_by}
+use Rattle.pass_proofs.specs.run_step.Step.{AtInstr, Work, fetch}
 
 -- no call of a coro intrinsic
 abbrev pub is_ordinary : Instr → Bool

@@ -1,14 +1,14 @@
 -- An instruction of a framed function that stands in one of its parts too, and what it may read there.
 use Rattle.std.specs.Prelude.{ℕ}
-use Rattle.ir_model.specs.declared.instr.Instr.{Instr}
-use Rattle.ir_model.specs.declared.module.Function.{Function}
+use Rattle.pass_proofs.specs.ir_model.declared.instr.Instr.{Instr}
+use Rattle.pass_proofs.specs.ir_model.declared.module.Function.{Function}
 use Rattle.pass_split_proof.specs.steps.Done.{part_maps}
 use Rattle.pass_split_proof.specs.steps.Operands.{IsReadable}
-use Rattle.run_laws.specs.changed.Changed.{Each, callee_at, operands_of}
-use Rattle.run_laws.specs.embedded.Related.{HasBytes, HasNoSlot}
-use Rattle.run_laws.specs.transfer.Transfer.{AreSameDistances, IsNamedAlike, IsPointedAlike, Maps}
-use Rattle.run_step.specs.Step.{AtInstr, Context}
-use Rattle.run_step.specs.Values.{Env}
+use Rattle.pass_proofs.specs.run_laws.changed.Changed.{Each, callee_at, operands_of}
+use Rattle.pass_proofs.specs.run_laws.embedded.Related.{HasBytes, HasNoSlot}
+use Rattle.pass_proofs.specs.run_laws.transfer.Transfer.{AreSameDistances, IsNamedAlike, IsPointedAlike, Maps}
+use Rattle.pass_proofs.specs.run_step.Step.{AtInstr, Context}
+use Rattle.pass_proofs.specs.run_step.Values.{Env}
 
 -- labels stay in parts, and functions move
 abbrev pub moved_functions : (ℕ → ℕ) → Maps

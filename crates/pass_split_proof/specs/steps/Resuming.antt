@@ -1,14 +1,14 @@
 -- A resume or a destroy in both runs: what is asked of the framed module and of its parts.
 use Rattle.std.specs.Prelude.{◌≡◌, ℕ, ◌<◌, Bool, false, List, ◌∷◌, Option, Some, length}
-use Rattle.ir_base.specs.declared.outcome.Outcome.{Outcome}
-use Rattle.ir_model.specs.Names.{function_at}
-use Rattle.ir_model.specs.Ty.{Ty, ptr}
-use Rattle.ir_model.specs.declared.instr.Instr.{Instr}
-use Rattle.ir_model.specs.declared.operand.Arg.{Arg}
-use Rattle.ir_model.specs.declared.operand.Callee.{Callee}
-use Rattle.ir_model.specs.declared.operand.Intrinsic.{Intrinsic}
-use Rattle.ir_model.specs.declared.operand.Operand.{Operand}
-use Rattle.pass_intrinsics.specs.declared.shape.Part.{Part}
+use Rattle.pass_proofs.specs.ir_base.declared.outcome.Outcome.{Outcome}
+use Rattle.pass_proofs.specs.ir_model.Names.{function_at}
+use Rattle.pass_proofs.specs.ir_model.Ty.{Ty, ptr}
+use Rattle.pass_proofs.specs.ir_model.declared.instr.Instr.{Instr}
+use Rattle.pass_proofs.specs.ir_model.declared.operand.Arg.{Arg}
+use Rattle.pass_proofs.specs.ir_model.declared.operand.Callee.{Callee}
+use Rattle.pass_proofs.specs.ir_model.declared.operand.Intrinsic.{Intrinsic}
+use Rattle.pass_proofs.specs.ir_model.declared.operand.Operand.{Operand}
+use Rattle.pass_proofs.specs.pass_intrinsics.declared.shape.Part.{Part}
 use Rattle.pass_split_proof.specs.places.Places.{IsPlace, StartsWithEnd}
 use Rattle.pass_split_proof.specs.states.Activations.{is_entering}
 use Rattle.pass_split_proof.specs.states.Instances.{part_position, shape_at}
@@ -16,13 +16,13 @@ use Rattle.pass_split_proof.specs.states.Related.{AreRelated}
 use Rattle.pass_split_proof.specs.steps.Calling.{TakesPointer}
 use Rattle.pass_split_proof.specs.steps.Operands.{IsReadable}
 use Rattle.pass_split_proof.specs.steps.Woken.{IsWaking, IsWoken}
-use Rattle.run_framed.specs.Framed.{FramedGiven}
-use Rattle.run_memory.specs.declared.pointer.Value.{Value}
-use Rattle.run_plain.specs.Plain.{PlainGiven}
-use Rattle.run_plain.specs.declared.state.PlainState.{PlainState}
-use Rattle.run_source.specs.State.{function_of}
-use Rattle.run_source.specs.declared.state.State.{State}
-use Rattle.run_step.specs.Step.{AtInstr, fetch}
+use Rattle.pass_proofs.specs.run_framed.Framed.{FramedGiven}
+use Rattle.pass_proofs.specs.run_memory.declared.pointer.Value.{Value}
+use Rattle.run_access_worked.specs.run_plain.Plain.{PlainGiven}
+use Rattle.run_access_worked.specs.run_plain.declared.state.PlainState.{PlainState}
+use Rattle.pass_proofs.specs.run_source.State.{function_of}
+use Rattle.pass_proofs.specs.run_source.declared.state.State.{State}
+use Rattle.pass_proofs.specs.run_step.Step.{AtInstr, fetch}
 
 -- The framed run is at a call of one of the two with an address, and the part is at the same place. The address may be
 -- read in the part.

@@ -1,12 +1,12 @@
 -- The blocks to which the resume and destroy edges of suspends lead.
 use Rattle.std.specs.Prelude.{◌≡◌, ℕ, true, [], Some, slice_get}
-use Rattle.ir_model.specs.Names.{position_of}
-use Rattle.ir_model.specs.declared.instr.Instr.{Instr}
-use Rattle.ir_model.specs.declared.module.Block.{Block}
-use Rattle.ir_model.specs.declared.module.Function.{Function}
-use Rattle.pass_intrinsics.specs.Shapes.{is_end}
+use Rattle.pass_proofs.specs.ir_model.Names.{position_of}
+use Rattle.pass_proofs.specs.ir_model.declared.instr.Instr.{Instr}
+use Rattle.pass_proofs.specs.ir_model.declared.module.Block.{Block}
+use Rattle.pass_proofs.specs.ir_model.declared.module.Function.{Function}
+use Rattle.pass_proofs.specs.pass_intrinsics.Shapes.{is_end}
 use Rattle.pass_split_proof.specs.states.Related.{weight}
-use Rattle.run_step.specs.Step.{AtInstr, fetch}
+use Rattle.pass_proofs.specs.run_step.Step.{AtInstr, fetch}
 
 -- The label is that of a block without phis, which begins with what is one step of a part: its terminator, or an
 -- instruction that loads what crosses. It isn't the end.

@@ -1,24 +1,24 @@
 -- A save in both runs: what is asked, and what comes of it.
 use Rattle.std.specs.Prelude.{◌≡◌, ℕ, ◌+◌, ◌<◌, ◌≤◌, ◌^◌, [], length, slice_get}
-use Rattle.ir_model.specs.Names.{function_at, position_of}
-use Rattle.ir_model.specs.declared.ir_type.IntWidth.{IntWidth}
-use Rattle.ir_model.specs.declared.instr.Terminator.{Terminator}
-use Rattle.pass_intrinsics.specs.Lowered.{save_stores}
-use Rattle.pass_intrinsics.specs.declared.shape.Part.{Part}
+use Rattle.pass_proofs.specs.ir_model.Names.{function_at, position_of}
+use Rattle.pass_proofs.specs.ir_model.declared.ir_type.IntWidth.{IntWidth}
+use Rattle.pass_proofs.specs.ir_model.declared.instr.Terminator.{Terminator}
+use Rattle.pass_proofs.specs.pass_intrinsics.Lowered.{save_stores}
+use Rattle.pass_proofs.specs.pass_intrinsics.declared.shape.Part.{Part}
 use Rattle.pass_split_proof.specs.places.Places.{IsPlace, Remain}
 use Rattle.pass_split_proof.specs.states.Instances.{address_of_part, shape_at}
 use Rattle.pass_split_proof.specs.states.Related.{AreRelated}
 use Rattle.pass_split_proof.specs.states.Saved.{index_at, with_save}
 use Rattle.pass_split_proof.specs.steps.Small.{IsIndexWidth}
-use Rattle.run_framed.specs.Framed.{FramedGiven}
-use Rattle.run_laws.specs.access.Lines.{pointer_at}
-use Rattle.run_memory.specs.declared.pointer.Value.{Value}
-use Rattle.run_plain.specs.Plain.{PlainGiven, plain_function}
-use Rattle.run_plain.specs.declared.state.PlainState.{PlainState}
-use Rattle.run_source.specs.declared.state.Instance.{Instance}
-use Rattle.run_source.specs.declared.state.State.{State}
-use Rattle.run_step.specs.Step.{Work, phis_of, set_memory, set_value}
-use Rattle.run_step.specs.Values.{address_of}
+use Rattle.pass_proofs.specs.run_framed.Framed.{FramedGiven}
+use Rattle.pass_proofs.specs.run_laws.access.Lines.{pointer_at}
+use Rattle.pass_proofs.specs.run_memory.declared.pointer.Value.{Value}
+use Rattle.run_access_worked.specs.run_plain.Plain.{PlainGiven, plain_function}
+use Rattle.run_access_worked.specs.run_plain.declared.state.PlainState.{PlainState}
+use Rattle.pass_proofs.specs.run_source.declared.state.Instance.{Instance}
+use Rattle.pass_proofs.specs.run_source.declared.state.State.{State}
+use Rattle.pass_proofs.specs.run_step.Step.{Work, phis_of, set_memory, set_value}
+use Rattle.pass_proofs.specs.run_step.Values.{address_of}
 
 -- the work of the part behind a save: a name for where the index lies, and what is stored
 abbrev pub saved_work : FramedGiven → Work → ℕ → Instance → ℕ → Value → Work

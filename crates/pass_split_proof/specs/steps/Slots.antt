@@ -1,10 +1,10 @@
 -- Blocks that both runs make: those of allocas, and of allocators.
 use Rattle.std.specs.Prelude.{ℕ, Bool, List, Option, length, if◌then◌else◌}
-use Rattle.run_memory.specs.Memory.{end, fresh}
-use Rattle.run_memory.specs.declared.block.Kind.{Kind}
-use Rattle.run_memory.specs.declared.block.MemoryBlock.{MemoryBlock}
-use Rattle.run_step.specs.Step.{Work}
-use Rattle.run_step.specs.Values.{pointer_to, with_result}
+use Rattle.pass_proofs.specs.run_memory.Memory.{end, fresh}
+use Rattle.pass_proofs.specs.run_memory.declared.block.Kind.{Kind}
+use Rattle.pass_proofs.specs.run_memory.declared.block.MemoryBlock.{MemoryBlock}
+use Rattle.pass_proofs.specs.run_step.Step.{Work}
+use Rattle.pass_proofs.specs.run_step.Values.{pointer_to, with_result}
 
 -- a memory with one block more, which starts dead where it has markers
 abbrev pub slot_memory : List MemoryBlock → ℕ → ℕ → Kind → Bool → List MemoryBlock

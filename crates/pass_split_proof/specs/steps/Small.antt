@@ -1,5 +1,5 @@
 -- What is stored as the index of a coroutine.
-use Rattle.ir_model.specs.declared.ir_type.IntWidth.{IntWidth}
+use Rattle.pass_proofs.specs.ir_model.declared.ir_type.IntWidth.{IntWidth}
 
 -- an index has one of these widths
 abbrev pub IsIndexWidth : IntWidth → Type 0

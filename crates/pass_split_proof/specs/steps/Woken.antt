@@ -1,27 +1,27 @@
 -- The instance that a resume or a destroy goes on with, and the part that it calls.
 use Rattle.std.specs.Prelude.{◌≡◌, ℕ, ◌≤◌, ◌<◌, List, true, Some, length, slice_get}
-use Rattle.ir_model.specs.Names.{function_at, position_of}
-use Rattle.ir_paths.specs.declared.point.Point.{Point}
-use Rattle.pass_intrinsics.specs.Cuts.{goes_on}
-use Rattle.pass_intrinsics.specs.declared.shape.Part.{Part}
+use Rattle.pass_proofs.specs.ir_model.Names.{function_at, position_of}
+use Rattle.pass_proofs.specs.ir_paths.declared.point.Point.{Point}
+use Rattle.pass_proofs.specs.pass_intrinsics.Cuts.{goes_on}
+use Rattle.pass_proofs.specs.pass_intrinsics.declared.shape.Part.{Part}
 use Rattle.pass_split_proof.specs.code.Entry.{HasEntry}
 use Rattle.pass_split_proof.specs.places.Places.{IsCodeOf}
 use Rattle.pass_proofs.specs.split.rules.Parted.{IsPartOf}
 use Rattle.pass_split_proof.specs.states.Instances.{IsLaidOut, IsSavedAt, is_held, part_position, shape_at}
-use Rattle.pass_split.specs.Parts.{is_entered}
-use Rattle.pass_split.specs.Pieces.{going_on}
-use Rattle.pass_split.specs.Reached.{reached}
+use Rattle.pass_proofs.specs.pass_split.Parts.{is_entered}
+use Rattle.pass_proofs.specs.pass_split.Pieces.{going_on}
+use Rattle.pass_proofs.specs.pass_split.Reached.{reached}
 use Rattle.pass_split_proof.specs.steps.Returns.{IsReturnBlock}
-use Rattle.rule_laws.specs.frames.replaced.Parted.{IsSmall}
-use Rattle.run_framed.specs.Framed.{FramedGiven, begin_name}
-use Rattle.ir_model.specs.declared.module.Module.{Module}
-use Rattle.run_memory.specs.declared.block.MemoryBlock.{MemoryBlock}
-use Rattle.run_memory.specs.declared.pointer.Value.{Value}
-use Rattle.run_source.specs.State.{frame_address_of}
-use Rattle.run_source.specs.declared.state.Instance.{Instance}
-use Rattle.run_source.specs.declared.state.State.{State}
-use Rattle.run_source.specs.declared.state.Status.{Status}
-use Rattle.run_step.specs.Values.{Env}
+use Rattle.pass_proofs.specs.rule_laws.frames.replaced.Parted.{IsSmall}
+use Rattle.pass_proofs.specs.run_framed.Framed.{FramedGiven, begin_name}
+use Rattle.pass_proofs.specs.ir_model.declared.module.Module.{Module}
+use Rattle.pass_proofs.specs.run_memory.declared.block.MemoryBlock.{MemoryBlock}
+use Rattle.pass_proofs.specs.run_memory.declared.pointer.Value.{Value}
+use Rattle.pass_proofs.specs.run_source.State.{frame_address_of}
+use Rattle.pass_proofs.specs.run_source.declared.state.Instance.{Instance}
+use Rattle.pass_proofs.specs.run_source.declared.state.State.{State}
+use Rattle.pass_proofs.specs.run_source.declared.state.Status.{Status}
+use Rattle.pass_proofs.specs.run_step.Values.{Env}
 
 -- the value is the address of the frame of a Suspended instance
 pub record IsWoken (s : State) (p : Value) : Type 0 where

@@ -1,22 +1,22 @@
 -- A resumed activation at its end, and one that comes there from behind a transfer.
 use Rattle.std.specs.Prelude.{◌≡◌, ℕ, true, None, is_some}
-use Rattle.ir_base.specs.declared.outcome.Outcome.{Outcome}
-use Rattle.ir_model.specs.Names.{position_of}
-use Rattle.ir_model.specs.declared.instr.Instr.{Instr}
-use Rattle.ir_model.specs.declared.instr.Terminator.{Terminator}
-use Rattle.ir_model.specs.declared.module.Function.{Function}
-use Rattle.pass_intrinsics.specs.Cuts.{token_in}
-use Rattle.pass_intrinsics.specs.Shapes.{is_end}
+use Rattle.pass_proofs.specs.ir_base.declared.outcome.Outcome.{Outcome}
+use Rattle.pass_proofs.specs.ir_model.Names.{position_of}
+use Rattle.pass_proofs.specs.ir_model.declared.instr.Instr.{Instr}
+use Rattle.pass_proofs.specs.ir_model.declared.instr.Terminator.{Terminator}
+use Rattle.pass_proofs.specs.ir_model.declared.module.Function.{Function}
+use Rattle.pass_proofs.specs.pass_intrinsics.Cuts.{token_in}
+use Rattle.pass_proofs.specs.pass_intrinsics.Shapes.{is_end}
 use Rattle.pass_split_proof.specs.states.Activations.{IsLeaving}
 use Rattle.pass_split_proof.specs.states.Related.{AreRelated}
-use Rattle.rule_shape.specs.Suspends.{is_suspend}
-use Rattle.run_framed.specs.Framed.{FramedGiven}
-use Rattle.run_plain.specs.Plain.{PlainGiven, plain_function}
-use Rattle.run_plain.specs.declared.state.PlainState.{PlainState}
-use Rattle.run_source.specs.State.{function_of}
-use Rattle.run_source.specs.declared.state.Mode.{Mode}
-use Rattle.run_source.specs.declared.state.State.{State}
-use Rattle.run_step.specs.Step.{AtInstr, AtTerm, fetch}
+use Rattle.pass_proofs.specs.rule_shape.Suspends.{is_suspend}
+use Rattle.pass_proofs.specs.run_framed.Framed.{FramedGiven}
+use Rattle.run_access_worked.specs.run_plain.Plain.{PlainGiven, plain_function}
+use Rattle.run_access_worked.specs.run_plain.declared.state.PlainState.{PlainState}
+use Rattle.pass_proofs.specs.run_source.State.{function_of}
+use Rattle.pass_proofs.specs.run_source.declared.state.Mode.{Mode}
+use Rattle.pass_proofs.specs.run_source.declared.state.State.{State}
+use Rattle.pass_proofs.specs.run_step.Step.{AtInstr, AtTerm, fetch}
 
 -- the framed run is at the end in a resumed activation, and the part returns
 pub record IsAtEnd (g : FramedGiven) (h : PlainGiven) (s : State) (t : PlainState) : Type 0 where

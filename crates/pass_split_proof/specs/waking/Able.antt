@@ -1,17 +1,17 @@
 -- What is asked of a resume and of a destroy: the instance that it wakes can go on in the part that its header names.
 use Rattle.std.specs.Prelude.{◌≡◌, true, false}
-use Rattle.ir_model.specs.Names.{function_at}
-use Rattle.ir_paths.specs.Windows.{destroy_label, resume_label}
-use Rattle.pass_intrinsics.specs.declared.shape.Part.{Part}
+use Rattle.pass_proofs.specs.ir_model.Names.{function_at}
+use Rattle.pass_proofs.specs.ir_paths.Windows.{destroy_label, resume_label}
+use Rattle.pass_proofs.specs.pass_intrinsics.declared.shape.Part.{Part}
 use Rattle.pass_split_proof.specs.states.Instances.{StandsThere, is_destroyer, is_held}
 use Rattle.pass_split_proof.specs.steps.Resuming.{CanWake}
 use Rattle.pass_split_proof.specs.steps.Woken.{IsWoken}
-use Rattle.run_framed.specs.Framed.{FramedGiven}
-use Rattle.run_memory.specs.declared.pointer.Value.{Value}
-use Rattle.run_plain.specs.Plain.{PlainGiven}
-use Rattle.run_plain.specs.declared.state.PlainState.{PlainState}
-use Rattle.run_source.specs.declared.state.State.{State}
-use Rattle.run_source_tables.specs.Given.{is_final}
+use Rattle.pass_proofs.specs.run_framed.Framed.{FramedGiven}
+use Rattle.pass_proofs.specs.run_memory.declared.pointer.Value.{Value}
+use Rattle.run_access_worked.specs.run_plain.Plain.{PlainGiven}
+use Rattle.run_access_worked.specs.run_plain.declared.state.PlainState.{PlainState}
+use Rattle.pass_proofs.specs.run_source.declared.state.State.{State}
+use Rattle.pass_proofs.specs.run_source_tables.Given.{is_final}
 
 -- a Suspended instance with this address goes on behind its suspend, unless that is final
 abbrev pub CanBeResumed : FramedGiven → PlainGiven → State → PlainState → Value → Type 0

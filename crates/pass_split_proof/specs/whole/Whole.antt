@@ -1,15 +1,15 @@
 -- What splitting keeps of runs whose arguments are words of the widths of the entry's parameters.
 use Rattle.std.specs.Prelude.{ℕ, ℤ, List}
-use Rattle.frame_layout.specs.declared.layout.Layouts.{Layouts}
-use Rattle.ir_base.specs.declared.outcome.Word.{Word}
-use Rattle.ir_model.specs.declared.module.Module.{Module}
+use Rattle.pass_proofs.specs.frame_layout.declared.layout.Layouts.{Layouts}
+use Rattle.pass_proofs.specs.ir_base.declared.outcome.Word.{Word}
+use Rattle.pass_proofs.specs.ir_model.declared.module.Module.{Module}
 use Rattle.pass_cleanup.specs.Cleaned.{plain_machine}
 use Rattle.pass_split_proof.specs.first_exits.Parted.{parted_module}
 use Rattle.pass_split_proof.specs.simulation.Statement.{IsEntryOfParts, parts_given}
 use Rattle.pass_split_proof.specs.states.Related.{AreRelated, Follows, part_price}
-use Rattle.run_agreement.specs.Costs.{AgreesBy, IsNear}
-use Rattle.run_framed.specs.Framed.{framed_given}
-use Rattle.run_states.specs.moved_states.Beside.{framed_machine}
+use Rattle.pass_proofs.specs.run_agreement.Costs.{AgreesBy, IsNear}
+use Rattle.pass_proofs.specs.run_framed.Framed.{framed_given}
+use Rattle.pass_proofs.specs.run_states.moved_states.Beside.{framed_machine}
 use Rattle.run_types.specs.States.{AreArguments}
 
 -- It is `PartsKeepStates` of such runs. There a size that is handed to an allocator is below 2^64 (`sizes_are_small`),

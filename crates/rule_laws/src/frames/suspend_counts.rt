@@ -3,9 +3,9 @@
 ghost use Rattle.std.specs.Prelude.{◌≡◌, ◌≤◌, ℕ, None, length, true, Some, slice_get};
 ghost use Rattle.rule_shape.specs.Suspends.{suspend_too_many};
 ghost use Rattle.pass_intrinsics.specs.Shapes.{suspends_of};
-ghost use Rattle.ir_model.specs.declared.module.Function.{Function};
+ghost use Rattle.ir_laws.specs.ir_model.declared.module.Function.{Function};
 ghost use Rattle.rule_all.specs.Refused.{IsRefused};
-ghost use Rattle.ir_model.specs.declared.module.Module.{Module};
+ghost use Rattle.ir_laws.specs.ir_model.declared.module.Module.{Module};
 ghost use Rattle.rule_names.specs.declared.stage.Stage.{Stage};
 
 /// A coroutine that doesn't break rule K11 has at most 65,536 suspends.

@@ -2,20 +2,20 @@
 
 ghost use Rattle.std.specs.Prelude.{◌≡◌, ℕ, None, true, Some};
 ghost use Rattle.rule_shape.specs.OneOfEach.{wrong_call};
-ghost use Rattle.ir_model.specs.declared.module.Function.{Function};
-ghost use Rattle.ir_model.specs.declared.module.Module.{Module};
+ghost use Rattle.ir_laws.specs.ir_model.declared.module.Function.{Function};
+ghost use Rattle.ir_laws.specs.ir_model.declared.module.Module.{Module};
 ghost use Rattle.rule_laws.specs.rules.woven_rules.Blocks.{IsWoven};
 ghost use Rattle.rule_laws.specs.rules.woven_rules.Weaving.{Weaving};
 ghost use Rattle.rule_laws.specs.frames.woven_shape.Shaped.{KeepsCalls, IsShaped};
 ghost use Rattle.rule_shape.specs.Switches.{wrong_switch};
-ghost use Rattle.ir_model.specs.Calls.{first_result};
-ghost use Rattle.ir_model.specs.declared.operand.Intrinsic.{Intrinsic};
+ghost use Rattle.ir_laws.specs.ir_model.Calls.{first_result};
+ghost use Rattle.ir_laws.specs.ir_model.declared.operand.Intrinsic.{Intrinsic};
 ghost use Rattle.pass_intrinsics.specs.Shapes.{suspends_of};
 ghost use Rattle.rule_laws.specs.rules.function_rules.Kept.{KeepsFunctionRules};
 ghost use Rattle.rule_laws.specs.rules.replaced.Splittable.{AreBlocksBegun};
 ghost use Rattle.rule_laws.specs.rules.woven_rules.Pairs.{AreIncomingOnce};
 ghost use Rattle.rule_laws.specs.frames.replaced.Splittable.{HasOwnEdges};
-ghost use Rattle.run_laws.specs.changed.Changed.{Each};
+ghost use Rattle.ir_laws.specs.run_laws.changed.Changed.{Each};
 
 /// A coroutine whose calls break no rule (K2) has none that breaks it with instructions woven in.
 pub fn woven_calls_break_no_rule()

@@ -6,12 +6,12 @@
 //! by types, globals, declarations and how functions are called (`rules_go_by_signatures`).
 
 ghost use Rattle.rule_laws.specs.rules.function_rules.Tabled.{AreAllTabled};
-ghost use Rattle.ir_model.specs.declared.module.Module.{Module};
+ghost use Rattle.ir_laws.specs.ir_model.declared.module.Module.{Module};
 ghost use Rattle.text_canonical.specs.order.Shape.{IsShaped};
 ghost use Rattle.std.specs.Prelude.{ℕ};
 ghost use Rattle.rule_laws.specs.rules.function_rules.Kept.{KeepsFunctionRules};
 ghost use Rattle.ir_laws.specs.facts.function_rules.Signatures.{HaveSameSignatures};
-ghost use Rattle.ir_model.specs.declared.module.Function.{Function};
+ghost use Rattle.ir_laws.specs.ir_model.declared.module.Function.{Function};
 
 /// In a module whose parts are parts of the grammar, as in each that a text stands for, what functions define are positions of
 /// their tables of names.

@@ -9,8 +9,8 @@
 ghost use Rattle.std.specs.Prelude.{◌≡◌, ℕ, List, None, Some, [], slice_get};
 ghost use Rattle.rule_all.specs.Refused.{IsRefused};
 ghost use Rattle.text_grammar.specs.Text.{StandsFor};
-ghost use Rattle.ir_model.specs.declared.module.Function.{Function};
-ghost use Rattle.ir_model.specs.declared.module.Module.{Module};
+ghost use Rattle.ir_laws.specs.ir_model.declared.module.Function.{Function};
+ghost use Rattle.ir_laws.specs.ir_model.declared.module.Module.{Module};
 ghost use Rattle.rule_laws.specs.rules.names_apart.Words.{IsTableOf};
 ghost use Rattle.rule_names.specs.declared.stage.Stage.{Stage};
 

@@ -6,8 +6,8 @@
 //! nor hides a broken one (`names_in_order_break_no_rule`, `names_in_order_hide_no_fault`).
 
 ghost use Rattle.std.specs.Prelude.{ℕ, None};
-ghost use Rattle.ir_model.specs.declared.module.Function.{Function};
-ghost use Rattle.ir_model.specs.declared.module.Module.{Module};
+ghost use Rattle.ir_laws.specs.ir_model.declared.module.Function.{Function};
+ghost use Rattle.ir_laws.specs.ir_model.declared.module.Module.{Module};
 ghost use Rattle.ir_laws.specs.facts.order_rules.Renumbered.{IsRenumbered};
 ghost use Rattle.rule_laws.specs.rules.order_rules.Same.{HaveSameFaults};
 ghost use Rattle.rule_laws.specs.rules.plain_rules.Kept.{AllKeepPlainRules, HasNoCoroutine, KeepsPlainRules};

@@ -5,7 +5,7 @@
 
 ghost use Rattle.std.specs.Prelude.{None};
 ghost use Rattle.rule_all.specs.Refused.{IsRefused};
-ghost use Rattle.ir_model.specs.declared.module.Module.{Module};
+ghost use Rattle.ir_laws.specs.ir_model.declared.module.Module.{Module};
 ghost use Rattle.rule_names.specs.declared.stage.Stage.{Stage};
 ghost use Rattle.rule_laws.specs.rules.plain_rules.Items.{KeepsItemRules};
 ghost use Rattle.rule_laws.specs.rules.plain_rules.Kept.{AllKeepPlainRules, HasNoCoroutine};

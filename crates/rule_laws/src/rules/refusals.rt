@@ -2,7 +2,7 @@
 
 ghost use Rattle.std.specs.Prelude.{◌≡◌, Option};
 ghost use Rattle.rule_all.specs.Refused.{IsRefused};
-ghost use Rattle.ir_model.specs.declared.module.Module.{Module};
+ghost use Rattle.ir_laws.specs.ir_model.declared.module.Module.{Module};
 ghost use Rattle.rule_modules.specs.declared.order.Refusal.{Refusal};
 ghost use Rattle.rule_names.specs.declared.stage.Stage.{Stage};
 

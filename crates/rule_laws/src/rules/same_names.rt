@@ -3,7 +3,7 @@
 //! The parts of coroutines have names that no other item has, and the module stays known
 //! (`split_modules_have_the_parts`, `split_modules_keep_item_rules`).
 
-ghost use Rattle.ir_model.specs.declared.module.Module.{Module};
+ghost use Rattle.ir_laws.specs.ir_model.declared.module.Module.{Module};
 ghost use Rattle.rule_names.specs.declared.stage.Stage.{Stage};
 ghost use Rattle.rule_laws.specs.rules.plain_rules.Items.{KeepsItemRules};
 ghost use Rattle.ir_laws.specs.facts.same_names.Same.{HaveSameNames};

@@ -10,7 +10,7 @@
 ghost use Rattle.std.specs.Prelude.{ℕ, List};
 ghost use Rattle.rule_laws.specs.rules.source_rules.Named.{AreTabled};
 ghost use Rattle.text_grammar.specs.Text.{StandsFor};
-ghost use Rattle.ir_model.specs.declared.module.Module.{Module as TheModule};
+ghost use Rattle.ir_laws.specs.ir_model.declared.module.Module.{Module as TheModule};
 
 /// What a coroutine of a module that a text stands for defines, labels and values alike, are positions of its table of names.
 pub fn texts_have_tables()

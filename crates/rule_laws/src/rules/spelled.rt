@@ -13,8 +13,8 @@
 
 ghost use Rattle.std.specs.Prelude.{◌≡◌, ℕ, List, Some, slice_get};
 ghost use Rattle.text_grammar.specs.Text.{StandsFor};
-ghost use Rattle.ir_model.specs.declared.module.Function.{Function};
-ghost use Rattle.ir_model.specs.declared.module.Module.{Module};
+ghost use Rattle.ir_laws.specs.ir_model.declared.module.Function.{Function};
+ghost use Rattle.ir_laws.specs.ir_model.declared.module.Module.{Module};
 ghost use Rattle.rule_laws.specs.rules.spelled.Spelled.{IsSpelledFunction};
 ghost use Rattle.text_canonical.specs.grammar.Bytes.{AreBytes};
 ghost use Rattle.text_canonical.specs.canonical.ItemSymbols.{function_symbols};

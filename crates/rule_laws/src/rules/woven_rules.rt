@@ -7,13 +7,13 @@
 
 ghost use Rattle.std.specs.Prelude.{ℕ, List};
 ghost use Rattle.rule_laws.specs.rules.function_rules.Kept.{KeepsFunctionRules};
-ghost use Rattle.ir_model.specs.declared.module.Function.{Function};
-ghost use Rattle.ir_model.specs.declared.module.Module.{Module};
+ghost use Rattle.ir_laws.specs.ir_model.declared.module.Function.{Function};
+ghost use Rattle.ir_laws.specs.ir_model.declared.module.Module.{Module};
 ghost use Rattle.rule_laws.specs.rules.woven_rules.Blocks.{IsWoven};
 ghost use Rattle.rule_laws.specs.rules.woven_rules.Pairs.{AreIncomingOnce};
 ghost use Rattle.rule_laws.specs.rules.woven_rules.Weaving.{Weaving};
-ghost use Rattle.ir_base.specs.declared.name.Name.{Name};
-ghost use Rattle.ir_model.specs.declared.instr.Instr.{Instr};
+ghost use Rattle.ir_laws.specs.ir_base.declared.name.Name.{Name};
+ghost use Rattle.ir_laws.specs.ir_model.declared.instr.Instr.{Instr};
 ghost use Rattle.rule_laws.specs.rules.woven_rules.Fronts.{FrontFits, with_front};
 
 /// A function that breaks none of the rules of functions, and whose phis name each label once, breaks none with instructions woven in.

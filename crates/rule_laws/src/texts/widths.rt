@@ -4,7 +4,7 @@
 
 ghost use Rattle.std.specs.Prelude.{ℕ, List};
 ghost use Rattle.text_grammar.specs.Text.{StandsFor};
-ghost use Rattle.ir_model.specs.declared.module.Module.{Module};
+ghost use Rattle.ir_laws.specs.ir_model.declared.module.Module.{Module};
 ghost use Rattle.ir_laws.specs.facts.same_names.Short.{HaveShortNames};
 
 /// Where the name of a function of a text is a number, it is below 2^64 and so written in full.

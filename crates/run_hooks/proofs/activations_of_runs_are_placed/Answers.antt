@@ -1,7 +1,7 @@
 use Rattle.std.proofs.Common.{subst, sym}
-use Rattle.pass_kept_proof.specs.Kept.{continue_keeping}
+use Rattle.pass_renewed_proof.specs.pass_kept_proof.Kept.{continue_keeping}
 use Rattle.pass_renewed_proof.specs.Renewed.{renewed_step}
-use Rattle.run_framed.specs.Framed.{framed_step}
+use Rattle.pass_renewed_proof.specs.run_framed.Framed.{framed_step}
 use Rattle.run_hooks.proofs.Keeping.{framed_keeps, kept_keeps, renewed_keeps, source_keeps}
 use Rattle.run_hooks.proofs.PlacedKeeping.{framed_keeps_placed, kept_keeps_placed, renewed_keeps_placed}
 use Rattle.run_hooks.proofs.PlacedKeeping.{source_keeps_placed}
@@ -11,7 +11,7 @@ use Rattle.run_hooks.proofs.activations_of_runs_are_placed.Goals as goal
 use Rattle.run_hooks.specs.Hooks.{step_of}
 use Rattle.run_hooks.specs.Meanings.{framed_hooks, kept_hooks, renewed_hooks, source_hooks}
 use Rattle.run_hooks.specs.Away.{IsPlacedState}
-use Rattle.run_source.specs.Source.{continue, first_state, step, step_by}
+use Rattle.pass_renewed_proof.specs.run_source.Source.{continue, first_state, step, step_by}
 
 pub returns-clause-source : goal.returns-clause-source
 returns-clause-source c =

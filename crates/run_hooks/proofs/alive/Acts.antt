@@ -2,25 +2,25 @@
 use Rattle.std.proofs.Common.{◌≡◌, ◌<◌, ◌⊎◌, inl, inr, ℕ, Bool, true, false, List, [], ◌∷◌, length}
 use Rattle.std.proofs.Common.{Option, Some, None, Result, Ok, Err, refl, sym, ap, ◌∙◌, subst, arith}
 use Rattle.std.specs.Prelude.{if◌then◌else◌, slice_get, unwrap_or}
-use Rattle.ir_base.specs.declared.cause.Cause.{Cause}
-use Rattle.ir_base.specs.declared.ops.Pred.{Pred}
-use Rattle.ir_base.specs.declared.outcome.Word.{Word}
-use Rattle.ir_model.specs.Names.{declaration_named, function_at, function_named}
-use Rattle.ir_model.specs.Ty.{Ty, array, int, named, ptr, structure, token}
-use Rattle.ir_model.specs.declared.instr.Instr.{Instr}
-use Rattle.ir_model.specs.declared.instr.Terminator.{Terminator}
-use Rattle.ir_model.specs.declared.module.Function.{Function}
-use Rattle.ir_model.specs.declared.module.Module.{Module}
-use Rattle.ir_model.specs.declared.operand.Allocator.{Allocator}
-use Rattle.ir_model.specs.declared.operand.Arg.{Arg}
-use Rattle.ir_model.specs.declared.operand.Callee.{Callee}
-use Rattle.ir_model.specs.declared.operand.Intrinsic.{Intrinsic}
-use Rattle.ir_paths.specs.Paths.{IsPath, Leads, has_point, nexts, same_point}
-use Rattle.ir_paths.specs.Windows.{IsInWindow, is_call_of}
-use Rattle.ir_paths.specs.declared.point.Point.{Point}
-use Rattle.pass_kept_proof.proofs.Same.{neither}
-use Rattle.pass_kept_proof.specs.Needed.{given_by}
-use Rattle.pass_kept_proof.specs.SuspendRules.{IsCallAt}
+use Rattle.pass_renewed_proof.specs.ir_base.declared.cause.Cause.{Cause}
+use Rattle.pass_renewed_proof.specs.ir_base.declared.ops.Pred.{Pred}
+use Rattle.pass_renewed_proof.specs.ir_base.declared.outcome.Word.{Word}
+use Rattle.pass_renewed_proof.specs.ir_model.Names.{declaration_named, function_at, function_named}
+use Rattle.pass_renewed_proof.specs.ir_model.Ty.{Ty, array, int, named, ptr, structure, token}
+use Rattle.pass_renewed_proof.specs.ir_model.declared.instr.Instr.{Instr}
+use Rattle.pass_renewed_proof.specs.ir_model.declared.instr.Terminator.{Terminator}
+use Rattle.pass_renewed_proof.specs.ir_model.declared.module.Function.{Function}
+use Rattle.pass_renewed_proof.specs.ir_model.declared.module.Module.{Module}
+use Rattle.pass_renewed_proof.specs.ir_model.declared.operand.Allocator.{Allocator}
+use Rattle.pass_renewed_proof.specs.ir_model.declared.operand.Arg.{Arg}
+use Rattle.pass_renewed_proof.specs.ir_model.declared.operand.Callee.{Callee}
+use Rattle.pass_renewed_proof.specs.ir_model.declared.operand.Intrinsic.{Intrinsic}
+use Rattle.pass_renewed_proof.specs.ir_paths.Paths.{IsPath, Leads, has_point, nexts, same_point}
+use Rattle.pass_renewed_proof.specs.ir_paths.Windows.{IsInWindow, is_call_of}
+use Rattle.pass_renewed_proof.specs.ir_paths.declared.point.Point.{Point}
+use Rattle.pass_renewed_proof.proofs.pass_kept_proof.Same.{neither}
+use Rattle.pass_renewed_proof.specs.pass_kept_proof.Needed.{given_by}
+use Rattle.pass_renewed_proof.specs.pass_kept_proof.SuspendRules.{IsCallAt}
 use Rattle.pass_renewed_proof.proofs.Ahead.{leads_more, not_in_either}
 use Rattle.pass_renewed_proof.proofs.Left.{end_next}
 use Rattle.pass_renewed_proof.proofs.Sets.{result_elsewhere}
@@ -36,27 +36,27 @@ use Rattle.run_hooks.specs.Away.{point_in, spot_by, spot_of}
 use Rattle.run_hooks.specs.alive.Alive.{GoesOn, IsAliveState, KeepsAliveRules, MayLeave, Stays, StaysAlive}
 use Rattle.run_hooks.specs.alive.Alive.{account_of}
 use Rattle.run_hooks.specs.alive.Slots.{IsAliveSlot, IsHeld, IsSlotOf, Ramp}
-use Rattle.rule_windows.specs.Sets.{IsAfterEnd}
-use Rattle.run_memory.specs.Memory.{compare}
-use Rattle.run_memory.specs.declared.pointer.Pointer.{Pointer}
-use Rattle.run_memory.specs.declared.pointer.Value.{Value}
-use Rattle.run_source.specs.Source.{is_over, pop, return, returned}
-use Rattle.run_source.specs.State.{gives, work_of}
-use Rattle.run_source.specs.declared.state.Activation.{Activation}
-use Rattle.run_source.specs.declared.state.Instance.{Instance}
-use Rattle.run_source.specs.declared.state.Mode.{Mode}
-use Rattle.run_source.specs.declared.state.State.{State}
-use Rattle.run_source.specs.declared.state.Status.{Status}
-use Rattle.run_step.specs.Effects.{is_alloca}
-use Rattle.run_step.specs.Results.{and_then}
-use Rattle.run_step.specs.Step.{Action, AtInstr, Context, Enter, GoTo, NewSlot, Return, Stuck, Work, allocator_call}
-use Rattle.run_step.specs.Step.{block_of, compared, copied_bytes, done, fetch, fits_function, if_alignment}
-use Rattle.run_step.specs.Step.{indirect_call, instr_action}
-use Rattle.run_step.specs.Step.{intrinsic_call, is_alignment, named_call, observed, outcome_of, set_result, with_length}
-use Rattle.run_step.specs.Step.{without_slots, words_of}
-use Rattle.run_step.specs.Step.{branch, switch, term_action, value_at}
-use Rattle.run_step.specs.Values.{address, arg_value, arg_values, nth, value_in, with_result}
-use Rattle.run_step.specs.declared.world.Slot.{Slot}
+use Rattle.pass_renewed_proof.specs.rule_windows.Sets.{IsAfterEnd}
+use Rattle.pass_renewed_proof.specs.run_memory.Memory.{compare}
+use Rattle.pass_renewed_proof.specs.run_memory.declared.pointer.Pointer.{Pointer}
+use Rattle.pass_renewed_proof.specs.run_memory.declared.pointer.Value.{Value}
+use Rattle.pass_renewed_proof.specs.run_source.Source.{is_over, pop, return, returned}
+use Rattle.pass_renewed_proof.specs.run_source.State.{gives, work_of}
+use Rattle.pass_renewed_proof.specs.run_source.declared.state.Activation.{Activation}
+use Rattle.pass_renewed_proof.specs.run_source.declared.state.Instance.{Instance}
+use Rattle.pass_renewed_proof.specs.run_source.declared.state.Mode.{Mode}
+use Rattle.pass_renewed_proof.specs.run_source.declared.state.State.{State}
+use Rattle.pass_renewed_proof.specs.run_source.declared.state.Status.{Status}
+use Rattle.pass_renewed_proof.specs.run_step.Effects.{is_alloca}
+use Rattle.pass_renewed_proof.specs.run_step.Results.{and_then}
+use Rattle.pass_renewed_proof.specs.run_step.Step.{Action, AtInstr, Context, Enter, GoTo, NewSlot, Return, Stuck, Work, allocator_call}
+use Rattle.pass_renewed_proof.specs.run_step.Step.{block_of, compared, copied_bytes, done, fetch, fits_function, if_alignment}
+use Rattle.pass_renewed_proof.specs.run_step.Step.{indirect_call, instr_action}
+use Rattle.pass_renewed_proof.specs.run_step.Step.{intrinsic_call, is_alignment, named_call, observed, outcome_of, set_result, with_length}
+use Rattle.pass_renewed_proof.specs.run_step.Step.{without_slots, words_of}
+use Rattle.pass_renewed_proof.specs.run_step.Step.{branch, switch, term_action, value_at}
+use Rattle.pass_renewed_proof.specs.run_step.Values.{address, arg_value, arg_values, nth, value_in, with_result}
+use Rattle.pass_renewed_proof.specs.run_step.declared.world.Slot.{Slot}
 
 pub then_alive : (m : Module) (counts : ℕ → ℕ → Bool) {A : Type 0} (r : Result A Cause) (f : A → Result State Cause)
     → ((a : A) → r ≡ Ok a → StaysAlive m counts (f a)) → StaysAlive m counts (and_then r f)

@@ -1,21 +1,21 @@
 -- Two live slots of an instance conflict.
 use Rattle.std.proofs.Common.{◌≡◌, inl, inr, ℕ, Bool, true, false, Some, refl}
 use Rattle.std.specs.Prelude.{slice_get}
-use Rattle.frame_classes.specs.Alive.{Started}
+use Rattle.pass_renewed_proof.specs.frame_classes.Alive.{Started}
 use Rattle.frame_conflicts.specs.Conflicts.{Conflict, Together, Unmarked}
-use Rattle.ir_model.specs.Names.{function_at}
-use Rattle.ir_model.specs.declared.module.Function.{Function}
-use Rattle.ir_model.specs.declared.module.Module.{Module}
-use Rattle.ir_paths.specs.Slots.{IsRampSlot}
+use Rattle.pass_renewed_proof.specs.ir_model.Names.{function_at}
+use Rattle.pass_renewed_proof.specs.ir_model.declared.module.Function.{Function}
+use Rattle.pass_renewed_proof.specs.ir_model.declared.module.Module.{Module}
+use Rattle.pass_renewed_proof.specs.ir_paths.Slots.{IsRampSlot}
 use Rattle.run_hooks.proofs.alive.Parts.{all_where}
 use Rattle.run_hooks.proofs.alive.Says.{may_be_alive, none_marked}
 use Rattle.run_hooks.specs.alive.Alive.{IsAliveState}
 use Rattle.run_hooks.specs.alive.Apart.{LiveAreApart}
 use Rattle.run_hooks.specs.alive.Slots.{IsMetSlot, lives}
-use Rattle.run_source.specs.declared.state.Instance.{Instance}
-use Rattle.run_source.specs.declared.state.State.{State}
-use Rattle.run_step.specs.Step.{has_markers}
-use Rattle.run_step.specs.declared.world.Slot.{Slot}
+use Rattle.pass_renewed_proof.specs.run_source.declared.state.Instance.{Instance}
+use Rattle.pass_renewed_proof.specs.run_source.declared.state.State.{State}
+use Rattle.pass_renewed_proof.specs.run_step.Step.{has_markers}
+use Rattle.pass_renewed_proof.specs.run_step.declared.world.Slot.{Slot}
 
 pub live_conflict : (m : Module) (counts : ℕ → ℕ → Bool) (s : State) → IsAliveState m counts s
     → (i j k : ℕ) (x : Instance)

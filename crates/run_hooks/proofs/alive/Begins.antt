@@ -3,23 +3,23 @@ use Rattle.std.proofs.Common.{◌≡◌, ◌<◌, inl, inr, ℕ, zero, suc, Bool
 use Rattle.std.proofs.Common.{Option, Some, None, refl, sym, ap, ◌∙◌, subst, arith}
 use Rattle.std.specs.List.{AllByRecursion}
 use Rattle.std.specs.Prelude.{filter, if◌then◌else◌, slice_get, slice_set, ◌==◌}
-use Rattle.ir_model.specs.Names.{function_at}
-use Rattle.ir_model.specs.declared.module.Function.{Function}
-use Rattle.ir_model.specs.declared.module.Module.{Module}
-use Rattle.ir_paths.specs.Slots.{IsRampSlot}
-use Rattle.rule_windows.specs.Sets.{RunsOut}
+use Rattle.pass_renewed_proof.specs.ir_model.Names.{function_at}
+use Rattle.pass_renewed_proof.specs.ir_model.declared.module.Function.{Function}
+use Rattle.pass_renewed_proof.specs.ir_model.declared.module.Module.{Module}
+use Rattle.pass_renewed_proof.specs.ir_paths.Slots.{IsRampSlot}
+use Rattle.pass_renewed_proof.specs.rule_windows.Sets.{RunsOut}
 use Rattle.run_hooks.proofs.alive.Parts.{AllIn, all_append, all_both, all_map, all_passing}
 use Rattle.run_hooks.specs.Away.{spot_of}
 use Rattle.run_hooks.specs.alive.Alive.{Account, AreAliveAt, AreAliveIn, IsAliveIn, IsAliveInstance}
 use Rattle.run_hooks.specs.alive.Alive.{IsAliveState, IsEnded, IsThere, KeepsAliveRules, account_of}
 use Rattle.run_hooks.specs.alive.Slots.{Home, IsAliveSlot, IsMetSlot, IsSlotOf, IsTagged, Own, Ramp, Tag, Tags, home_of}
-use Rattle.run_source.specs.Source.{begun, is_among, new_instance}
-use Rattle.run_source.specs.State.{is_finished, own_facts}
-use Rattle.run_source.specs.declared.state.Activation.{Activation}
-use Rattle.run_source.specs.declared.state.Instance.{Instance}
-use Rattle.run_source.specs.declared.state.State.{State}
-use Rattle.run_source_tables.specs.Given.{Given}
-use Rattle.run_step.specs.declared.world.Slot.{Slot}
+use Rattle.pass_renewed_proof.specs.run_source.Source.{begun, is_among, new_instance}
+use Rattle.pass_renewed_proof.specs.run_source.State.{is_finished, own_facts}
+use Rattle.pass_renewed_proof.specs.run_source.declared.state.Activation.{Activation}
+use Rattle.pass_renewed_proof.specs.run_source.declared.state.Instance.{Instance}
+use Rattle.pass_renewed_proof.specs.run_source.declared.state.State.{State}
+use Rattle.pass_renewed_proof.specs.run_source_tables.Given.{Given}
+use Rattle.pass_renewed_proof.specs.run_step.declared.world.Slot.{Slot}
 
 -- ---- instances that there were, and the new one
 

@@ -3,16 +3,16 @@ use Rattle.std.proofs.Common.{◌≡◌, inl, inr, ℕ, zero, suc, Bool, true, f
 use Rattle.std.proofs.Common.{Option, Some, None, refl, sym, ap, ◌∙◌, subst, arith}
 use Rattle.std.specs.List.{AllByRecursion, list_any}
 use Rattle.std.specs.Prelude.{replicate, slice_get, slice_set, ◌==◌}
-use Rattle.ir_model.specs.Names.{function_at, position_of}
-use Rattle.ir_model.specs.declared.instr.Phi.{Phi}
-use Rattle.ir_model.specs.declared.instr.Terminator.{Terminator}
-use Rattle.ir_model.specs.declared.module.Function.{Function}
-use Rattle.ir_model.specs.declared.module.Module.{Module}
-use Rattle.ir_model.specs.declared.module.Param.{Param}
-use Rattle.ir_paths.specs.Paths.{entry_point, has_point, nexts}
-use Rattle.ir_paths.specs.declared.point.Point.{Point}
-use Rattle.pass_kept_proof.proofs.Same.{neither}
-use Rattle.pass_kept_proof.specs.Needed.{BranchesTo, phis_give}
+use Rattle.pass_renewed_proof.specs.ir_model.Names.{function_at, position_of}
+use Rattle.pass_renewed_proof.specs.ir_model.declared.instr.Phi.{Phi}
+use Rattle.pass_renewed_proof.specs.ir_model.declared.instr.Terminator.{Terminator}
+use Rattle.pass_renewed_proof.specs.ir_model.declared.module.Function.{Function}
+use Rattle.pass_renewed_proof.specs.ir_model.declared.module.Module.{Module}
+use Rattle.pass_renewed_proof.specs.ir_model.declared.module.Param.{Param}
+use Rattle.pass_renewed_proof.specs.ir_paths.Paths.{entry_point, has_point, nexts}
+use Rattle.pass_renewed_proof.specs.ir_paths.declared.point.Point.{Point}
+use Rattle.pass_renewed_proof.proofs.pass_kept_proof.Same.{neither}
+use Rattle.pass_renewed_proof.specs.pass_kept_proof.Needed.{BranchesTo, phis_give}
 use Rattle.pass_renewed_proof.proofs.Ahead.{branch_edge}
 use Rattle.pass_renewed_proof.proofs.Left.{after_edge}
 use Rattle.pass_renewed_proof.proofs.Sets.{result_elsewhere, set_elsewhere}
@@ -27,19 +27,19 @@ use Rattle.run_hooks.specs.Away.{point_in, spot_by}
 use Rattle.run_hooks.specs.alive.Alive.{Account, AreAliveIn, GoesOn, IsAliveIn, IsAliveInstance, IsAliveState, IsApart}
 use Rattle.run_hooks.specs.alive.Alive.{IsThere, KeepsAliveRules, MayLeave, Stays, account_of}
 use Rattle.run_hooks.specs.alive.Slots.{IsSlotOf, Own}
-use Rattle.run_memory.specs.declared.block.MemoryBlock.{MemoryBlock}
-use Rattle.run_memory.specs.declared.pointer.Value.{Value}
-use Rattle.run_source.specs.Source.{called, is_over}
-use Rattle.run_source.specs.State.{is_finished}
-use Rattle.run_source.specs.declared.state.Activation.{Activation}
-use Rattle.run_source.specs.declared.state.Instance.{Instance}
-use Rattle.run_source.specs.declared.state.Mode.{Mode}
-use Rattle.run_source.specs.declared.state.State.{State}
-use Rattle.run_source.specs.declared.state.Status.{Status}
-use Rattle.run_step.specs.Step.{AtInstr, AtTerm, block_of, entry_values, fetch, incoming_from, phi_values, phis_of}
-use Rattle.run_step.specs.Step.{values_in, with_all}
-use Rattle.run_step.specs.Step.{with_params}
-use Rattle.run_step.specs.Values.{Env, operand_value, value_in, with_result, with_value}
+use Rattle.pass_renewed_proof.specs.run_memory.declared.block.MemoryBlock.{MemoryBlock}
+use Rattle.pass_renewed_proof.specs.run_memory.declared.pointer.Value.{Value}
+use Rattle.pass_renewed_proof.specs.run_source.Source.{called, is_over}
+use Rattle.pass_renewed_proof.specs.run_source.State.{is_finished}
+use Rattle.pass_renewed_proof.specs.run_source.declared.state.Activation.{Activation}
+use Rattle.pass_renewed_proof.specs.run_source.declared.state.Instance.{Instance}
+use Rattle.pass_renewed_proof.specs.run_source.declared.state.Mode.{Mode}
+use Rattle.pass_renewed_proof.specs.run_source.declared.state.State.{State}
+use Rattle.pass_renewed_proof.specs.run_source.declared.state.Status.{Status}
+use Rattle.pass_renewed_proof.specs.run_step.Step.{AtInstr, AtTerm, block_of, entry_values, fetch, incoming_from, phi_values, phis_of}
+use Rattle.pass_renewed_proof.specs.run_step.Step.{values_in, with_all}
+use Rattle.pass_renewed_proof.specs.run_step.Step.{with_params}
+use Rattle.pass_renewed_proof.specs.run_step.Values.{Env, operand_value, value_in, with_result, with_value}
 
 -- ---- values
 

@@ -1,29 +1,29 @@
 -- So does each of the coro intrinsics.
 use Rattle.std.proofs.Common.{◌≡◌, ℕ, Bool, false, List, Option, Some, Result, refl, sym, ap, ◌∙◌}
-use Rattle.ir_base.specs.declared.cause.Cause.{Cause}
-use Rattle.ir_model.specs.Ty.{Ty}
-use Rattle.ir_model.specs.declared.instr.Instr.{Instr}
-use Rattle.ir_model.specs.declared.module.Function.{Function}
-use Rattle.ir_model.specs.declared.module.Module.{Module}
-use Rattle.ir_model.specs.declared.operand.Arg.{Arg}
-use Rattle.ir_model.specs.declared.operand.Callee.{Callee}
-use Rattle.ir_model.specs.declared.operand.Intrinsic.{Intrinsic}
-use Rattle.ir_paths.specs.Windows.{call_operand, is_call_of, operand_at}
-use Rattle.ir_paths.specs.declared.point.Point.{Point}
-use Rattle.pass_kept_proof.specs.Needed.{given_by, given_by_intrinsic}
+use Rattle.pass_renewed_proof.specs.ir_base.declared.cause.Cause.{Cause}
+use Rattle.pass_renewed_proof.specs.ir_model.Ty.{Ty}
+use Rattle.pass_renewed_proof.specs.ir_model.declared.instr.Instr.{Instr}
+use Rattle.pass_renewed_proof.specs.ir_model.declared.module.Function.{Function}
+use Rattle.pass_renewed_proof.specs.ir_model.declared.module.Module.{Module}
+use Rattle.pass_renewed_proof.specs.ir_model.declared.operand.Arg.{Arg}
+use Rattle.pass_renewed_proof.specs.ir_model.declared.operand.Callee.{Callee}
+use Rattle.pass_renewed_proof.specs.ir_model.declared.operand.Intrinsic.{Intrinsic}
+use Rattle.pass_renewed_proof.specs.ir_paths.Windows.{call_operand, is_call_of, operand_at}
+use Rattle.pass_renewed_proof.specs.ir_paths.declared.point.Point.{Point}
+use Rattle.pass_renewed_proof.specs.pass_kept_proof.Needed.{given_by, given_by_intrinsic}
 use Rattle.pass_renewed_proof.specs.SlotRules.{IsMadeOnce}
 use Rattle.run_hooks.proofs.alive.Acts.{then_alive}
 use Rattle.run_hooks.specs.Away.{point_in}
 use Rattle.run_hooks.specs.Hooks.{hooked_coro}
 use Rattle.run_hooks.specs.alive.Alive.{IsAliveState, StaysAlive, handing}
-use Rattle.run_memory.specs.declared.pointer.Value.{Value}
-use Rattle.run_source.specs.Source.{promise}
-use Rattle.run_source.specs.State.{function_of, gives, own_facts, work_of}
-use Rattle.run_source.specs.declared.state.State.{State}
-use Rattle.run_source_tables.specs.Given.{Given}
-use Rattle.run_step.specs.Effects.{is_alloca}
-use Rattle.run_step.specs.Step.{AtInstr, Context, Coro, Fetched, fetch, instr_action}
-use Rattle.run_step.specs.Values.{Env, nth}
+use Rattle.pass_renewed_proof.specs.run_memory.declared.pointer.Value.{Value}
+use Rattle.pass_renewed_proof.specs.run_source.Source.{promise}
+use Rattle.pass_renewed_proof.specs.run_source.State.{function_of, gives, own_facts, work_of}
+use Rattle.pass_renewed_proof.specs.run_source.declared.state.State.{State}
+use Rattle.pass_renewed_proof.specs.run_source_tables.Given.{Given}
+use Rattle.pass_renewed_proof.specs.run_step.Effects.{is_alloca}
+use Rattle.pass_renewed_proof.specs.run_step.Step.{AtInstr, Context, Coro, Fetched, fetch, instr_action}
+use Rattle.pass_renewed_proof.specs.run_step.Values.{Env, nth}
 use Rattle.run_hooks.proofs.alive.Now.{IsNow, apart_of, gives_here, next_here}
 use Rattle.run_hooks.proofs.alive.Saving.{begin_fine, free_fine, save_fine, suspend_fine}
 use Rattle.run_hooks.proofs.alive.Ends.{end_fine}

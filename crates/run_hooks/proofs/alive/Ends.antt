@@ -2,15 +2,15 @@
 use Rattle.std.proofs.Common.{◌≡◌, inl, ℕ, Bool, true, false, List, Option, Some, None, Result, refl, sym, ap, ◌∙◌}
 use Rattle.std.proofs.Common.{subst}
 use Rattle.std.specs.Prelude.{if◌then◌else◌, slice_get, ◌||◌}
-use Rattle.ir_base.specs.declared.cause.Cause.{Cause}
-use Rattle.ir_model.specs.Names.{function_at}
-use Rattle.ir_model.specs.declared.instr.Instr.{Instr}
-use Rattle.ir_model.specs.declared.module.Function.{Function}
-use Rattle.ir_model.specs.declared.module.Module.{Module}
-use Rattle.ir_model.specs.declared.operand.Intrinsic.{Intrinsic}
-use Rattle.ir_paths.specs.Windows.{is_call_of}
-use Rattle.ir_paths.specs.declared.point.Point.{Point}
-use Rattle.pass_kept_proof.specs.SuspendRules.{IsCallAt}
+use Rattle.pass_renewed_proof.specs.ir_base.declared.cause.Cause.{Cause}
+use Rattle.pass_renewed_proof.specs.ir_model.Names.{function_at}
+use Rattle.pass_renewed_proof.specs.ir_model.declared.instr.Instr.{Instr}
+use Rattle.pass_renewed_proof.specs.ir_model.declared.module.Function.{Function}
+use Rattle.pass_renewed_proof.specs.ir_model.declared.module.Module.{Module}
+use Rattle.pass_renewed_proof.specs.ir_model.declared.operand.Intrinsic.{Intrinsic}
+use Rattle.pass_renewed_proof.specs.ir_paths.Windows.{is_call_of}
+use Rattle.pass_renewed_proof.specs.ir_paths.declared.point.Point.{Point}
+use Rattle.pass_renewed_proof.specs.pass_kept_proof.SuspendRules.{IsCallAt}
 use Rattle.pass_renewed_proof.specs.SlotRules.{IsMadeOnce}
 use Rattle.run_hooks.proofs.alive.Acts.{past_end, return_alive}
 use Rattle.run_hooks.proofs.alive.Behind.{IsInOrder}
@@ -20,16 +20,16 @@ use Rattle.run_hooks.proofs.alive.Places.{own_there, with_fewer}
 use Rattle.run_hooks.proofs.alive.Statuses.{finished_alive, without_gone}
 use Rattle.run_hooks.specs.Away.{point_in}
 use Rattle.run_hooks.specs.alive.Alive.{IsAliveState, KeepsAliveRules, StaysAlive}
-use Rattle.run_source.specs.Source.{after_end, end_of, finish, change_own, slots_of}
-use Rattle.run_source.specs.State.{function_of, gives, is_finished, is_suspended, own_facts, own_instance}
-use Rattle.run_source.specs.State.{with_instance, with_memory}
-use Rattle.run_source.specs.declared.state.Instance.{Instance}
-use Rattle.run_source.specs.declared.state.Mode.{Mode}
-use Rattle.run_source.specs.declared.state.State.{State}
-use Rattle.run_source.specs.declared.state.Status.{Status}
-use Rattle.run_source_tables.specs.Given.{Given}
-use Rattle.run_step.specs.Step.{AtInstr, Fetched, fetch, without_slots}
-use Rattle.run_step.specs.Values.{Env, truth_value}
+use Rattle.pass_renewed_proof.specs.run_source.Source.{after_end, end_of, finish, change_own, slots_of}
+use Rattle.pass_renewed_proof.specs.run_source.State.{function_of, gives, is_finished, is_suspended, own_facts, own_instance}
+use Rattle.pass_renewed_proof.specs.run_source.State.{with_instance, with_memory}
+use Rattle.pass_renewed_proof.specs.run_source.declared.state.Instance.{Instance}
+use Rattle.pass_renewed_proof.specs.run_source.declared.state.Mode.{Mode}
+use Rattle.pass_renewed_proof.specs.run_source.declared.state.State.{State}
+use Rattle.pass_renewed_proof.specs.run_source.declared.state.Status.{Status}
+use Rattle.pass_renewed_proof.specs.run_source_tables.Given.{Given}
+use Rattle.pass_renewed_proof.specs.run_step.Step.{AtInstr, Fetched, fetch, without_slots}
+use Rattle.pass_renewed_proof.specs.run_step.Values.{Env, truth_value}
 use Rattle.run_hooks.proofs.alive.Like.{like, set_like, own_is_there}
 use Rattle.run_hooks.proofs.alive.Now.{IsNow, own_rules, ordered, stays_here, at_point}
 

@@ -3,14 +3,14 @@ use Rattle.std.proofs.Common.{◌≡◌, ℕ, Bool, true, false, List, length, O
 use Rattle.std.proofs.Common.{◌∙◌, subst, arith}
 use Rattle.std.specs.List.{AllByRecursion}
 use Rattle.std.specs.Prelude.{if◌then◌else◌, slice_get}
-use Rattle.ir_base.specs.declared.cause.Cause.{Cause}
-use Rattle.ir_model.specs.Names.{function_at}
-use Rattle.ir_model.specs.declared.instr.Instr.{Instr}
-use Rattle.ir_model.specs.declared.module.Function.{Function}
-use Rattle.ir_model.specs.declared.module.Module.{Module}
-use Rattle.ir_model.specs.declared.operand.Intrinsic.{Intrinsic}
-use Rattle.ir_paths.specs.Windows.{is_call_of}
-use Rattle.ir_paths.specs.declared.point.Point.{Point}
+use Rattle.pass_renewed_proof.specs.ir_base.declared.cause.Cause.{Cause}
+use Rattle.pass_renewed_proof.specs.ir_model.Names.{function_at}
+use Rattle.pass_renewed_proof.specs.ir_model.declared.instr.Instr.{Instr}
+use Rattle.pass_renewed_proof.specs.ir_model.declared.module.Function.{Function}
+use Rattle.pass_renewed_proof.specs.ir_model.declared.module.Module.{Module}
+use Rattle.pass_renewed_proof.specs.ir_model.declared.operand.Intrinsic.{Intrinsic}
+use Rattle.pass_renewed_proof.specs.ir_paths.Windows.{is_call_of}
+use Rattle.pass_renewed_proof.specs.ir_paths.declared.point.Point.{Point}
 use Rattle.run_hooks.proofs.Reached.{at_is}
 use Rattle.run_hooks.proofs.alive.Acts.{enters_by, gives_alive, then_alive}
 use Rattle.run_hooks.proofs.alive.Changes.{called_in, pushed}
@@ -22,20 +22,20 @@ use Rattle.run_hooks.proofs.alive.Statuses.{freed_alive, without_gone}
 use Rattle.run_hooks.specs.Away.{point_in}
 use Rattle.run_hooks.specs.alive.Alive.{IsAliveState, KeepsAliveRules, StaysAlive}
 use Rattle.run_hooks.specs.alive.Slots.{IsSlotOf, Own, is_gone}
-use Rattle.run_memory.specs.Memory.{disown, disowned, own}
-use Rattle.run_memory.specs.declared.block.MemoryBlock.{MemoryBlock}
-use Rattle.run_memory.specs.declared.pointer.Value.{Value}
-use Rattle.run_source.specs.Source.{called, if_let_go, let_go, may_be_freed, mode_of, deallocate, enter}
-use Rattle.run_source.specs.State.{function_of, instance_at, is_suspended, next, own_facts, with_instance, with_memory}
-use Rattle.run_source.specs.State.{work_of}
-use Rattle.run_source.specs.declared.state.Activation.{Activation}
-use Rattle.run_source.specs.declared.state.Instance.{Instance}
-use Rattle.run_source.specs.declared.state.State.{State}
-use Rattle.run_source_tables.specs.Given.{Given}
-use Rattle.run_step.specs.Effects.{is_alloca}
-use Rattle.run_step.specs.Results.{and_then}
-use Rattle.run_step.specs.Step.{AtInstr, Context, Enter, Fetched, deallocated, fetch, instr_action, without_slots}
-use Rattle.run_step.specs.Values.{Env}
+use Rattle.pass_renewed_proof.specs.run_memory.Memory.{disown, disowned, own}
+use Rattle.pass_renewed_proof.specs.run_memory.declared.block.MemoryBlock.{MemoryBlock}
+use Rattle.pass_renewed_proof.specs.run_memory.declared.pointer.Value.{Value}
+use Rattle.pass_renewed_proof.specs.run_source.Source.{called, if_let_go, let_go, may_be_freed, mode_of, deallocate, enter}
+use Rattle.pass_renewed_proof.specs.run_source.State.{function_of, instance_at, is_suspended, next, own_facts, with_instance, with_memory}
+use Rattle.pass_renewed_proof.specs.run_source.State.{work_of}
+use Rattle.pass_renewed_proof.specs.run_source.declared.state.Activation.{Activation}
+use Rattle.pass_renewed_proof.specs.run_source.declared.state.Instance.{Instance}
+use Rattle.pass_renewed_proof.specs.run_source.declared.state.State.{State}
+use Rattle.pass_renewed_proof.specs.run_source_tables.Given.{Given}
+use Rattle.pass_renewed_proof.specs.run_step.Effects.{is_alloca}
+use Rattle.pass_renewed_proof.specs.run_step.Results.{and_then}
+use Rattle.pass_renewed_proof.specs.run_step.Step.{AtInstr, Context, Enter, Fetched, deallocated, fetch, instr_action, without_slots}
+use Rattle.pass_renewed_proof.specs.run_step.Values.{Env}
 use Rattle.run_hooks.proofs.alive.Like.{like, set_like, unmade}
 use Rattle.run_hooks.proofs.alive.Now.{IsNow, own_rules, ordered, stays_here, apart_of, next_here}
 

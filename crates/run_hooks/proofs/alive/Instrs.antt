@@ -1,13 +1,13 @@
 -- Instructions that are done, markers among them, leave a state in which live slots may be alive.
 use Rattle.std.proofs.Common.{◌≡◌, ℕ, Bool, true, false, List, Option, Some, None, refl, sym, ap, ◌∙◌, subst}
-use Rattle.ir_model.specs.Names.{function_at}
-use Rattle.ir_model.specs.declared.instr.Instr.{Instr}
-use Rattle.ir_model.specs.declared.module.Function.{Function}
-use Rattle.ir_model.specs.declared.module.Module.{Module}
-use Rattle.ir_model.specs.declared.operand.Intrinsic.{Intrinsic}
-use Rattle.ir_model.specs.declared.operand.Operand.{Operand}
-use Rattle.ir_paths.specs.Windows.{call_operand, is_call_of}
-use Rattle.ir_paths.specs.declared.point.Point.{Point}
+use Rattle.pass_renewed_proof.specs.ir_model.Names.{function_at}
+use Rattle.pass_renewed_proof.specs.ir_model.declared.instr.Instr.{Instr}
+use Rattle.pass_renewed_proof.specs.ir_model.declared.module.Function.{Function}
+use Rattle.pass_renewed_proof.specs.ir_model.declared.module.Module.{Module}
+use Rattle.pass_renewed_proof.specs.ir_model.declared.operand.Intrinsic.{Intrinsic}
+use Rattle.pass_renewed_proof.specs.ir_model.declared.operand.Operand.{Operand}
+use Rattle.pass_renewed_proof.specs.ir_paths.Windows.{call_operand, is_call_of}
+use Rattle.pass_renewed_proof.specs.ir_paths.declared.point.Point.{Point}
 use Rattle.pass_renewed_proof.proofs.Sets.{step_sets}
 use Rattle.pass_renewed_proof.specs.SlotRules.{IsMadeOnce, IsMarkerAt}
 use Rattle.pass_renewed_proof.specs.Steps.{SetsOnly, given_at}
@@ -15,15 +15,15 @@ use Rattle.run_hooks.proofs.alive.Lives.{AreFewer, StaysFewer, instr_fewer, same
 use Rattle.run_hooks.specs.Away.{point_in}
 use Rattle.run_hooks.specs.alive.Alive.{Account, IsAliveState, IsStart, KeepsAliveRules, account_of}
 use Rattle.run_hooks.specs.alive.Slots.{IsHeld, lives}
-use Rattle.run_memory.specs.Memory.{end, ended, start, with_block}
-use Rattle.run_memory.specs.declared.block.MemoryBlock.{MemoryBlock}
-use Rattle.run_source.specs.State.{settled, work_of}
-use Rattle.run_source.specs.declared.state.Mode.{Mode}
-use Rattle.run_source.specs.declared.state.State.{State}
-use Rattle.run_step.specs.Effects.{is_alloca}
-use Rattle.run_step.specs.Step.{AtInstr, Context, Done, Work, block_of, fetch, instr_action, on_block, set_memory}
-use Rattle.run_step.specs.Values.{value_in}
-use Rattle.run_step.specs.declared.world.Slot.{Slot}
+use Rattle.pass_renewed_proof.specs.run_memory.Memory.{end, ended, start, with_block}
+use Rattle.pass_renewed_proof.specs.run_memory.declared.block.MemoryBlock.{MemoryBlock}
+use Rattle.pass_renewed_proof.specs.run_source.State.{settled, work_of}
+use Rattle.pass_renewed_proof.specs.run_source.declared.state.Mode.{Mode}
+use Rattle.pass_renewed_proof.specs.run_source.declared.state.State.{State}
+use Rattle.pass_renewed_proof.specs.run_step.Effects.{is_alloca}
+use Rattle.pass_renewed_proof.specs.run_step.Step.{AtInstr, Context, Done, Work, block_of, fetch, instr_action, on_block, set_memory}
+use Rattle.pass_renewed_proof.specs.run_step.Values.{value_in}
+use Rattle.pass_renewed_proof.specs.run_step.declared.world.Slot.{Slot}
 use Rattle.run_hooks.proofs.alive.Marks.{start_does, end_does, coro_end_does, done_is, ended_dead}
 use Rattle.run_hooks.proofs.alive.Behind.{IsInOrder, not_made, goes_fewer, same_instr, IsShut}
 use Rattle.run_hooks.proofs.alive.Starts.{started_goes}

@@ -3,19 +3,19 @@ use Rattle.std.proofs.Common.{◌≡◌, ℕ, Bool, true, false, List, [], ◌�
 use Rattle.std.proofs.Common.{◌∙◌, subst, arith, ◌&&◌}
 use Rattle.std.specs.List.{list_all}
 use Rattle.std.specs.Prelude.{slice_get, ◌==◌, ◌||◌}
-use Rattle.ir_base.specs.declared.cause.Cause.{Cause}
-use Rattle.ir_model.specs.declared.instr.Terminator.{Terminator}
-use Rattle.ir_model.specs.declared.module.Function.{Function}
-use Rattle.ir_model.specs.declared.module.Module.{Module}
-use Rattle.ir_model.specs.declared.operand.Arg.{Arg}
-use Rattle.ir_paths.specs.Facts.{IsWindow}
-use Rattle.ir_paths.specs.Paths.{entry_point}
-use Rattle.ir_paths.specs.Windows.{IsInWindow, leaves}
-use Rattle.ir_paths.specs.declared.point.Point.{Point}
-use Rattle.ir_paths.specs.declared.point.Window.{Window}
-use Rattle.pass_kept_proof.proofs.Rules.{suspend_is_suspend}
-use Rattle.pass_kept_proof.specs.Needed.{BranchesTo}
-use Rattle.rule_windows.specs.Sets.{IsAfterEnd, RunsOut}
+use Rattle.pass_renewed_proof.specs.ir_base.declared.cause.Cause.{Cause}
+use Rattle.pass_renewed_proof.specs.ir_model.declared.instr.Terminator.{Terminator}
+use Rattle.pass_renewed_proof.specs.ir_model.declared.module.Function.{Function}
+use Rattle.pass_renewed_proof.specs.ir_model.declared.module.Module.{Module}
+use Rattle.pass_renewed_proof.specs.ir_model.declared.operand.Arg.{Arg}
+use Rattle.pass_renewed_proof.specs.ir_paths.Facts.{IsWindow}
+use Rattle.pass_renewed_proof.specs.ir_paths.Paths.{entry_point}
+use Rattle.pass_renewed_proof.specs.ir_paths.Windows.{IsInWindow, leaves}
+use Rattle.pass_renewed_proof.specs.ir_paths.declared.point.Point.{Point}
+use Rattle.pass_renewed_proof.specs.ir_paths.declared.point.Window.{Window}
+use Rattle.pass_renewed_proof.proofs.pass_kept_proof.Rules.{suspend_is_suspend}
+use Rattle.pass_renewed_proof.specs.pass_kept_proof.Needed.{BranchesTo}
+use Rattle.pass_renewed_proof.specs.rule_windows.Sets.{IsAfterEnd, RunsOut}
 use Rattle.run_hooks.proofs.Placing.{each_is, first_kept, window_pair}
 use Rattle.run_hooks.proofs.Points.{after_path}
 use Rattle.run_hooks.proofs.alive.Acts.{return_alive}
@@ -24,20 +24,20 @@ use Rattle.run_hooks.proofs.alive.Places.{own_there}
 use Rattle.run_hooks.proofs.alive.Statuses.{woken_alive}
 use Rattle.run_hooks.specs.Away.{point_in}
 use Rattle.run_hooks.specs.alive.Alive.{IsAliveState, StaysAlive, Stays}
-use Rattle.run_memory.specs.Memory.{own}
-use Rattle.run_memory.specs.declared.pointer.Value.{Value}
-use Rattle.run_source.specs.Source.{branch_leaving, enter_block, go_to, is_over, is_save, left_windows, may_leave}
-use Rattle.run_source.specs.Source.{return, save, suspend}
-use Rattle.run_source.specs.State.{function_of, is_finished, is_suspended, own_facts, own_instance, with_left}
-use Rattle.run_source.specs.State.{with_status}
-use Rattle.run_source.specs.declared.state.Instance.{Instance}
-use Rattle.run_source.specs.declared.state.Saved.{Saved}
-use Rattle.run_source.specs.declared.state.State.{State}
-use Rattle.run_source.specs.declared.state.Status.{Status}
-use Rattle.run_source_tables.specs.Given.{Given}
-use Rattle.run_step.specs.Results.{and_then, found, ok_if}
-use Rattle.run_step.specs.Step.{AtTerm, Fetched, fetch, label_of}
-use Rattle.run_step.specs.Values.{Env}
+use Rattle.pass_renewed_proof.specs.run_memory.Memory.{own}
+use Rattle.pass_renewed_proof.specs.run_memory.declared.pointer.Value.{Value}
+use Rattle.pass_renewed_proof.specs.run_source.Source.{branch_leaving, enter_block, go_to, is_over, is_save, left_windows, may_leave}
+use Rattle.pass_renewed_proof.specs.run_source.Source.{return, save, suspend}
+use Rattle.pass_renewed_proof.specs.run_source.State.{function_of, is_finished, is_suspended, own_facts, own_instance, with_left}
+use Rattle.pass_renewed_proof.specs.run_source.State.{with_status}
+use Rattle.pass_renewed_proof.specs.run_source.declared.state.Instance.{Instance}
+use Rattle.pass_renewed_proof.specs.run_source.declared.state.Saved.{Saved}
+use Rattle.pass_renewed_proof.specs.run_source.declared.state.State.{State}
+use Rattle.pass_renewed_proof.specs.run_source.declared.state.Status.{Status}
+use Rattle.pass_renewed_proof.specs.run_source_tables.Given.{Given}
+use Rattle.pass_renewed_proof.specs.run_step.Results.{and_then, found, ok_if}
+use Rattle.pass_renewed_proof.specs.run_step.Step.{AtTerm, Fetched, fetch, label_of}
+use Rattle.pass_renewed_proof.specs.run_step.Values.{Env}
 use Rattle.run_hooks.proofs.alive.Like.{set_like}
 use Rattle.run_hooks.proofs.alive.Now.{IsNow, own_rules, own_places, ordered, stays_here, at_point}
 

@@ -4,11 +4,11 @@ use Rattle.std.specs.Prelude.{slice_get, slice_set, option_and_then, option_map}
 use Rattle.run_hooks.proofs.alive.Behind.{IsInOrder, IsLower}
 use Rattle.run_hooks.proofs.alive.Order.{low}
 use Rattle.run_hooks.proofs.alive.Parts.{AllIn, Here, IsSet, Other, get_set, in_map}
-use Rattle.run_memory.specs.Memory.{own}
-use Rattle.run_source.specs.State.{is_suspended, own_instance, numbered}
-use Rattle.run_source.specs.declared.state.Activation.{Activation}
-use Rattle.run_source.specs.declared.state.Instance.{Instance}
-use Rattle.run_source.specs.declared.state.State.{State}
+use Rattle.pass_renewed_proof.specs.run_memory.Memory.{own}
+use Rattle.pass_renewed_proof.specs.run_source.State.{is_suspended, own_instance, numbered}
+use Rattle.pass_renewed_proof.specs.run_source.declared.state.Activation.{Activation}
+use Rattle.pass_renewed_proof.specs.run_source.declared.state.Instance.{Instance}
+use Rattle.pass_renewed_proof.specs.run_source.declared.state.State.{State}
 
 -- ---- states like another
 

@@ -2,41 +2,41 @@
 use Rattle.std.proofs.Common.{◌≡◌, ◌<◌, ◌≤◌, ℕ, zero, suc, Bool, true, false, List, [], ◌∷◌, ◌++◌, length}
 use Rattle.std.proofs.Common.{Option, Some, None, Result, Ok, Err, refl, subst, arith}
 use Rattle.std.specs.Prelude.{if◌then◌else◌, slice_get, not, ◌==◌, ◌&&◌}
-use Rattle.ir_base.specs.declared.cause.Cause.{Cause}
-use Rattle.ir_base.specs.declared.ops.Pred.{Pred}
-use Rattle.ir_base.specs.declared.outcome.Word.{Word}
-use Rattle.ir_model.specs.Names.{declaration_named, function_named}
-use Rattle.ir_model.specs.Ty.{Ty, array, int, named, ptr, structure, token}
-use Rattle.ir_model.specs.declared.instr.Instr.{Instr}
-use Rattle.ir_model.specs.declared.operand.Allocator.{Allocator}
-use Rattle.ir_model.specs.declared.operand.Arg.{Arg}
-use Rattle.ir_model.specs.declared.operand.Callee.{Callee}
-use Rattle.ir_model.specs.declared.operand.Intrinsic.{Intrinsic}
-use Rattle.ir_paths.specs.Windows.{is_call_of}
+use Rattle.pass_renewed_proof.specs.ir_base.declared.cause.Cause.{Cause}
+use Rattle.pass_renewed_proof.specs.ir_base.declared.ops.Pred.{Pred}
+use Rattle.pass_renewed_proof.specs.ir_base.declared.outcome.Word.{Word}
+use Rattle.pass_renewed_proof.specs.ir_model.Names.{declaration_named, function_named}
+use Rattle.pass_renewed_proof.specs.ir_model.Ty.{Ty, array, int, named, ptr, structure, token}
+use Rattle.pass_renewed_proof.specs.ir_model.declared.instr.Instr.{Instr}
+use Rattle.pass_renewed_proof.specs.ir_model.declared.operand.Allocator.{Allocator}
+use Rattle.pass_renewed_proof.specs.ir_model.declared.operand.Arg.{Arg}
+use Rattle.pass_renewed_proof.specs.ir_model.declared.operand.Callee.{Callee}
+use Rattle.pass_renewed_proof.specs.ir_model.declared.operand.Intrinsic.{Intrinsic}
+use Rattle.pass_renewed_proof.specs.ir_paths.Windows.{is_call_of}
 use Rattle.run_hooks.specs.alive.Slots.{is_gone, life_of, lives}
-use Rattle.run_ints.specs.Numbers.{binary}
-use Rattle.run_memory.specs.Memory.{Rights, compare, copied, copy, disowned, ended, is_constant, is_killed, is_live}
-use Rattle.run_memory.specs.Memory.{kill, killed}
-use Rattle.run_memory.specs.Memory.{killed_block, load, overlaps, own, owned_to, store, with_block, with_bytes}
-use Rattle.run_memory.specs.Memory.{both, check, is_unkilled, is_owned, may_be_owned, on_ok, range, unless_constant}
-use Rattle.run_memory.specs.Memory.{bytes_at, write}
-use Rattle.run_memory.specs.declared.block.Byte.{Byte}
-use Rattle.run_memory.specs.declared.block.Kind.{Kind}
-use Rattle.run_memory.specs.declared.block.Life.{Life}
-use Rattle.run_memory.specs.declared.block.MemoryBlock.{MemoryBlock}
-use Rattle.run_memory.specs.declared.pointer.Access.{Access}
-use Rattle.run_memory.specs.declared.pointer.Pointer.{Pointer}
-use Rattle.run_memory.specs.declared.pointer.Spot.{Spot}
-use Rattle.run_memory.specs.declared.pointer.Value.{Value}
-use Rattle.run_step.specs.Step.{Action, Context, Done, Enter, Stuck, Work}
-use Rattle.run_step.specs.Step.{allocator_call, block_of, by_pred, compared, copied_bytes, deallocated, done}
-use Rattle.run_step.specs.Step.{fits_function, if_alignment}
-use Rattle.run_step.specs.Step.{indirect_call, instr_action, intrinsic_call, is_alignment, named_call, observed}
-use Rattle.run_step.specs.Step.{on_block, set_memory}
-use Rattle.run_step.specs.Step.{set_value, value_at, with_length, without_slots, words_of}
-use Rattle.run_step.specs.Values.{access_of, address, arg_value, arg_values, nth, number_at, stored, truth_value}
-use Rattle.run_step.specs.Values.{value_in, value_of}
-use Rattle.run_step.specs.declared.world.Slot.{Slot}
+use Rattle.pass_renewed_proof.specs.run_ints.Numbers.{binary}
+use Rattle.pass_renewed_proof.specs.run_memory.Memory.{Rights, compare, copied, copy, disowned, ended, is_constant, is_killed, is_live}
+use Rattle.pass_renewed_proof.specs.run_memory.Memory.{kill, killed}
+use Rattle.pass_renewed_proof.specs.run_memory.Memory.{killed_block, load, overlaps, own, owned_to, store, with_block, with_bytes}
+use Rattle.pass_renewed_proof.specs.run_memory.Memory.{both, check, is_unkilled, is_owned, may_be_owned, on_ok, range, unless_constant}
+use Rattle.pass_renewed_proof.specs.run_memory.Memory.{bytes_at, write}
+use Rattle.pass_renewed_proof.specs.run_memory.declared.block.Byte.{Byte}
+use Rattle.pass_renewed_proof.specs.run_memory.declared.block.Kind.{Kind}
+use Rattle.pass_renewed_proof.specs.run_memory.declared.block.Life.{Life}
+use Rattle.pass_renewed_proof.specs.run_memory.declared.block.MemoryBlock.{MemoryBlock}
+use Rattle.pass_renewed_proof.specs.run_memory.declared.pointer.Access.{Access}
+use Rattle.pass_renewed_proof.specs.run_memory.declared.pointer.Pointer.{Pointer}
+use Rattle.pass_renewed_proof.specs.run_memory.declared.pointer.Spot.{Spot}
+use Rattle.pass_renewed_proof.specs.run_memory.declared.pointer.Value.{Value}
+use Rattle.pass_renewed_proof.specs.run_step.Step.{Action, Context, Done, Enter, Stuck, Work}
+use Rattle.pass_renewed_proof.specs.run_step.Step.{allocator_call, block_of, by_pred, compared, copied_bytes, deallocated, done}
+use Rattle.pass_renewed_proof.specs.run_step.Step.{fits_function, if_alignment}
+use Rattle.pass_renewed_proof.specs.run_step.Step.{indirect_call, instr_action, intrinsic_call, is_alignment, named_call, observed}
+use Rattle.pass_renewed_proof.specs.run_step.Step.{on_block, set_memory}
+use Rattle.pass_renewed_proof.specs.run_step.Step.{set_value, value_at, with_length, without_slots, words_of}
+use Rattle.pass_renewed_proof.specs.run_step.Values.{access_of, address, arg_value, arg_values, nth, number_at, stored, truth_value}
+use Rattle.pass_renewed_proof.specs.run_step.Values.{value_in, value_of}
+use Rattle.pass_renewed_proof.specs.run_step.declared.world.Slot.{Slot}
 
 -- no block lives that didn't, and none comes back
 pub record AreFewer (m n : List MemoryBlock) : Type 0 where
@@ -184,7 +184,7 @@ store_fewer rights m p v what align = on (range rights m p _ align)
     unless spot new false = written_fewer m spot new
 
     on : (r : Result Spot Cause) → IsFewerResult m (on_ok (λ spot. unless_constant m spot
-        (write m spot (Rattle.run_memory.specs.Memory.encode (Rattle.run_memory.specs.Memory.access_bytes what) v))) r)
+        (write m spot (Rattle.pass_renewed_proof.specs.run_memory.Memory.encode (Rattle.pass_renewed_proof.specs.run_memory.Memory.access_bytes what) v))) r)
     on (Err cause) = tt
     on (Ok spot) = unless spot _ (is_constant (slice_get m spot.block))
 
@@ -278,7 +278,7 @@ module _ (c : Context) (w : Work) where
   copied_fine vs = length_fine (nth vs 2) _ (λ n. memory_fine (copy c.rights w.world.memory (address (nth vs 0))
       (address (nth vs 1)) n) (copy_fewer c.rights w.world.memory (address (nth vs 0)) (address (nth vs 1)) n))
 
-  end_fine : (o : Option ℕ) → AreFewer w.world.memory (on_block Rattle.run_memory.specs.Memory.end w.world.memory o)
+  end_fine : (o : Option ℕ) → AreFewer w.world.memory (on_block Rattle.pass_renewed_proof.specs.run_memory.Memory.end w.world.memory o)
   end_fine None = same_fewer w.world.memory
   end_fine (Some b) = changed_fewer w.world.memory b ended ended_fewer
 

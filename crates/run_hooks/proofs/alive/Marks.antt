@@ -2,40 +2,40 @@
 use Rattle.std.proofs.Common.{◌≡◌, ◌⊎◌, inl, inr, ℕ, zero, suc, Bool, true, false, List, [], ◌∷◌, length, Option, Some}
 use Rattle.std.proofs.Common.{None, refl, ap, ◌∙◌, arith}
 use Rattle.std.specs.Prelude.{if◌then◌else◌, slice_get, ◌==◌, ◌&&◌, replicate}
-use Rattle.frame_slots.specs.Uses.{ends_of, is_marker_of}
-use Rattle.ir_model.specs.Names.{is_local}
-use Rattle.ir_model.specs.declared.module.Block.{Block}
-use Rattle.ir_model.specs.declared.instr.Instr.{Instr}
-use Rattle.ir_model.specs.declared.module.Function.{Function}
-use Rattle.ir_model.specs.declared.module.Module.{Module}
-use Rattle.ir_model.specs.declared.operand.Arg.{Arg}
-use Rattle.ir_model.specs.declared.operand.Callee.{Callee}
-use Rattle.ir_model.specs.declared.operand.Intrinsic.{Intrinsic}
-use Rattle.ir_model.specs.declared.operand.Operand.{Operand}
-use Rattle.ir_paths.specs.Paths.{has_point, nexts}
-use Rattle.ir_paths.specs.Windows.{call_operand, instr_at, instr_in, is_call_of, operand_at}
-use Rattle.ir_paths.specs.declared.point.Point.{Point}
-use Rattle.pass_kept_proof.specs.SuspendRules.{IsCallAt}
+use Rattle.pass_renewed_proof.specs.frame_slots.Uses.{ends_of, is_marker_of}
+use Rattle.pass_renewed_proof.specs.ir_model.Names.{is_local}
+use Rattle.pass_renewed_proof.specs.ir_model.declared.module.Block.{Block}
+use Rattle.pass_renewed_proof.specs.ir_model.declared.instr.Instr.{Instr}
+use Rattle.pass_renewed_proof.specs.ir_model.declared.module.Function.{Function}
+use Rattle.pass_renewed_proof.specs.ir_model.declared.module.Module.{Module}
+use Rattle.pass_renewed_proof.specs.ir_model.declared.operand.Arg.{Arg}
+use Rattle.pass_renewed_proof.specs.ir_model.declared.operand.Callee.{Callee}
+use Rattle.pass_renewed_proof.specs.ir_model.declared.operand.Intrinsic.{Intrinsic}
+use Rattle.pass_renewed_proof.specs.ir_model.declared.operand.Operand.{Operand}
+use Rattle.pass_renewed_proof.specs.ir_paths.Paths.{has_point, nexts}
+use Rattle.pass_renewed_proof.specs.ir_paths.Windows.{call_operand, instr_at, instr_in, is_call_of, operand_at}
+use Rattle.pass_renewed_proof.specs.ir_paths.declared.point.Point.{Point}
+use Rattle.pass_renewed_proof.specs.pass_kept_proof.SuspendRules.{IsCallAt}
 use Rattle.pass_renewed_proof.proofs.Ahead.{leads_more}
 use Rattle.pass_renewed_proof.proofs.History.{no_marker}
 use Rattle.pass_renewed_proof.proofs.Left.{after_edge}
 use Rattle.pass_renewed_proof.specs.SlotRules.{IsMarkerAt}
-use Rattle.rule_windows.specs.Points.{ends}
-use Rattle.rule_windows.specs.Sets.{RunsOut}
+use Rattle.pass_renewed_proof.specs.rule_windows.Points.{ends}
+use Rattle.pass_renewed_proof.specs.rule_windows.Sets.{RunsOut}
 use Rattle.run_hooks.proofs.alive.Open.{not_listed}
 use Rattle.run_hooks.specs.Away.{spot_by}
 use Rattle.run_hooks.specs.alive.Alive.{IsEnded}
 use Rattle.run_hooks.specs.alive.Slots.{IsHeld, Ramp, is_gone, lives}
-use Rattle.run_memory.specs.Memory.{end, ended, is_killed, is_live, start, started, with_block}
-use Rattle.run_memory.specs.declared.block.Byte.{Byte}
-use Rattle.run_memory.specs.declared.block.Life.{Life}
-use Rattle.run_memory.specs.declared.block.MemoryBlock.{MemoryBlock}
-use Rattle.run_memory.specs.declared.pointer.Value.{Value}
-use Rattle.run_source.specs.declared.state.Mode.{Mode}
-use Rattle.run_step.specs.Step.{AtInstr, Context, Done, Work, block_of, fetch, fetch_in, fetch_or, instr_action}
-use Rattle.run_step.specs.Step.{on_block, set_memory}
-use Rattle.run_step.specs.Values.{Env, arg_values, nth, operand_value, value_in}
-use Rattle.run_step.specs.declared.world.Slot.{Slot}
+use Rattle.pass_renewed_proof.specs.run_memory.Memory.{end, ended, is_killed, is_live, start, started, with_block}
+use Rattle.pass_renewed_proof.specs.run_memory.declared.block.Byte.{Byte}
+use Rattle.pass_renewed_proof.specs.run_memory.declared.block.Life.{Life}
+use Rattle.pass_renewed_proof.specs.run_memory.declared.block.MemoryBlock.{MemoryBlock}
+use Rattle.pass_renewed_proof.specs.run_memory.declared.pointer.Value.{Value}
+use Rattle.pass_renewed_proof.specs.run_source.declared.state.Mode.{Mode}
+use Rattle.pass_renewed_proof.specs.run_step.Step.{AtInstr, Context, Done, Work, block_of, fetch, fetch_in, fetch_or, instr_action}
+use Rattle.pass_renewed_proof.specs.run_step.Step.{on_block, set_memory}
+use Rattle.pass_renewed_proof.specs.run_step.Values.{Env, arg_values, nth, operand_value, value_in}
+use Rattle.pass_renewed_proof.specs.run_step.declared.world.Slot.{Slot}
 
 -- ---- points
 

@@ -3,9 +3,9 @@ use Rattle.std.proofs.Common.{◌≡◌, ◌<◌, ◌≤◌, ◌⊎◌, inl, inr
 use Rattle.std.proofs.Common.{Some, None, refl, sym, ap, ◌∙◌, subst, arith}
 use Rattle.std.specs.List.{AllByRecursion}
 use Rattle.std.specs.Prelude.{slice_get}
-use Rattle.ir_model.specs.Names.{function_at}
-use Rattle.ir_model.specs.declared.module.Module.{Module}
-use Rattle.ir_paths.specs.declared.point.Point.{Point}
+use Rattle.pass_renewed_proof.specs.ir_model.Names.{function_at}
+use Rattle.pass_renewed_proof.specs.ir_model.declared.module.Module.{Module}
+use Rattle.pass_renewed_proof.specs.ir_paths.declared.point.Point.{Point}
 use Rattle.run_hooks.proofs.alive.Lives.{AreFewer}
 use Rattle.run_hooks.proofs.alive.Parts.{AllIn, AreKept, IsLaterFor, IsMoved, IsNew, all_both, all_map, later_all}
 use Rattle.run_hooks.proofs.alive.Parts.{met_by, slot_later}
@@ -16,15 +16,15 @@ use Rattle.run_hooks.specs.alive.Alive.{IsAliveState, IsThere, MayLeave, Stays, 
 use Rattle.pass_renewed_proof.specs.SlotRules.{IsMadeOnce}
 use Rattle.run_hooks.specs.alive.Slots.{AreAliveSlots, AreMet, IsAliveSlot, IsSlotOf, IsTagged, Own, Ramp, home_of}
 use Rattle.run_hooks.specs.alive.Slots.{is_gone, lives}
-use Rattle.run_memory.specs.declared.block.MemoryBlock.{MemoryBlock}
-use Rattle.run_source.specs.declared.state.Activation.{Activation}
-use Rattle.run_source.specs.declared.state.Instance.{Instance}
-use Rattle.run_source.specs.declared.state.Mode.{Mode}
-use Rattle.run_source.specs.declared.state.State.{State}
-use Rattle.run_source.specs.declared.state.Status.{Status}
-use Rattle.run_step.specs.Step.{block_of}
-use Rattle.run_step.specs.Values.{Env, value_in}
-use Rattle.run_step.specs.declared.world.World.{World}
+use Rattle.pass_renewed_proof.specs.run_memory.declared.block.MemoryBlock.{MemoryBlock}
+use Rattle.pass_renewed_proof.specs.run_source.declared.state.Activation.{Activation}
+use Rattle.pass_renewed_proof.specs.run_source.declared.state.Instance.{Instance}
+use Rattle.pass_renewed_proof.specs.run_source.declared.state.Mode.{Mode}
+use Rattle.pass_renewed_proof.specs.run_source.declared.state.State.{State}
+use Rattle.pass_renewed_proof.specs.run_source.declared.state.Status.{Status}
+use Rattle.pass_renewed_proof.specs.run_step.Step.{block_of}
+use Rattle.pass_renewed_proof.specs.run_step.Values.{Env, value_in}
+use Rattle.pass_renewed_proof.specs.run_step.declared.world.World.{World}
 
 module _ (m : Module) (counts : ℕ → ℕ → Bool) (k : Account) where
   -- the slots of each instance are tagged as its own

@@ -3,14 +3,14 @@ use Rattle.std.proofs.Common.{◌≡◌, ◌<◌, ◌⊎◌, inl, inr, ℕ, zero
 use Rattle.std.proofs.Common.{length}
 use Rattle.std.proofs.Common.{Some, refl, sym, ap, ◌∙◌, subst, arith}
 use Rattle.std.specs.Prelude.{if◌then◌else◌, slice_get, ◌==◌}
-use Rattle.ir_model.specs.Names.{function_at}
-use Rattle.ir_model.specs.Ty.{Ty}
-use Rattle.ir_model.specs.declared.instr.Instr.{Instr}
-use Rattle.ir_model.specs.declared.module.Function.{Function}
-use Rattle.ir_model.specs.declared.module.Module.{Module}
-use Rattle.ir_model.specs.declared.operand.Intrinsic.{Intrinsic}
-use Rattle.ir_paths.specs.Windows.{is_call_of}
-use Rattle.ir_paths.specs.declared.point.Point.{Point}
+use Rattle.pass_renewed_proof.specs.ir_model.Names.{function_at}
+use Rattle.pass_renewed_proof.specs.ir_model.Ty.{Ty}
+use Rattle.pass_renewed_proof.specs.ir_model.declared.instr.Instr.{Instr}
+use Rattle.pass_renewed_proof.specs.ir_model.declared.module.Function.{Function}
+use Rattle.pass_renewed_proof.specs.ir_model.declared.module.Module.{Module}
+use Rattle.pass_renewed_proof.specs.ir_model.declared.operand.Intrinsic.{Intrinsic}
+use Rattle.pass_renewed_proof.specs.ir_paths.Windows.{is_call_of}
+use Rattle.pass_renewed_proof.specs.ir_paths.declared.point.Point.{Point}
 use Rattle.pass_renewed_proof.proofs.Sets.{set_elsewhere}
 use Rattle.pass_renewed_proof.specs.SlotRules.{IsMadeOnce}
 use Rattle.pass_renewed_proof.specs.Steps.{given_at}
@@ -25,18 +25,18 @@ use Rattle.run_hooks.specs.alive.Alive.{Account, IsAliveInstance, IsAliveState, 
 use Rattle.run_hooks.specs.alive.Alive.{account_of}
 use Rattle.run_hooks.specs.alive.Slots.{Home, IsHeld, IsSlotOf, IsTagged, Own, Tag, Tags, home_of}
 use Rattle.run_hooks.specs.alive.Slots.{lives}
-use Rattle.run_memory.specs.Memory.{end, ended, fresh}
-use Rattle.run_memory.specs.declared.block.Kind.{Kind}
-use Rattle.run_memory.specs.declared.block.MemoryBlock.{MemoryBlock}
-use Rattle.run_memory.specs.declared.pointer.Value.{Value}
-use Rattle.run_source.specs.State.{settled, work_of}
-use Rattle.run_source.specs.declared.state.Activation.{Activation}
-use Rattle.run_source.specs.declared.state.Instance.{Instance}
-use Rattle.run_source.specs.declared.state.Mode.{Mode}
-use Rattle.run_source.specs.declared.state.State.{State}
-use Rattle.run_step.specs.Step.{AtInstr, block_of, fetch, has_markers, set_memory, set_value}
-use Rattle.run_step.specs.Values.{Env, pointer_to, value_in, with_value}
-use Rattle.run_step.specs.declared.world.Slot.{Slot}
+use Rattle.pass_renewed_proof.specs.run_memory.Memory.{end, ended, fresh}
+use Rattle.pass_renewed_proof.specs.run_memory.declared.block.Kind.{Kind}
+use Rattle.pass_renewed_proof.specs.run_memory.declared.block.MemoryBlock.{MemoryBlock}
+use Rattle.pass_renewed_proof.specs.run_memory.declared.pointer.Value.{Value}
+use Rattle.pass_renewed_proof.specs.run_source.State.{settled, work_of}
+use Rattle.pass_renewed_proof.specs.run_source.declared.state.Activation.{Activation}
+use Rattle.pass_renewed_proof.specs.run_source.declared.state.Instance.{Instance}
+use Rattle.pass_renewed_proof.specs.run_source.declared.state.Mode.{Mode}
+use Rattle.pass_renewed_proof.specs.run_source.declared.state.State.{State}
+use Rattle.pass_renewed_proof.specs.run_step.Step.{AtInstr, block_of, fetch, has_markers, set_memory, set_value}
+use Rattle.pass_renewed_proof.specs.run_step.Values.{Env, pointer_to, value_in, with_value}
+use Rattle.pass_renewed_proof.specs.run_step.declared.world.Slot.{Slot}
 
 -- ---- tags
 

@@ -1,13 +1,13 @@
 -- What holds of a state from which a step is taken.
 use Rattle.std.proofs.Common.{◌≡◌, ℕ, Bool, false, List, Option, Some, None, Result, refl, ap, ◌∙◌}
-use Rattle.ir_base.specs.declared.cause.Cause.{Cause}
-use Rattle.ir_model.specs.declared.instr.Instr.{Instr}
-use Rattle.ir_model.specs.declared.module.Function.{Function}
-use Rattle.ir_model.specs.declared.module.Module.{Module}
-use Rattle.ir_model.specs.declared.operand.Intrinsic.{Intrinsic}
-use Rattle.ir_paths.specs.Windows.{is_call_of}
-use Rattle.ir_paths.specs.declared.point.Point.{Point}
-use Rattle.pass_kept_proof.specs.Needed.{given_by}
+use Rattle.pass_renewed_proof.specs.ir_base.declared.cause.Cause.{Cause}
+use Rattle.pass_renewed_proof.specs.ir_model.declared.instr.Instr.{Instr}
+use Rattle.pass_renewed_proof.specs.ir_model.declared.module.Function.{Function}
+use Rattle.pass_renewed_proof.specs.ir_model.declared.module.Module.{Module}
+use Rattle.pass_renewed_proof.specs.ir_model.declared.operand.Intrinsic.{Intrinsic}
+use Rattle.pass_renewed_proof.specs.ir_paths.Windows.{is_call_of}
+use Rattle.pass_renewed_proof.specs.ir_paths.declared.point.Point.{Point}
+use Rattle.pass_renewed_proof.specs.pass_kept_proof.Needed.{given_by}
 use Rattle.pass_renewed_proof.specs.SlotRules.{IsMadeOnce}
 use Rattle.pass_renewed_proof.specs.Steps.{given_at}
 use Rattle.run_hooks.proofs.alive.Acts.{gives_alive}
@@ -20,14 +20,14 @@ use Rattle.run_hooks.specs.Left.{IsLastState}
 use Rattle.run_hooks.specs.Reached.{AllHaveSwitches, IsReachedState}
 use Rattle.run_hooks.specs.alive.Alive.{HandsOver, IsAliveState, KeepsAllAliveRules, KeepsAliveRules, StaysAlive}
 use Rattle.run_hooks.specs.alive.Alive.{handing}
-use Rattle.run_memory.specs.declared.pointer.Value.{Value}
-use Rattle.run_source.specs.State.{function_of, gives, next, own_facts}
-use Rattle.run_source.specs.declared.state.Mode.{Mode}
-use Rattle.run_source.specs.declared.state.State.{State}
-use Rattle.run_source_tables.specs.Given.{Given}
-use Rattle.run_step.specs.Effects.{is_alloca}
-use Rattle.run_step.specs.Step.{AtInstr, Fetched, fetch}
-use Rattle.run_step.specs.Values.{Env}
+use Rattle.pass_renewed_proof.specs.run_memory.declared.pointer.Value.{Value}
+use Rattle.pass_renewed_proof.specs.run_source.State.{function_of, gives, next, own_facts}
+use Rattle.pass_renewed_proof.specs.run_source.declared.state.Mode.{Mode}
+use Rattle.pass_renewed_proof.specs.run_source.declared.state.State.{State}
+use Rattle.pass_renewed_proof.specs.run_source_tables.Given.{Given}
+use Rattle.pass_renewed_proof.specs.run_step.Effects.{is_alloca}
+use Rattle.pass_renewed_proof.specs.run_step.Step.{AtInstr, Fetched, fetch}
+use Rattle.pass_renewed_proof.specs.run_step.Values.{Env}
 use Rattle.run_hooks.proofs.alive.Like.{unmade}
 
 -- all that holds of a state from which a step is taken

@@ -2,22 +2,22 @@
 use Rattle.std.proofs.Common.{◌≡◌, ◌≤◌, ◌⊎◌, inl, inr, ℕ, zero, suc, ◌+◌, Bool, true, false, List, [], ◌∷◌, length, map}
 use Rattle.std.proofs.Common.{Option, Some, None, refl, sym, ap, ◌∙◌, subst, arith}
 use Rattle.std.specs.Prelude.{if◌then◌else◌, nat_lt, slice_get, ◌==◌}
-use Rattle.ir_model.specs.declared.instr.Instr.{Instr}
-use Rattle.ir_model.specs.declared.module.Block.{Block}
-use Rattle.ir_model.specs.declared.module.Function.{Function}
-use Rattle.ir_model.specs.declared.operand.Intrinsic.{Intrinsic}
-use Rattle.flow_reach.specs.Reached.{IsPointOf}
-use Rattle.frame_slots.proofs.Points.{where_sound}
-use Rattle.ir_paths.specs.Paths.{IsPath, Leads, entry_point, has_point, nexts, nexts_in, same_point, targets}
-use Rattle.ir_paths.specs.Windows.{end_block, is_call_of, points_where}
-use Rattle.ir_paths.specs.declared.point.Point.{Point}
-use Rattle.pass_kept_proof.proofs.Same.{either, same_point_same}
-use Rattle.pass_kept_proof.specs.SuspendRules.{IsCallAt}
+use Rattle.pass_renewed_proof.specs.ir_model.declared.instr.Instr.{Instr}
+use Rattle.pass_renewed_proof.specs.ir_model.declared.module.Block.{Block}
+use Rattle.pass_renewed_proof.specs.ir_model.declared.module.Function.{Function}
+use Rattle.pass_renewed_proof.specs.ir_model.declared.operand.Intrinsic.{Intrinsic}
+use Rattle.pass_renewed_proof.specs.flow_reach.Reached.{IsPointOf}
+use Rattle.pass_renewed_proof.proofs.frame_slots.Points.{where_sound}
+use Rattle.pass_renewed_proof.specs.ir_paths.Paths.{IsPath, Leads, entry_point, has_point, nexts, nexts_in, same_point, targets}
+use Rattle.pass_renewed_proof.specs.ir_paths.Windows.{end_block, is_call_of, points_where}
+use Rattle.pass_renewed_proof.specs.ir_paths.declared.point.Point.{Point}
+use Rattle.pass_renewed_proof.proofs.pass_kept_proof.Same.{either, same_point_same}
+use Rattle.pass_renewed_proof.specs.pass_kept_proof.SuspendRules.{IsCallAt}
 use Rattle.pass_renewed_proof.proofs.History.{fetch_is}
-use Rattle.rule_windows.specs.Points.{ends}
-use Rattle.rule_windows.specs.Sets.{IsAfterEnd}
+use Rattle.pass_renewed_proof.specs.rule_windows.Points.{ends}
+use Rattle.pass_renewed_proof.specs.rule_windows.Sets.{IsAfterEnd}
 use Rattle.run_hooks.specs.alive.Slots.{IsOpen}
-use Rattle.run_step.specs.Step.{AtInstr, fetch, fetch_in, fetch_or}
+use Rattle.pass_renewed_proof.specs.run_step.Step.{AtInstr, fetch, fetch_in, fetch_or}
 
 abbrev pub after : Point → Point
 after p = record { block = p.block; at = p.at + 1 }

@@ -2,23 +2,23 @@
 use Rattle.std.proofs.Common.{◌≡◌, ◌<◌, ◌≤◌, ◌⊎◌, inl, inr, ℕ, ◌+◌, Bool, true, false, List, [], ◌∷◌, length}
 use Rattle.std.proofs.Common.{Option, Some, None, refl, sym, ap, ◌∙◌, subst, arith, ◌&&◌}
 use Rattle.std.specs.Prelude.{option_and_then, slice_get}
-use Rattle.ir_model.specs.Names.{intrinsic_number, is_local}
-use Rattle.ir_model.specs.declared.instr.Instr.{Instr}
-use Rattle.ir_model.specs.declared.module.Function.{Function}
-use Rattle.ir_model.specs.declared.operand.Intrinsic.{Intrinsic}
-use Rattle.ir_model.specs.declared.operand.Operand.{Operand}
-use Rattle.ir_paths.specs.Paths.{entry_point}
-use Rattle.ir_paths.specs.Windows.{IsInWindow, call_operand, call_result, end_block, instr_at, is_call_of}
-use Rattle.ir_paths.specs.Windows.{is_suspend_of, points_where, suspend_of}
-use Rattle.ir_paths.specs.declared.point.Point.{Point}
-use Rattle.pass_kept_proof.proofs.Rules.{suspend_is_suspend, where_is}
-use Rattle.pass_kept_proof.specs.Related.{coroutines}
-use Rattle.pass_kept_proof.specs.SuspendRules.{IsCallAt}
+use Rattle.pass_renewed_proof.specs.ir_model.Names.{intrinsic_number, is_local}
+use Rattle.pass_renewed_proof.specs.ir_model.declared.instr.Instr.{Instr}
+use Rattle.pass_renewed_proof.specs.ir_model.declared.module.Function.{Function}
+use Rattle.pass_renewed_proof.specs.ir_model.declared.operand.Intrinsic.{Intrinsic}
+use Rattle.pass_renewed_proof.specs.ir_model.declared.operand.Operand.{Operand}
+use Rattle.pass_renewed_proof.specs.ir_paths.Paths.{entry_point}
+use Rattle.pass_renewed_proof.specs.ir_paths.Windows.{IsInWindow, call_operand, call_result, end_block, instr_at, is_call_of}
+use Rattle.pass_renewed_proof.specs.ir_paths.Windows.{is_suspend_of, points_where, suspend_of}
+use Rattle.pass_renewed_proof.specs.ir_paths.declared.point.Point.{Point}
+use Rattle.pass_renewed_proof.proofs.pass_kept_proof.Rules.{suspend_is_suspend, where_is}
+use Rattle.pass_renewed_proof.specs.pass_kept_proof.Related.{coroutines}
+use Rattle.pass_renewed_proof.specs.pass_kept_proof.SuspendRules.{IsCallAt}
 use Rattle.pass_renewed_proof.proofs.Left.{left_closed}
 use Rattle.pass_renewed_proof.specs.Left.{AtEnd, AtSuspend, AtSwitch, Behind, Between, IsLeftAt, IsLeftBy}
 use Rattle.pass_renewed_proof.specs.SlotRules.{IsMarkerAt}
-use Rattle.rule_slots.specs.Closed.{IsClosed}
-use Rattle.rule_windows.specs.Sets.{IsAfterEnd}
+use Rattle.pass_renewed_proof.specs.rule_slots.Closed.{IsClosed}
+use Rattle.pass_renewed_proof.specs.rule_windows.Sets.{IsAfterEnd}
 use Rattle.run_hooks.proofs.Left.{sleepers_left, sleeps_at}
 use Rattle.run_hooks.proofs.PlacedSteps.{left_at}
 use Rattle.run_hooks.proofs.Points.{no_call_at_term, not_both, save_no_suspend, suspend_no_end}
@@ -32,13 +32,13 @@ use Rattle.run_hooks.specs.Hooks.{Hooks}
 use Rattle.run_hooks.specs.Left.{AreLast, HaveLeft, IsLastState}
 use Rattle.run_hooks.specs.Reached.{AreReachedActivations, IsReachedActivation, IsReachedState}
 use Rattle.run_hooks.specs.alive.Alive.{IsEnd, IsMarker, IsStart}
-use Rattle.run_source.specs.State.{function_of, is_suspended}
-use Rattle.run_source.specs.declared.state.Activation.{Activation}
-use Rattle.run_source.specs.declared.state.Instance.{Instance}
-use Rattle.run_source.specs.declared.state.Mode.{Mode}
-use Rattle.run_source.specs.declared.state.State.{State}
-use Rattle.run_source_tables.specs.Given.{Given}
-use Rattle.run_step.specs.Step.{AtInstr, fetch}
+use Rattle.pass_renewed_proof.specs.run_source.State.{function_of, is_suspended}
+use Rattle.pass_renewed_proof.specs.run_source.declared.state.Activation.{Activation}
+use Rattle.pass_renewed_proof.specs.run_source.declared.state.Instance.{Instance}
+use Rattle.pass_renewed_proof.specs.run_source.declared.state.Mode.{Mode}
+use Rattle.pass_renewed_proof.specs.run_source.declared.state.State.{State}
+use Rattle.pass_renewed_proof.specs.run_source_tables.Given.{Given}
+use Rattle.pass_renewed_proof.specs.run_step.Step.{AtInstr, fetch}
 
 -- ---- each activation with the number of those below it
 

@@ -3,25 +3,25 @@ use Rattle.std.proofs.Common.{◌≡◌, ◌<◌, ◌≤◌, ◌⊎◌, ℕ, zer
 use Rattle.std.proofs.Common.{Option, Some, None, refl, sym, ap, ◌∙◌, subst, arith}
 use Rattle.std.specs.List.{AllByRecursion}
 use Rattle.std.specs.Prelude.{filter, if◌then◌else◌, slice_get, slice_set}
-use Rattle.ir_model.specs.Names.{function_at}
-use Rattle.ir_model.specs.declared.module.Function.{Function}
-use Rattle.ir_model.specs.declared.module.Module.{Module}
-use Rattle.ir_paths.specs.declared.point.Point.{Point}
+use Rattle.pass_renewed_proof.specs.ir_model.Names.{function_at}
+use Rattle.pass_renewed_proof.specs.ir_model.declared.module.Function.{Function}
+use Rattle.pass_renewed_proof.specs.ir_model.declared.module.Module.{Module}
+use Rattle.pass_renewed_proof.specs.ir_paths.declared.point.Point.{Point}
 use Rattle.pass_renewed_proof.specs.SlotRules.{IsMadeOnce}
-use Rattle.rule_windows.specs.Sets.{IsAfterEnd, RunsOut}
+use Rattle.pass_renewed_proof.specs.rule_windows.Sets.{IsAfterEnd, RunsOut}
 use Rattle.run_hooks.specs.Away.{point_in, spot_of}
 use Rattle.run_hooks.specs.alive.Alive.{Account, AreAliveIn, GoesOn, IsAliveIn, IsEnded}
 use Rattle.run_hooks.specs.alive.Slots.{AreAliveSlots, AreMet, Home, IsAliveSlot, IsHeld, IsMetSlot, IsSlotOf, IsTagged}
 use Rattle.run_hooks.specs.alive.Slots.{Own, Ramp, Tags}
 use Rattle.run_hooks.specs.alive.Slots.{home_of, lives}
-use Rattle.run_memory.specs.declared.block.MemoryBlock.{MemoryBlock}
-use Rattle.run_source.specs.Source.{is_over}
-use Rattle.run_source.specs.State.{is_finished}
-use Rattle.run_source.specs.declared.state.Activation.{Activation}
-use Rattle.run_source.specs.declared.state.Instance.{Instance}
-use Rattle.run_step.specs.Step.{block_of}
-use Rattle.run_step.specs.Values.{Env, value_in}
-use Rattle.run_step.specs.declared.world.Slot.{Slot}
+use Rattle.pass_renewed_proof.specs.run_memory.declared.block.MemoryBlock.{MemoryBlock}
+use Rattle.pass_renewed_proof.specs.run_source.Source.{is_over}
+use Rattle.pass_renewed_proof.specs.run_source.State.{is_finished}
+use Rattle.pass_renewed_proof.specs.run_source.declared.state.Activation.{Activation}
+use Rattle.pass_renewed_proof.specs.run_source.declared.state.Instance.{Instance}
+use Rattle.pass_renewed_proof.specs.run_step.Step.{block_of}
+use Rattle.pass_renewed_proof.specs.run_step.Values.{Env, value_in}
+use Rattle.pass_renewed_proof.specs.run_step.declared.world.Slot.{Slot}
 
 -- ---- each of a list
 

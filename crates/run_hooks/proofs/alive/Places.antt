@@ -3,9 +3,9 @@ use Rattle.std.proofs.Common.{◌≡◌, ℕ, zero, suc, Bool, true, false, not,
 use Rattle.std.proofs.Common.{Option, Some, None, refl, sym, ap, ◌∙◌, subst}
 use Rattle.std.specs.List.{AllByRecursion}
 use Rattle.std.specs.Prelude.{if◌then◌else◌, option_and_then, option_map, slice_get, slice_set, ◌&&◌}
-use Rattle.ir_model.specs.Names.{function_at}
-use Rattle.ir_model.specs.declared.module.Module.{Module}
-use Rattle.ir_paths.specs.Slots.{IsRampSlot}
+use Rattle.pass_renewed_proof.specs.ir_model.Names.{function_at}
+use Rattle.pass_renewed_proof.specs.ir_model.declared.module.Module.{Module}
+use Rattle.pass_renewed_proof.specs.ir_paths.Slots.{IsRampSlot}
 use Rattle.run_hooks.proofs.alive.Changes.{changed, others_later, restack}
 use Rattle.run_hooks.proofs.alive.Behind.{IsInOrder, IsLower}
 use Rattle.run_hooks.proofs.alive.Lives.{AreFewer, changed_fewer, killed_fewer, killed_gone}
@@ -16,16 +16,16 @@ use Rattle.run_hooks.specs.Away.{spot_of}
 use Rattle.run_hooks.specs.alive.Alive.{Account, GoesOn, IsAliveInstance, IsAliveState, KeepsAliveRules, MayLeave}
 use Rattle.run_hooks.specs.alive.Alive.{Stays, account_of}
 use Rattle.run_hooks.specs.alive.Slots.{AreAliveSlots, AreMet, IsSlotOf, Own, Ramp, home_of, is_gone, lives}
-use Rattle.run_memory.specs.Memory.{killed, killed_block}
-use Rattle.run_memory.specs.declared.block.MemoryBlock.{MemoryBlock}
-use Rattle.run_source.specs.Source.{is_among, is_over, kill_late, new_slot, with_new_slots}
-use Rattle.run_source.specs.State.{numbered, own_facts, own_instance, with_instance, with_memory, with_slots}
-use Rattle.run_source.specs.declared.state.Activation.{Activation}
-use Rattle.run_source.specs.declared.state.Instance.{Instance}
-use Rattle.run_source.specs.declared.state.State.{State}
-use Rattle.run_source_tables.specs.Given.{Given}
-use Rattle.run_step.specs.Step.{has_markers}
-use Rattle.run_step.specs.declared.world.Slot.{Slot}
+use Rattle.pass_renewed_proof.specs.run_memory.Memory.{killed, killed_block}
+use Rattle.pass_renewed_proof.specs.run_memory.declared.block.MemoryBlock.{MemoryBlock}
+use Rattle.pass_renewed_proof.specs.run_source.Source.{is_among, is_over, kill_late, new_slot, with_new_slots}
+use Rattle.pass_renewed_proof.specs.run_source.State.{numbered, own_facts, own_instance, with_instance, with_memory, with_slots}
+use Rattle.pass_renewed_proof.specs.run_source.declared.state.Activation.{Activation}
+use Rattle.pass_renewed_proof.specs.run_source.declared.state.Instance.{Instance}
+use Rattle.pass_renewed_proof.specs.run_source.declared.state.State.{State}
+use Rattle.pass_renewed_proof.specs.run_source_tables.Given.{Given}
+use Rattle.pass_renewed_proof.specs.run_step.Step.{has_markers}
+use Rattle.pass_renewed_proof.specs.run_step.declared.world.Slot.{Slot}
 
 -- an element that is set to itself
 set_same : {A : Type 0} (xs : List A) (i : ℕ) (x : A) → slice_get xs i ≡ Some x → slice_set xs i x ≡ xs

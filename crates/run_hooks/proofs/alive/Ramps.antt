@@ -3,16 +3,16 @@ use Rattle.std.proofs.Common.{◌≡◌, ◌⊎◌, inl, inr, ℕ, zero, suc, Bo
 use Rattle.std.proofs.Common.{None, refl, sym, ap, ◌∙◌, subst, ◌||◌}
 use Rattle.std.proofs.lemmas.Bool.{eq-eqb}
 use Rattle.std.specs.Prelude.{flat_map, slice_get, ◌==◌}
-use Rattle.ir_model.specs.Ty.{Ty}
-use Rattle.ir_model.specs.declared.instr.Instr.{Instr}
-use Rattle.ir_model.specs.declared.module.Block.{Block}
-use Rattle.ir_model.specs.declared.module.Function.{Function}
-use Rattle.ir_paths.proofs.Right.{facts_of_right}
-use Rattle.ir_paths.proofs.Search.{or_left, or_right}
-use Rattle.ir_paths.specs.Facts.{facts_of}
-use Rattle.ir_paths.specs.Slots.{IsRampSlot, allocas_in, allocas_of, has_name}
+use Rattle.pass_renewed_proof.specs.ir_model.Ty.{Ty}
+use Rattle.pass_renewed_proof.specs.ir_model.declared.instr.Instr.{Instr}
+use Rattle.pass_renewed_proof.specs.ir_model.declared.module.Block.{Block}
+use Rattle.pass_renewed_proof.specs.ir_model.declared.module.Function.{Function}
+use Rattle.pass_renewed_proof.proofs.ir_paths.Right.{facts_of_right}
+use Rattle.pass_renewed_proof.proofs.ir_paths.Search.{or_left, or_right}
+use Rattle.pass_renewed_proof.specs.ir_paths.Facts.{facts_of}
+use Rattle.pass_renewed_proof.specs.ir_paths.Slots.{IsRampSlot, allocas_in, allocas_of, has_name}
 use Rattle.pass_renewed_proof.specs.SlotRules.{IsMadeOnce}
-use Rattle.run_step.specs.Step.{AtInstr, fetch_in, fetch_or}
+use Rattle.pass_renewed_proof.specs.run_step.Step.{AtInstr, fetch_in, fetch_or}
 
 -- ---- an alloca is among those of its function
 

@@ -1,12 +1,12 @@
 -- In each state of a source run live slots may be alive, and of one in which a resume hands on their addresses.
 use Rattle.std.proofs.Common.{◌≡◌, ℕ, Bool, true, List, refl, subst, sym}
-use Rattle.ir_base.specs.declared.outcome.Word.{Word}
-use Rattle.ir_model.specs.Names.{function_at}
-use Rattle.ir_model.specs.declared.operand.Intrinsic.{Intrinsic}
-use Rattle.ir_paths.specs.declared.point.Point.{Point}
-use Rattle.pass_kept_proof.proofs.Same.{kept_at}
-use Rattle.pass_kept_proof.specs.Kept.{Keep, continue_keeping, kept}
-use Rattle.pass_kept_proof.specs.SuspendRules.{IsCallAt}
+use Rattle.pass_renewed_proof.specs.ir_base.declared.outcome.Word.{Word}
+use Rattle.pass_renewed_proof.specs.ir_model.Names.{function_at}
+use Rattle.pass_renewed_proof.specs.ir_model.declared.operand.Intrinsic.{Intrinsic}
+use Rattle.pass_renewed_proof.specs.ir_paths.declared.point.Point.{Point}
+use Rattle.pass_renewed_proof.proofs.pass_kept_proof.Same.{kept_at}
+use Rattle.pass_renewed_proof.specs.pass_kept_proof.Kept.{Keep, continue_keeping, kept}
+use Rattle.pass_renewed_proof.specs.pass_kept_proof.SuspendRules.{IsCallAt}
 use Rattle.run_hooks.proofs.Keeping.{kept_keeps, source_keeps}
 use Rattle.run_hooks.proofs.Left.{states_last}
 use Rattle.run_hooks.proofs.LeftKeeping.{kept_keeps_last, source_keeps_last}
@@ -21,9 +21,9 @@ use Rattle.run_hooks.specs.Hooks.{step_of}
 use Rattle.run_hooks.specs.Meanings.{kept_hooks, source_hooks}
 use Rattle.run_hooks.specs.Reached.{AllHaveSwitches}
 use Rattle.run_hooks.specs.alive.Alive.{IsAliveState, KeepsAllAliveRules}
-use Rattle.run_source.specs.Source.{continue, first_state, state_at, step, step_by}
-use Rattle.run_source_tables.specs.Given.{Given}
-use Rattle.run_step.specs.Runs.{iterate}
+use Rattle.pass_renewed_proof.specs.run_source.Source.{continue, first_state, state_at, step, step_by}
+use Rattle.pass_renewed_proof.specs.run_source_tables.Given.{Given}
+use Rattle.pass_renewed_proof.specs.run_step.Runs.{iterate}
 
 pub source_alive : (g : Given) (counts : ℕ → ℕ → Bool) (entry : ℕ) (args : List Word) (n : ℕ) → KeepsAllAliveRules g
     → KeepsAllPlaceRules g → AllHaveSwitches g.code → IsAliveState g.code counts (state_at g entry args n)

@@ -2,18 +2,18 @@
 use Rattle.std.proofs.Common.{◌≡◌, ◌⊎◌, inl, inr, ℕ, Bool, true, false, not, List, [], length, Option, Some, None}
 use Rattle.std.proofs.Common.{Result, Ok, Err, refl, sym, ap, ◌∙◌, subst}
 use Rattle.std.specs.Prelude.{is_none, negsuc, slice_get}
-use Rattle.ir_base.specs.declared.cause.Cause.{Cause}
-use Rattle.ir_model.specs.declared.instr.Instr.{Instr}
-use Rattle.ir_model.specs.declared.module.Function.{Function}
-use Rattle.ir_model.specs.declared.module.Module.{Module}
-use Rattle.ir_model.specs.declared.operand.Intrinsic.{Intrinsic}
-use Rattle.ir_model.specs.declared.operand.Operand.{Operand}
-use Rattle.ir_paths.specs.Windows.{IsInWindow, call_operand, is_call_of, suspend_of}
-use Rattle.ir_paths.specs.declared.point.Point.{Point}
-use Rattle.pass_kept_proof.proofs.Rules.{leads_between}
-use Rattle.pass_kept_proof.specs.SuspendRules.{IsCallAt}
+use Rattle.pass_renewed_proof.specs.ir_base.declared.cause.Cause.{Cause}
+use Rattle.pass_renewed_proof.specs.ir_model.declared.instr.Instr.{Instr}
+use Rattle.pass_renewed_proof.specs.ir_model.declared.module.Function.{Function}
+use Rattle.pass_renewed_proof.specs.ir_model.declared.module.Module.{Module}
+use Rattle.pass_renewed_proof.specs.ir_model.declared.operand.Intrinsic.{Intrinsic}
+use Rattle.pass_renewed_proof.specs.ir_model.declared.operand.Operand.{Operand}
+use Rattle.pass_renewed_proof.specs.ir_paths.Windows.{IsInWindow, call_operand, is_call_of, suspend_of}
+use Rattle.pass_renewed_proof.specs.ir_paths.declared.point.Point.{Point}
+use Rattle.pass_renewed_proof.proofs.pass_kept_proof.Rules.{leads_between}
+use Rattle.pass_renewed_proof.specs.pass_kept_proof.SuspendRules.{IsCallAt}
 use Rattle.pass_renewed_proof.specs.SlotRules.{IsMadeOnce, IsMarkerAt}
-use Rattle.rule_windows.specs.Sets.{RunsOut}
+use Rattle.pass_renewed_proof.specs.rule_windows.Sets.{RunsOut}
 use Rattle.run_hooks.proofs.Points.{save_no_end, suspend_no_end}
 use Rattle.run_hooks.proofs.alive.Acts.{gives_alive, walked}
 use Rattle.run_hooks.proofs.alive.Begins.{begun_alive}
@@ -29,22 +29,22 @@ use Rattle.run_hooks.specs.alive.Alive.{IsAliveState, IsEnded, StaysAlive, handi
 use Rattle.run_hooks.specs.alive.Slots.{IsHeld}
 use Rattle.pass_renewed_proof.proofs.Ahead.{next_edge}
 use Rattle.pass_renewed_proof.proofs.Left.{call_listed}
-use Rattle.ir_paths.specs.Slots.{IsRampSlot}
-use Rattle.run_memory.specs.Memory.{own}
-use Rattle.run_memory.specs.declared.block.Kind.{Kind}
-use Rattle.run_memory.specs.declared.block.MemoryBlock.{MemoryBlock}
-use Rattle.run_memory.specs.declared.pointer.Value.{Value}
-use Rattle.run_source.specs.Source.{begin, begin_at, begun, is_save, release, save, save_for, suspend, change_own}
-use Rattle.run_source.specs.State.{function_of, gives, is_suspended, next, own_facts, own_frame, own_instance}
-use Rattle.run_source.specs.State.{with_instance, with_left, with_memory}
-use Rattle.run_source.specs.declared.state.Instance.{Instance}
-use Rattle.run_source.specs.declared.state.State.{State}
-use Rattle.run_source.specs.declared.state.Status.{Status}
-use Rattle.run_source_tables.specs.Given.{Given}
-use Rattle.run_step.specs.Results.{and_then, found, ok_if}
-use Rattle.run_step.specs.Step.{AtInstr, Fetched, alloca, block_of, fetch}
-use Rattle.run_step.specs.Values.{Env, integer}
-use Rattle.run_step.specs.declared.world.Slot.{Slot}
+use Rattle.pass_renewed_proof.specs.ir_paths.Slots.{IsRampSlot}
+use Rattle.pass_renewed_proof.specs.run_memory.Memory.{own}
+use Rattle.pass_renewed_proof.specs.run_memory.declared.block.Kind.{Kind}
+use Rattle.pass_renewed_proof.specs.run_memory.declared.block.MemoryBlock.{MemoryBlock}
+use Rattle.pass_renewed_proof.specs.run_memory.declared.pointer.Value.{Value}
+use Rattle.pass_renewed_proof.specs.run_source.Source.{begin, begin_at, begun, is_save, release, save, save_for, suspend, change_own}
+use Rattle.pass_renewed_proof.specs.run_source.State.{function_of, gives, is_suspended, next, own_facts, own_frame, own_instance}
+use Rattle.pass_renewed_proof.specs.run_source.State.{with_instance, with_left, with_memory}
+use Rattle.pass_renewed_proof.specs.run_source.declared.state.Instance.{Instance}
+use Rattle.pass_renewed_proof.specs.run_source.declared.state.State.{State}
+use Rattle.pass_renewed_proof.specs.run_source.declared.state.Status.{Status}
+use Rattle.pass_renewed_proof.specs.run_source_tables.Given.{Given}
+use Rattle.pass_renewed_proof.specs.run_step.Results.{and_then, found, ok_if}
+use Rattle.pass_renewed_proof.specs.run_step.Step.{AtInstr, Fetched, alloca, block_of, fetch}
+use Rattle.pass_renewed_proof.specs.run_step.Values.{Env, integer}
+use Rattle.pass_renewed_proof.specs.run_step.declared.world.Slot.{Slot}
 use Rattle.run_hooks.proofs.alive.Like.{like, set_like, unmade}
 use Rattle.run_hooks.proofs.alive.Now.{IsNow, own_rules, own_places, ordered, stays_here, at_point, gives_here}
 

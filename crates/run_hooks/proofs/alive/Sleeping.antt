@@ -1,34 +1,34 @@
 -- So does a resume or destroy, if the instance is Suspended.
 use Rattle.std.proofs.Common.{◌≡◌, ℕ, Bool, true, false, List, Option, Some, None, Result, refl, sym, ap, ◌∙◌, subst}
 use Rattle.std.specs.Prelude.{slice_get}
-use Rattle.ir_base.specs.declared.cause.Cause.{Cause}
-use Rattle.ir_model.specs.Names.{function_at}
-use Rattle.ir_model.specs.declared.instr.Instr.{Instr}
-use Rattle.ir_model.specs.declared.module.Function.{Function}
-use Rattle.ir_model.specs.declared.module.Module.{Module}
-use Rattle.ir_model.specs.declared.operand.Intrinsic.{Intrinsic}
-use Rattle.ir_paths.specs.Windows.{is_call_of}
-use Rattle.ir_paths.specs.declared.point.Point.{Point}
-use Rattle.pass_kept_proof.specs.Needed.{BranchesTo}
-use Rattle.pass_kept_proof.specs.Related.{IsSuspendedAt, IsSoundStatus}
-use Rattle.pass_kept_proof.specs.SuspendRules.{IsSwitched}
+use Rattle.pass_renewed_proof.specs.ir_base.declared.cause.Cause.{Cause}
+use Rattle.pass_renewed_proof.specs.ir_model.Names.{function_at}
+use Rattle.pass_renewed_proof.specs.ir_model.declared.instr.Instr.{Instr}
+use Rattle.pass_renewed_proof.specs.ir_model.declared.module.Function.{Function}
+use Rattle.pass_renewed_proof.specs.ir_model.declared.module.Module.{Module}
+use Rattle.pass_renewed_proof.specs.ir_model.declared.operand.Intrinsic.{Intrinsic}
+use Rattle.pass_renewed_proof.specs.ir_paths.Windows.{is_call_of}
+use Rattle.pass_renewed_proof.specs.ir_paths.declared.point.Point.{Point}
+use Rattle.pass_renewed_proof.specs.pass_kept_proof.Needed.{BranchesTo}
+use Rattle.pass_renewed_proof.specs.pass_kept_proof.Related.{IsSuspendedAt, IsSoundStatus}
+use Rattle.pass_renewed_proof.specs.pass_kept_proof.SuspendRules.{IsSwitched}
 use Rattle.run_hooks.proofs.Reached.{at_is, sound_get}
 use Rattle.run_hooks.proofs.alive.Order.{all_left}
 use Rattle.run_hooks.proofs.alive.Places.{placed}
 use Rattle.run_hooks.proofs.alive.Resumes.{resumed_alive}
 use Rattle.run_hooks.specs.Away.{point_in}
 use Rattle.run_hooks.specs.alive.Alive.{IsAliveState, StaysAlive, handing}
-use Rattle.run_memory.specs.Memory.{own}
-use Rattle.run_memory.specs.declared.pointer.Value.{Value}
-use Rattle.run_source.specs.Source.{Sleeper, sleeper_at, sleeper_of, suspend}
-use Rattle.run_source.specs.State.{function_of, instance_at, is_suspended, next, own_facts}
-use Rattle.run_source.specs.declared.state.Instance.{Instance}
-use Rattle.run_source.specs.declared.state.State.{State}
-use Rattle.run_source.specs.declared.state.Status.{Status}
-use Rattle.run_source_tables.specs.Given.{Given, facts_at}
-use Rattle.run_step.specs.Results.{and_then, found, ok_if}
-use Rattle.run_step.specs.Step.{AtInstr, AtTerm, Fetched, alloca, block_of, fetch, label_of}
-use Rattle.run_step.specs.Values.{Env}
+use Rattle.pass_renewed_proof.specs.run_memory.Memory.{own}
+use Rattle.pass_renewed_proof.specs.run_memory.declared.pointer.Value.{Value}
+use Rattle.pass_renewed_proof.specs.run_source.Source.{Sleeper, sleeper_at, sleeper_of, suspend}
+use Rattle.pass_renewed_proof.specs.run_source.State.{function_of, instance_at, is_suspended, next, own_facts}
+use Rattle.pass_renewed_proof.specs.run_source.declared.state.Instance.{Instance}
+use Rattle.pass_renewed_proof.specs.run_source.declared.state.State.{State}
+use Rattle.pass_renewed_proof.specs.run_source.declared.state.Status.{Status}
+use Rattle.pass_renewed_proof.specs.run_source_tables.Given.{Given, facts_at}
+use Rattle.pass_renewed_proof.specs.run_step.Results.{and_then, found, ok_if}
+use Rattle.pass_renewed_proof.specs.run_step.Step.{AtInstr, AtTerm, Fetched, alloca, block_of, fetch, label_of}
+use Rattle.pass_renewed_proof.specs.run_step.Values.{Env}
 use Rattle.run_hooks.proofs.alive.Now.{IsNow, next_here}
 
 module _ {g : Given} {counts : ℕ → ℕ → Bool} {hand : ℕ → Point → Env → Env} {s : State}

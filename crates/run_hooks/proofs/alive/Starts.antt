@@ -3,20 +3,20 @@ use Rattle.std.proofs.Common.{◌≡◌, ◌≤◌, ◌⊎◌, inl, inr, ℕ, �
 use Rattle.std.proofs.Common.{refl, sym, ap, ◌∙◌, subst, arith}
 use Rattle.std.specs.List.{AllByRecursion}
 use Rattle.std.specs.Prelude.{slice_get, ◌==◌}
-use Rattle.frame_slots.proofs.Points.{where_complete}
-use Rattle.frame_slots.specs.Uses.{is_marker_of}
-use Rattle.ir_model.specs.Names.{function_at}
-use Rattle.ir_model.specs.declared.instr.Instr.{Instr}
-use Rattle.ir_model.specs.declared.module.Function.{Function}
-use Rattle.ir_model.specs.declared.module.Module.{Module}
-use Rattle.ir_model.specs.declared.operand.Intrinsic.{Intrinsic}
-use Rattle.ir_model.specs.declared.operand.Operand.{Operand}
-use Rattle.ir_paths.specs.Slots.{IsRampSlot}
-use Rattle.ir_paths.specs.Windows.{call_operand, is_call_of}
-use Rattle.ir_paths.specs.declared.point.Point.{Point}
-use Rattle.pass_kept_proof.specs.SuspendRules.{IsCallAt}
+use Rattle.pass_renewed_proof.proofs.frame_slots.Points.{where_complete}
+use Rattle.pass_renewed_proof.specs.frame_slots.Uses.{is_marker_of}
+use Rattle.pass_renewed_proof.specs.ir_model.Names.{function_at}
+use Rattle.pass_renewed_proof.specs.ir_model.declared.instr.Instr.{Instr}
+use Rattle.pass_renewed_proof.specs.ir_model.declared.module.Function.{Function}
+use Rattle.pass_renewed_proof.specs.ir_model.declared.module.Module.{Module}
+use Rattle.pass_renewed_proof.specs.ir_model.declared.operand.Intrinsic.{Intrinsic}
+use Rattle.pass_renewed_proof.specs.ir_model.declared.operand.Operand.{Operand}
+use Rattle.pass_renewed_proof.specs.ir_paths.Slots.{IsRampSlot}
+use Rattle.pass_renewed_proof.specs.ir_paths.Windows.{call_operand, is_call_of}
+use Rattle.pass_renewed_proof.specs.ir_paths.declared.point.Point.{Point}
+use Rattle.pass_renewed_proof.specs.pass_kept_proof.SuspendRules.{IsCallAt}
 use Rattle.pass_renewed_proof.specs.SlotRules.{IsMadeOnce, IsMarkerAt}
-use Rattle.rule_windows.specs.Sets.{IsAfterEnd}
+use Rattle.pass_renewed_proof.specs.rule_windows.Sets.{IsAfterEnd}
 use Rattle.run_hooks.proofs.alive.Lives.{not_gone}
 use Rattle.run_hooks.proofs.alive.Moves.{IsLaterInstance, longer_kept, moves_on}
 use Rattle.run_hooks.proofs.alive.Open.{after, open_behind}
@@ -28,17 +28,17 @@ use Rattle.run_hooks.specs.alive.Alive.{Account, GoesOn, IsAliveState, IsEnded, 
 use Rattle.run_hooks.specs.alive.Alive.{Stays, account_of}
 use Rattle.run_hooks.specs.alive.Slots.{AreAliveSlots, AreMet, Home, IsAliveSlot, IsHeld, IsMetSlot, IsOpen, IsSlotOf}
 use Rattle.run_hooks.specs.alive.Slots.{IsTagged, Own, Ramp, home_of, is_gone, lives}
-use Rattle.run_memory.specs.Memory.{ended, start, started, with_block}
-use Rattle.run_memory.specs.declared.block.MemoryBlock.{MemoryBlock}
-use Rattle.run_source.specs.Source.{is_over}
-use Rattle.run_source.specs.State.{is_suspended, settled, work_of}
-use Rattle.run_source.specs.declared.state.Activation.{Activation}
-use Rattle.run_source.specs.declared.state.Instance.{Instance}
-use Rattle.run_source.specs.declared.state.Mode.{Mode}
-use Rattle.run_source.specs.declared.state.State.{State}
-use Rattle.run_step.specs.Step.{AtInstr, block_of, fetch, set_memory}
-use Rattle.run_step.specs.Values.{value_in}
-use Rattle.run_step.specs.declared.world.Slot.{Slot}
+use Rattle.pass_renewed_proof.specs.run_memory.Memory.{ended, start, started, with_block}
+use Rattle.pass_renewed_proof.specs.run_memory.declared.block.MemoryBlock.{MemoryBlock}
+use Rattle.pass_renewed_proof.specs.run_source.Source.{is_over}
+use Rattle.pass_renewed_proof.specs.run_source.State.{is_suspended, settled, work_of}
+use Rattle.pass_renewed_proof.specs.run_source.declared.state.Activation.{Activation}
+use Rattle.pass_renewed_proof.specs.run_source.declared.state.Instance.{Instance}
+use Rattle.pass_renewed_proof.specs.run_source.declared.state.Mode.{Mode}
+use Rattle.pass_renewed_proof.specs.run_source.declared.state.State.{State}
+use Rattle.pass_renewed_proof.specs.run_step.Step.{AtInstr, block_of, fetch, set_memory}
+use Rattle.pass_renewed_proof.specs.run_step.Values.{value_in}
+use Rattle.pass_renewed_proof.specs.run_step.declared.world.Slot.{Slot}
 use Rattle.run_hooks.proofs.alive.Marks.{spot_is, held_on, start_no_end, start_no_coro_end, both_are, instr_there}
 use Rattle.run_hooks.proofs.alive.Marks.{started_live, started_gone, same_length}
 use Rattle.run_hooks.proofs.alive.Behind.{IsLower, IsInOrder, edge, core, same_instr, IsShut}

@@ -4,11 +4,11 @@ use Rattle.std.proofs.Common.{Option, Some, None, refl, sym, ap, ◌∙◌, subs
 use Rattle.std.proofs.lemmas.Bool.{cases_lt}
 use Rattle.std.specs.List.{AllByRecursion}
 use Rattle.std.specs.Prelude.{slice_get, slice_set, ◌||◌}
-use Rattle.ir_model.specs.Names.{function_at}
-use Rattle.ir_model.specs.declared.module.Module.{Module}
-use Rattle.ir_paths.specs.Slots.{IsRampSlot}
-use Rattle.ir_paths.specs.declared.point.Point.{Point}
-use Rattle.rule_windows.specs.Sets.{IsAfterEnd, RunsOut}
+use Rattle.pass_renewed_proof.specs.ir_model.Names.{function_at}
+use Rattle.pass_renewed_proof.specs.ir_model.declared.module.Module.{Module}
+use Rattle.pass_renewed_proof.specs.ir_paths.Slots.{IsRampSlot}
+use Rattle.pass_renewed_proof.specs.ir_paths.declared.point.Point.{Point}
+use Rattle.pass_renewed_proof.specs.rule_windows.Sets.{IsAfterEnd, RunsOut}
 use Rattle.run_hooks.proofs.alive.Changes.{changed, others_later}
 use Rattle.run_hooks.proofs.alive.Behind.{IsInOrder, IsLower}
 use Rattle.run_hooks.proofs.alive.Marks.{same_length}
@@ -21,18 +21,18 @@ use Rattle.run_hooks.specs.alive.Alive.{IsAliveState, IsEnded, IsThere}
 use Rattle.run_hooks.specs.alive.Alive.{MayLeave, Stays, account_of}
 use Rattle.run_hooks.specs.alive.Slots.{AreAliveSlots, AreTagged, IsAliveSlot, IsHeld, IsSlotOf, IsTagged, Own, home_of}
 use Rattle.run_hooks.specs.alive.Slots.{is_gone}
-use Rattle.run_memory.specs.Memory.{killed, killed_block}
-use Rattle.run_memory.specs.declared.block.MemoryBlock.{MemoryBlock}
-use Rattle.run_source.specs.Source.{is_over}
-use Rattle.run_source.specs.State.{is_finished, is_suspended, with_instance, with_left}
-use Rattle.run_source.specs.declared.state.Activation.{Activation}
-use Rattle.run_source.specs.declared.state.Instance.{Instance}
-use Rattle.run_source.specs.declared.state.Saved.{Saved}
-use Rattle.run_source.specs.declared.state.State.{State}
-use Rattle.run_source.specs.declared.state.Status.{Status}
-use Rattle.run_step.specs.Step.{without_slots}
-use Rattle.run_step.specs.Values.{Env}
-use Rattle.run_step.specs.declared.world.Slot.{Slot}
+use Rattle.pass_renewed_proof.specs.run_memory.Memory.{killed, killed_block}
+use Rattle.pass_renewed_proof.specs.run_memory.declared.block.MemoryBlock.{MemoryBlock}
+use Rattle.pass_renewed_proof.specs.run_source.Source.{is_over}
+use Rattle.pass_renewed_proof.specs.run_source.State.{is_finished, is_suspended, with_instance, with_left}
+use Rattle.pass_renewed_proof.specs.run_source.declared.state.Activation.{Activation}
+use Rattle.pass_renewed_proof.specs.run_source.declared.state.Instance.{Instance}
+use Rattle.pass_renewed_proof.specs.run_source.declared.state.Saved.{Saved}
+use Rattle.pass_renewed_proof.specs.run_source.declared.state.State.{State}
+use Rattle.pass_renewed_proof.specs.run_source.declared.state.Status.{Status}
+use Rattle.pass_renewed_proof.specs.run_step.Step.{without_slots}
+use Rattle.pass_renewed_proof.specs.run_step.Values.{Env}
+use Rattle.pass_renewed_proof.specs.run_step.declared.world.Slot.{Slot}
 
 not_finished : (x : Instance) → (is_finished x.status ≡ true → ⊥) → x.freed ≡ false → is_over x ≡ false
 not_finished x never kept = on (is_finished x.status) refl

@@ -2,20 +2,20 @@
 use Rattle.std.proofs.Common.{◌≡◌, ℕ, zero, suc, Bool, true, false, List, None, Result, Ok, Err, refl, sym, ap, ◌∙◌}
 use Rattle.std.proofs.Common.{subst}
 use Rattle.std.specs.Prelude.{if◌then◌else◌, map}
-use Rattle.ir_base.specs.declared.cause.Cause.{Cause}
-use Rattle.ir_base.specs.declared.outcome.Outcome.{Outcome}
-use Rattle.ir_base.specs.declared.outcome.Word.{Word}
-use Rattle.ir_model.specs.Layout.{size_of}
-use Rattle.ir_model.specs.Ty.{Ty}
-use Rattle.ir_model.specs.declared.instr.Instr.{Instr}
-use Rattle.ir_model.specs.declared.module.Function.{Function}
-use Rattle.ir_model.specs.declared.module.Module.{Module}
-use Rattle.ir_model.specs.declared.operand.Callee.{Callee}
-use Rattle.ir_model.specs.declared.operand.Intrinsic.{Intrinsic}
-use Rattle.ir_paths.specs.declared.point.Point.{Point}
-use Rattle.pass_kept_proof.proofs.Actions.{SameAction, action_same}
-use Rattle.pass_kept_proof.proofs.Same.{same_all}
-use Rattle.pass_kept_proof.specs.Needed.{BranchesTo}
+use Rattle.pass_renewed_proof.specs.ir_base.declared.cause.Cause.{Cause}
+use Rattle.pass_renewed_proof.specs.ir_base.declared.outcome.Outcome.{Outcome}
+use Rattle.pass_renewed_proof.specs.ir_base.declared.outcome.Word.{Word}
+use Rattle.pass_renewed_proof.specs.ir_model.Layout.{size_of}
+use Rattle.pass_renewed_proof.specs.ir_model.Ty.{Ty}
+use Rattle.pass_renewed_proof.specs.ir_model.declared.instr.Instr.{Instr}
+use Rattle.pass_renewed_proof.specs.ir_model.declared.module.Function.{Function}
+use Rattle.pass_renewed_proof.specs.ir_model.declared.module.Module.{Module}
+use Rattle.pass_renewed_proof.specs.ir_model.declared.operand.Callee.{Callee}
+use Rattle.pass_renewed_proof.specs.ir_model.declared.operand.Intrinsic.{Intrinsic}
+use Rattle.pass_renewed_proof.specs.ir_paths.declared.point.Point.{Point}
+use Rattle.pass_renewed_proof.proofs.pass_kept_proof.Actions.{SameAction, action_same}
+use Rattle.pass_renewed_proof.proofs.pass_kept_proof.Same.{same_all}
+use Rattle.pass_renewed_proof.specs.pass_kept_proof.Needed.{BranchesTo}
 use Rattle.pass_renewed_proof.specs.SlotRules.{IsMarkerAt}
 use Rattle.run_hooks.proofs.Placing.{term_no_instr}
 use Rattle.run_hooks.proofs.alive.Acts.{never_returns, returns_by, slots_by}
@@ -30,21 +30,21 @@ use Rattle.run_hooks.specs.Left.{IsLastState, KeepsLast}
 use Rattle.run_hooks.specs.Reached.{AllHaveSwitches, IsReachedState, KeepsReached}
 use Rattle.run_hooks.specs.alive.Alive.{HandsOver, IsAliveState, KeepsAllAliveRules, StaysAlive, handing, IsMarker}
 use Rattle.run_hooks.specs.alive.Slots.{Own}
-use Rattle.run_memory.specs.declared.pointer.Value.{Value}
-use Rattle.run_source.specs.Source.{first_state}
-use Rattle.run_source.specs.State.{function_of, or_undefined, own_facts, work_of}
-use Rattle.run_source.specs.declared.state.Mode.{Mode}
-use Rattle.run_source.specs.declared.state.State.{State}
-use Rattle.run_source_tables.specs.Given.{Given}
-use Rattle.run_step.specs.Effects.{is_alloca}
-use Rattle.run_step.specs.Runs.{iterate}
-use Rattle.run_step.specs.Step.{Action, AtInstr, AtTerm, Context, Coro, Deallocate, Done, Enter, Fetched, GoTo, NewSlot}
-use Rattle.run_step.specs.Step.{Nowhere, Return, Stuck, action_of, alloca, alloca_kind, fetch, is_alignment}
-use Rattle.run_step.specs.Values.{Env, arg_values}
+use Rattle.pass_renewed_proof.specs.run_memory.declared.pointer.Value.{Value}
+use Rattle.pass_renewed_proof.specs.run_source.Source.{first_state}
+use Rattle.pass_renewed_proof.specs.run_source.State.{function_of, or_undefined, own_facts, work_of}
+use Rattle.pass_renewed_proof.specs.run_source.declared.state.Mode.{Mode}
+use Rattle.pass_renewed_proof.specs.run_source.declared.state.State.{State}
+use Rattle.pass_renewed_proof.specs.run_source_tables.Given.{Given}
+use Rattle.pass_renewed_proof.specs.run_step.Effects.{is_alloca}
+use Rattle.pass_renewed_proof.specs.run_step.Runs.{iterate}
+use Rattle.pass_renewed_proof.specs.run_step.Step.{Action, AtInstr, AtTerm, Context, Coro, Deallocate, Done, Enter, Fetched, GoTo, NewSlot}
+use Rattle.pass_renewed_proof.specs.run_step.Step.{Nowhere, Return, Stuck, action_of, alloca, alloca_kind, fetch, is_alignment}
+use Rattle.pass_renewed_proof.specs.run_step.Values.{Env, arg_values}
 use Rattle.run_hooks.proofs.Left.{step_last}
 use Rattle.run_hooks.proofs.Reaching.{step_stays}
 use Rattle.run_hooks.proofs.PlacedSteps.{step_placed}
-use Rattle.rule_slots.specs.Closed.{IsClosed}
+use Rattle.pass_renewed_proof.specs.rule_slots.Closed.{IsClosed}
 use Rattle.run_hooks.proofs.alive.Like.{like}
 use Rattle.run_hooks.proofs.alive.Now.{IsNow, own_rules, ordered, stays_here}
 use Rattle.run_hooks.proofs.alive.Coros.{coro_fine}

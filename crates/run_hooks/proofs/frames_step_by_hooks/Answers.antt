@@ -1,8 +1,8 @@
 use Rattle.std.proofs.Common.{ap}
-use Rattle.run_source.specs.declared.state.State.{State}
-use Rattle.run_step.specs.Runs.{seen_of}
-use Rattle.run_source.specs.Source.{first_state}
-use Rattle.run_framed.specs.Framed.{framed_given, framed_step}
+use Rattle.pass_renewed_proof.specs.run_source.declared.state.State.{State}
+use Rattle.pass_renewed_proof.specs.run_step.Runs.{seen_of}
+use Rattle.pass_renewed_proof.specs.run_source.Source.{first_state}
+use Rattle.pass_renewed_proof.specs.run_framed.Framed.{framed_given, framed_step}
 use Rattle.run_hooks.specs.Hooks.{step_of}
 use Rattle.run_hooks.specs.Meanings.{framed_hooks}
 use Rattle.run_hooks.proofs.Steps.{framed_steps, same_runs}

@@ -1,8 +1,8 @@
 use Rattle.std.proofs.Common.{ap}
-use Rattle.run_source.specs.declared.state.State.{State}
-use Rattle.run_step.specs.Runs.{seen_of}
-use Rattle.run_source.specs.Source.{first_state, given, step_by}
-use Rattle.pass_kept_proof.specs.Kept.{continue_keeping}
+use Rattle.pass_renewed_proof.specs.run_source.declared.state.State.{State}
+use Rattle.pass_renewed_proof.specs.run_step.Runs.{seen_of}
+use Rattle.pass_renewed_proof.specs.run_source.Source.{first_state, given, step_by}
+use Rattle.pass_renewed_proof.specs.pass_kept_proof.Kept.{continue_keeping}
 use Rattle.run_hooks.specs.Hooks.{step_of}
 use Rattle.run_hooks.specs.Meanings.{kept_hooks}
 use Rattle.run_hooks.proofs.Steps.{same_runs, source_step}

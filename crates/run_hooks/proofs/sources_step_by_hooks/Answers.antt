@@ -1,7 +1,7 @@
 use Rattle.std.proofs.Common.{ap}
-use Rattle.run_source.specs.declared.state.State.{State}
-use Rattle.run_step.specs.Runs.{seen_of}
-use Rattle.run_source.specs.Source.{continue, first_state, given, step}
+use Rattle.pass_renewed_proof.specs.run_source.declared.state.State.{State}
+use Rattle.pass_renewed_proof.specs.run_step.Runs.{seen_of}
+use Rattle.pass_renewed_proof.specs.run_source.Source.{continue, first_state, given, step}
 use Rattle.run_hooks.specs.Hooks.{step_of}
 use Rattle.run_hooks.specs.Meanings.{source_hooks}
 use Rattle.run_hooks.proofs.Steps.{same_runs, source_step}

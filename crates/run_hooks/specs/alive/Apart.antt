@@ -1,17 +1,17 @@
 -- The facts by which fields share bytes: live slots of an instance conflict, and so do a live slot and a value of its
 -- point.
 use Rattle.std.specs.Prelude.{◌≡◌, ℕ, true, slice_get, Some}
-use Rattle.frame_classes.specs.Alive.{MayBeAlive}
+use Rattle.pass_renewed_proof.specs.frame_classes.Alive.{MayBeAlive}
 use Rattle.frame_conflicts.specs.Conflicts.{Conflict}
-use Rattle.ir_model.specs.Names.{function_at}
-use Rattle.ir_model.specs.declared.module.Module.{Module}
-use Rattle.ir_paths.specs.declared.point.Point.{Point}
+use Rattle.pass_renewed_proof.specs.ir_model.Names.{function_at}
+use Rattle.pass_renewed_proof.specs.ir_model.declared.module.Module.{Module}
+use Rattle.pass_renewed_proof.specs.ir_paths.declared.point.Point.{Point}
 use Rattle.run_hooks.specs.alive.Slots.{lives}
-use Rattle.run_source.specs.declared.state.Instance.{Instance}
-use Rattle.run_source.specs.declared.state.State.{State}
-use Rattle.run_source.specs.declared.state.Status.{Status}
-use Rattle.run_step.specs.Values.{Env}
-use Rattle.run_step.specs.declared.world.Slot.{Slot}
+use Rattle.pass_renewed_proof.specs.run_source.declared.state.Instance.{Instance}
+use Rattle.pass_renewed_proof.specs.run_source.declared.state.State.{State}
+use Rattle.pass_renewed_proof.specs.run_source.declared.state.Status.{Status}
+use Rattle.pass_renewed_proof.specs.run_step.Values.{Env}
+use Rattle.pass_renewed_proof.specs.run_step.declared.world.Slot.{Slot}
 
 -- a live slot of an instance
 pub record IsLiveSlot (s : State) (x : Instance) (slot : Slot) : Type 0 where

@@ -1,21 +1,21 @@
 -- Whose slots blocks are, and from where a live slot with markers may be alive.
 use Rattle.std.specs.Prelude.{◌≡◌, ◌≢◌, ◌<◌, ℕ, Bool, true, List, slice_get, Some, None, Option, IsTrue}
 use Rattle.std.specs.List.{AllByRecursion}
-use Rattle.ir_model.specs.declared.module.Function.{Function}
-use Rattle.flow_reach.specs.Reached.{IsPointOf}
-use Rattle.ir_paths.specs.Paths.{Leads, has_point}
-use Rattle.ir_paths.specs.Slots.{IsRampSlot}
-use Rattle.ir_paths.specs.Windows.{end_block}
-use Rattle.ir_paths.specs.declared.point.Point.{Point}
-use Rattle.frame_slots.specs.Uses.{ends_of, starts_of}
+use Rattle.pass_renewed_proof.specs.ir_model.declared.module.Function.{Function}
+use Rattle.pass_renewed_proof.specs.flow_reach.Reached.{IsPointOf}
+use Rattle.pass_renewed_proof.specs.ir_paths.Paths.{Leads, has_point}
+use Rattle.pass_renewed_proof.specs.ir_paths.Slots.{IsRampSlot}
+use Rattle.pass_renewed_proof.specs.ir_paths.Windows.{end_block}
+use Rattle.pass_renewed_proof.specs.ir_paths.declared.point.Point.{Point}
+use Rattle.pass_renewed_proof.specs.frame_slots.Uses.{ends_of, starts_of}
 use Rattle.pass_renewed_proof.specs.SlotRules.{IsMadeOnce}
-use Rattle.rule_windows.specs.Sets.{IsAfterEnd}
-use Rattle.run_memory.specs.Memory.{is_killed, is_live}
-use Rattle.run_memory.specs.declared.block.Life.{Life}
-use Rattle.run_memory.specs.declared.block.MemoryBlock.{MemoryBlock}
-use Rattle.run_step.specs.Step.{block_of, has_markers}
-use Rattle.run_step.specs.Values.{Env, value_in}
-use Rattle.run_step.specs.declared.world.Slot.{Slot}
+use Rattle.pass_renewed_proof.specs.rule_windows.Sets.{IsAfterEnd}
+use Rattle.pass_renewed_proof.specs.run_memory.Memory.{is_killed, is_live}
+use Rattle.pass_renewed_proof.specs.run_memory.declared.block.Life.{Life}
+use Rattle.pass_renewed_proof.specs.run_memory.declared.block.MemoryBlock.{MemoryBlock}
+use Rattle.pass_renewed_proof.specs.run_step.Step.{block_of, has_markers}
+use Rattle.pass_renewed_proof.specs.run_step.Values.{Env, value_in}
+use Rattle.pass_renewed_proof.specs.run_step.declared.world.Slot.{Slot}
 
 -- ---- blocks
 

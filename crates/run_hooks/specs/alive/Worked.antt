@@ -1,18 +1,18 @@
 -- A worked run in which two slots with markers live where their coroutine is suspended.
 use Rattle.std.specs.Prelude.{ℕ, Bool, List, true, false, [], pos, Some, None, codes, map, flat_map, refl, ◌≡◌, ◌∷◌}
-use Rattle.ir_base.specs.declared.name.Name.{Name}
-use Rattle.ir_model.specs.Ty.{int, ptr, token}
-use Rattle.ir_model.specs.declared.instr.Instr.{Instr}
-use Rattle.ir_model.specs.declared.instr.Terminator.{Terminator}
-use Rattle.ir_model.specs.declared.module.Module.{Module}
-use Rattle.ir_model.specs.declared.operand.Allocator.{Allocator}
-use Rattle.ir_model.specs.declared.operand.Callee.{Callee}
-use Rattle.ir_model.specs.declared.operand.Intrinsic.{Intrinsic}
-use Rattle.ir_model.specs.declared.operand.Operand.{Operand}
+use Rattle.pass_renewed_proof.specs.ir_base.declared.name.Name.{Name}
+use Rattle.pass_renewed_proof.specs.ir_model.Ty.{int, ptr, token}
+use Rattle.pass_renewed_proof.specs.ir_model.declared.instr.Instr.{Instr}
+use Rattle.pass_renewed_proof.specs.ir_model.declared.instr.Terminator.{Terminator}
+use Rattle.pass_renewed_proof.specs.ir_model.declared.module.Module.{Module}
+use Rattle.pass_renewed_proof.specs.ir_model.declared.operand.Allocator.{Allocator}
+use Rattle.pass_renewed_proof.specs.ir_model.declared.operand.Callee.{Callee}
+use Rattle.pass_renewed_proof.specs.ir_model.declared.operand.Intrinsic.{Intrinsic}
+use Rattle.pass_renewed_proof.specs.ir_model.declared.operand.Operand.{Operand}
 use Rattle.run_hooks.specs.alive.Slots.{lives}
-use Rattle.run_source.specs.Source.{given, state_at}
-use Rattle.run_source.specs.State.{is_suspended}
-use Rattle.run_source.specs.declared.state.State.{State}
+use Rattle.pass_renewed_proof.specs.run_source.Source.{given, state_at}
+use Rattle.pass_renewed_proof.specs.run_source.State.{is_suspended}
+use Rattle.pass_renewed_proof.specs.run_source.declared.state.State.{State}
 
 -- entry: %a = alloca i32  %b = alloca i32  %id = ..  %size = ..  %m = call ptr @malloc  %h = .. begin
 --        start %a  start %b  store 1 to %a  store 2 to %b  %s = suspend  switch to %end, %r, %clean

@@ -1,7 +1,7 @@
 use Rattle.std.proofs.Common.{subst, sym}
-use Rattle.pass_kept_proof.specs.Kept.{continue_keeping}
-use Rattle.pass_renewed_proof.specs.Renewed.{renewed_step}
-use Rattle.run_framed.specs.Framed.{framed_step}
+use Rattle.run_hooks.specs.pass_kept_proof.Kept.{continue_keeping}
+use Rattle.run_hooks.specs.pass_renewed_proof.Renewed.{renewed_step}
+use Rattle.run_hooks.specs.run_framed.Framed.{framed_step}
 use Rattle.run_hooks.proofs.Steps.{framed_steps, renewed_steps, same_runs, source_step}
 use Rattle.run_hooks.specs.Hooks.{step_of}
 use Rattle.run_hooks.specs.Meanings.{framed_hooks, kept_hooks, renewed_hooks, source_hooks}
@@ -9,7 +9,7 @@ use Rattle.run_slots.proofs.Meanings.{framed_keeps_slots, kept_keeps_slots, rene
 use Rattle.run_slots.proofs.Steps.{states_slotted}
 use Rattle.run_slots.proofs.runs_keep_slots.Goals as goal
 use Rattle.run_slots.specs.Slots.{IsSlottedState}
-use Rattle.run_source.specs.Source.{continue, first_state, step, step_by}
+use Rattle.run_hooks.specs.run_source.Source.{continue, first_state, step, step_by}
 
 pub returns-clause-source : goal.returns-clause-source
 returns-clause-source c =

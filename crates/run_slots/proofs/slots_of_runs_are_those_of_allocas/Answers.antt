@@ -1,7 +1,7 @@
 use Rattle.std.proofs.Common.{subst, sym}
-use Rattle.pass_kept_proof.specs.Kept.{continue_keeping}
-use Rattle.pass_renewed_proof.specs.Renewed.{renewed_step}
-use Rattle.run_framed.specs.Framed.{framed_step}
+use Rattle.run_hooks.specs.pass_kept_proof.Kept.{continue_keeping}
+use Rattle.run_hooks.specs.pass_renewed_proof.Renewed.{renewed_step}
+use Rattle.run_hooks.specs.run_framed.Framed.{framed_step}
 use Rattle.run_hooks.proofs.Keeping.{framed_keeps, kept_keeps, renewed_keeps, source_keeps}
 use Rattle.run_hooks.proofs.Reaching.{states_reached}
 use Rattle.run_hooks.proofs.Steps.{framed_steps, renewed_steps, same_runs, source_step}
@@ -11,7 +11,7 @@ use Rattle.run_slots.proofs.Made.{states_made}
 use Rattle.run_slots.proofs.MadeMeanings.{framed_keeps_made, kept_keeps_made, renewed_keeps_made, source_keeps_made}
 use Rattle.run_slots.proofs.slots_of_runs_are_those_of_allocas.Goals as goal
 use Rattle.run_slots.specs.Made.{IsMadeState}
-use Rattle.run_source.specs.Source.{continue, first_state, step, step_by}
+use Rattle.run_hooks.specs.run_source.Source.{continue, first_state, step, step_by}
 
 pub returns-clause-source : goal.returns-clause-source
 returns-clause-source c =

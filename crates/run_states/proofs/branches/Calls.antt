@@ -1,7 +1,7 @@
 -- Lemmas on calls, that speak of no pass.
 use Rattle.std.proofs.Common.{◌≡◌, ℕ, zero, suc, length, refl, ap}
 use Rattle.std.specs.Prelude.{None, Option, replicate}
-use Rattle.run_memory.specs.declared.pointer.Value.{Value}
+use Rattle.ir_laws.specs.run_memory.declared.pointer.Value.{Value}
 
 -- ---- the values at the entry
 

@@ -1,15 +1,15 @@
 -- Lemmas on performs, that speak of no pass.
 use Rattle.std.proofs.Common.{◌≡◌, ℕ, List, [], ◌∷◌, length, refl, subst}
 use Rattle.std.specs.Prelude.{Some, None, Ok, Option}
-use Rattle.run_memory.specs.declared.pointer.Value.{Value}
-use Rattle.run_source.specs.Source.{Sleeper, sleeper_at}
-use Rattle.run_source.specs.State.{own_instance}
-use Rattle.run_source.specs.declared.state.Activation.{Activation}
-use Rattle.run_source.specs.declared.state.Instance.{Instance}
-use Rattle.run_source.specs.declared.state.State.{State}
+use Rattle.ir_laws.specs.run_memory.declared.pointer.Value.{Value}
+use Rattle.ir_laws.specs.run_source.Source.{Sleeper, sleeper_at}
+use Rattle.ir_laws.specs.run_source.State.{own_instance}
+use Rattle.ir_laws.specs.run_source.declared.state.Activation.{Activation}
+use Rattle.ir_laws.specs.run_source.declared.state.Instance.{Instance}
+use Rattle.ir_laws.specs.run_source.declared.state.State.{State}
 use Rattle.run_states.specs.branches.MovedState.{IsNamedBelow, IsOwnedBy}
-use Rattle.ir_model.specs.Names.{function_at}
-use Rattle.ir_model.specs.declared.module.Module.{Module}
+use Rattle.ir_laws.specs.ir_model.Names.{function_at}
+use Rattle.ir_laws.specs.ir_model.declared.module.Module.{Module}
 use Rattle.run_states.proofs.sound_states.Acts.{asleep_there}
 use Rattle.run_states.proofs.sound_states.Kept.{own_is, own_there}
 use Rattle.run_states.specs.sound_states.Sound.{AreSoundBelow, IsSound, IsSoundStatus, IsSuspendAt}

@@ -1,8 +1,8 @@
 -- Agreement by costs where all prices are a number of times as high.
 use Rattle.std.proofs.Common.{◌≡◌, ℕ, zero, suc, ◌+◌, ◌*◌, ◌≤◌, ap, ◌∙◌, sym, subst, arith}
 use Rattle.std.proofs.Math.Nat.{mul-le-mul_left}
-use Rattle.run_agreement.specs.Costs.{AgreesBy, cost_at, cost_from}
-use Rattle.run_agreement.specs.Machines.{Machine}
+use Rattle.ir_laws.specs.run_agreement.Costs.{AgreesBy, cost_at, cost_from}
+use Rattle.ir_laws.specs.run_agreement.Machines.{Machine}
 
 pub cost_times : {S : Type 0} (f : S → S) (price : S → ℕ) (w n : ℕ) (s : S)
     → cost_from f (λ x. w * price x) n s ≡ w * cost_from f price n s

@@ -1,11 +1,11 @@
 -- Values with further names at their end, which have no value.
 use Rattle.std.proofs.Common.{◌≡◌, ℕ, zero, suc, ◌<◌, List, [], ◌∷◌, ◌++◌, length, refl, sym, ap, ◌∙◌, subst, arith}
 use Rattle.std.specs.Prelude.{Some, None, Option, replicate, slice_get}
-use Rattle.run_memory.specs.declared.pointer.Value.{Value}
-use Rattle.ir_model.specs.declared.module.Param.{Param}
-use Rattle.run_step.specs.Step.{with_all, with_params}
-use Rattle.run_step.specs.Values.{Env, value_in, value_or_poison, with_result, with_value}
-use Rattle.run_laws.specs.changed.Changed.{Each}
+use Rattle.ir_laws.specs.run_memory.declared.pointer.Value.{Value}
+use Rattle.ir_laws.specs.ir_model.declared.module.Param.{Param}
+use Rattle.ir_laws.specs.run_step.Step.{with_all, with_params}
+use Rattle.ir_laws.specs.run_step.Values.{Env, value_in, value_or_poison, with_result, with_value}
+use Rattle.ir_laws.specs.run_laws.changed.Changed.{Each}
 use Rattle.ir_laws.specs.facts.expanded.Tokens.{IsNamedResult}
 
 abbrev pub grown : ℕ → Env → Env

@@ -1,25 +1,25 @@
 -- What an instruction does in a framed module, and where functions have blocks on some of their edges.
 use Rattle.std.proofs.Common.{◌≡◌, ℕ, List, [], ◌∷◌, length, refl, sym, ap, ◌∙◌}
 use Rattle.std.specs.Prelude.{ℤ, Some, None, Option, map, option_map}
-use Rattle.ir_base.specs.declared.name.Name.{Name}
-use Rattle.ir_base.specs.declared.outcome.Event.{Event}
-use Rattle.run_source.specs.State.{work_of}
-use Rattle.run_source.specs.declared.state.State.{State}
+use Rattle.ir_laws.specs.ir_base.declared.name.Name.{Name}
+use Rattle.ir_laws.specs.ir_base.declared.outcome.Event.{Event}
+use Rattle.ir_laws.specs.run_source.State.{work_of}
+use Rattle.ir_laws.specs.run_source.declared.state.State.{State}
 use Rattle.run_states.proofs.expanded.Environments.{grown, result_grown}
 use Rattle.ir_laws.specs.facts.expanded.Tokens.{IsNamedResult}
 use Rattle.frame_layout.specs.declared.layout.Layout.{Layout}
 use Rattle.run_framed.specs.Framed.{FramedGiven, framed_context, framed_given}
-use Rattle.ir_model.specs.Names.{declaration_named, function_at}
-use Rattle.ir_model.specs.declared.module.Function.{Function}
-use Rattle.ir_model.specs.declared.module.Module.{Module}
-use Rattle.ir_model.specs.declared.operand.Operand.{Operand}
-use Rattle.run_step.specs.Step.{Action, Context, Coro, Deallocate, Done, Enter, Fetched, GoTo, NewSlot, Return, Stuck, Work, action_of, has_markers}
+use Rattle.ir_laws.specs.ir_model.Names.{declaration_named, function_at}
+use Rattle.ir_laws.specs.ir_model.declared.module.Function.{Function}
+use Rattle.ir_laws.specs.ir_model.declared.module.Module.{Module}
+use Rattle.ir_laws.specs.ir_model.declared.operand.Operand.{Operand}
+use Rattle.ir_laws.specs.run_step.Step.{Action, Context, Coro, Deallocate, Done, Enter, Fetched, GoTo, NewSlot, Return, Stuck, Work, action_of, has_markers}
 use Rattle.run_states.proofs.moved_states.Parts.{fits_moved, function_moved, named_moved, operand_moved}
 use Rattle.run_states.proofs.moved_states.States.{rights_moved}
 use Rattle.run_states.specs.moved_states.MovedState.{moved_action, moved_module, moved_state, moved_work}
 use Rattle.run_states.specs.moved_states.Moving.{KeepsKinds, Moves, Moving}
-use Rattle.run_laws.proofs.changed.Kept.{action_kept}
-use Rattle.run_laws.specs.changed.Changed.{Change, IsDeclaredAlike, IsKeptAt, IsLike, IsSameOperand, callee_at, changed_action, changed_event, changed_work, operands_at, result_at, Each as EachOperand}
+use Rattle.ir_laws.proofs.run_laws.changed.Kept.{action_kept}
+use Rattle.ir_laws.specs.run_laws.changed.Changed.{Change, IsDeclaredAlike, IsKeptAt, IsLike, IsSameOperand, callee_at, changed_action, changed_event, changed_work, operands_at, result_at, Each as EachOperand}
 
 module _ (mv : Moving) (f : Function) where
   abbrev growing : Change

@@ -2,29 +2,29 @@
 use Rattle.std.proofs.Common.{◌≡◌, ℕ, ◌<◌, Bool, true, false, List, [], ◌∷◌, length, refl, sym, ap, ◌∙◌, subst}
 use Rattle.std.proofs.lemmas.List.{replicate-append-replicate}
 use Rattle.std.specs.Prelude.{ℤ, Some, None, Ok, Err, Option, Result, map, option_map, replicate, unwrap_or, if◌then◌else◌}
-use Rattle.run_memory.specs.declared.pointer.Value.{Value}
-use Rattle.ir_base.specs.declared.cause.Cause.{Cause}
-use Rattle.ir_base.specs.declared.outcome.Outcome.{Outcome}
-use Rattle.run_source.specs.Source.{called, enter, pop, push, return, returned}
-use Rattle.run_source.specs.declared.state.Activation.{Activation}
-use Rattle.run_source.specs.declared.state.Mode.{Mode}
-use Rattle.run_source.specs.declared.state.State.{State}
+use Rattle.ir_laws.specs.run_memory.declared.pointer.Value.{Value}
+use Rattle.ir_laws.specs.ir_base.declared.cause.Cause.{Cause}
+use Rattle.ir_laws.specs.ir_base.declared.outcome.Outcome.{Outcome}
+use Rattle.ir_laws.specs.run_source.Source.{called, enter, pop, push, return, returned}
+use Rattle.ir_laws.specs.run_source.declared.state.Activation.{Activation}
+use Rattle.ir_laws.specs.run_source.declared.state.Mode.{Mode}
+use Rattle.ir_laws.specs.run_source.declared.state.State.{State}
 use Rattle.run_states.proofs.expanded.Environments.{grown, params_grown, result_grown}
-use Rattle.run_laws.specs.changed.Changed.{Each}
+use Rattle.ir_laws.specs.run_laws.changed.Changed.{Each}
 use Rattle.ir_laws.specs.facts.sound_states.Named.{AreLocalsNamed, HasNamedParams}
 use Rattle.frame_layout.specs.declared.layout.Layout.{Layout}
 use Rattle.run_states.proofs.branches.Calls.{length_none}
 use Rattle.run_states.specs.branches.MovedState.{IsNamedBelow}
 use Rattle.run_framed.specs.Framed.{FramedGiven, enter_given, framed_given, given_call, given_ramp, last_value}
-use Rattle.ir_model.specs.Names.{function_at}
-use Rattle.ir_model.specs.declared.instr.Instr.{Instr}
-use Rattle.ir_model.specs.declared.module.Function.{Function}
-use Rattle.ir_model.specs.declared.module.Module.{Module}
-use Rattle.ir_model.specs.declared.module.Param.{Param}
-use Rattle.ir_model.specs.declared.operand.Callee.{Callee}
-use Rattle.run_step.specs.Results.{and_then}
-use Rattle.run_step.specs.Step.{AtInstr, Fetched, entry_values, outcome_of, with_params}
-use Rattle.run_step.specs.Values.{Env, arg_values}
+use Rattle.ir_laws.specs.ir_model.Names.{function_at}
+use Rattle.ir_laws.specs.ir_model.declared.instr.Instr.{Instr}
+use Rattle.ir_laws.specs.ir_model.declared.module.Function.{Function}
+use Rattle.ir_laws.specs.ir_model.declared.module.Module.{Module}
+use Rattle.ir_laws.specs.ir_model.declared.module.Param.{Param}
+use Rattle.ir_laws.specs.ir_model.declared.operand.Callee.{Callee}
+use Rattle.ir_laws.specs.run_step.Results.{and_then}
+use Rattle.ir_laws.specs.run_step.Step.{AtInstr, Fetched, entry_values, outcome_of, with_params}
+use Rattle.ir_laws.specs.run_step.Values.{Env, arg_values}
 use Rattle.run_states.proofs.moved_states.Parts.{args_moved, function_moved, given_moved}
 use Rattle.run_states.specs.moved_states.MovedState.{moved_activation, moved_mode, moved_module, moved_result, moved_state}
 use Rattle.run_states.specs.moved_states.Moving.{KeepsKinds, Moves, Moving}

@@ -1,29 +1,29 @@
 -- Blocks that come onto edges cost a step where an edge gets one, and nothing elsewhere.
 use Rattle.std.proofs.Common.{◌≡◌, ◌⊎◌, inl, inr, ℕ, ◌+◌, ◌-◌, ◌<◌, ◌≤◌, List, Result, Ok, Err, refl, sym, ap, ◌∙◌, subst, arith}
 use Rattle.std.specs.Prelude.{ℤ}
-use Rattle.run_agreement.proofs.Costs.{weaken_by}
-use Rattle.run_agreement.proofs.Lockstep.{ShowsSame}
-use Rattle.run_agreement.proofs.PricedLockstep.{AdvanceBy, IsPassed, SimulatesBy, lockstep_by}
-use Rattle.run_agreement.specs.Costs.{AgreesBy, IsNear as IsWithin}
-use Rattle.run_agreement.specs.Machines.{IsFine, IsRunning, Machine, iterate}
-use Rattle.ir_base.specs.declared.cause.Cause.{Cause}
-use Rattle.ir_base.specs.declared.outcome.Outcome.{Outcome}
-use Rattle.ir_base.specs.declared.outcome.Word.{Word}
-use Rattle.run_source.specs.State.{or_undefined, point_of}
-use Rattle.run_source.specs.declared.state.State.{State}
+use Rattle.ir_laws.proofs.run_agreement.Costs.{weaken_by}
+use Rattle.ir_laws.proofs.run_agreement.Lockstep.{ShowsSame}
+use Rattle.ir_laws.proofs.run_agreement.PricedLockstep.{AdvanceBy, IsPassed, SimulatesBy, lockstep_by}
+use Rattle.ir_laws.specs.run_agreement.Costs.{AgreesBy, IsNear as IsWithin}
+use Rattle.ir_laws.specs.run_agreement.Machines.{IsFine, IsRunning, Machine, iterate}
+use Rattle.ir_laws.specs.ir_base.declared.cause.Cause.{Cause}
+use Rattle.ir_laws.specs.ir_base.declared.outcome.Outcome.{Outcome}
+use Rattle.ir_laws.specs.ir_base.declared.outcome.Word.{Word}
+use Rattle.ir_laws.specs.run_source.State.{or_undefined, point_of}
+use Rattle.ir_laws.specs.run_source.declared.state.State.{State}
 use Rattle.ir_laws.specs.facts.sound_states.Named.{AreLocalsNamed}
 use Rattle.frame_layout.specs.declared.layout.Layouts.{Layouts}
 use Rattle.run_states.proofs.named.Simulation.{running_is}
 use Rattle.ir_laws.specs.paths.branches.Ways.{AreFetched}
 use Rattle.run_framed.specs.Framed.{FramedGiven, framed_advance, framed_given, framed_next, framed_step}
-use Rattle.ir_model.specs.Names.{function_at}
-use Rattle.ir_model.specs.declared.instr.Instr.{Instr}
-use Rattle.ir_model.specs.declared.instr.Terminator.{Terminator}
-use Rattle.ir_model.specs.declared.module.Function.{Function}
-use Rattle.ir_model.specs.declared.module.Module.{Module}
-use Rattle.run_step.specs.Runs.{seen_of}
-use Rattle.run_step.specs.Step.{AtInstr, AtTerm, Fetched, Nowhere, fetch}
-use Rattle.run_step.specs.declared.world.World.{World}
+use Rattle.ir_laws.specs.ir_model.Names.{function_at}
+use Rattle.ir_laws.specs.ir_model.declared.instr.Instr.{Instr}
+use Rattle.ir_laws.specs.ir_model.declared.instr.Terminator.{Terminator}
+use Rattle.ir_laws.specs.ir_model.declared.module.Function.{Function}
+use Rattle.ir_laws.specs.ir_model.declared.module.Module.{Module}
+use Rattle.ir_laws.specs.run_step.Runs.{seen_of}
+use Rattle.ir_laws.specs.run_step.Step.{AtInstr, AtTerm, Fetched, Nowhere, fetch}
+use Rattle.ir_laws.specs.run_step.declared.world.World.{World}
 use Rattle.run_states.proofs.moved_states.Simulation.{arrives, first_same}
 use Rattle.run_states.proofs.moved_states.Soundness.{first_holds, step_holds}
 use Rattle.run_states.proofs.moved_states.Parts.{function_moved}

@@ -1,29 +1,29 @@
 -- Ends, frees, deallocations and promises, where functions have blocks on some of their edges.
 use Rattle.std.proofs.Common.{◌≡◌, ℕ, Bool, true, false, List, length, refl, sym, ap, ◌∙◌, subst}
 use Rattle.std.specs.Prelude.{ℤ, Some, None, Ok, Err, Option, Result, not, if◌then◌else◌, ◌&&◌, ◌==◌}
-use Rattle.run_memory.specs.Memory.{disown}
-use Rattle.run_memory.specs.declared.block.MemoryBlock.{MemoryBlock}
-use Rattle.run_memory.specs.declared.pointer.Pointer.{Pointer}
-use Rattle.run_memory.specs.declared.pointer.Value.{Value}
-use Rattle.ir_base.specs.declared.cause.Cause.{Cause}
-use Rattle.run_source.specs.Source.{after_end, change_own, deallocate, end_of, if_let_go, let_go, may_be_freed, release, slots_of}
-use Rattle.run_source.specs.State.{frame_address_of, gives, instance_at, last_where, next, own_instance, with_instance, with_memory}
-use Rattle.run_source.specs.declared.state.Activation.{Activation}
-use Rattle.run_source.specs.declared.state.Instance.{Instance}
-use Rattle.run_source.specs.declared.state.Mode.{Mode}
-use Rattle.run_source.specs.declared.state.State.{State}
-use Rattle.run_source.specs.declared.state.Status.{Status}
+use Rattle.ir_laws.specs.run_memory.Memory.{disown}
+use Rattle.ir_laws.specs.run_memory.declared.block.MemoryBlock.{MemoryBlock}
+use Rattle.ir_laws.specs.run_memory.declared.pointer.Pointer.{Pointer}
+use Rattle.ir_laws.specs.run_memory.declared.pointer.Value.{Value}
+use Rattle.ir_laws.specs.ir_base.declared.cause.Cause.{Cause}
+use Rattle.ir_laws.specs.run_source.Source.{after_end, change_own, deallocate, end_of, if_let_go, let_go, may_be_freed, release, slots_of}
+use Rattle.ir_laws.specs.run_source.State.{frame_address_of, gives, instance_at, last_where, next, own_instance, with_instance, with_memory}
+use Rattle.ir_laws.specs.run_source.declared.state.Activation.{Activation}
+use Rattle.ir_laws.specs.run_source.declared.state.Instance.{Instance}
+use Rattle.ir_laws.specs.run_source.declared.state.Mode.{Mode}
+use Rattle.ir_laws.specs.run_source.declared.state.State.{State}
+use Rattle.ir_laws.specs.run_source.declared.state.Status.{Status}
 use Rattle.ir_laws.specs.facts.expanded.Tokens.{IsNamedResult}
 use Rattle.frame_layout.specs.declared.layout.Layout.{Layout}
 use Rattle.run_states.specs.branches.MovedState.{IsNamedBelow}
 use Rattle.run_framed.specs.Framed.{FramedGiven, address_behind, disown_given, framed_finish, framed_frame_of_promise, framed_given, framed_promise, framed_promise_of_frame, freed_address, is_over, is_promise_at, is_stack_block, promise_offset}
-use Rattle.ir_model.specs.Names.{function_at}
-use Rattle.ir_model.specs.declared.module.Module.{Module}
-use Rattle.ir_model.specs.declared.operand.Operand.{Operand}
-use Rattle.run_step.specs.Results.{and_then, found, ok_if}
-use Rattle.run_step.specs.Step.{deallocated, without_slots}
-use Rattle.run_step.specs.Values.{truth_value}
-use Rattle.run_source_tables.specs.Given.{is_true}
+use Rattle.ir_laws.specs.ir_model.Names.{function_at}
+use Rattle.ir_laws.specs.ir_model.declared.module.Module.{Module}
+use Rattle.ir_laws.specs.ir_model.declared.operand.Operand.{Operand}
+use Rattle.ir_laws.specs.run_step.Results.{and_then, found, ok_if}
+use Rattle.ir_laws.specs.run_step.Step.{deallocated, without_slots}
+use Rattle.ir_laws.specs.run_step.Values.{truth_value}
+use Rattle.ir_laws.specs.run_source_tables.Given.{is_true}
 use Rattle.run_states.proofs.moved_states.Calls.{return_moved}
 use Rattle.run_states.proofs.moved_states.Sleeping.{gives_moved}
 use Rattle.run_states.proofs.moved_states.States.{found_moved, last_found, over_moved, own_moved, suspended_moved, with_instance_moved, with_number}

@@ -3,34 +3,34 @@ use Rattle.std.proofs.Common.{◌≡◌, ◌⊎◌, inl, inr, ℕ, ◌<◌, Bool
 use Rattle.std.proofs.lemmas.List.{length-map}
 use Rattle.std.specs.List.{list_all}
 use Rattle.std.specs.Prelude.{ℤ, Some, None, Ok, Err, Option, Result, filter, map, slice_get}
-use Rattle.run_memory.specs.declared.pointer.Value.{Value}
-use Rattle.ir_base.specs.declared.cause.Cause.{Cause}
-use Rattle.ir_base.specs.declared.outcome.Outcome.{Outcome}
-use Rattle.run_source.specs.Source.{branch_leaving, enter_block, go_to, left_windows, may_leave}
-use Rattle.run_source.specs.State.{or_undefined, own_facts, own_instance, point_of, with_left, with_status}
-use Rattle.run_source.specs.declared.state.Instance.{Instance}
-use Rattle.run_source.specs.declared.state.State.{State}
-use Rattle.run_source.specs.declared.state.Status.{Status}
+use Rattle.ir_laws.specs.run_memory.declared.pointer.Value.{Value}
+use Rattle.ir_laws.specs.ir_base.declared.cause.Cause.{Cause}
+use Rattle.ir_laws.specs.ir_base.declared.outcome.Outcome.{Outcome}
+use Rattle.ir_laws.specs.run_source.Source.{branch_leaving, enter_block, go_to, left_windows, may_leave}
+use Rattle.ir_laws.specs.run_source.State.{or_undefined, own_facts, own_instance, point_of, with_left, with_status}
+use Rattle.ir_laws.specs.run_source.declared.state.Instance.{Instance}
+use Rattle.ir_laws.specs.run_source.declared.state.State.{State}
+use Rattle.ir_laws.specs.run_source.declared.state.Status.{Status}
 use Rattle.run_states.proofs.expanded.Environments.{all_grown, grown}
 use Rattle.ir_laws.proofs.facts.Members.{at_each as each_at}
-use Rattle.run_laws.specs.changed.Changed.{Each}
+use Rattle.ir_laws.specs.run_laws.changed.Changed.{Each}
 use Rattle.ir_laws.specs.facts.sound_states.Named.{HasNamedPhis}
 use Rattle.frame_layout.specs.declared.layout.Layout.{Layout}
 use Rattle.run_states.specs.branches.MovedState.{IsOwnedBy}
 use Rattle.run_framed.specs.Framed.{FramedGiven, framed_advance, framed_given, framed_next, framed_step}
-use Rattle.ir_model.specs.Names.{function_at, position_of}
-use Rattle.ir_model.specs.declared.instr.Phi.{Phi}
-use Rattle.ir_model.specs.declared.module.Block.{Block}
-use Rattle.ir_model.specs.declared.module.Function.{Function}
-use Rattle.ir_model.specs.declared.module.Module.{Module}
-use Rattle.ir_paths.specs.Paths.{entry_point}
-use Rattle.ir_paths.specs.Windows.{leaves}
-use Rattle.ir_paths.specs.declared.point.Facts.{Facts}
-use Rattle.ir_paths.specs.declared.point.Point.{Point}
-use Rattle.ir_paths.specs.declared.point.Window.{Window}
-use Rattle.run_step.specs.Results.{and_then, found, ok_if}
-use Rattle.run_step.specs.Step.{fetch, fetch_in, incoming_from, label_of, phi_values, phis_of, values_in, with_all}
-use Rattle.run_step.specs.Values.{Env}
+use Rattle.ir_laws.specs.ir_model.Names.{function_at, position_of}
+use Rattle.ir_laws.specs.ir_model.declared.instr.Phi.{Phi}
+use Rattle.ir_laws.specs.ir_model.declared.module.Block.{Block}
+use Rattle.ir_laws.specs.ir_model.declared.module.Function.{Function}
+use Rattle.ir_laws.specs.ir_model.declared.module.Module.{Module}
+use Rattle.ir_laws.specs.ir_paths.Paths.{entry_point}
+use Rattle.ir_laws.specs.ir_paths.Windows.{leaves}
+use Rattle.ir_laws.specs.ir_paths.declared.point.Facts.{Facts}
+use Rattle.ir_laws.specs.ir_paths.declared.point.Point.{Point}
+use Rattle.ir_laws.specs.ir_paths.declared.point.Window.{Window}
+use Rattle.ir_laws.specs.run_step.Results.{and_then, found, ok_if}
+use Rattle.ir_laws.specs.run_step.Step.{fetch, fetch_in, incoming_from, label_of, phi_values, phis_of, values_in, with_all}
+use Rattle.ir_laws.specs.run_step.Values.{Env}
 use Rattle.run_states.proofs.moved_states.Parts.{facts_are, facts_moved, function_moved, operand_moved}
 use Rattle.run_states.proofs.moved_states.States.{may_leave_moved, own_moved, with_instance_moved, with_number}
 use Rattle.run_states.specs.moved_states.MovedState.{moved_activation, moved_instance, moved_module, moved_result, moved_state}

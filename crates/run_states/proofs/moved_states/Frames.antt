@@ -3,40 +3,40 @@ use Rattle.std.proofs.Common.{◌≡◌, ℕ, Bool, true, false, List, [], ◌�
 use Rattle.std.proofs.lemmas.List.{length-map, map-append, replicate-append-replicate}
 use Rattle.std.specs.List.{list_all, list_any}
 use Rattle.std.specs.Prelude.{ℤ, Some, None, Ok, Err, Option, Result, filter, is_none, map, not, option_and_then, option_map, replicate, slice_get, ◌&&◌, ◌||◌, ◌==◌, if◌then◌else◌}
-use Rattle.run_memory.specs.Memory.{own}
-use Rattle.run_memory.specs.declared.block.Kind.{Kind}
-use Rattle.run_memory.specs.declared.block.MemoryBlock.{MemoryBlock}
-use Rattle.run_memory.specs.declared.pointer.Pointer.{Pointer}
-use Rattle.run_memory.specs.declared.pointer.Value.{Value}
-use Rattle.ir_base.specs.declared.cause.Cause.{Cause}
-use Rattle.run_source.specs.Source.{begin, begin_at, begun, is_among, is_live_at, new_instance, push, resumed, with_new_slots}
-use Rattle.run_source.specs.State.{began_at, frame_address_of, gives, is_finished, own_frame, with_memory, with_slots, with_status}
-use Rattle.run_source.specs.declared.state.Instance.{Instance}
-use Rattle.run_source.specs.declared.state.Mode.{Mode}
-use Rattle.run_source.specs.declared.state.State.{State}
-use Rattle.run_source.specs.declared.state.Status.{Status}
+use Rattle.ir_laws.specs.run_memory.Memory.{own}
+use Rattle.ir_laws.specs.run_memory.declared.block.Kind.{Kind}
+use Rattle.ir_laws.specs.run_memory.declared.block.MemoryBlock.{MemoryBlock}
+use Rattle.ir_laws.specs.run_memory.declared.pointer.Pointer.{Pointer}
+use Rattle.ir_laws.specs.run_memory.declared.pointer.Value.{Value}
+use Rattle.ir_laws.specs.ir_base.declared.cause.Cause.{Cause}
+use Rattle.ir_laws.specs.run_source.Source.{begin, begin_at, begun, is_among, is_live_at, new_instance, push, resumed, with_new_slots}
+use Rattle.ir_laws.specs.run_source.State.{began_at, frame_address_of, gives, is_finished, own_frame, with_memory, with_slots, with_status}
+use Rattle.ir_laws.specs.run_source.declared.state.Instance.{Instance}
+use Rattle.ir_laws.specs.run_source.declared.state.Mode.{Mode}
+use Rattle.ir_laws.specs.run_source.declared.state.State.{State}
+use Rattle.ir_laws.specs.run_source.declared.state.Status.{Status}
 use Rattle.run_states.proofs.expanded.Environments.{grown, result_grown}
 use Rattle.ir_laws.proofs.facts.Members.{at_each as each_at}
 use Rattle.run_states.proofs.sound_states.Fits.{result_length}
-use Rattle.run_laws.specs.changed.Changed.{Each, result_of}
+use Rattle.ir_laws.specs.run_laws.changed.Changed.{Each, result_of}
 use Rattle.ir_laws.specs.facts.expanded.Tokens.{IsNamedResult}
 use Rattle.ir_laws.specs.facts.sound_states.Named.{AreLocalsNamed, HasNamedResults}
 use Rattle.frame_layout.specs.declared.layout.Layout.{Layout}
 use Rattle.run_states.proofs.branches.Calls.{length_none}
 use Rattle.run_framed.specs.Framed.{FramedGiven, alloca_from, alloca_of, are_finished_at, at_point, begin_given, begin_given_at, begin_in_block, begin_in_frame, begin_name, continue_framed, covers, enter_after, frame_around, framed_begin, framed_facts, framed_given, framed_slot, has_room, has_size, is_room_at, layout_of, reentry_values, with_mode}
-use Rattle.ir_model.specs.Names.{function_at, position_of}
-use Rattle.ir_model.specs.declared.instr.Instr.{Instr}
-use Rattle.ir_model.specs.declared.module.Block.{Block}
-use Rattle.ir_model.specs.declared.module.Function.{Function}
-use Rattle.ir_model.specs.declared.module.Module.{Module}
-use Rattle.ir_model.specs.declared.operand.Intrinsic.{Intrinsic}
-use Rattle.ir_paths.specs.Windows.{call_result, instr_at, instr_in, is_call_of, points_where}
-use Rattle.ir_paths.specs.declared.point.Facts.{Facts}
-use Rattle.ir_paths.specs.declared.point.Point.{Point}
-use Rattle.run_step.specs.Results.{and_then, found, ok_if}
-use Rattle.run_step.specs.Step.{block_of}
-use Rattle.run_step.specs.Values.{Env, with_result}
-use Rattle.run_step.specs.declared.world.Slot.{Slot}
+use Rattle.ir_laws.specs.ir_model.Names.{function_at, position_of}
+use Rattle.ir_laws.specs.ir_model.declared.instr.Instr.{Instr}
+use Rattle.ir_laws.specs.ir_model.declared.module.Block.{Block}
+use Rattle.ir_laws.specs.ir_model.declared.module.Function.{Function}
+use Rattle.ir_laws.specs.ir_model.declared.module.Module.{Module}
+use Rattle.ir_laws.specs.ir_model.declared.operand.Intrinsic.{Intrinsic}
+use Rattle.ir_laws.specs.ir_paths.Windows.{call_result, instr_at, instr_in, is_call_of, points_where}
+use Rattle.ir_laws.specs.ir_paths.declared.point.Facts.{Facts}
+use Rattle.ir_laws.specs.ir_paths.declared.point.Point.{Point}
+use Rattle.ir_laws.specs.run_step.Results.{and_then, found, ok_if}
+use Rattle.ir_laws.specs.run_step.Step.{block_of}
+use Rattle.ir_laws.specs.run_step.Values.{Env, with_result}
+use Rattle.ir_laws.specs.run_step.declared.world.Slot.{Slot}
 use Rattle.run_states.proofs.moved_states.Entering.{enters_direct}
 use Rattle.run_states.proofs.moved_states.Parts.{facts_are, facts_moved, function_moved}
 use Rattle.run_states.proofs.moved_states.Sleeping.{gives_moved}

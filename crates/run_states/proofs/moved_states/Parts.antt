@@ -3,21 +3,21 @@ use Rattle.std.proofs.Common.{◌≡◌, ℕ, suc, ◌+◌, Bool, List, [], ◌�
 use Rattle.std.proofs.lemmas.List.{length-map}
 use Rattle.std.proofs.lemmas.Option.{slice_get-map}
 use Rattle.std.specs.Prelude.{Some, None, Option, map, option_map, replicate, slice_get, unwrap_or, if◌then◌else◌, ◌&&◌}
-use Rattle.run_memory.specs.declared.pointer.Pointer.{Pointer}
-use Rattle.run_memory.specs.declared.pointer.Value.{Value}
-use Rattle.ir_base.specs.declared.name.Name.{Name}
+use Rattle.ir_laws.specs.run_memory.declared.pointer.Pointer.{Pointer}
+use Rattle.ir_laws.specs.run_memory.declared.pointer.Value.{Value}
+use Rattle.ir_laws.specs.ir_base.declared.name.Name.{Name}
 use Rattle.run_states.proofs.expanded.Environments.{grown, value_grown}
 use Rattle.run_framed.specs.Framed.{framed_facts, given_ramp}
-use Rattle.ir_model.specs.Names.{declaration_named, first_where, function_at, function_named, global_named, no_function, noalloc_of, same_name}
-use Rattle.ir_model.specs.Ty.{Ty}
-use Rattle.ir_model.specs.declared.module.Function.{Function}
-use Rattle.ir_model.specs.declared.module.Module.{Module}
-use Rattle.ir_model.specs.declared.operand.Arg.{Arg}
-use Rattle.ir_model.specs.declared.operand.Operand.{Operand}
-use Rattle.ir_paths.specs.declared.point.Facts.{Facts}
-use Rattle.run_step.specs.Step.{fits_function}
-use Rattle.run_step.specs.Values.{Env, address_from, arg_values, operand_value}
-use Rattle.run_source_tables.specs.Given.{facts_at}
+use Rattle.ir_laws.specs.ir_model.Names.{declaration_named, first_where, function_at, function_named, global_named, no_function, noalloc_of, same_name}
+use Rattle.ir_laws.specs.ir_model.Ty.{Ty}
+use Rattle.ir_laws.specs.ir_model.declared.module.Function.{Function}
+use Rattle.ir_laws.specs.ir_model.declared.module.Module.{Module}
+use Rattle.ir_laws.specs.ir_model.declared.operand.Arg.{Arg}
+use Rattle.ir_laws.specs.ir_model.declared.operand.Operand.{Operand}
+use Rattle.ir_laws.specs.ir_paths.declared.point.Facts.{Facts}
+use Rattle.ir_laws.specs.run_step.Step.{fits_function}
+use Rattle.ir_laws.specs.run_step.Values.{Env, address_from, arg_values, operand_value}
+use Rattle.ir_laws.specs.run_source_tables.Given.{facts_at}
 use Rattle.run_states.specs.moved_states.MovedState.{moved_module}
 use Rattle.run_states.specs.moved_states.Moving.{KeepsKinds, Moving}
 

@@ -1,33 +1,33 @@
 -- The framed runs of the module whose functions have blocks on some of their edges are those of the module.
 use Rattle.std.proofs.Common.{◌≡◌, ◌⊎◌, inl, inr, ℕ, ◌<◌, List, [], refl, sym, ap, ◌∙◌, subst, arith}
 use Rattle.std.specs.Prelude.{ℤ, None, Ok, Err, Result, map}
-use Rattle.run_agreement.proofs.Lockstep.{Advance, IsBetween, ShowsSame, Simulates, lockstep_near, lockstep_within}
-use Rattle.run_agreement.specs.Agreements.{AgreesWithin}
-use Rattle.run_agreement.specs.Costs.{AgreesBy, IsNear as IsWithin}
-use Rattle.run_agreement.specs.Machines.{IsFine, IsRunning, Machine, iterate}
-use Rattle.run_memory.specs.Memory.{access_bytes, encode}
-use Rattle.run_memory.specs.declared.block.MemoryBlock.{MemoryBlock}
-use Rattle.run_memory.specs.declared.pointer.Value.{Value}
-use Rattle.ir_base.specs.declared.cause.Cause.{Cause}
-use Rattle.ir_base.specs.declared.outcome.Outcome.{Outcome}
-use Rattle.ir_base.specs.declared.outcome.Word.{Word}
-use Rattle.run_source.specs.Source.{first_state}
-use Rattle.run_source.specs.State.{function_of, or_undefined}
-use Rattle.run_source.specs.declared.state.Activation.{Activation}
-use Rattle.run_source.specs.declared.state.Mode.{Mode}
-use Rattle.run_source.specs.declared.state.State.{State}
+use Rattle.ir_laws.proofs.run_agreement.Lockstep.{Advance, IsBetween, ShowsSame, Simulates, lockstep_near, lockstep_within}
+use Rattle.ir_laws.specs.run_agreement.Agreements.{AgreesWithin}
+use Rattle.ir_laws.specs.run_agreement.Costs.{AgreesBy, IsNear as IsWithin}
+use Rattle.ir_laws.specs.run_agreement.Machines.{IsFine, IsRunning, Machine, iterate}
+use Rattle.ir_laws.specs.run_memory.Memory.{access_bytes, encode}
+use Rattle.ir_laws.specs.run_memory.declared.block.MemoryBlock.{MemoryBlock}
+use Rattle.ir_laws.specs.run_memory.declared.pointer.Value.{Value}
+use Rattle.ir_laws.specs.ir_base.declared.cause.Cause.{Cause}
+use Rattle.ir_laws.specs.ir_base.declared.outcome.Outcome.{Outcome}
+use Rattle.ir_laws.specs.ir_base.declared.outcome.Word.{Word}
+use Rattle.ir_laws.specs.run_source.Source.{first_state}
+use Rattle.ir_laws.specs.run_source.State.{function_of, or_undefined}
+use Rattle.ir_laws.specs.run_source.declared.state.Activation.{Activation}
+use Rattle.ir_laws.specs.run_source.declared.state.Mode.{Mode}
+use Rattle.ir_laws.specs.run_source.declared.state.State.{State}
 use Rattle.ir_laws.specs.facts.sound_states.Named.{AreLocalsNamed}
 use Rattle.frame_layout.specs.declared.layout.Layout.{Layout}
 use Rattle.frame_layout.specs.declared.layout.Layouts.{Layouts}
 use Rattle.ir_laws.proofs.facts.Lists.{map_same}
 use Rattle.run_states.proofs.named.Simulation.{running_is}
 use Rattle.run_framed.specs.Framed.{FramedAt, FramedGiven, framed_advance, framed_given, framed_next, framed_step}
-use Rattle.ir_model.specs.declared.module.GlobalItem.{GlobalItem}
-use Rattle.ir_model.specs.declared.module.Module.{Module}
-use Rattle.run_step.specs.Runs.{seen_of}
-use Rattle.run_step.specs.Step.{fetch, first_world, global_block}
-use Rattle.run_step.specs.Values.{access_of, stored}
-use Rattle.run_step.specs.declared.world.World.{World}
+use Rattle.ir_laws.specs.ir_model.declared.module.GlobalItem.{GlobalItem}
+use Rattle.ir_laws.specs.ir_model.declared.module.Module.{Module}
+use Rattle.ir_laws.specs.run_step.Runs.{seen_of}
+use Rattle.ir_laws.specs.run_step.Step.{fetch, first_world, global_block}
+use Rattle.ir_laws.specs.run_step.Values.{access_of, stored}
+use Rattle.ir_laws.specs.run_step.declared.world.World.{World}
 use Rattle.run_states.proofs.moved_states.Calls.{called_moved}
 use Rattle.run_states.proofs.moved_states.Parts.{operand_moved}
 use Rattle.run_states.proofs.moved_states.Soundness.{first_holds, step_holds}

@@ -2,21 +2,21 @@
 use Rattle.std.proofs.Common.{◌≡◌, ℕ, ◌+◌, Bool, true, false, List, [], ◌∷◌, length, refl, sym, ap, subst}
 use Rattle.std.specs.List.{list_all}
 use Rattle.std.specs.Prelude.{ℤ, Some, None, Ok, Err, Option, Result, is_none, not, option_map, slice_get, slice_set, unwrap_or, if◌then◌else◌, ◌&&◌, ◌==◌}
-use Rattle.run_memory.specs.Memory.{disown, own}
-use Rattle.run_memory.specs.declared.block.Kind.{Kind}
-use Rattle.run_memory.specs.declared.block.MemoryBlock.{MemoryBlock}
-use Rattle.run_memory.specs.declared.pointer.Pointer.{Pointer}
-use Rattle.run_memory.specs.declared.pointer.Value.{Value}
-use Rattle.ir_base.specs.declared.cause.Cause.{Cause}
-use Rattle.ir_base.specs.declared.outcome.Outcome.{Outcome}
-use Rattle.ir_base.specs.declared.outcome.Word.{Word}
-use Rattle.run_source.specs.Source.{after_end, begin, begin_at, begun, branch_leaving, called, change_own, deallocate, destroy, done_at, end_of, enter, enter_block, finish, first_state, go_to, if_let_go, is_live_at, let_go, left_windows, may_be_freed, may_leave, pop, push, release, resume, resumed, return, returned, save, save_for, sleeper_at, suspend}
-use Rattle.run_source.specs.State.{frame_address_of, function_of, gives, instance_at, next, or_undefined, own_frame, own_instance, point_of, settled, with_instance, with_left, with_memory, with_slots, with_status, work_of}
-use Rattle.run_source.specs.declared.state.Activation.{Activation}
-use Rattle.run_source.specs.declared.state.Instance.{Instance}
-use Rattle.run_source.specs.declared.state.Mode.{Mode}
-use Rattle.run_source.specs.declared.state.State.{State}
-use Rattle.run_source.specs.declared.state.Status.{Status}
+use Rattle.ir_laws.specs.run_memory.Memory.{disown, own}
+use Rattle.ir_laws.specs.run_memory.declared.block.Kind.{Kind}
+use Rattle.ir_laws.specs.run_memory.declared.block.MemoryBlock.{MemoryBlock}
+use Rattle.ir_laws.specs.run_memory.declared.pointer.Pointer.{Pointer}
+use Rattle.ir_laws.specs.run_memory.declared.pointer.Value.{Value}
+use Rattle.ir_laws.specs.ir_base.declared.cause.Cause.{Cause}
+use Rattle.ir_laws.specs.ir_base.declared.outcome.Outcome.{Outcome}
+use Rattle.ir_laws.specs.ir_base.declared.outcome.Word.{Word}
+use Rattle.ir_laws.specs.run_source.Source.{after_end, begin, begin_at, begun, branch_leaving, called, change_own, deallocate, destroy, done_at, end_of, enter, enter_block, finish, first_state, go_to, if_let_go, is_live_at, let_go, left_windows, may_be_freed, may_leave, pop, push, release, resume, resumed, return, returned, save, save_for, sleeper_at, suspend}
+use Rattle.ir_laws.specs.run_source.State.{frame_address_of, function_of, gives, instance_at, next, or_undefined, own_frame, own_instance, point_of, settled, with_instance, with_left, with_memory, with_slots, with_status, work_of}
+use Rattle.ir_laws.specs.run_source.declared.state.Activation.{Activation}
+use Rattle.ir_laws.specs.run_source.declared.state.Instance.{Instance}
+use Rattle.ir_laws.specs.run_source.declared.state.Mode.{Mode}
+use Rattle.ir_laws.specs.run_source.declared.state.State.{State}
+use Rattle.ir_laws.specs.run_source.declared.state.Status.{Status}
 use Rattle.run_states.proofs.sound_states.Acts.{Good, after_sound, begin_at_sound, begin_sound, begun_sound, deallocate_sound, destroy_sound, done_sound, enter_sound, entered_sound, entry_length, finish_sound, free_sound, gives_sound, go_sound, next_sound, on_good, on_result, on_test, resume_sound, return_sound, save_sound, suspend_sound}
 use Rattle.run_states.proofs.sound_states.Fits.{Fits, calls_at, fits, result_named, suspend_there}
 use Rattle.run_states.proofs.sound_states.Kept.{IsGrown, activation_grown, below_grown, grown_set, instance_sound, memory_sound, moved_on, settled_sound, slots_sound, with_outcome}
@@ -27,27 +27,27 @@ use Rattle.run_states.specs.sound_states.Sound.{IsSound, IsSuspendAt, KeepsSound
 use Rattle.frame_layout.specs.declared.layout.Layout.{Layout}
 use Rattle.run_states.proofs.branches.Performs.{asleep}
 use Rattle.run_framed.specs.Framed.{FramedGiven, alloca_from, are_finished_at, at_point, begin_given_at, begin_in_block, begin_in_frame, continue_framed, disown_given, enter_after, enter_given, frame_around, framed_act, framed_advance, framed_begin, framed_context, framed_coro, framed_finish, framed_given, framed_next, framed_promise, framed_slot, framed_step, freed_address, given_call, given_ramp, has_room, has_size, is_stack_block, last_value, reentry_values, with_mode}
-use Rattle.ir_model.specs.Names.{function_at, position_of}
-use Rattle.ir_model.specs.declared.instr.Instr.{Instr}
-use Rattle.ir_model.specs.declared.module.Function.{Function}
-use Rattle.ir_model.specs.declared.module.Module.{Module}
-use Rattle.ir_model.specs.declared.operand.Arg.{Arg}
-use Rattle.ir_model.specs.declared.operand.Callee.{Callee}
-use Rattle.ir_model.specs.declared.operand.Intrinsic.{Intrinsic}
-use Rattle.ir_model.specs.declared.operand.Operand.{Operand}
-use Rattle.ir_paths.specs.Windows.{destroy_label, label_at, operand_at, resume_label, suspend_of}
-use Rattle.ir_paths.specs.declared.point.Point.{Point}
-use Rattle.ir_paths.specs.declared.point.Window.{Window}
-use Rattle.run_step.specs.Results.{and_then, found, ok_if}
-use Rattle.run_step.specs.Step.{Action, AtInstr, Coro, Deallocate, Done, Enter, Fetched, GoTo, NewSlot, Return, Stuck, action_of, block_of, deallocated, fetch, outcome_of}
-use Rattle.run_step.specs.Values.{Env, arg_values, nth}
-use Rattle.run_step.specs.declared.world.Slot.{Slot}
-use Rattle.run_source_tables.specs.Given.{has_final, is_final}
+use Rattle.ir_laws.specs.ir_model.Names.{function_at, position_of}
+use Rattle.ir_laws.specs.ir_model.declared.instr.Instr.{Instr}
+use Rattle.ir_laws.specs.ir_model.declared.module.Function.{Function}
+use Rattle.ir_laws.specs.ir_model.declared.module.Module.{Module}
+use Rattle.ir_laws.specs.ir_model.declared.operand.Arg.{Arg}
+use Rattle.ir_laws.specs.ir_model.declared.operand.Callee.{Callee}
+use Rattle.ir_laws.specs.ir_model.declared.operand.Intrinsic.{Intrinsic}
+use Rattle.ir_laws.specs.ir_model.declared.operand.Operand.{Operand}
+use Rattle.ir_laws.specs.ir_paths.Windows.{destroy_label, label_at, operand_at, resume_label, suspend_of}
+use Rattle.ir_laws.specs.ir_paths.declared.point.Point.{Point}
+use Rattle.ir_laws.specs.ir_paths.declared.point.Window.{Window}
+use Rattle.ir_laws.specs.run_step.Results.{and_then, found, ok_if}
+use Rattle.ir_laws.specs.run_step.Step.{Action, AtInstr, Coro, Deallocate, Done, Enter, Fetched, GoTo, NewSlot, Return, Stuck, action_of, block_of, deallocated, fetch, outcome_of}
+use Rattle.ir_laws.specs.run_step.Values.{Env, arg_values, nth}
+use Rattle.ir_laws.specs.run_step.declared.world.Slot.{Slot}
+use Rattle.ir_laws.specs.run_source_tables.Given.{has_final, is_final}
 use Rattle.run_states.proofs.moved_states.Ending.{below_stays, top_stays}
 use Rattle.run_states.proofs.moved_states.Frames.{reentry_length}
 use Rattle.run_states.specs.moved_states.Moving.{Moves, Moving}
 use Rattle.run_states.specs.moved_states.Near.{EnterAll, Enters, EntersBy, HoldsIn, IsEntering}
-use Rattle.run_laws.specs.changed.Changed.{result_at}
+use Rattle.ir_laws.specs.run_laws.changed.Changed.{result_at}
 
 module _ (mv : Moving) (m : Module) (layouts : List Layout) (answers : List ℤ) (names : AreLocalsNamed m) (moves : (func : ℕ) → Moves mv (function_at m func)) where
   abbrev g : FramedGiven

@@ -3,24 +3,24 @@ use Rattle.std.proofs.Common.{◌≡◌, ℕ, zero, suc, ◌+◌, Bool, true, Li
 use Rattle.std.proofs.lemmas.Option.{slice_get-map}
 use Rattle.std.specs.List.{list_all}
 use Rattle.std.specs.Prelude.{Some, None, Option, map, not, option_and_then, option_map, slice_get, ◌&&◌, ◌||◌, ◌==◌, if◌then◌else◌}
-use Rattle.run_memory.specs.declared.block.MemoryBlock.{MemoryBlock}
-use Rattle.run_memory.specs.declared.pointer.Pointer.{Pointer}
-use Rattle.run_memory.specs.declared.pointer.Value.{Value}
-use Rattle.run_source.specs.Indexes.{last_from, or_else}
-use Rattle.run_source.specs.Source.{is_save, may_leave}
-use Rattle.run_source.specs.State.{began_at, instance_at, is_finished, is_suspended, last_where, numbered, own_instance, with_instance}
-use Rattle.run_source.specs.declared.state.Instance.{Instance}
-use Rattle.run_source.specs.declared.state.Saved.{Saved}
-use Rattle.run_source.specs.declared.state.State.{State}
-use Rattle.run_source.specs.declared.state.Status.{Status}
+use Rattle.ir_laws.specs.run_memory.declared.block.MemoryBlock.{MemoryBlock}
+use Rattle.ir_laws.specs.run_memory.declared.pointer.Pointer.{Pointer}
+use Rattle.ir_laws.specs.run_memory.declared.pointer.Value.{Value}
+use Rattle.ir_laws.specs.run_source.Indexes.{last_from, or_else}
+use Rattle.ir_laws.specs.run_source.Source.{is_save, may_leave}
+use Rattle.ir_laws.specs.run_source.State.{began_at, instance_at, is_finished, is_suspended, last_where, numbered, own_instance, with_instance}
+use Rattle.ir_laws.specs.run_source.declared.state.Instance.{Instance}
+use Rattle.ir_laws.specs.run_source.declared.state.Saved.{Saved}
+use Rattle.ir_laws.specs.run_source.declared.state.State.{State}
+use Rattle.ir_laws.specs.run_source.declared.state.Status.{Status}
 use Rattle.ir_laws.proofs.paths.expanded.Apart.{same_moved}
 use Rattle.ir_laws.proofs.facts.Lists.{map_set}
 use Rattle.run_framed.specs.Framed.{FramedGiven, covers, frame_rights, is_open, is_open_byte, is_over, judge_of, meets_in}
-use Rattle.ir_model.specs.Names.{function_at}
-use Rattle.ir_model.specs.declared.module.Function.{Function}
-use Rattle.ir_model.specs.declared.module.Module.{Module}
-use Rattle.ir_paths.specs.declared.point.Point.{Point}
-use Rattle.ir_paths.specs.declared.point.Window.{Window}
+use Rattle.ir_laws.specs.ir_model.Names.{function_at}
+use Rattle.ir_laws.specs.ir_model.declared.module.Function.{Function}
+use Rattle.ir_laws.specs.ir_model.declared.module.Module.{Module}
+use Rattle.ir_laws.specs.ir_paths.declared.point.Point.{Point}
+use Rattle.ir_laws.specs.ir_paths.declared.point.Window.{Window}
 use Rattle.run_states.specs.moved_states.MovedState.{moved_instance, moved_save, moved_state, moved_status}
 use Rattle.run_states.specs.moved_states.Moving.{Moving, moved_point}
 

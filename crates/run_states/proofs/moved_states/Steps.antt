@@ -1,15 +1,15 @@
 -- What a framed step does to a state, and to that of the module whose functions have blocks on some of their edges.
 use Rattle.std.proofs.Common.{◌≡◌, ℕ, Bool, true, false, List, [], ◌∷◌, length, refl, sym, ap, ◌∙◌, subst}
 use Rattle.std.specs.Prelude.{ℤ, pos, Some, None, Ok, Err, Option, Result, not, option_map, slice_get, unwrap_or, if◌then◌else◌, ◌==◌}
-use Rattle.run_memory.specs.declared.pointer.Value.{Value}
-use Rattle.ir_base.specs.declared.cause.Cause.{Cause}
-use Rattle.ir_base.specs.declared.outcome.Outcome.{Outcome}
-use Rattle.ir_base.specs.declared.outcome.Word.{Word}
-use Rattle.run_source.specs.Source.{Sleeper, destroy, frame_address, resume, return, sleeper_at}
-use Rattle.run_source.specs.State.{function_of, gives, own_frame, own_instance, point_of, settled, work_of}
-use Rattle.run_source.specs.declared.state.Instance.{Instance}
-use Rattle.run_source.specs.declared.state.Mode.{Mode}
-use Rattle.run_source.specs.declared.state.State.{State}
+use Rattle.ir_laws.specs.run_memory.declared.pointer.Value.{Value}
+use Rattle.ir_laws.specs.ir_base.declared.cause.Cause.{Cause}
+use Rattle.ir_laws.specs.ir_base.declared.outcome.Outcome.{Outcome}
+use Rattle.ir_laws.specs.ir_base.declared.outcome.Word.{Word}
+use Rattle.ir_laws.specs.run_source.Source.{Sleeper, destroy, frame_address, resume, return, sleeper_at}
+use Rattle.ir_laws.specs.run_source.State.{function_of, gives, own_frame, own_instance, point_of, settled, work_of}
+use Rattle.ir_laws.specs.run_source.declared.state.Instance.{Instance}
+use Rattle.ir_laws.specs.run_source.declared.state.Mode.{Mode}
+use Rattle.ir_laws.specs.run_source.declared.state.State.{State}
 use Rattle.run_states.proofs.sound_states.Fits.{Fits, calls_at, fits, result_named}
 use Rattle.ir_laws.specs.facts.expanded.Tokens.{IsNamedResult}
 use Rattle.ir_laws.specs.facts.sound_states.Named.{AreLocalsNamed}
@@ -22,20 +22,20 @@ use Rattle.run_states.specs.branches.MovedState.{IsNamedBelow, IsOwnedBy}
 use Rattle.ir_laws.specs.paths.branches.Ways.{AreFetched}
 use Rattle.ir_laws.specs.facts.branches.Ways.{TermsPaired}
 use Rattle.run_framed.specs.Framed.{FramedGiven, allocates, continue_framed, framed_act, framed_context, framed_coro, framed_given, framed_next, given_call}
-use Rattle.ir_model.specs.Names.{function_at}
-use Rattle.ir_model.specs.Ty.{int}
-use Rattle.ir_model.specs.declared.instr.Case.{Case}
-use Rattle.ir_model.specs.declared.instr.Instr.{Instr}
-use Rattle.ir_model.specs.declared.instr.Terminator.{Terminator}
-use Rattle.ir_model.specs.declared.module.Function.{Function}
-use Rattle.ir_model.specs.declared.module.Module.{Module}
-use Rattle.ir_model.specs.declared.operand.Arg.{Arg}
-use Rattle.ir_model.specs.declared.operand.Intrinsic.{Intrinsic}
-use Rattle.ir_paths.specs.Windows.{destroy_label, label_at, operand_at, resume_label}
-use Rattle.run_step.specs.Results.{and_then, ok_if}
-use Rattle.run_step.specs.Step.{Action, AtInstr, AtTerm, Coro, Deallocate, Done, Enter, Fetched, GoTo, NewSlot, Nowhere, Return, Stuck, action_of, branch, fetch, is_word, switch, target_of, term_action}
-use Rattle.run_step.specs.Values.{arg_value, arg_values, integer, nth, operand_value, truth_value}
-use Rattle.run_source_tables.specs.Given.{is_final}
+use Rattle.ir_laws.specs.ir_model.Names.{function_at}
+use Rattle.ir_laws.specs.ir_model.Ty.{int}
+use Rattle.ir_laws.specs.ir_model.declared.instr.Case.{Case}
+use Rattle.ir_laws.specs.ir_model.declared.instr.Instr.{Instr}
+use Rattle.ir_laws.specs.ir_model.declared.instr.Terminator.{Terminator}
+use Rattle.ir_laws.specs.ir_model.declared.module.Function.{Function}
+use Rattle.ir_laws.specs.ir_model.declared.module.Module.{Module}
+use Rattle.ir_laws.specs.ir_model.declared.operand.Arg.{Arg}
+use Rattle.ir_laws.specs.ir_model.declared.operand.Intrinsic.{Intrinsic}
+use Rattle.ir_laws.specs.ir_paths.Windows.{destroy_label, label_at, operand_at, resume_label}
+use Rattle.ir_laws.specs.run_step.Results.{and_then, ok_if}
+use Rattle.ir_laws.specs.run_step.Step.{Action, AtInstr, AtTerm, Coro, Deallocate, Done, Enter, Fetched, GoTo, NewSlot, Nowhere, Return, Stuck, action_of, branch, fetch, is_word, switch, target_of, term_action}
+use Rattle.ir_laws.specs.run_step.Values.{arg_value, arg_values, integer, nth, operand_value, truth_value}
+use Rattle.ir_laws.specs.run_source_tables.Given.{is_final}
 use Rattle.run_states.proofs.moved_states.Actions.{action_moved}
 use Rattle.run_states.proofs.moved_states.Calls.{enter_moved, given_call_moved, return_moved}
 use Rattle.run_states.proofs.moved_states.Ending.{deallocate_moved, end_moved, free_moved, promise_moved}
@@ -47,7 +47,7 @@ use Rattle.run_states.proofs.moved_states.States.{own_moved, with_number}
 use Rattle.run_states.specs.moved_states.MovedState.{moved_action, moved_instance, moved_mode, moved_module, moved_result, moved_state, moved_values}
 use Rattle.run_states.specs.moved_states.Moving.{Goes, KeepsKinds, Moves, Moving, moved_point}
 use Rattle.run_states.specs.moved_states.Near.{HoldsIn, IsNear}
-use Rattle.run_laws.specs.changed.Changed.{result_at}
+use Rattle.ir_laws.specs.run_laws.changed.Changed.{result_at}
 
 module _ (mv : Moving) (kinds : KeepsKinds mv) (m : Module) (layouts : List Layout) (answers : List ℤ) (names : AreLocalsNamed m) (moves : (func : ℕ) → Moves mv (function_at m func)) where
   abbrev g : FramedGiven

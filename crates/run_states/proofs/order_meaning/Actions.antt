@@ -1,36 +1,36 @@
 -- An instruction whose locals stand at other names does the same, with its values at those names.
 use Rattle.std.proofs.Common.{◌≡◌, ℕ, Bool, true, false, List, Option, Some, None, Result, Ok, Err, refl, ap}
 use Rattle.std.specs.Prelude.{ℤ, ◌==◌, map, slice_get, option_map, if◌then◌else◌}
-use Rattle.run_memory.specs.Memory.{Rights, compare, copy}
-use Rattle.run_memory.specs.declared.block.MemoryBlock.{MemoryBlock}
-use Rattle.run_memory.specs.declared.pointer.Pointer.{Pointer}
-use Rattle.run_memory.specs.declared.pointer.Value.{Value}
-use Rattle.ir_base.specs.declared.cause.Cause.{Cause}
-use Rattle.ir_base.specs.declared.ops.Pred.{Pred}
-use Rattle.ir_base.specs.declared.outcome.Word.{Word}
-use Rattle.ir_model.specs.Layout.{size_of}
-use Rattle.ir_model.specs.Names.{declaration_named, function_named}
-use Rattle.ir_model.specs.Ty.{Ty, int, ptr}
-use Rattle.ir_model.specs.declared.instr.Case.{Case}
-use Rattle.ir_model.specs.declared.instr.Instr.{Instr}
-use Rattle.ir_model.specs.declared.instr.Terminator.{Terminator}
-use Rattle.ir_model.specs.declared.module.Function.{Function}
-use Rattle.ir_model.specs.declared.module.Module.{Module}
-use Rattle.ir_model.specs.declared.operand.Allocator.{Allocator}
-use Rattle.ir_model.specs.declared.operand.Arg.{Arg}
-use Rattle.ir_model.specs.declared.operand.Callee.{Callee}
-use Rattle.ir_model.specs.declared.operand.Intrinsic.{Intrinsic}
-use Rattle.ir_model.specs.declared.operand.Operand.{Operand}
+use Rattle.ir_laws.specs.run_memory.Memory.{Rights, compare, copy}
+use Rattle.ir_laws.specs.run_memory.declared.block.MemoryBlock.{MemoryBlock}
+use Rattle.ir_laws.specs.run_memory.declared.pointer.Pointer.{Pointer}
+use Rattle.ir_laws.specs.run_memory.declared.pointer.Value.{Value}
+use Rattle.ir_laws.specs.ir_base.declared.cause.Cause.{Cause}
+use Rattle.ir_laws.specs.ir_base.declared.ops.Pred.{Pred}
+use Rattle.ir_laws.specs.ir_base.declared.outcome.Word.{Word}
+use Rattle.ir_laws.specs.ir_model.Layout.{size_of}
+use Rattle.ir_laws.specs.ir_model.Names.{declaration_named, function_named}
+use Rattle.ir_laws.specs.ir_model.Ty.{Ty, int, ptr}
+use Rattle.ir_laws.specs.ir_model.declared.instr.Case.{Case}
+use Rattle.ir_laws.specs.ir_model.declared.instr.Instr.{Instr}
+use Rattle.ir_laws.specs.ir_model.declared.instr.Terminator.{Terminator}
+use Rattle.ir_laws.specs.ir_model.declared.module.Function.{Function}
+use Rattle.ir_laws.specs.ir_model.declared.module.Module.{Module}
+use Rattle.ir_laws.specs.ir_model.declared.operand.Allocator.{Allocator}
+use Rattle.ir_laws.specs.ir_model.declared.operand.Arg.{Arg}
+use Rattle.ir_laws.specs.ir_model.declared.operand.Callee.{Callee}
+use Rattle.ir_laws.specs.ir_model.declared.operand.Intrinsic.{Intrinsic}
+use Rattle.ir_laws.specs.ir_model.declared.operand.Operand.{Operand}
 pub use Rattle.ir_laws.specs.paths.order_meaning.Beside.{moved_slot}
 use Rattle.ir_laws.specs.facts.order_rules.Renumbered.{StaysApart, renumbered_arg, renumbered_callee, renumbered_case, renumbered_instr, renumbered_operand, renumbered_term}
 use Rattle.run_states.proofs.order_meaning.Moved.{AreFoundAlike, args_moved, indices_moved, operand_moved, result_moved, set_moved, target_moved, with_functions}
 use Rattle.ir_laws.specs.paths.order_meaning.Beside.{AreMoved}
 use Rattle.ir_laws.specs.facts.order_meaning.Beside.{IsHeld, IsHeldResult}
-use Rattle.run_step.specs.Step.{Action, AtInstr, AtTerm, Context, Coro, Deallocate, Done, Enter, Fetched, GoTo, NewSlot, Nowhere, Return, Stuck, Work, action_of, alloca, allocated, allocator_call, branch, by_pred, call, compared, done, fits_function, has_markers, if_alignment, indirect_call, instr_action, intrinsic_call, is_alignment, named_call, observed, set_memory, set_value, switch, term_action, with_length, words_of}
-use Rattle.run_step.specs.Values.{Env, address, arg_values, indices_of, nth, operand_value, truth_value, value_in, value_of, with_value}
-use Rattle.run_step.specs.declared.world.World.{World}
-use Rattle.run_laws.proofs.changed.Kept.{distance_kept}
-use Rattle.run_laws.specs.changed.Changed.{result_at, result_of}
+use Rattle.ir_laws.specs.run_step.Step.{Action, AtInstr, AtTerm, Context, Coro, Deallocate, Done, Enter, Fetched, GoTo, NewSlot, Nowhere, Return, Stuck, Work, action_of, alloca, allocated, allocator_call, branch, by_pred, call, compared, done, fits_function, has_markers, if_alignment, indirect_call, instr_action, intrinsic_call, is_alignment, named_call, observed, set_memory, set_value, switch, term_action, with_length, words_of}
+use Rattle.ir_laws.specs.run_step.Values.{Env, address, arg_values, indices_of, nth, operand_value, truth_value, value_in, value_of, with_value}
+use Rattle.ir_laws.specs.run_step.declared.world.World.{World}
+use Rattle.ir_laws.proofs.run_laws.changed.Kept.{distance_kept}
+use Rattle.ir_laws.specs.run_laws.changed.Changed.{result_at, result_of}
 
 abbrev pub renumbered_here : (ℕ → ℕ) → Fetched → Fetched
 renumbered_here to Nowhere = Nowhere

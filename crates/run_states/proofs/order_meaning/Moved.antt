@@ -3,27 +3,27 @@ use Rattle.std.proofs.Common.{◌≡◌, ℕ, zero, suc, ◌+◌, ◌<◌, ⊎_e
 use Rattle.std.specs.Prelude.{◌==◌, if◌then◌else◌, map, option_map}
 use Rattle.std.proofs.lemmas.Bool.{cases_eq}
 use Rattle.std.proofs.lemmas.List.{length-set}
-use Rattle.run_memory.specs.declared.pointer.Pointer.{Pointer}
-use Rattle.run_memory.specs.declared.pointer.Value.{Value}
-use Rattle.ir_base.specs.declared.name.Name.{Name}
-use Rattle.ir_base.specs.declared.outcome.Word.{Word}
-use Rattle.ir_model.specs.Names.{declaration_named, function_named, global_named}
-use Rattle.ir_model.specs.Ty.{Ty}
-use Rattle.ir_model.specs.declared.instr.Case.{Case}
-use Rattle.ir_model.specs.declared.instr.Incoming.{Incoming}
-use Rattle.ir_model.specs.declared.instr.Phi.{Phi}
-use Rattle.ir_model.specs.declared.module.Function.{Function}
-use Rattle.ir_model.specs.declared.module.Module.{Module}
-use Rattle.ir_model.specs.declared.module.Param.{Param}
-use Rattle.ir_model.specs.declared.operand.Arg.{Arg}
-use Rattle.ir_model.specs.declared.operand.Operand.{Operand}
+use Rattle.ir_laws.specs.run_memory.declared.pointer.Pointer.{Pointer}
+use Rattle.ir_laws.specs.run_memory.declared.pointer.Value.{Value}
+use Rattle.ir_laws.specs.ir_base.declared.name.Name.{Name}
+use Rattle.ir_laws.specs.ir_base.declared.outcome.Word.{Word}
+use Rattle.ir_laws.specs.ir_model.Names.{declaration_named, function_named, global_named}
+use Rattle.ir_laws.specs.ir_model.Ty.{Ty}
+use Rattle.ir_laws.specs.ir_model.declared.instr.Case.{Case}
+use Rattle.ir_laws.specs.ir_model.declared.instr.Incoming.{Incoming}
+use Rattle.ir_laws.specs.ir_model.declared.instr.Phi.{Phi}
+use Rattle.ir_laws.specs.ir_model.declared.module.Function.{Function}
+use Rattle.ir_laws.specs.ir_model.declared.module.Module.{Module}
+use Rattle.ir_laws.specs.ir_model.declared.module.Param.{Param}
+use Rattle.ir_laws.specs.ir_model.declared.operand.Arg.{Arg}
+use Rattle.ir_laws.specs.ir_model.declared.operand.Operand.{Operand}
 use Rattle.ir_laws.proofs.facts.Renumbering.{equal_same}
 pub use Rattle.ir_laws.specs.paths.order_meaning.Beside.{AreMoved}
 pub use Rattle.ir_laws.specs.facts.order_meaning.Beside.{IsHeld, IsHeldResult}
 use Rattle.ir_laws.specs.facts.order_rules.Renumbered.{StaysApart, renumbered_arg, renumbered_case, renumbered_incoming, renumbered_operand, renumbered_param, renumbered_phi}
 use Rattle.text_canonical.specs.order.Shape.{Each}
-use Rattle.run_step.specs.Step.{incoming_from, is_word, phi_values, target_of, with_all, with_params}
-use Rattle.run_step.specs.Values.{Env, address_from, arg_value, arg_values, index_of, indices_of, number_at, operand_value, value_in, with_result, with_value}
+use Rattle.ir_laws.specs.run_step.Step.{incoming_from, is_word, phi_values, target_of, with_all, with_params}
+use Rattle.ir_laws.specs.run_step.Values.{Env, address_from, arg_value, arg_values, index_of, indices_of, number_at, operand_value, value_in, with_result, with_value}
 
 set_same : (env : Env) (r : ℕ) (x : Value) → r < length env → value_in (with_value env r x) r ≡ x
 set_same [] r x lt = absurd (omega arith)

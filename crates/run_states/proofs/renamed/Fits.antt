@@ -2,31 +2,31 @@
 use Rattle.std.proofs.Common.{◌≡◌, ◌⊎◌, inl, inr, ℕ, Bool, true, false, List, [], ◌∷◌, length, refl, sym, subst}
 use Rattle.std.specs.List.{list_any}
 use Rattle.std.specs.Prelude.{IsTrue, Some, None, Ok, Err, Option, Result, map, slice_get, if◌then◌else◌, ◌==◌, ◌||◌, ◌&&◌}
-use Rattle.run_memory.specs.Memory.{compare, copy, load, store}
-use Rattle.run_memory.specs.declared.pointer.Pointer.{Pointer}
-use Rattle.run_memory.specs.declared.pointer.Value.{Value}
-use Rattle.ir_base.specs.declared.cause.Cause.{Cause}
-use Rattle.ir_base.specs.declared.ops.Pred.{Pred}
-use Rattle.ir_base.specs.declared.outcome.Word.{Word}
+use Rattle.ir_laws.specs.run_memory.Memory.{compare, copy, load, store}
+use Rattle.ir_laws.specs.run_memory.declared.pointer.Pointer.{Pointer}
+use Rattle.ir_laws.specs.run_memory.declared.pointer.Value.{Value}
+use Rattle.ir_laws.specs.ir_base.declared.cause.Cause.{Cause}
+use Rattle.ir_laws.specs.ir_base.declared.ops.Pred.{Pred}
+use Rattle.ir_laws.specs.ir_base.declared.outcome.Word.{Word}
 use Rattle.ir_laws.proofs.facts.Truth.{itself}
-use Rattle.run_ints.specs.Numbers.{binary, icmp}
-use Rattle.ir_model.specs.Layout.{size_of}
-use Rattle.ir_model.specs.Names.{declaration_named, function_named, intrinsic_number}
-use Rattle.ir_model.specs.Ty.{Ty, array, int, named, ptr, structure, token}
-use Rattle.ir_model.specs.declared.instr.Case.{Case}
-use Rattle.ir_model.specs.declared.instr.Instr.{Instr}
-use Rattle.ir_model.specs.declared.instr.Terminator.{Terminator}
-use Rattle.ir_model.specs.declared.module.Module.{Module}
-use Rattle.ir_model.specs.declared.operand.Allocator.{Allocator}
-use Rattle.ir_model.specs.declared.operand.Arg.{Arg}
-use Rattle.ir_model.specs.declared.operand.Callee.{Callee}
-use Rattle.ir_model.specs.declared.operand.Intrinsic.{Intrinsic}
-use Rattle.ir_model.specs.declared.operand.Operand.{Operand}
-use Rattle.ir_paths.specs.Paths.{targets}
-use Rattle.ir_paths.specs.Windows.{is_call_of}
-use Rattle.run_step.specs.Step.{Action, Context, Coro, Deallocate, Done, Enter, GoTo, NewSlot, Return, Stuck, Work, alloca, allocated, allocator_call, answer, branch, by_pred, cast_to, chosen, compared, copied_bytes, done, fits_function, if_alignment, indirect_call, instr_action, intrinsic_call, is_alignment, is_word, named_call, observed, set_memory, set_value, switch, target_of, term_action, value_at, with_length, words_of}
-use Rattle.run_step.specs.Values.{Env, access_of, address, arg_value, arg_values, distance, element, indices_of, literal, nth, number_at, number_of_width, pointer_to, stored, truth_value, value_in, value_of, with_result}
-use Rattle.run_laws.specs.changed.Changed.{result_of}
+use Rattle.ir_laws.specs.run_ints.Numbers.{binary, icmp}
+use Rattle.ir_laws.specs.ir_model.Layout.{size_of}
+use Rattle.ir_laws.specs.ir_model.Names.{declaration_named, function_named, intrinsic_number}
+use Rattle.ir_laws.specs.ir_model.Ty.{Ty, array, int, named, ptr, structure, token}
+use Rattle.ir_laws.specs.ir_model.declared.instr.Case.{Case}
+use Rattle.ir_laws.specs.ir_model.declared.instr.Instr.{Instr}
+use Rattle.ir_laws.specs.ir_model.declared.instr.Terminator.{Terminator}
+use Rattle.ir_laws.specs.ir_model.declared.module.Module.{Module}
+use Rattle.ir_laws.specs.ir_model.declared.operand.Allocator.{Allocator}
+use Rattle.ir_laws.specs.ir_model.declared.operand.Arg.{Arg}
+use Rattle.ir_laws.specs.ir_model.declared.operand.Callee.{Callee}
+use Rattle.ir_laws.specs.ir_model.declared.operand.Intrinsic.{Intrinsic}
+use Rattle.ir_laws.specs.ir_model.declared.operand.Operand.{Operand}
+use Rattle.ir_laws.specs.ir_paths.Paths.{targets}
+use Rattle.ir_laws.specs.ir_paths.Windows.{is_call_of}
+use Rattle.ir_laws.specs.run_step.Step.{Action, Context, Coro, Deallocate, Done, Enter, GoTo, NewSlot, Return, Stuck, Work, alloca, allocated, allocator_call, answer, branch, by_pred, cast_to, chosen, compared, copied_bytes, done, fits_function, if_alignment, indirect_call, instr_action, intrinsic_call, is_alignment, is_word, named_call, observed, set_memory, set_value, switch, target_of, term_action, value_at, with_length, words_of}
+use Rattle.ir_laws.specs.run_step.Values.{Env, access_of, address, arg_value, arg_values, distance, element, indices_of, literal, nth, number_at, number_of_width, pointer_to, stored, truth_value, value_in, value_of, with_result}
+use Rattle.ir_laws.specs.run_laws.changed.Changed.{result_of}
 
 -- ---- what an action sets
 

@@ -2,24 +2,24 @@
 use Rattle.std.proofs.Common.{◌≡◌, ℕ, suc, ◌+◌, List, [], ◌∷◌, length, refl, sym, ap, ◌∙◌}
 use Rattle.std.proofs.lemmas.Option.{slice_get-map}
 use Rattle.std.specs.Prelude.{ℤ, Some, None, Option, option_map, unwrap_or, map, slice_get, ◌&&◌}
-use Rattle.run_memory.specs.Memory.{Rights, access_bytes, encode}
-use Rattle.run_memory.specs.declared.block.MemoryBlock.{MemoryBlock}
-use Rattle.run_memory.specs.declared.pointer.Pointer.{Pointer}
-use Rattle.run_memory.specs.declared.pointer.Value.{Value}
-use Rattle.ir_base.specs.declared.name.Name.{Name}
-use Rattle.ir_base.specs.declared.outcome.Event.{Event}
+use Rattle.ir_laws.specs.run_memory.Memory.{Rights, access_bytes, encode}
+use Rattle.ir_laws.specs.run_memory.declared.block.MemoryBlock.{MemoryBlock}
+use Rattle.ir_laws.specs.run_memory.declared.pointer.Pointer.{Pointer}
+use Rattle.ir_laws.specs.run_memory.declared.pointer.Value.{Value}
+use Rattle.ir_laws.specs.ir_base.declared.name.Name.{Name}
+use Rattle.ir_laws.specs.ir_base.declared.outcome.Event.{Event}
 use Rattle.ir_laws.specs.facts.renamed.Passes.{with_functions}
-use Rattle.ir_model.specs.Names.{declaration_named, function_at, function_named, global_named, no_function, same_name}
-use Rattle.ir_model.specs.Ty.{Ty}
-use Rattle.ir_model.specs.declared.module.Function.{Function}
-use Rattle.ir_model.specs.declared.module.GlobalItem.{GlobalItem}
-use Rattle.ir_model.specs.declared.module.Module.{Module}
-use Rattle.ir_model.specs.declared.operand.Arg.{Arg}
-use Rattle.ir_model.specs.declared.operand.Operand.{Operand}
-use Rattle.run_step.specs.Step.{Action, Context, Coro, Deallocate, Done, Enter, Fetched, GoTo, NewSlot, Return, Stuck, Work, action_of, fits_function, fits_params, first_world, global_block, has_markers, same_result}
-use Rattle.run_step.specs.Values.{Env, access_of, address_from, address_of, operand_value, stored}
-use Rattle.run_laws.proofs.changed.Kept.{action_kept}
-use Rattle.run_laws.specs.changed.Changed.{Change, Each, IsDeclaredAlike, IsSameOperand, callee_at, changed_action, changed_event, changed_work, operands_at}
+use Rattle.ir_laws.specs.ir_model.Names.{declaration_named, function_at, function_named, global_named, no_function, same_name}
+use Rattle.ir_laws.specs.ir_model.Ty.{Ty}
+use Rattle.ir_laws.specs.ir_model.declared.module.Function.{Function}
+use Rattle.ir_laws.specs.ir_model.declared.module.GlobalItem.{GlobalItem}
+use Rattle.ir_laws.specs.ir_model.declared.module.Module.{Module}
+use Rattle.ir_laws.specs.ir_model.declared.operand.Arg.{Arg}
+use Rattle.ir_laws.specs.ir_model.declared.operand.Operand.{Operand}
+use Rattle.ir_laws.specs.run_step.Step.{Action, Context, Coro, Deallocate, Done, Enter, Fetched, GoTo, NewSlot, Return, Stuck, Work, action_of, fits_function, fits_params, first_world, global_block, has_markers, same_result}
+use Rattle.ir_laws.specs.run_step.Values.{Env, access_of, address_from, address_of, operand_value, stored}
+use Rattle.ir_laws.proofs.run_laws.changed.Kept.{action_kept}
+use Rattle.ir_laws.specs.run_laws.changed.Changed.{Change, Each, IsDeclaredAlike, IsSameOperand, callee_at, changed_action, changed_event, changed_work, operands_at}
 use Rattle.ir_laws.proofs.facts.Lists.{first_same, map_same}
 
 -- names and types of functions stay

@@ -2,12 +2,12 @@
 use Rattle.std.proofs.Common.{◌≡◌, ℕ, [], refl, ap, ◌∙◌}
 use Rattle.std.proofs.lemmas.Option.{slice_get-map}
 use Rattle.std.specs.Prelude.{Some, None, Option, option_map, slice_get, unwrap_or}
-use Rattle.ir_model.specs.Names.{function_at, no_function}
-use Rattle.ir_model.specs.declared.module.Function.{Function}
-use Rattle.ir_model.specs.declared.module.Module.{Module}
-use Rattle.ir_paths.specs.Facts.{all_facts, facts_of}
-use Rattle.ir_paths.specs.declared.point.Facts.{Facts}
-use Rattle.run_source_tables.specs.Given.{facts_at}
+use Rattle.ir_laws.specs.ir_model.Names.{function_at, no_function}
+use Rattle.ir_laws.specs.ir_model.declared.module.Function.{Function}
+use Rattle.ir_laws.specs.ir_model.declared.module.Module.{Module}
+use Rattle.ir_laws.specs.ir_paths.Facts.{all_facts, facts_of}
+use Rattle.ir_laws.specs.ir_paths.declared.point.Facts.{Facts}
+use Rattle.ir_laws.specs.run_source_tables.Given.{facts_at}
 
 -- ---- facts
 

@@ -1,18 +1,18 @@
 -- Values cut to so many names.
 use Rattle.std.proofs.Common.{◌≡◌, ℕ, zero, suc, ◌<◌, ◌≤◌, List, [], ◌∷◌, take, refl, ap, ◌∙◌, arith}
 use Rattle.std.specs.Prelude.{Some, None, Option, replicate, Bool, true, false, ◌==◌, if◌then◌else◌}
-use Rattle.run_memory.specs.declared.pointer.Value.{Value}
-use Rattle.ir_model.specs.Ty.{Ty}
-use Rattle.ir_model.specs.declared.instr.Incoming.{Incoming}
-use Rattle.ir_model.specs.declared.instr.Phi.{Phi}
-use Rattle.ir_model.specs.declared.module.Block.{Block}
-use Rattle.ir_model.specs.declared.module.Module.{Module}
-use Rattle.ir_model.specs.declared.module.Param.{Param}
-use Rattle.ir_model.specs.declared.operand.Arg.{Arg}
-use Rattle.ir_model.specs.declared.operand.Operand.{Operand}
-use Rattle.run_step.specs.Step.{incoming_from, phi_values, phis_of, values_in, with_all, with_params}
-use Rattle.run_step.specs.Values.{Env, arg_values, operand_value, value_in, with_result, with_value}
-use Rattle.run_laws.specs.changed.Changed.{Each, values_of, Each as EachOperand}
+use Rattle.ir_laws.specs.run_memory.declared.pointer.Value.{Value}
+use Rattle.ir_laws.specs.ir_model.Ty.{Ty}
+use Rattle.ir_laws.specs.ir_model.declared.instr.Incoming.{Incoming}
+use Rattle.ir_laws.specs.ir_model.declared.instr.Phi.{Phi}
+use Rattle.ir_laws.specs.ir_model.declared.module.Block.{Block}
+use Rattle.ir_laws.specs.ir_model.declared.module.Module.{Module}
+use Rattle.ir_laws.specs.ir_model.declared.module.Param.{Param}
+use Rattle.ir_laws.specs.ir_model.declared.operand.Arg.{Arg}
+use Rattle.ir_laws.specs.ir_model.declared.operand.Operand.{Operand}
+use Rattle.ir_laws.specs.run_step.Step.{incoming_from, phi_values, phis_of, values_in, with_all, with_params}
+use Rattle.ir_laws.specs.run_step.Values.{Env, arg_values, operand_value, value_in, with_result, with_value}
+use Rattle.ir_laws.specs.run_laws.changed.Changed.{Each, values_of, Each as EachOperand}
 use Rattle.ir_laws.specs.facts.expanded.Tokens.{IsNamed}
 
 -- ---- values

@@ -2,35 +2,35 @@
 use Rattle.std.proofs.Common.{◌≡◌, ℕ, Bool, true, false, List, [], ◌∷◌, ◌++◌, length, refl, sym, ap, ◌∙◌, arith}
 use Rattle.std.proofs.lemmas.List.{length-map, map-append}
 use Rattle.std.specs.Prelude.{Some, None, Ok, Err, Option, Result, filter, find, map, not, negsuc, option_map, unwrap_or, ◌&&◌, ◌||◌, ◌==◌, if◌then◌else◌, is_none, replicate}
-use Rattle.run_memory.specs.Memory.{disown, killed, own}
-use Rattle.run_memory.specs.declared.block.Kind.{Kind}
-use Rattle.run_memory.specs.declared.block.MemoryBlock.{MemoryBlock}
-use Rattle.run_memory.specs.declared.pointer.Pointer.{Pointer}
-use Rattle.run_memory.specs.declared.pointer.Value.{Value}
-use Rattle.ir_base.specs.declared.cause.Cause.{Cause}
-use Rattle.ir_base.specs.declared.outcome.Outcome.{Outcome}
-use Rattle.run_source.specs.Source.{Sleeper, after_end, begin, begin_at, begun, called, change_own, continue, deallocate, destroy, done_at, end_of, enter, enter_block, finish, frame_address, frame_of_promise, has_promise_at, if_let_go, is_live_at, is_over, kill_late, let_go, may_be_freed, mode_of, new_instance, new_slot, pop, promise, promise_block, promise_of_frame, push, release, resume, resumed, return, returned, save, save_before, save_for, sleeper_at, sleeper_of, slots_of, suspend, with_new_slots}
-use Rattle.run_source.specs.State.{frame_address_of, function_of, gives, instance_at, is_finished, next, own_facts, own_frame, own_instance, point_of, with_instance, with_left, with_memory, with_slots, with_status}
-use Rattle.run_source.specs.declared.state.Activation.{Activation}
-use Rattle.run_source.specs.declared.state.Instance.{Instance}
-use Rattle.run_source.specs.declared.state.Mode.{Mode}
-use Rattle.run_source.specs.declared.state.State.{State}
-use Rattle.run_source.specs.declared.state.Status.{Status}
+use Rattle.ir_laws.specs.run_memory.Memory.{disown, killed, own}
+use Rattle.ir_laws.specs.run_memory.declared.block.Kind.{Kind}
+use Rattle.ir_laws.specs.run_memory.declared.block.MemoryBlock.{MemoryBlock}
+use Rattle.ir_laws.specs.run_memory.declared.pointer.Pointer.{Pointer}
+use Rattle.ir_laws.specs.run_memory.declared.pointer.Value.{Value}
+use Rattle.ir_laws.specs.ir_base.declared.cause.Cause.{Cause}
+use Rattle.ir_laws.specs.ir_base.declared.outcome.Outcome.{Outcome}
+use Rattle.ir_laws.specs.run_source.Source.{Sleeper, after_end, begin, begin_at, begun, called, change_own, continue, deallocate, destroy, done_at, end_of, enter, enter_block, finish, frame_address, frame_of_promise, has_promise_at, if_let_go, is_live_at, is_over, kill_late, let_go, may_be_freed, mode_of, new_instance, new_slot, pop, promise, promise_block, promise_of_frame, push, release, resume, resumed, return, returned, save, save_before, save_for, sleeper_at, sleeper_of, slots_of, suspend, with_new_slots}
+use Rattle.ir_laws.specs.run_source.State.{frame_address_of, function_of, gives, instance_at, is_finished, next, own_facts, own_frame, own_instance, point_of, with_instance, with_left, with_memory, with_slots, with_status}
+use Rattle.ir_laws.specs.run_source.declared.state.Activation.{Activation}
+use Rattle.ir_laws.specs.run_source.declared.state.Instance.{Instance}
+use Rattle.ir_laws.specs.run_source.declared.state.Mode.{Mode}
+use Rattle.ir_laws.specs.run_source.declared.state.State.{State}
+use Rattle.ir_laws.specs.run_source.declared.state.Status.{Status}
 use Rattle.run_states.proofs.shortened.Short.{blank_short, params_short, result_short}
 use Rattle.run_states.proofs.shortened.ShortStates.{enter_short, found_short, gives_short, own_short, suspended_short, with_instance_short}
 use Rattle.ir_laws.specs.facts.sound_states.Named.{AreUsesNamed}
 use Rattle.run_states.specs.shortened.Shortened.{IsOwned, cut, short_activation, short_instance, short_numbered, short_result, short_state, short_status}
-use Rattle.ir_model.specs.Names.{function_at}
-use Rattle.ir_model.specs.declared.module.Module.{Module}
-use Rattle.ir_model.specs.declared.operand.Operand.{Operand}
-use Rattle.ir_paths.specs.Slots.{has_name}
-use Rattle.ir_paths.specs.Windows.{destroy_label, resume_label, suspend_of}
-use Rattle.ir_paths.specs.declared.point.Point.{Point}
-use Rattle.run_step.specs.Results.{and_then, found, ok_if}
-use Rattle.run_step.specs.Step.{block_of, deallocated, outcome_of, with_params, without_slots}
-use Rattle.run_step.specs.Values.{Env, integer, pointer_to, truth_value}
-use Rattle.run_step.specs.declared.world.Slot.{Slot}
-use Rattle.run_source_tables.specs.Given.{Given, has_final, is_final, is_true}
+use Rattle.ir_laws.specs.ir_model.Names.{function_at}
+use Rattle.ir_laws.specs.ir_model.declared.module.Module.{Module}
+use Rattle.ir_laws.specs.ir_model.declared.operand.Operand.{Operand}
+use Rattle.ir_laws.specs.ir_paths.Slots.{has_name}
+use Rattle.ir_laws.specs.ir_paths.Windows.{destroy_label, resume_label, suspend_of}
+use Rattle.ir_laws.specs.ir_paths.declared.point.Point.{Point}
+use Rattle.ir_laws.specs.run_step.Results.{and_then, found, ok_if}
+use Rattle.ir_laws.specs.run_step.Step.{block_of, deallocated, outcome_of, with_params, without_slots}
+use Rattle.ir_laws.specs.run_step.Values.{Env, integer, pointer_to, truth_value}
+use Rattle.ir_laws.specs.run_step.declared.world.Slot.{Slot}
+use Rattle.ir_laws.specs.run_source_tables.Given.{Given, has_final, is_final, is_true}
 
 module _ (m : Module) where
   -- ---- slots

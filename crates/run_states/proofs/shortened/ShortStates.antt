@@ -4,32 +4,32 @@ use Rattle.std.proofs.lemmas.List.{length-map}
 use Rattle.std.proofs.lemmas.Option.{slice_get-map}
 use Rattle.std.specs.List.{list_all}
 use Rattle.std.specs.Prelude.{Some, None, Ok, Option, map, option_and_then, option_map, slice_get, ◌&&◌, if◌then◌else◌}
-use Rattle.run_memory.specs.declared.pointer.Pointer.{Pointer}
-use Rattle.run_memory.specs.declared.pointer.Value.{Value}
-use Rattle.ir_base.specs.declared.cause.Cause.{Cause}
-use Rattle.run_source.specs.Indexes.{last_from, or_else}
-use Rattle.run_source.specs.Source.{branch_leaving, enter_block, go_to, is_save, left_windows, may_leave}
-use Rattle.run_source.specs.State.{began_at, gives, instance_at, is_suspended, numbered, own_instance, with_instance, with_left, with_status}
-use Rattle.run_source.specs.declared.state.Instance.{Instance}
-use Rattle.run_source.specs.declared.state.State.{State}
-use Rattle.run_source.specs.declared.state.Status.{Status}
+use Rattle.ir_laws.specs.run_memory.declared.pointer.Pointer.{Pointer}
+use Rattle.ir_laws.specs.run_memory.declared.pointer.Value.{Value}
+use Rattle.ir_laws.specs.ir_base.declared.cause.Cause.{Cause}
+use Rattle.ir_laws.specs.run_source.Indexes.{last_from, or_else}
+use Rattle.ir_laws.specs.run_source.Source.{branch_leaving, enter_block, go_to, is_save, left_windows, may_leave}
+use Rattle.ir_laws.specs.run_source.State.{began_at, gives, instance_at, is_suspended, numbered, own_instance, with_instance, with_left, with_status}
+use Rattle.ir_laws.specs.run_source.declared.state.Instance.{Instance}
+use Rattle.ir_laws.specs.run_source.declared.state.State.{State}
+use Rattle.ir_laws.specs.run_source.declared.state.Status.{Status}
 use Rattle.run_states.proofs.shortened.Short.{result_short, values_in_short}
 use Rattle.ir_laws.specs.facts.sound_states.Named.{AreUsesNamed}
 use Rattle.run_states.specs.shortened.Shortened.{short_activation, short_instance, short_numbered, short_result, short_state, short_status}
 use Rattle.ir_laws.proofs.facts.Members.{at_each as each_at}
-use Rattle.ir_model.specs.Names.{function_at, position_of}
-use Rattle.ir_model.specs.declared.instr.Incoming.{Incoming}
-use Rattle.ir_model.specs.declared.instr.Phi.{Phi}
-use Rattle.ir_model.specs.declared.module.Block.{Block}
-use Rattle.ir_model.specs.declared.module.Function.{Function}
-use Rattle.ir_model.specs.declared.module.Module.{Module}
-use Rattle.ir_paths.specs.declared.point.Window.{Window}
-use Rattle.run_step.specs.Results.{and_then, found, ok_if}
-use Rattle.run_step.specs.Step.{label_of, phis_of}
-use Rattle.run_step.specs.Values.{Env}
-use Rattle.run_laws.specs.changed.Changed.{Each}
+use Rattle.ir_laws.specs.ir_model.Names.{function_at, position_of}
+use Rattle.ir_laws.specs.ir_model.declared.instr.Incoming.{Incoming}
+use Rattle.ir_laws.specs.ir_model.declared.instr.Phi.{Phi}
+use Rattle.ir_laws.specs.ir_model.declared.module.Block.{Block}
+use Rattle.ir_laws.specs.ir_model.declared.module.Function.{Function}
+use Rattle.ir_laws.specs.ir_model.declared.module.Module.{Module}
+use Rattle.ir_laws.specs.ir_paths.declared.point.Window.{Window}
+use Rattle.ir_laws.specs.run_step.Results.{and_then, found, ok_if}
+use Rattle.ir_laws.specs.run_step.Step.{label_of, phis_of}
+use Rattle.ir_laws.specs.run_step.Values.{Env}
+use Rattle.ir_laws.specs.run_laws.changed.Changed.{Each}
 use Rattle.ir_laws.specs.facts.expanded.Tokens.{IsNamed}
-use Rattle.run_source_tables.specs.Given.{Given}
+use Rattle.ir_laws.specs.run_source_tables.Given.{Given}
 use Rattle.ir_laws.proofs.facts.Lists.{map_set}
 
 -- ---- what is asked of the module, at a place

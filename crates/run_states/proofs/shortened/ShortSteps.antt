@@ -1,38 +1,38 @@
 -- A step of a state whose values are cut is the step, cut.
 use Rattle.std.proofs.Common.{◌≡◌, ℕ, Bool, true, false, List, [], ◌∷◌, length, refl, sym, ap, ◌∙◌}
 use Rattle.std.specs.Prelude.{Some, None, Ok, Err, Option, Result, map, option_map, slice_get, ◌==◌, pos}
-use Rattle.run_memory.specs.Memory.{copy}
-use Rattle.run_memory.specs.declared.pointer.Value.{Value}
-use Rattle.ir_base.specs.declared.cause.Cause.{Cause}
-use Rattle.ir_base.specs.declared.name.Name.{Name}
-use Rattle.ir_base.specs.declared.outcome.Event.{Event}
-use Rattle.ir_base.specs.declared.outcome.Outcome.{Outcome}
-use Rattle.run_source.specs.Source.{act, advance_by, context_of, continue, coro, step}
-use Rattle.run_source.specs.State.{function_of, or_undefined, own_frame, own_instance, settled, work_of}
-use Rattle.run_source.specs.declared.state.State.{State}
+use Rattle.ir_laws.specs.run_memory.Memory.{copy}
+use Rattle.ir_laws.specs.run_memory.declared.pointer.Value.{Value}
+use Rattle.ir_laws.specs.ir_base.declared.cause.Cause.{Cause}
+use Rattle.ir_laws.specs.ir_base.declared.name.Name.{Name}
+use Rattle.ir_laws.specs.ir_base.declared.outcome.Event.{Event}
+use Rattle.ir_laws.specs.ir_base.declared.outcome.Outcome.{Outcome}
+use Rattle.ir_laws.specs.run_source.Source.{act, advance_by, context_of, continue, coro, step}
+use Rattle.ir_laws.specs.run_source.State.{function_of, or_undefined, own_frame, own_instance, settled, work_of}
+use Rattle.ir_laws.specs.run_source.declared.state.State.{State}
 use Rattle.run_states.proofs.shortened.Short.{args_short, operand_short, result_short}
 use Rattle.run_states.proofs.shortened.ShortActs.{begin_short, deallocate_short, destroy_short, done_short, end_short, enter_call_short, frame_short, free_short, new_slot_short, promise_short, resume_short, return_short, save_short, suspend_short}
 use Rattle.run_states.proofs.shortened.ShortStates.{gives_short, go_to_short}
 use Rattle.run_states.specs.shortened.Shortened.{IsOwned, cut, short_result, short_state}
 use Rattle.run_states.proofs.renamed.Fits.{Ends, Fits, ends, fits}
-use Rattle.ir_model.specs.Names.{declaration_named, function_at}
-use Rattle.ir_model.specs.declared.instr.Instr.{Instr}
-use Rattle.ir_model.specs.declared.instr.Terminator.{Terminator}
-use Rattle.ir_model.specs.declared.module.Block.{Block}
-use Rattle.ir_model.specs.declared.module.Function.{Function}
-use Rattle.ir_model.specs.declared.operand.Arg.{Arg}
-use Rattle.ir_model.specs.declared.operand.Callee.{Callee}
-use Rattle.ir_model.specs.declared.operand.Intrinsic.{Intrinsic}
-use Rattle.ir_model.specs.declared.operand.Operand.{Operand}
-use Rattle.ir_paths.specs.Windows.{is_call_of, operand_at}
-use Rattle.run_step.specs.Step.{Action, AtInstr, AtTerm, Context, Coro, Deallocate, Done, Enter, Fetched, GoTo, NewSlot, Nowhere, Return, Stuck, Work, action_of, copied_bytes, done, fetch, fetch_in, fetch_or, instr_action, set_memory, term_action, with_length}
-use Rattle.run_step.specs.Values.{Env, address, arg_values, integer, nth, truth_value}
+use Rattle.ir_laws.specs.ir_model.Names.{declaration_named, function_at}
+use Rattle.ir_laws.specs.ir_model.declared.instr.Instr.{Instr}
+use Rattle.ir_laws.specs.ir_model.declared.instr.Terminator.{Terminator}
+use Rattle.ir_laws.specs.ir_model.declared.module.Block.{Block}
+use Rattle.ir_laws.specs.ir_model.declared.module.Function.{Function}
+use Rattle.ir_laws.specs.ir_model.declared.operand.Arg.{Arg}
+use Rattle.ir_laws.specs.ir_model.declared.operand.Callee.{Callee}
+use Rattle.ir_laws.specs.ir_model.declared.operand.Intrinsic.{Intrinsic}
+use Rattle.ir_laws.specs.ir_model.declared.operand.Operand.{Operand}
+use Rattle.ir_laws.specs.ir_paths.Windows.{is_call_of, operand_at}
+use Rattle.ir_laws.specs.run_step.Step.{Action, AtInstr, AtTerm, Context, Coro, Deallocate, Done, Enter, Fetched, GoTo, NewSlot, Nowhere, Return, Stuck, Work, action_of, copied_bytes, done, fetch, fetch_in, fetch_or, instr_action, set_memory, term_action, with_length}
+use Rattle.ir_laws.specs.run_step.Values.{Env, address, arg_values, integer, nth, truth_value}
 use Rattle.ir_laws.proofs.facts.Members.{at_each as each_at}
 use Rattle.ir_laws.specs.facts.expanded.Tokens.{IsNamed}
 use Rattle.ir_laws.specs.facts.sound_states.Named.{AreUsesNamed, HasNamedUses}
-use Rattle.run_source_tables.specs.Given.{Given}
-use Rattle.run_laws.proofs.changed.Kept.{action_kept}
-use Rattle.run_laws.specs.changed.Changed.{Change, Each, IsDeclaredAlike, IsSameOperand, callee_at, changed_action, changed_event, changed_work, operands_at, operands_of, operands_of_term, result_at, values_of}
+use Rattle.ir_laws.specs.run_source_tables.Given.{Given}
+use Rattle.ir_laws.proofs.run_laws.changed.Kept.{action_kept}
+use Rattle.ir_laws.specs.run_laws.changed.Changed.{Change, Each, IsDeclaredAlike, IsSameOperand, callee_at, changed_action, changed_event, changed_work, operands_at, operands_of, operands_of_term, result_at, values_of}
 
 -- ---- actions that are no calls of coroutines
 

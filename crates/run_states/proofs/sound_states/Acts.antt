@@ -2,34 +2,34 @@
 use Rattle.std.proofs.Common.{◌≡◌, ℕ, ◌+◌, Bool, true, false, List, [], ◌∷◌, ◌++◌, length, refl, sym, ap, ◌∙◌, subst}
 use Rattle.std.specs.List.{list_all}
 use Rattle.std.specs.Prelude.{negsuc, Some, None, Ok, Err, Option, Result, filter, is_none, not, option_and_then, option_map, replicate, slice_get, slice_set, unwrap_or, if◌then◌else◌, ◌&&◌}
-use Rattle.run_memory.specs.Memory.{killed, own}
-use Rattle.run_memory.specs.declared.block.Kind.{Kind}
-use Rattle.run_memory.specs.declared.pointer.Pointer.{Pointer}
-use Rattle.run_memory.specs.declared.pointer.Value.{Value}
-use Rattle.ir_base.specs.declared.cause.Cause.{Cause}
-use Rattle.run_source.specs.Indexes.{last_from}
-use Rattle.run_source.specs.Source.{Continues, Sleeper, after_end, begin, begin_at, begun, branch_leaving, change_own, continue, deallocate, destroy, done_at, end_of, enter, enter_block, finish, go_to, if_let_go, is_among, is_over, kill_late, let_go, may_be_freed, may_leave, new_instance, new_slot, pop, resume, return, returned, save, save_for, sleeper_at, sleeper_of, slots_of, suspend, with_new_slots}
-use Rattle.run_source.specs.State.{began_at, gives, function_of, instance_at, next, own_facts, own_frame, own_instance, point_of, with_instance, with_left, with_memory, with_status}
-use Rattle.run_source.specs.declared.state.Activation.{Activation}
-use Rattle.run_source.specs.declared.state.Instance.{Instance}
-use Rattle.run_source.specs.declared.state.Mode.{Mode}
-use Rattle.run_source.specs.declared.state.State.{State}
-use Rattle.run_source.specs.declared.state.Status.{Status}
-use Rattle.ir_model.specs.Names.{function_at, is_local, position_of}
-use Rattle.ir_model.specs.declared.instr.Instr.{Instr}
-use Rattle.ir_model.specs.declared.module.Block.{Block}
-use Rattle.ir_model.specs.declared.module.Function.{Function}
-use Rattle.ir_model.specs.declared.module.Module.{Module}
-use Rattle.ir_model.specs.declared.module.Param.{Param}
-use Rattle.ir_model.specs.declared.operand.Intrinsic.{Intrinsic}
-use Rattle.ir_model.specs.declared.operand.Operand.{Operand}
-use Rattle.ir_paths.specs.Windows.{call_operand, call_result, destroy_label, instr_at, is_call_of, is_suspend_of, points_where, resume_label, suspend_of}
-use Rattle.ir_paths.specs.declared.point.Point.{Point}
-use Rattle.ir_paths.specs.declared.point.Window.{Window}
-use Rattle.run_step.specs.Results.{and_then, found, ok_if}
-use Rattle.run_step.specs.Step.{block_of, deallocated, entry_values, label_of, outcome_of, phi_values, phis_of, values_in, with_all, with_params, without_slots}
-use Rattle.run_step.specs.Values.{Env, integer, truth_value, with_result, with_value}
-use Rattle.run_step.specs.declared.world.Slot.{Slot}
+use Rattle.ir_laws.specs.run_memory.Memory.{killed, own}
+use Rattle.ir_laws.specs.run_memory.declared.block.Kind.{Kind}
+use Rattle.ir_laws.specs.run_memory.declared.pointer.Pointer.{Pointer}
+use Rattle.ir_laws.specs.run_memory.declared.pointer.Value.{Value}
+use Rattle.ir_laws.specs.ir_base.declared.cause.Cause.{Cause}
+use Rattle.ir_laws.specs.run_source.Indexes.{last_from}
+use Rattle.ir_laws.specs.run_source.Source.{Continues, Sleeper, after_end, begin, begin_at, begun, branch_leaving, change_own, continue, deallocate, destroy, done_at, end_of, enter, enter_block, finish, go_to, if_let_go, is_among, is_over, kill_late, let_go, may_be_freed, may_leave, new_instance, new_slot, pop, resume, return, returned, save, save_for, sleeper_at, sleeper_of, slots_of, suspend, with_new_slots}
+use Rattle.ir_laws.specs.run_source.State.{began_at, gives, function_of, instance_at, next, own_facts, own_frame, own_instance, point_of, with_instance, with_left, with_memory, with_status}
+use Rattle.ir_laws.specs.run_source.declared.state.Activation.{Activation}
+use Rattle.ir_laws.specs.run_source.declared.state.Instance.{Instance}
+use Rattle.ir_laws.specs.run_source.declared.state.Mode.{Mode}
+use Rattle.ir_laws.specs.run_source.declared.state.State.{State}
+use Rattle.ir_laws.specs.run_source.declared.state.Status.{Status}
+use Rattle.ir_laws.specs.ir_model.Names.{function_at, is_local, position_of}
+use Rattle.ir_laws.specs.ir_model.declared.instr.Instr.{Instr}
+use Rattle.ir_laws.specs.ir_model.declared.module.Block.{Block}
+use Rattle.ir_laws.specs.ir_model.declared.module.Function.{Function}
+use Rattle.ir_laws.specs.ir_model.declared.module.Module.{Module}
+use Rattle.ir_laws.specs.ir_model.declared.module.Param.{Param}
+use Rattle.ir_laws.specs.ir_model.declared.operand.Intrinsic.{Intrinsic}
+use Rattle.ir_laws.specs.ir_model.declared.operand.Operand.{Operand}
+use Rattle.ir_laws.specs.ir_paths.Windows.{call_operand, call_result, destroy_label, instr_at, is_call_of, is_suspend_of, points_where, resume_label, suspend_of}
+use Rattle.ir_laws.specs.ir_paths.declared.point.Point.{Point}
+use Rattle.ir_laws.specs.ir_paths.declared.point.Window.{Window}
+use Rattle.ir_laws.specs.run_step.Results.{and_then, found, ok_if}
+use Rattle.ir_laws.specs.run_step.Step.{block_of, deallocated, entry_values, label_of, outcome_of, phi_values, phis_of, values_in, with_all, with_params, without_slots}
+use Rattle.ir_laws.specs.run_step.Values.{Env, integer, truth_value, with_result, with_value}
+use Rattle.ir_laws.specs.run_step.declared.world.Slot.{Slot}
 use Rattle.run_states.proofs.expanded.Environments.{set_length}
 use Rattle.ir_laws.proofs.facts.Members.{at_each as each_at}
 use Rattle.ir_laws.proofs.paths.expanded.Saves.{passing_in}
@@ -38,7 +38,7 @@ use Rattle.ir_laws.specs.facts.expanded.Tokens.{IsNamedResult}
 use Rattle.run_states.proofs.sound_states.Fits.{result_length}
 use Rattle.run_states.proofs.sound_states.Kept.{activation_grown, below_grown, each_more, get_last, grown_more, grown_set, instance_sound, left_sound, like_sound, memory_sound, moved_on, own_is, own_there, settled_sound, slots_sound, with_outcome, IsGrown}
 use Rattle.run_states.specs.sound_states.Sound.{AreSoundBelow, HasValues, IsModeOf, IsSound, IsSoundStatus, IsSuspendAt, KeepsSound}
-use Rattle.run_source_tables.specs.Given.{Given, has_final, is_final}
+use Rattle.ir_laws.specs.run_source_tables.Given.{Given, has_final, is_final}
 use Rattle.ir_laws.proofs.facts.Numbers.{ok_same}
 use Rattle.run_states.proofs.branches.Calls.{length_none as blank_length}
 

@@ -1,32 +1,32 @@
 -- What an action may set, and what stands where it is taken.
 use Rattle.std.proofs.Common.{◌≡◌, ℕ, Bool, true, false, List, length, refl, ap, ◌∙◌}
 use Rattle.std.specs.Prelude.{Some, None, Ok, Err, Option, Result, slice_get, if◌then◌else◌, ◌==◌}
-use Rattle.run_memory.specs.Memory.{compare, copy, load, store}
-use Rattle.run_memory.specs.declared.pointer.Pointer.{Pointer}
-use Rattle.run_memory.specs.declared.pointer.Value.{Value}
-use Rattle.ir_base.specs.declared.cause.Cause.{Cause}
-use Rattle.ir_base.specs.declared.ops.Pred.{Pred}
-use Rattle.ir_base.specs.declared.outcome.Word.{Word}
-use Rattle.run_ints.specs.Numbers.{binary}
-use Rattle.ir_model.specs.Layout.{size_of}
-use Rattle.ir_model.specs.Names.{declaration_named, function_named, intrinsic_number}
-use Rattle.ir_model.specs.Ty.{Ty, array, int, named, ptr, structure, token}
-use Rattle.ir_model.specs.declared.instr.Instr.{Instr}
-use Rattle.ir_model.specs.declared.instr.Terminator.{Terminator}
-use Rattle.ir_model.specs.declared.module.Block.{Block}
-use Rattle.ir_model.specs.declared.module.Function.{Function}
-use Rattle.ir_model.specs.declared.operand.Allocator.{Allocator}
-use Rattle.ir_model.specs.declared.operand.Arg.{Arg}
-use Rattle.ir_model.specs.declared.operand.Callee.{Callee}
-use Rattle.ir_model.specs.declared.operand.Intrinsic.{Intrinsic}
-use Rattle.ir_paths.proofs.Search.{eq_itself}
-use Rattle.ir_paths.specs.Windows.{instr_in, is_call_of}
-use Rattle.ir_paths.specs.declared.point.Point.{Point}
-use Rattle.run_step.specs.Step.{Action, AtInstr, AtTerm, Context, Coro, Deallocate, Done, Enter, Fetched, GoTo, NewSlot, Nowhere, Return, Stuck, Work, action_of, alloca, allocated, allocator_call, branch, by_pred, compared, copied_bytes, done, fetch, fetch_in, fetch_or, fits_function, if_alignment, indirect_call, instr_action, intrinsic_call, is_alignment, named_call, observed, set_memory, set_value, switch, term_action, value_at, with_length, words_of}
-use Rattle.run_step.specs.Values.{Env, access_of, address, arg_value, arg_values, nth, number_at, stored, truth_value, value_in, value_of, with_result}
+use Rattle.ir_laws.specs.run_memory.Memory.{compare, copy, load, store}
+use Rattle.ir_laws.specs.run_memory.declared.pointer.Pointer.{Pointer}
+use Rattle.ir_laws.specs.run_memory.declared.pointer.Value.{Value}
+use Rattle.ir_laws.specs.ir_base.declared.cause.Cause.{Cause}
+use Rattle.ir_laws.specs.ir_base.declared.ops.Pred.{Pred}
+use Rattle.ir_laws.specs.ir_base.declared.outcome.Word.{Word}
+use Rattle.ir_laws.specs.run_ints.Numbers.{binary}
+use Rattle.ir_laws.specs.ir_model.Layout.{size_of}
+use Rattle.ir_laws.specs.ir_model.Names.{declaration_named, function_named, intrinsic_number}
+use Rattle.ir_laws.specs.ir_model.Ty.{Ty, array, int, named, ptr, structure, token}
+use Rattle.ir_laws.specs.ir_model.declared.instr.Instr.{Instr}
+use Rattle.ir_laws.specs.ir_model.declared.instr.Terminator.{Terminator}
+use Rattle.ir_laws.specs.ir_model.declared.module.Block.{Block}
+use Rattle.ir_laws.specs.ir_model.declared.module.Function.{Function}
+use Rattle.ir_laws.specs.ir_model.declared.operand.Allocator.{Allocator}
+use Rattle.ir_laws.specs.ir_model.declared.operand.Arg.{Arg}
+use Rattle.ir_laws.specs.ir_model.declared.operand.Callee.{Callee}
+use Rattle.ir_laws.specs.ir_model.declared.operand.Intrinsic.{Intrinsic}
+use Rattle.ir_laws.proofs.ir_paths.Search.{eq_itself}
+use Rattle.ir_laws.specs.ir_paths.Windows.{instr_in, is_call_of}
+use Rattle.ir_laws.specs.ir_paths.declared.point.Point.{Point}
+use Rattle.ir_laws.specs.run_step.Step.{Action, AtInstr, AtTerm, Context, Coro, Deallocate, Done, Enter, Fetched, GoTo, NewSlot, Nowhere, Return, Stuck, Work, action_of, alloca, allocated, allocator_call, branch, by_pred, compared, copied_bytes, done, fetch, fetch_in, fetch_or, fits_function, if_alignment, indirect_call, instr_action, intrinsic_call, is_alignment, named_call, observed, set_memory, set_value, switch, term_action, value_at, with_length, words_of}
+use Rattle.ir_laws.specs.run_step.Values.{Env, access_of, address, arg_value, arg_values, nth, number_at, stored, truth_value, value_in, value_of, with_result}
 use Rattle.run_states.proofs.expanded.Environments.{set_length}
 use Rattle.ir_laws.proofs.facts.Members.{at_each as each_at}
-use Rattle.run_laws.specs.changed.Changed.{Each, result_at, result_of}
+use Rattle.ir_laws.specs.run_laws.changed.Changed.{Each, result_at, result_of}
 use Rattle.ir_laws.specs.facts.expanded.Tokens.{IsNamedResult}
 use Rattle.ir_laws.specs.facts.sound_states.Named.{HasNamedResults}
 use Rattle.run_states.specs.sound_states.Sound.{IsSuspendAt}

@@ -1,17 +1,17 @@
 -- Changes of a state that keep it sound.
 use Rattle.std.proofs.Common.{◌≡◌, ℕ, zero, suc, ◌+◌, Bool, List, [], ◌∷◌, ◌++◌, length, refl, sym, ap, ◌∙◌, subst}
 use Rattle.std.specs.Prelude.{Some, None, Option, option_and_then, option_map, slice_get, slice_set}
-use Rattle.run_memory.specs.declared.block.MemoryBlock.{MemoryBlock}
-use Rattle.ir_base.specs.declared.outcome.Outcome.{Outcome}
-use Rattle.run_source.specs.State.{numbered, settled, with_instance, with_left, with_memory, with_slots}
-use Rattle.run_source.specs.declared.state.Activation.{Activation}
-use Rattle.run_source.specs.declared.state.Instance.{Instance}
-use Rattle.run_source.specs.declared.state.State.{State}
-use Rattle.run_source.specs.declared.state.Status.{Status}
-use Rattle.ir_model.specs.declared.module.Module.{Module}
-use Rattle.run_step.specs.Step.{Work}
-use Rattle.run_step.specs.Values.{Env}
-use Rattle.run_step.specs.declared.world.Slot.{Slot}
+use Rattle.ir_laws.specs.run_memory.declared.block.MemoryBlock.{MemoryBlock}
+use Rattle.ir_laws.specs.ir_base.declared.outcome.Outcome.{Outcome}
+use Rattle.ir_laws.specs.run_source.State.{numbered, settled, with_instance, with_left, with_memory, with_slots}
+use Rattle.ir_laws.specs.run_source.declared.state.Activation.{Activation}
+use Rattle.ir_laws.specs.run_source.declared.state.Instance.{Instance}
+use Rattle.ir_laws.specs.run_source.declared.state.State.{State}
+use Rattle.ir_laws.specs.run_source.declared.state.Status.{Status}
+use Rattle.ir_laws.specs.ir_model.declared.module.Module.{Module}
+use Rattle.ir_laws.specs.run_step.Step.{Work}
+use Rattle.ir_laws.specs.run_step.Values.{Env}
+use Rattle.ir_laws.specs.run_step.declared.world.Slot.{Slot}
 use Rattle.run_states.specs.sound_states.Sound.{AreSoundBelow, IsInstanceOf, IsSound, IsSoundActivation, IsSoundStatus, coroutine_at}
 
 -- ---- instances by their coroutines

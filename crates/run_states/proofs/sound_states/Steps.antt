@@ -1,29 +1,29 @@
 -- A step keeps states sound, and a run starts in a sound one.
 use Rattle.std.proofs.Common.{◌≡◌, ℕ, true, List, length, sym, subst}
 use Rattle.std.specs.Prelude.{ℤ, Ok, Err, Option, Result, map}
-use Rattle.run_memory.specs.declared.pointer.Value.{Value}
-use Rattle.ir_base.specs.declared.cause.Cause.{Cause}
-use Rattle.ir_base.specs.declared.outcome.Outcome.{Outcome}
-use Rattle.ir_base.specs.declared.outcome.Word.{Word}
-use Rattle.run_source.specs.Source.{Continues, act, advance_by, context_of, continue, coro, first_state, given, promise, step, step_by}
-use Rattle.run_source.specs.State.{function_of, gives, or_undefined, point_of, settled, work_of}
-use Rattle.run_source.specs.declared.state.State.{State}
-use Rattle.ir_model.specs.Names.{function_at}
-use Rattle.ir_model.specs.declared.module.Frame.{Frame}
-use Rattle.ir_model.specs.declared.module.Module.{Module}
-use Rattle.ir_model.specs.declared.operand.Arg.{Arg}
-use Rattle.ir_model.specs.declared.operand.Intrinsic.{Intrinsic}
-use Rattle.ir_paths.specs.Windows.{operand_at}
-use Rattle.run_step.specs.Step.{Action, Coro, Deallocate, Done, Enter, Fetched, GoTo, NewSlot, Return, Stuck, action_of, fetch}
-use Rattle.run_step.specs.Values.{arg_values, nth}
+use Rattle.ir_laws.specs.run_memory.declared.pointer.Value.{Value}
+use Rattle.ir_laws.specs.ir_base.declared.cause.Cause.{Cause}
+use Rattle.ir_laws.specs.ir_base.declared.outcome.Outcome.{Outcome}
+use Rattle.ir_laws.specs.ir_base.declared.outcome.Word.{Word}
+use Rattle.ir_laws.specs.run_source.Source.{Continues, act, advance_by, context_of, continue, coro, first_state, given, promise, step, step_by}
+use Rattle.ir_laws.specs.run_source.State.{function_of, gives, or_undefined, point_of, settled, work_of}
+use Rattle.ir_laws.specs.run_source.declared.state.State.{State}
+use Rattle.ir_laws.specs.ir_model.Names.{function_at}
+use Rattle.ir_laws.specs.ir_model.declared.module.Frame.{Frame}
+use Rattle.ir_laws.specs.ir_model.declared.module.Module.{Module}
+use Rattle.ir_laws.specs.ir_model.declared.operand.Arg.{Arg}
+use Rattle.ir_laws.specs.ir_model.declared.operand.Intrinsic.{Intrinsic}
+use Rattle.ir_laws.specs.ir_paths.Windows.{operand_at}
+use Rattle.ir_laws.specs.run_step.Step.{Action, Coro, Deallocate, Done, Enter, Fetched, GoTo, NewSlot, Return, Stuck, action_of, fetch}
+use Rattle.ir_laws.specs.run_step.Values.{arg_values, nth}
 use Rattle.ir_laws.specs.facts.expanded.Tokens.{IsNamedResult}
 use Rattle.run_states.proofs.sound_states.Acts.{Good, begin_sound, continue_sound, deallocate_sound, destroy_sound, done_sound, end_sound, enter_sound, entry_length, free_sound, gives_sound, go_sound, new_slot_sound, next_sound, on_result, resume_sound, return_sound, save_sound, suspend_sound}
 use Rattle.run_states.proofs.sound_states.Fits.{Fits, calls_at, fits, result_named, suspend_there}
 use Rattle.run_states.proofs.sound_states.Kept.{settled_sound, with_outcome}
 use Rattle.ir_laws.specs.facts.sound_states.Named.{AreLocalsNamed}
 use Rattle.run_states.specs.sound_states.Sound.{IsSound, KeepsSound}
-use Rattle.run_source_tables.specs.Given.{Given}
-use Rattle.run_laws.specs.changed.Changed.{result_at}
+use Rattle.ir_laws.specs.run_source_tables.Given.{Given}
+use Rattle.ir_laws.specs.run_laws.changed.Changed.{result_at}
 
 pub first_sound : (m : Module) (entry : ℕ) (args : List Word) → IsSound m (first_state m entry args)
 first_sound m entry args = record {

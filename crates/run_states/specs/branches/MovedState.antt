@@ -1,8 +1,8 @@
 -- Lemmas on moved state, that speak of no pass.
 use Rattle.std.specs.Prelude.{ℕ, List, [], length, Some, None, Option, ◌≡◌, ◌∷◌}
-use Rattle.run_source.specs.declared.state.Activation.{Activation}
-use Rattle.run_source.specs.declared.state.Instance.{Instance}
-use Rattle.run_source.specs.declared.state.State.{State}
+use Rattle.ir_laws.specs.run_source.declared.state.Activation.{Activation}
+use Rattle.ir_laws.specs.run_source.declared.state.Instance.{Instance}
+use Rattle.ir_laws.specs.run_source.declared.state.State.{State}
 use Rattle.ir_laws.specs.facts.expanded.Tokens.{IsNamedResult}
 
 -- the name that a return sets is one of the activation's below

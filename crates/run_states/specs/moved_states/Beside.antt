@@ -1,16 +1,16 @@
 -- The machine of the framed meaning, and the states that stand beside each other where blocks come onto edges.
 use Rattle.std.specs.Prelude.{◌≡◌, ℕ, ℤ, ◌+◌, ◌≤◌, List}
-use Rattle.run_agreement.specs.Machines.{Machine}
-use Rattle.ir_base.specs.declared.outcome.Word.{Word}
-use Rattle.run_source.specs.Source.{first_state}
-use Rattle.run_source.specs.declared.state.State.{State}
+use Rattle.ir_laws.specs.run_agreement.Machines.{Machine}
+use Rattle.ir_laws.specs.ir_base.declared.outcome.Word.{Word}
+use Rattle.ir_laws.specs.run_source.Source.{first_state}
+use Rattle.ir_laws.specs.run_source.declared.state.State.{State}
 use Rattle.frame_layout.specs.declared.layout.Layouts.{Layouts}
 use Rattle.run_framed.specs.Framed.{framed_given, framed_step}
-use Rattle.ir_model.specs.Names.{function_at}
-use Rattle.ir_model.specs.declared.instr.Terminator.{Terminator}
-use Rattle.ir_model.specs.declared.module.Module.{Module}
-use Rattle.run_step.specs.Runs.{seen_of}
-use Rattle.run_step.specs.Step.{AtTerm, fetch}
+use Rattle.ir_laws.specs.ir_model.Names.{function_at}
+use Rattle.ir_laws.specs.ir_model.declared.instr.Terminator.{Terminator}
+use Rattle.ir_laws.specs.ir_model.declared.module.Module.{Module}
+use Rattle.ir_laws.specs.run_step.Runs.{seen_of}
+use Rattle.ir_laws.specs.run_step.Step.{AtTerm, fetch}
 use Rattle.run_states.specs.moved_states.MovedState.{moved_module, moved_state}
 use Rattle.run_states.specs.moved_states.Moving.{AllMove, KeepsKinds, Moving}
 use Rattle.run_states.specs.moved_states.Near.{HoldsIn, IsBefore}

@@ -3,16 +3,16 @@ use Rattle.std.specs.Prelude.{ℕ, List, [], length, map, filter, Some, option_m
 use Rattle.run_states.specs.sound_states.Sound.{IsSuspendAt}
 use Rattle.ir_laws.specs.paths.branches.Ways.{AreFetched}
 use Rattle.run_framed.specs.Framed.{alloca_from, begin_name}
-use Rattle.ir_model.specs.Names.{function_at, no_function, position_of}
-use Rattle.ir_model.specs.declared.instr.Terminator.{Terminator}
-use Rattle.ir_model.specs.declared.module.Function.{Function}
-use Rattle.ir_model.specs.declared.module.Module.{Module}
-use Rattle.ir_paths.specs.Paths.{entry_point}
-use Rattle.ir_paths.specs.Slots.{allocas_of}
-use Rattle.ir_paths.specs.Windows.{label_at, leaves, suspend_of, windows_of}
-use Rattle.ir_paths.specs.declared.point.Point.{Point}
-use Rattle.run_step.specs.Step.{fetch, has_markers, label_of, phis_of}
-use Rattle.run_source_tables.specs.Given.{has_final, is_final}
+use Rattle.ir_laws.specs.ir_model.Names.{function_at, no_function, position_of}
+use Rattle.ir_laws.specs.ir_model.declared.instr.Terminator.{Terminator}
+use Rattle.ir_laws.specs.ir_model.declared.module.Function.{Function}
+use Rattle.ir_laws.specs.ir_model.declared.module.Module.{Module}
+use Rattle.ir_laws.specs.ir_paths.Paths.{entry_point}
+use Rattle.ir_laws.specs.ir_paths.Slots.{allocas_of}
+use Rattle.ir_laws.specs.ir_paths.Windows.{label_at, leaves, suspend_of, windows_of}
+use Rattle.ir_laws.specs.ir_paths.declared.point.Point.{Point}
+use Rattle.ir_laws.specs.run_step.Step.{fetch, has_markers, label_of, phis_of}
+use Rattle.ir_laws.specs.run_source_tables.Given.{has_final, is_final}
 
 -- ---- edges
 

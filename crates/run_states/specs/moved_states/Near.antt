@@ -1,15 +1,15 @@
 -- What a framed step gives, and one of the module whose functions have blocks on some of their edges; and what holds in each state.
 use Rattle.std.specs.Prelude.{ℕ, ℤ, false, List, [], Ok, Err, Option, None, Result, is_none, ◌≡◌, ◌⊎◌, ◌∷◌}
-use Rattle.ir_base.specs.declared.cause.Cause.{Cause}
-use Rattle.ir_base.specs.declared.outcome.Outcome.{Outcome}
-use Rattle.run_source.specs.declared.state.Activation.{Activation}
-use Rattle.run_source.specs.declared.state.Mode.{Mode}
-use Rattle.run_source.specs.declared.state.State.{State}
+use Rattle.ir_laws.specs.ir_base.declared.cause.Cause.{Cause}
+use Rattle.ir_laws.specs.ir_base.declared.outcome.Outcome.{Outcome}
+use Rattle.ir_laws.specs.run_source.declared.state.Activation.{Activation}
+use Rattle.ir_laws.specs.run_source.declared.state.Mode.{Mode}
+use Rattle.ir_laws.specs.run_source.declared.state.State.{State}
 use Rattle.run_states.specs.sound_states.Sound.{IsSound}
 use Rattle.frame_layout.specs.declared.layout.Layout.{Layout}
 use Rattle.run_framed.specs.Framed.{framed_given, framed_step}
-use Rattle.ir_model.specs.Names.{function_at, position_of}
-use Rattle.ir_model.specs.declared.module.Module.{Module}
+use Rattle.ir_laws.specs.ir_model.Names.{function_at, position_of}
+use Rattle.ir_laws.specs.ir_model.declared.module.Module.{Module}
 use Rattle.run_states.specs.moved_states.MovedState.{moved_module, moved_state}
 use Rattle.run_states.specs.moved_states.Moving.{Moving}
 

@@ -1,12 +1,12 @@
 use Rattle.std.proofs.Common.{subst, sym}
-use Rattle.pass_kept_proof.specs.Kept.{continue_keeping}
-use Rattle.pass_renewed_proof.specs.Renewed.{renewed_step}
-use Rattle.run_framed.specs.Framed.{framed_step}
+use Rattle.run_hooks.specs.pass_kept_proof.Kept.{continue_keeping}
+use Rattle.run_hooks.specs.pass_renewed_proof.Renewed.{renewed_step}
+use Rattle.run_hooks.specs.run_framed.Framed.{framed_step}
 use Rattle.run_hooks.proofs.Keeping.{framed_keeps, kept_keeps, renewed_keeps, source_keeps}
 use Rattle.run_hooks.proofs.Steps.{framed_steps, renewed_steps, same_runs, source_step}
 use Rattle.run_hooks.specs.Hooks.{step_of}
 use Rattle.run_hooks.specs.Meanings.{framed_hooks, kept_hooks, renewed_hooks, source_hooks}
-use Rattle.run_source.specs.Source.{continue, first_state, step, step_by}
+use Rattle.run_hooks.specs.run_source.Source.{continue, first_state, step, step_by}
 use Rattle.run_types.proofs.Meanings.{framed_keeps_fitting, kept_keeps_fitting, renewed_keeps_fitting}
 use Rattle.run_types.proofs.Meanings.{source_keeps_fitting}
 use Rattle.run_types.proofs.Runs.{states_fit}

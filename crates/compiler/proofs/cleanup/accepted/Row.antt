@@ -14,37 +14,37 @@ use Rattle.pass_split.specs.Parts.{given_ramp_of, later_part, marked_parts, part
 use Rattle.pass_split.specs.Reached.{pruned}
 use Rattle.frame_layout.specs.declared.layout.Layout.{Layout}
 use Rattle.frame_layout.specs.declared.layout.Layouts.{Layouts}
-use Rattle.pass_intrinsics.specs.Shapes.{shape_of}
-use Rattle.pass_intrinsics.specs.declared.shape.Part.{Part}
-use Rattle.pass_intrinsics.specs.declared.shape.Shape.{Shape}
-use Rattle.rule_all.specs.Refused.{IsRefused}
+use Rattle.pass_proofs.specs.pass_intrinsics.Shapes.{shape_of}
+use Rattle.pass_proofs.specs.pass_intrinsics.declared.shape.Part.{Part}
+use Rattle.pass_proofs.specs.pass_intrinsics.declared.shape.Shape.{Shape}
+use Rattle.pass_proofs.specs.rule_all.Refused.{IsRefused}
 use Rattle.ir_model.specs.declared.module.Function.{Function}
 use Rattle.ir_model.specs.declared.module.Module.{Module}
 use Rattle.pass_proofs.proofs.exits.exited.Exited.{coroutine_stands, exited_module, parts_exited}
 use Rattle.pass_proofs.proofs.split.exited.Exited.{splittable_exited}
 use Rattle.pass_proofs.proofs.split.exited.Whence.{ComesBy, comes_by}
 use Rattle.compiler.specs.cleanup.accepted.Ready.{IsCoroutineReady, IsPlainReady, IsReady}
-use Rattle.rule_names.specs.declared.stage.Stage.{Stage}
+use Rattle.pass_proofs.specs.rule_names.declared.stage.Stage.{Stage}
 use Rattle.pass_proofs.proofs.split.edges.Kept.{part_edges_kept}
 use Rattle.pass_proofs.proofs.split.edges.Late.{part_allocas_kept}
 use Rattle.pass_proofs.proofs.split.edges.Marks.{part_marks_kept}
 use Rattle.pass_proofs.proofs.split.edges.Returns.{later_parts_return_nothing}
 use Rattle.pass_proofs.proofs.split.uses.Laws.{locals_known, locals_once, uses_made}
 use Rattle.pass_proofs.proofs.split.plain_functions.Whole.{turned_keeps}
-use Rattle.rule_laws.proofs.rules.plain_rules.Accepted.{accepted}
-use Rattle.rule_laws.specs.rules.plain_rules.Kept.{AllKeepPlainRules, KeepsPlainRules}
+use Rattle.pass_proofs.proofs.rule_laws.rules.plain_rules.Accepted.{accepted}
+use Rattle.pass_proofs.specs.rule_laws.rules.plain_rules.Kept.{AllKeepPlainRules, KeepsPlainRules}
 use Rattle.pass_proofs.proofs.split.names.Items.{split_keeps_items}
 use Rattle.pass_proofs.proofs.split.names.Parts.{has_given_parts, has_parts}
 use Rattle.pass_proofs.specs.split.names.Sources.{HasGivenParts}
-use Rattle.rule_laws.specs.frames.same_names.Parts.{HasPart, HasPartsOf}
+use Rattle.pass_proofs.specs.rule_laws.frames.same_names.Parts.{HasPart, HasPartsOf}
 use Rattle.pass_proofs.proofs.split.rules.Instructions.{parts_kept}
 use Rattle.pass_proofs.proofs.split.rules.Laws.{parts_named}
 use Rattle.pass_proofs.specs.split.rules.Parted.{IsCleanup, IsDestroy, IsGivenRamp, IsPartOf, IsRamp, IsResume}
-use Rattle.rule_laws.specs.frames.replaced.Parted.{IsSmall}
+use Rattle.pass_proofs.specs.rule_laws.frames.replaced.Parted.{IsSmall}
 use Rattle.pass_proofs.specs.split.rules.Splittable.{IsSplittable}
 use Rattle.compiler.proofs.cleanup.unnamed_intrinsics.Parts.{parts_free, turned_free}
 use Rattle.compiler.specs.cleanup.unnamed_intrinsics.Unnamed.{NamesNoIntrinsic}
-use Rattle.pass_exits.specs.ExitBlocks.{with_exit_blocks}
+use Rattle.pass_proofs.specs.pass_exits.ExitBlocks.{with_exit_blocks}
 
 -- what a function of the split module keeps
 record IsKept (n : Module) (l : ℕ) (g : Function) : Type 0 where

@@ -5,13 +5,13 @@ use Rattle.std.specs.Prelude.{None, is_some, map, not, ◌||◌}
 use Rattle.ir_base.specs.declared.name.Name.{Name}
 use Rattle.ir_base.specs.declared.outcome.Place.{Place}
 use Rattle.pass_cleanup.specs.Cleanable.{IsCleanableBlock, IsCleanableFunction, IsCleanableInstr, IsCleanablePhi, IsDefined, IsNoIntrinsic}
-use Rattle.rule_laws.proofs.rules.renamed.Uses.{ending_spelt, operands_spelt}
-use Rattle.rule_laws.proofs.rules.local_rules.Carried.{Passing, none_of, passing}
-use Rattle.ir_laws.proofs.facts.Truth.{holds, first_no as or_first_out}
-use Rattle.ir_laws.proofs.facts.Members.{all_pass, each_passes, each_turns}
+use Rattle.pass_proofs.proofs.rule_laws.rules.renamed.Uses.{ending_spelt, operands_spelt}
+use Rattle.pass_proofs.proofs.rule_laws.rules.local_rules.Carried.{Passing, none_of, passing}
+use Rattle.pass_proofs.proofs.ir_laws.facts.Truth.{holds, first_no as or_first_out}
+use Rattle.pass_proofs.proofs.ir_laws.facts.Members.{all_pass, each_passes, each_turns}
 use Rattle.compiler.specs.cleanup.rules.Clean.{calls_left, is_left_callee}
-use Rattle.ir_parts.specs.Contents.{ending_operands, instr_operands, part_operands}
-use Rattle.ir_parts.specs.Parts.{Ending, OfInstr, OfPhi, Part, first_part, parts_of}
+use Rattle.pass_proofs.specs.ir_parts.Contents.{ending_operands, instr_operands, part_operands}
+use Rattle.pass_proofs.specs.ir_parts.Parts.{Ending, OfInstr, OfPhi, Part, first_part, parts_of}
 use Rattle.ir_model.specs.Names.{first_where, function_named, global_named, same_name}
 use Rattle.ir_model.specs.declared.instr.Incoming.{Incoming}
 use Rattle.ir_model.specs.declared.instr.Instr.{Instr}
@@ -23,14 +23,14 @@ use Rattle.ir_model.specs.declared.module.GlobalItem.{GlobalItem}
 use Rattle.ir_model.specs.declared.module.Module.{Module}
 use Rattle.ir_model.specs.declared.operand.Callee.{Callee}
 use Rattle.ir_model.specs.declared.operand.Operand.{Operand}
-use Rattle.ir_paths.proofs.Search.{or_right}
-use Rattle.rule_locals.specs.Addresses.{calls_indirectly, first_function_pointer, is_no_function, points_to_functions}
+use Rattle.pass_proofs.proofs.ir_paths.Search.{or_right}
+use Rattle.pass_proofs.specs.rule_locals.Addresses.{calls_indirectly, first_function_pointer, is_no_function, points_to_functions}
 use Rattle.compiler.proofs.cleanup.outside.Outside.{calls_pass, names_other, none_other, operands_pass, passes}
-use Rattle.rule_laws.proofs.rules.replaced.Passed.{PassingBlock, Passes, blocks_pass}
+use Rattle.pass_proofs.proofs.rule_laws.rules.replaced.Passed.{PassingBlock, Passes, blocks_pass}
 use Rattle.compiler.proofs.cleanup.unnamed_intrinsics.Early.{calls_free}
 use Rattle.compiler.specs.cleanup.unnamed_intrinsics.Unnamed.{NamesNoIntrinsic, names_intrinsic}
-use Rattle.run_step.specs.Step.{AtInstr}
-use Rattle.run_laws.specs.changed.Changed.{Each, callee_at, named_callee, operands_of_term}
+use Rattle.pass_proofs.specs.run_step.Step.{AtInstr}
+use Rattle.pass_proofs.specs.run_laws.changed.Changed.{Each, callee_at, named_callee, operands_of_term}
 
 -- the name of a defined function or of a global
 abbrev pub is_there : Module → Name → Bool

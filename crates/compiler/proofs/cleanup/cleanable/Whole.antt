@@ -5,33 +5,33 @@ use Rattle.ir_base.specs.declared.name.Name.{Name}
 use Rattle.pass_cleanup.specs.Cleanable.{IsCleanable, IsCleanableFunction, IsDefined}
 use Rattle.pass_split.specs.Given.{has_given_call}
 use Rattle.pass_split.specs.Parts.{marked_parts, plain_of, plain_shape, split_module}
-use Rattle.ir_laws.proofs.facts.Truth.{and_second, holds}
+use Rattle.pass_proofs.proofs.ir_laws.facts.Truth.{and_second, holds}
 use Rattle.frame_layout.specs.declared.layout.Layout.{Layout}
 use Rattle.frame_layout.specs.declared.layout.Layouts.{Layouts}
 use Rattle.pass_proofs.proofs.split.names.Parts.{has_given_parts, has_parts}
 use Rattle.pass_proofs.specs.split.names.Sources.{HasGivenParts}
-use Rattle.rule_laws.specs.frames.same_names.Parts.{HasPart, HasPartsOf}
-use Rattle.ir_parts.specs.Parts.{first_part, parts_of}
-use Rattle.pass_intrinsics.specs.Shapes.{shape_of}
-use Rattle.pass_intrinsics.specs.declared.shape.Shape.{Shape}
+use Rattle.pass_proofs.specs.rule_laws.frames.same_names.Parts.{HasPart, HasPartsOf}
+use Rattle.pass_proofs.specs.ir_parts.Parts.{first_part, parts_of}
+use Rattle.pass_proofs.specs.pass_intrinsics.Shapes.{shape_of}
+use Rattle.pass_proofs.specs.pass_intrinsics.declared.shape.Shape.{Shape}
 use Rattle.ir_model.specs.Names.{function_named, global_named}
 use Rattle.ir_model.specs.Ty.{Ty}
 use Rattle.ir_model.specs.declared.module.Function.{Function}
 use Rattle.ir_model.specs.declared.module.GlobalItem.{GlobalItem}
 use Rattle.ir_model.specs.declared.module.Module.{Module}
 use Rattle.ir_model.specs.declared.operand.Operand.{Operand}
-use Rattle.ir_paths.proofs.Search.{or_right}
-use Rattle.rule_locals.specs.Intrinsics.{misplaces}
+use Rattle.pass_proofs.proofs.ir_paths.Search.{or_right}
+use Rattle.pass_proofs.specs.rule_locals.Intrinsics.{misplaces}
 use Rattle.compiler.proofs.cleanup.cleanable.Defined.{function_cleanable, function_there, is_there}
 use Rattle.compiler.proofs.cleanup.accepted.Row.{some_part}
 use Rattle.pass_proofs.proofs.split.exited.Whence.{ComesBy, comes_by}
 use Rattle.compiler.proofs.cleanup.outside.Outside.{parts_pass, turned_passes}
 use Rattle.compiler.specs.cleanup.accepted.Ready.{IsCoroutineReady, IsPlainReady, IsReady}
-use Rattle.rule_names.specs.declared.stage.Stage.{Stage}
-use Rattle.rule_values.specs.Initials.{fits_initial}
-use Rattle.rule_types.specs.Wants.{is_ptr}
-use Rattle.pass_exits.specs.ExitBlocks.{with_exit_blocks}
-use Rattle.ir_laws.proofs.facts.Members.{each_by as each_standing}
+use Rattle.pass_proofs.specs.rule_names.declared.stage.Stage.{Stage}
+use Rattle.pass_proofs.specs.rule_values.Initials.{fits_initial}
+use Rattle.pass_proofs.specs.rule_types.Wants.{is_ptr}
+use Rattle.pass_proofs.specs.pass_exits.ExitBlocks.{with_exit_blocks}
+use Rattle.pass_proofs.proofs.ir_laws.facts.Members.{each_by as each_standing}
 
 -- ---- globals
 

@@ -6,19 +6,19 @@ use Rattle.compiler.specs.cleanup.rules.Clean.{NamesNothingGone, calls_left, goe
 use Rattle.ir_base.specs.declared.outcome.Place.{Place}
 use Rattle.pass_cleanup.specs.Cleanup.{is_kept_callee, is_kept_instr}
 use Rattle.pass_cleanup.specs.Free.{calls_id_alone, is_free}
-use Rattle.rule_uses.specs.Uses.{locals_in}
-use Rattle.ir_laws.proofs.facts.Truth.{itself, and_both, and_first, and_second, holds, first_no, second_no}
-use Rattle.rule_laws.proofs.rules.local_rules.Carried.{Passing, none_of, passing}
-use Rattle.ir_laws.proofs.facts.Members.{each_joined}
-use Rattle.rule_laws.proofs.rules.local_rules.Fitting.{either, no_either}
-use Rattle.rule_laws.proofs.rules.local_rules.Names.{numbers}
-use Rattle.rule_laws.proofs.rules.local_rules.Woven.{apart_names}
-use Rattle.ir_laws.proofs.paths.source_rules.Locals.{Apart}
-use Rattle.rule_laws.proofs.rules.source_rules.Locals.{names_are}
-use Rattle.flow_solver.specs.Paths.{IsListed}
-use Rattle.ir_parts.specs.Contents.{arg_operands, instr_operands, part_operands}
-use Rattle.ir_parts.specs.Locals.{locals_of}
-use Rattle.ir_parts.specs.Parts.{Ending, Head, OfInstr, OfPhi, Part, Signature, block_parts, blocks_parts, first_part, instr_parts, instr_place, parts_of, phi_parts}
+use Rattle.pass_proofs.specs.rule_uses.Uses.{locals_in}
+use Rattle.pass_proofs.proofs.ir_laws.facts.Truth.{itself, and_both, and_first, and_second, holds, first_no, second_no}
+use Rattle.pass_proofs.proofs.rule_laws.rules.local_rules.Carried.{Passing, none_of, passing}
+use Rattle.pass_proofs.proofs.ir_laws.facts.Members.{each_joined}
+use Rattle.pass_proofs.proofs.rule_laws.rules.local_rules.Fitting.{either, no_either}
+use Rattle.pass_proofs.proofs.rule_laws.rules.local_rules.Names.{numbers}
+use Rattle.pass_proofs.proofs.rule_laws.rules.local_rules.Woven.{apart_names}
+use Rattle.pass_proofs.proofs.ir_laws.paths.source_rules.Locals.{Apart}
+use Rattle.pass_proofs.proofs.rule_laws.rules.source_rules.Locals.{names_are}
+use Rattle.pass_proofs.specs.flow_solver.Paths.{IsListed}
+use Rattle.pass_proofs.specs.ir_parts.Contents.{arg_operands, instr_operands, part_operands}
+use Rattle.pass_proofs.specs.ir_parts.Locals.{locals_of}
+use Rattle.pass_proofs.specs.ir_parts.Parts.{Ending, Head, OfInstr, OfPhi, Part, Signature, block_parts, blocks_parts, first_part, instr_parts, instr_place, parts_of, phi_parts}
 use Rattle.ir_model.specs.Ty.{Ty, token}
 use Rattle.ir_model.specs.declared.instr.Incoming.{Incoming}
 use Rattle.ir_model.specs.declared.instr.Instr.{Instr}
@@ -30,25 +30,25 @@ use Rattle.ir_model.specs.declared.operand.Arg.{Arg}
 use Rattle.ir_model.specs.declared.operand.Callee.{Callee}
 use Rattle.ir_model.specs.declared.operand.Intrinsic.{Intrinsic}
 use Rattle.ir_model.specs.declared.operand.Operand.{Operand}
-use Rattle.rule_locals.specs.Instrs.{on_instr}
-use Rattle.rule_laws.proofs.rules.uses.Plain.{FitsScalar, args_pass, ending_scalar, is_no_token, is_plain_kind, operands_scalar, scalar_local}
-use Rattle.rule_laws.proofs.frames.uses.Plain.{all_wanted_scalar}
-use Rattle.rule_laws.specs.rules.plain_rules.Kept.{KeepsPlainRules}
-use Rattle.run_laws.specs.changed.Changed.{Each}
-use Rattle.rule_types.specs.Signatures.{are_wanted, calls_otherwise, is_result}
-use Rattle.rule_types.specs.Wants.{intrinsic_params, intrinsic_result}
-use Rattle.rule_types.specs.declared.wants.Basic.{Basic}
-use Rattle.rule_types.specs.declared.wants.Wanted.{Wanted}
+use Rattle.pass_proofs.specs.rule_locals.Instrs.{on_instr}
+use Rattle.pass_proofs.proofs.rule_laws.rules.uses.Plain.{FitsScalar, args_pass, ending_scalar, is_no_token, is_plain_kind, operands_scalar, scalar_local}
+use Rattle.pass_proofs.proofs.rule_laws.frames.uses.Plain.{all_wanted_scalar}
+use Rattle.pass_proofs.specs.rule_laws.rules.plain_rules.Kept.{KeepsPlainRules}
+use Rattle.pass_proofs.specs.run_laws.changed.Changed.{Each}
+use Rattle.pass_proofs.specs.rule_types.Signatures.{are_wanted, calls_otherwise, is_result}
+use Rattle.pass_proofs.specs.rule_types.Wants.{intrinsic_params, intrinsic_result}
+use Rattle.pass_proofs.specs.rule_types.declared.wants.Basic.{Basic}
+use Rattle.pass_proofs.specs.rule_types.declared.wants.Wanted.{Wanted}
 use Rattle.compiler.proofs.cleanup.unnamed_intrinsics.Early.{calls_free, operands_free}
 use Rattle.compiler.specs.cleanup.unnamed_intrinsics.Unnamed.{NamesNoIntrinsic, is_no_intrinsic, names_intrinsic}
-use Rattle.rule_values.specs.Fits.{is_scalar}
-use Rattle.rule_values.specs.Instrs.{fits_instr}
-use Rattle.rule_values.specs.Kinds.{instr_kind, kind_if, value_kind}
-use Rattle.rule_values.specs.Values.{breaks_values, fits_ending, fits_phi, takes}
-use Rattle.rule_values.specs.declared.kinds.Kind.{Kind}
-use Rattle.rule_laws.proofs.rules.woven_rules.Once.{AreOnce, apart_once}
-use Rattle.rule_laws.proofs.rules.woven_rules.Told.{value_told}
-use Rattle.rule_laws.proofs.rules.woven_rules.Unbroken.{Passes, PassesIn, all_pass}
+use Rattle.pass_proofs.specs.rule_values.Fits.{is_scalar}
+use Rattle.pass_proofs.specs.rule_values.Instrs.{fits_instr}
+use Rattle.pass_proofs.specs.rule_values.Kinds.{instr_kind, kind_if, value_kind}
+use Rattle.pass_proofs.specs.rule_values.Values.{breaks_values, fits_ending, fits_phi, takes}
+use Rattle.pass_proofs.specs.rule_values.declared.kinds.Kind.{Kind}
+use Rattle.pass_proofs.proofs.rule_laws.rules.woven_rules.Once.{AreOnce, apart_once}
+use Rattle.pass_proofs.proofs.rule_laws.rules.woven_rules.Told.{value_told}
+use Rattle.pass_proofs.proofs.rule_laws.rules.woven_rules.Unbroken.{Passes, PassesIn, all_pass}
 
 -- ---- of the coro intrinsics coro.id alone is called
 

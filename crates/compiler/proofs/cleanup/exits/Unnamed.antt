@@ -1,13 +1,13 @@
 -- With blocks on the edges that leave windows a function names no further coro intrinsic, and its frame is as small.
 use Rattle.std.proofs.Common.{List, refl, ap, ◌∙◌}
-use Rattle.ir_parts.specs.Parts.{Ending}
+use Rattle.pass_proofs.specs.ir_parts.Parts.{Ending}
 use Rattle.ir_model.specs.declared.module.Function.{Function}
 use Rattle.ir_model.specs.declared.operand.Operand.{Operand}
 use Rattle.std.specs.List.{list_all}
 use Rattle.compiler.proofs.cleanup.unnamed_intrinsics.Early.{named_by, operands_free}
 use Rattle.compiler.specs.cleanup.unnamed_intrinsics.Unnamed.{is_no_intrinsic, names_intrinsic}
-use Rattle.pass_exits.specs.ExitBlocks.{exit_term, with_exit_blocks}
-use Rattle.rule_laws.proofs.rules.threaded.Carried.{Carries}
+use Rattle.pass_proofs.specs.pass_exits.ExitBlocks.{exit_term, with_exit_blocks}
+use Rattle.pass_proofs.proofs.rule_laws.rules.threaded.Carried.{Carries}
 use Rattle.pass_proofs.proofs.exits.rules.Operands.{ending_operands_same}
 use Rattle.pass_proofs.proofs.exits.rules.Places.{own_number}
 use Rattle.pass_proofs.proofs.exits.rules.Threaded.{moves}

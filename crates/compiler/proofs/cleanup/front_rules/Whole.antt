@@ -1,8 +1,8 @@
 -- Lemmas on whole.
 use Rattle.std.proofs.Common.{ℕ, refl}
-use Rattle.pass_front.specs.Front.{with_front_allocas}
+use Rattle.pass_proofs.specs.pass_front.Front.{with_front_allocas}
 use Rattle.ir_model.specs.declared.module.Function.{Function}
-use Rattle.rule_laws.proofs.rules.front_rules.Carried.{Carries, carried}
+use Rattle.pass_proofs.proofs.rule_laws.rules.front_rules.Carried.{Carries, carried}
 use Rattle.compiler.specs.cleanup.unnamed_intrinsics.Unnamed.{NamesNoIntrinsic, names_intrinsic}
 
 pub unnamed_kept : (func : ℕ) (f : Function) → NamesNoIntrinsic func f → NamesNoIntrinsic func (with_front_allocas f)

@@ -3,7 +3,7 @@ use Rattle.std.proofs.Common.{List, [], ◌∷◌}
 use Rattle.std.specs.Prelude.{map}
 use Rattle.pass_cleanup.specs.Cleanup.{clean_function}
 use Rattle.ir_model.specs.declared.module.Function.{Function}
-use Rattle.run_laws.specs.changed.Changed.{Each}
+use Rattle.pass_proofs.specs.run_laws.changed.Changed.{Each}
 use Rattle.pass_proofs.proofs.split.names_apart.Split.{IsApart}
 
 pub clean_apart : (fs : List Function) → Each IsApart fs → Each IsApart (map clean_function fs)

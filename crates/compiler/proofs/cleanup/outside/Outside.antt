@@ -6,17 +6,17 @@ use Rattle.ir_base.specs.declared.name.Name.{Name}
 use Rattle.ir_base.specs.declared.outcome.Place.{Place}
 use Rattle.pass_split.specs.Parts.{case_of, cases_from, entry_term, is_entered, plain_of, plain_shape}
 use Rattle.pass_split.specs.Pieces.{redirected_term}
-use Rattle.rule_laws.proofs.rules.local_rules.Fitting.{either, no_either}
-use Rattle.ir_laws.proofs.facts.Truth.{and_both, and_first, and_second, holds, first_no as or_first_out, second_no as or_second_out}
-use Rattle.ir_laws.proofs.facts.Lists.{by_value}
+use Rattle.pass_proofs.proofs.rule_laws.rules.local_rules.Fitting.{either, no_either}
+use Rattle.pass_proofs.proofs.ir_laws.facts.Truth.{and_both, and_first, and_second, holds, first_no as or_first_out, second_no as or_second_out}
+use Rattle.pass_proofs.proofs.ir_laws.facts.Lists.{by_value}
 use Rattle.compiler.specs.cleanup.rules.Clean.{calls_left}
-use Rattle.ir_parts.specs.Contents.{arg_operands, part_operands}
-use Rattle.ir_parts.specs.Parts.{Ending, OfInstr, OfPhi, Part as FunctionPart, first_part, parts_of}
-use Rattle.pass_intrinsics.specs.Lowered.{address, allocates, begin_memory, begin_stores, call_pointer, destroy_call, destroyed_by, done_test, freed_by, is_final_at, load_pointer, lowered, number_of_save, operand_at, promise_distance, resume_call, resumed_by, save_or_none, set_address, set_number, set_truth, store_pointer, truth_of}
-use Rattle.pass_intrinsics.specs.Shapes.{is_true}
-use Rattle.pass_intrinsics.specs.declared.shape.Part.{Part}
-use Rattle.pass_intrinsics.specs.declared.shape.Shape.{Shape}
-use Rattle.pass_intrinsics.specs.declared.shape.SuspendPoint.{SuspendPoint}
+use Rattle.pass_proofs.specs.ir_parts.Contents.{arg_operands, part_operands}
+use Rattle.pass_proofs.specs.ir_parts.Parts.{Ending, OfInstr, OfPhi, Part as FunctionPart, first_part, parts_of}
+use Rattle.pass_proofs.specs.pass_intrinsics.Lowered.{address, allocates, begin_memory, begin_stores, call_pointer, destroy_call, destroyed_by, done_test, freed_by, is_final_at, load_pointer, lowered, number_of_save, operand_at, promise_distance, resume_call, resumed_by, save_or_none, set_address, set_number, set_truth, store_pointer, truth_of}
+use Rattle.pass_proofs.specs.pass_intrinsics.Shapes.{is_true}
+use Rattle.pass_proofs.specs.pass_intrinsics.declared.shape.Part.{Part}
+use Rattle.pass_proofs.specs.pass_intrinsics.declared.shape.Shape.{Shape}
+use Rattle.pass_proofs.specs.pass_intrinsics.declared.shape.SuspendPoint.{SuspendPoint}
 use Rattle.ir_model.specs.Ty.{Ty}
 use Rattle.ir_model.specs.declared.instr.Case.{Case}
 use Rattle.ir_model.specs.declared.instr.Instr.{Instr}
@@ -25,12 +25,12 @@ use Rattle.ir_model.specs.declared.operand.Arg.{Arg}
 use Rattle.ir_model.specs.declared.operand.Callee.{Callee}
 use Rattle.ir_model.specs.declared.operand.Intrinsic.{Intrinsic}
 use Rattle.ir_model.specs.declared.operand.Operand.{Operand}
-use Rattle.rule_locals.specs.Instrs.{on_instr}
-use Rattle.rule_locals.specs.Intrinsics.{calls_inner, is_inner}
+use Rattle.pass_proofs.specs.rule_locals.Instrs.{on_instr}
+use Rattle.pass_proofs.specs.rule_locals.Intrinsics.{calls_inner, is_inner}
 use Rattle.pass_proofs.proofs.split.rules.Carried.{Carries, part_carried, plain_carried}
 use Rattle.pass_proofs.proofs.split.rules.Local.{same_term_operands}
 use Rattle.pass_proofs.specs.split.rules.Parted.{IsPartOf}
-use Rattle.run_laws.specs.changed.Changed.{Each}
+use Rattle.pass_proofs.specs.run_laws.changed.Changed.{Each}
 
 -- ---- the test, of operands and of parts of a function
 

@@ -12,7 +12,7 @@ use Rattle.compiler.specs.cleanup.rules.Clean.{NameNothingGone, NamesNothingGone
 use Rattle.pass_cleanup.specs.Cleanup.{clean_function, clean_module}
 use Rattle.ir_model.specs.declared.module.Function.{Function}
 use Rattle.ir_model.specs.declared.module.Module.{Module}
-use Rattle.rule_laws.specs.rules.plain_rules.Kept.{AllKeepPlainRules, KeepsPlainRules}
+use Rattle.pass_proofs.specs.rule_laws.rules.plain_rules.Kept.{AllKeepPlainRules, KeepsPlainRules}
 
 in_function : (m : Module) (k : ℕ) (f : Function) → NamesNothingGone k f → KeepsPlainRules m k f → KeepsPlainRules (clean_module m) k (clean_function f)
 in_function m k f u h =

@@ -6,16 +6,16 @@ use Rattle.std.specs.Prelude.{None, filter, map, not, ◌&&◌}
 use Rattle.ir_base.specs.declared.outcome.Place.{Place}
 use Rattle.pass_cleanup.specs.Cleanup.{clean_block, clean_function, is_kept_instr}
 use Rattle.compiler.specs.cleanup.rules.Clean.{NamesNothingGone, calls_left, is_left, names_gone}
-use Rattle.ir_parts.proofs.FirstParts.{first_part_append}
-use Rattle.ir_parts.specs.Contents.{part_operands}
-use Rattle.ir_parts.specs.Parts.{Ending, Head, OfInstr, OfPhi, Part, Signature, block_parts, block_place, blocks_parts, first_part, function_place, instr_parts, instr_place, or_place, parts_of, phi_parts, place_if}
+use Rattle.pass_proofs.proofs.ir_parts.FirstParts.{first_part_append}
+use Rattle.pass_proofs.specs.ir_parts.Contents.{part_operands}
+use Rattle.pass_proofs.specs.ir_parts.Parts.{Ending, Head, OfInstr, OfPhi, Part, Signature, block_parts, block_place, blocks_parts, first_part, function_place, instr_parts, instr_place, or_place, parts_of, phi_parts, place_if}
 use Rattle.ir_model.specs.declared.instr.Instr.{Instr}
 use Rattle.ir_model.specs.declared.instr.Phi.{Phi}
 use Rattle.ir_model.specs.declared.instr.Terminator.{Terminator}
 use Rattle.ir_model.specs.declared.module.Block.{Block}
 use Rattle.ir_model.specs.declared.module.Function.{Function}
-use Rattle.rule_laws.proofs.rules.plain_rules.Places.{first_place_out, no_place_in, not_placed}
-use Rattle.rule_laws.proofs.rules.local_rules.Rules.{second_out as second_place_out}
+use Rattle.pass_proofs.proofs.rule_laws.rules.plain_rules.Places.{first_place_out, no_place_in, not_placed}
+use Rattle.pass_proofs.proofs.rule_laws.rules.local_rules.Rules.{second_out as second_place_out}
 
 -- ---- lists of parts
 

@@ -7,16 +7,16 @@ use Rattle.std.specs.Prelude.{filter, map, not, option_to_list, ◌&&◌, ◌||�
 use Rattle.ir_base.specs.declared.outcome.Place.{Place}
 use Rattle.pass_cleanup.specs.Cleanup.{clean_block, clean_function, is_kept_instr}
 use Rattle.compiler.specs.cleanup.rules.Clean.{goes, goes_with, is_number}
-use Rattle.ir_parts.proofs.LocalsIn.{locals_in_append}
-use Rattle.ir_parts.specs.Contents.{result_of}
-use Rattle.ir_parts.specs.Locals.{local_at, locals_at, locals_in, locals_of}
-use Rattle.ir_parts.specs.Parts.{Ending, OfInstr, Part, Signature, block_parts, block_place, blocks_parts, function_place, instr_parts, instr_place, phi_parts}
-use Rattle.ir_parts.specs.declared.defined.Definition.{Definition}
+use Rattle.pass_proofs.proofs.ir_parts.LocalsIn.{locals_in_append}
+use Rattle.pass_proofs.specs.ir_parts.Contents.{result_of}
+use Rattle.pass_proofs.specs.ir_parts.Locals.{local_at, locals_at, locals_in, locals_of}
+use Rattle.pass_proofs.specs.ir_parts.Parts.{Ending, OfInstr, Part, Signature, block_parts, block_place, blocks_parts, function_place, instr_parts, instr_place, phi_parts}
+use Rattle.pass_proofs.specs.ir_parts.declared.defined.Definition.{Definition}
 use Rattle.ir_model.specs.declared.instr.Instr.{Instr}
 use Rattle.ir_model.specs.declared.module.Block.{Block}
 use Rattle.ir_model.specs.declared.module.Function.{Function}
-use Rattle.rule_names.specs.Definitions.{first_twice, has_number}
-use Rattle.rule_names.specs.Known.{is_defined, is_kind, is_label, is_value}
+use Rattle.pass_proofs.specs.rule_names.Definitions.{first_twice, has_number}
+use Rattle.pass_proofs.specs.rule_names.Known.{is_defined, is_kind, is_label, is_value}
 
 -- definitions of which some values go
 pub data AreLeft (lost : ℕ → Bool) : List Definition → List Definition → Type 0 where

@@ -5,7 +5,7 @@ use Rattle.std.specs.Prelude.{filter, map, not, option_map, slice_get, ◌&&◌}
 use Rattle.pass_cleanup.specs.Cleanup.{clean_block, clean_function}
 use Rattle.compiler.proofs.cleanup.rules.Carried.{carried}
 use Rattle.compiler.specs.cleanup.rules.Clean.{NamesNothingGone}
-use Rattle.rule_phis.specs.Edges.{block_at, breaks_edges, first_wrong_edge, fits_edges, into_block, is_empty, is_entry, leads, predecessors}
+use Rattle.pass_proofs.specs.rule_phis.Edges.{block_at, breaks_edges, first_wrong_edge, fits_edges, into_block, is_empty, is_entry, leads, predecessors}
 use Rattle.ir_model.specs.declared.module.Block.{Block}
 use Rattle.ir_model.specs.declared.module.Function.{Function}
 

@@ -14,16 +14,16 @@ use Rattle.ir_model.specs.declared.module.Declaration.{Declaration}
 use Rattle.ir_model.specs.declared.module.Function.{Function}
 use Rattle.ir_model.specs.declared.module.Module.{Module}
 use Rattle.ir_model.specs.declared.operand.Operand.{Operand}
-use Rattle.rule_names.specs.Definitions.{is_position, is_second_function}
-use Rattle.rule_names.specs.Known.{is_intrinsic, knows_name, knows_operand, knows_type, unknown_names}
-use Rattle.rule_names.specs.Reserved.{is_reserved}
-use Rattle.rule_names.specs.declared.stage.Stage.{Stage}
-use Rattle.rule_laws.proofs.rules.plain_rules.Once.{is_once, once_at, position_is}
-use Rattle.rule_laws.specs.rules.plain_rules.Items.{AreNamesFree, IsKeptByItems, KeepsItemRules}
-use Rattle.rule_laws.proofs.rules.same_names.Kept.{all_types_same, initial_same, knows_type_same}
-use Rattle.ir_laws.proofs.facts.Lists.{none_found, nothing_found}
-use Rattle.rule_types.specs.Wants.{is_ptr}
-use Rattle.rule_values.specs.Initials.{fits_initial}
+use Rattle.pass_proofs.specs.rule_names.Definitions.{is_position, is_second_function}
+use Rattle.pass_proofs.specs.rule_names.Known.{is_intrinsic, knows_name, knows_operand, knows_type, unknown_names}
+use Rattle.pass_proofs.specs.rule_names.Reserved.{is_reserved}
+use Rattle.pass_proofs.specs.rule_names.declared.stage.Stage.{Stage}
+use Rattle.pass_proofs.proofs.rule_laws.rules.plain_rules.Once.{is_once, once_at, position_is}
+use Rattle.pass_proofs.specs.rule_laws.rules.plain_rules.Items.{AreNamesFree, IsKeptByItems, KeepsItemRules}
+use Rattle.pass_proofs.proofs.rule_laws.rules.same_names.Kept.{all_types_same, initial_same, knows_type_same}
+use Rattle.pass_proofs.proofs.ir_laws.facts.Lists.{none_found, nothing_found}
+use Rattle.pass_proofs.specs.rule_types.Wants.{is_ptr}
+use Rattle.pass_proofs.specs.rule_values.Initials.{fits_initial}
 
 -- ---- where what is left stood
 

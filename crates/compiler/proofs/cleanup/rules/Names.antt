@@ -12,11 +12,11 @@ use Rattle.ir_model.specs.Ty.{Ty}
 use Rattle.ir_model.specs.declared.module.Declaration.{Declaration}
 use Rattle.ir_model.specs.declared.module.Function.{Function}
 use Rattle.ir_model.specs.declared.module.Module.{Module}
-use Rattle.rule_locals.specs.Calls.{has_pointer, is_closed, is_closed_at, is_closed_declaration}
-use Rattle.rule_names.specs.Known.{knows_address, knows_name, is_intrinsic}
-use Rattle.rule_names.specs.Reserved.{name_begins}
-use Rattle.ir_laws.proofs.facts.same_names.Lists.{what_is_found}
-use Rattle.rule_types.specs.Signatures.{fits_declaration, fits_declared, fits_function, fits_named, fits_position}
+use Rattle.pass_proofs.specs.rule_locals.Calls.{has_pointer, is_closed, is_closed_at, is_closed_declaration}
+use Rattle.pass_proofs.specs.rule_names.Known.{knows_address, knows_name, is_intrinsic}
+use Rattle.pass_proofs.specs.rule_names.Reserved.{name_begins}
+use Rattle.pass_proofs.proofs.ir_laws.facts.same_names.Lists.{what_is_found}
+use Rattle.pass_proofs.specs.rule_types.Signatures.{fits_declaration, fits_declared, fits_function, fits_named, fits_position}
 
 module _ (m : Module) where
   abbrev n : Module

@@ -9,8 +9,8 @@ use Rattle.pass_cleanup.specs.Cleanup.{clean_function, clean_module, is_kept_cal
 use Rattle.pass_cleanup.specs.Free.{calls_id_alone, is_free}
 use Rattle.compiler.proofs.cleanup.rules.Carried.{Carries, NoneIn, carried, head_in, parts_in}
 use Rattle.compiler.specs.cleanup.rules.Clean.{NameNothingGone, NamesNothingGone, is_left}
-use Rattle.ir_parts.specs.Contents.{part_operands}
-use Rattle.ir_parts.specs.Parts.{Ending, Head, OfInstr, OfPhi, Part, Signature, block_parts, block_place, blocks_parts, function_place, instr_parts, instr_place, parts_of, phi_parts}
+use Rattle.pass_proofs.specs.ir_parts.Contents.{part_operands}
+use Rattle.pass_proofs.specs.ir_parts.Parts.{Ending, Head, OfInstr, OfPhi, Part, Signature, block_parts, block_place, blocks_parts, function_place, instr_parts, instr_place, parts_of, phi_parts}
 use Rattle.ir_model.specs.Table.{callee_named}
 use Rattle.ir_model.specs.declared.instr.Instr.{Instr}
 use Rattle.ir_model.specs.declared.instr.Phi.{Phi}
@@ -20,10 +20,10 @@ use Rattle.ir_model.specs.declared.module.Module.{Module}
 use Rattle.ir_model.specs.declared.operand.Callee.{Callee}
 use Rattle.ir_model.specs.declared.operand.Intrinsic.{Intrinsic}
 use Rattle.ir_model.specs.declared.operand.Operand.{Operand}
-use Rattle.rule_locals.specs.Instrs.{on_instr}
-use Rattle.rule_locals.specs.Intrinsics.{has_coro, is_call_of, is_coro, is_coro_part, is_no_coro}
-use Rattle.rule_laws.specs.rules.plain_rules.Kept.{HasNoCoroutine}
-use Rattle.ir_laws.proofs.facts.Truth.{was_not}
+use Rattle.pass_proofs.specs.rule_locals.Instrs.{on_instr}
+use Rattle.pass_proofs.specs.rule_locals.Intrinsics.{has_coro, is_call_of, is_coro, is_coro_part, is_no_coro}
+use Rattle.pass_proofs.specs.rule_laws.rules.plain_rules.Kept.{HasNoCoroutine}
+use Rattle.pass_proofs.proofs.ir_laws.facts.Truth.{was_not}
 
 -- ---- what is no coro intrinsic
 

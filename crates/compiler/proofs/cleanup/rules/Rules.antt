@@ -9,8 +9,8 @@ use Rattle.compiler.proofs.cleanup.rules.Carried.{AreLeft, Carries, carried}
 use Rattle.compiler.proofs.cleanup.rules.Definitions.{label_same, value_same}
 use Rattle.compiler.proofs.cleanup.rules.Names.{address_same, closed_same, fits_named_same, name_same}
 use Rattle.compiler.specs.cleanup.rules.Clean.{NamesNothingGone, calls_left, goes, is_left, is_left_callee}
-use Rattle.ir_parts.specs.Contents.{part_labels, part_operands, part_types}
-use Rattle.ir_parts.specs.Parts.{Ending, OfInstr, OfPhi, Part, Signature, function_place, instr_place}
+use Rattle.pass_proofs.specs.ir_parts.Contents.{part_labels, part_operands, part_types}
+use Rattle.pass_proofs.specs.ir_parts.Parts.{Ending, OfInstr, OfPhi, Part, Signature, function_place, instr_place}
 use Rattle.ir_model.specs.Table.{callee_named}
 use Rattle.ir_model.specs.Ty.{Ty}
 use Rattle.ir_model.specs.declared.instr.Instr.{Instr}
@@ -21,18 +21,18 @@ use Rattle.ir_model.specs.declared.operand.Allocator.{Allocator}
 use Rattle.ir_model.specs.declared.operand.Arg.{Arg}
 use Rattle.ir_model.specs.declared.operand.Callee.{Callee}
 use Rattle.ir_model.specs.declared.operand.Operand.{Operand}
-use Rattle.rule_locals.specs.Calls.{calls_closed, first_closed_call}
-use Rattle.rule_locals.specs.Entries.{allocates_late, first_late_alloca}
-use Rattle.rule_locals.specs.Extents.{breaks_extents, first_past_extent}
-use Rattle.rule_locals.specs.Instrs.{on_instr}
-use Rattle.rule_locals.specs.Markers.{block_size, first_other_mark, made_size, marks_otherwise, slot_size}
-use Rattle.ir_locals.specs.Tables.{first_in, or_first}
-use Rattle.rule_names.specs.Known.{allocator_name, first_unknown, is_label, is_value, knows_called, knows_operand, names_unknown}
-use Rattle.rule_names.specs.declared.stage.Stage.{Stage}
-use Rattle.rule_laws.proofs.rules.same_names.Kept.{all_types_same}
-use Rattle.rule_types.specs.Limits.{breaks_limits, first_past}
-use Rattle.rule_types.specs.Signatures.{are_wanted, calls_otherwise, first_otherwise, fits_callee, is_result}
-use Rattle.rule_types.specs.Wants.{allocator_params, allocator_result}
+use Rattle.pass_proofs.specs.rule_locals.Calls.{calls_closed, first_closed_call}
+use Rattle.pass_proofs.specs.rule_locals.Entries.{allocates_late, first_late_alloca}
+use Rattle.pass_proofs.specs.rule_locals.Extents.{breaks_extents, first_past_extent}
+use Rattle.pass_proofs.specs.rule_locals.Instrs.{on_instr}
+use Rattle.pass_proofs.specs.rule_locals.Markers.{block_size, first_other_mark, made_size, marks_otherwise, slot_size}
+use Rattle.pass_proofs.specs.ir_locals.Tables.{first_in, or_first}
+use Rattle.pass_proofs.specs.rule_names.Known.{allocator_name, first_unknown, is_label, is_value, knows_called, knows_operand, names_unknown}
+use Rattle.pass_proofs.specs.rule_names.declared.stage.Stage.{Stage}
+use Rattle.pass_proofs.proofs.rule_laws.rules.same_names.Kept.{all_types_same}
+use Rattle.pass_proofs.specs.rule_types.Limits.{breaks_limits, first_past}
+use Rattle.pass_proofs.specs.rule_types.Signatures.{are_wanted, calls_otherwise, first_otherwise, fits_callee, is_result}
+use Rattle.pass_proofs.specs.rule_types.Wants.{allocator_params, allocator_result}
 
 -- the allocators stay
 allocator_left : (a : Allocator) → is_kept_callee (callee_named (allocator_name a)) ≡ true

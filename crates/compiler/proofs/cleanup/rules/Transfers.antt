@@ -6,14 +6,14 @@ use Rattle.std.specs.Prelude.{filter, map, not, option_map, slice_get, ◌&&◌,
 use Rattle.ir_base.specs.declared.outcome.Place.{Place}
 use Rattle.pass_cleanup.specs.Cleanup.{clean_block, clean_function, is_kept_instr}
 use Rattle.compiler.proofs.cleanup.rules.Carried.{NoneIn, head_in, head_out, parts_in, parts_out}
-use Rattle.ir_parts.specs.Parts.{Ending, Head, OfInstr, OfPhi, Part, Signature, block_parts, block_place, blocks_parts, function_place, instr_parts, instr_place, phi_parts}
+use Rattle.pass_proofs.specs.ir_parts.Parts.{Ending, Head, OfInstr, OfPhi, Part, Signature, block_parts, block_place, blocks_parts, function_place, instr_parts, instr_place, phi_parts}
 use Rattle.ir_model.specs.declared.instr.Instr.{Instr}
 use Rattle.ir_model.specs.declared.instr.Phi.{Phi}
 use Rattle.ir_model.specs.declared.module.Block.{Block}
 use Rattle.ir_model.specs.declared.module.Function.{Function}
-use Rattle.rule_locals.specs.Instrs.{on_instr}
-use Rattle.rule_locals.specs.Transfers.{breaks_transfers, first_wrong_transfer, is_void_of_pointer, is_void_return, returns_behind}
-use Rattle.rule_names.specs.declared.stage.Stage.{Stage}
+use Rattle.pass_proofs.specs.rule_locals.Instrs.{on_instr}
+use Rattle.pass_proofs.specs.rule_locals.Transfers.{breaks_transfers, first_wrong_transfer, is_void_of_pointer, is_void_return, returns_behind}
+use Rattle.pass_proofs.specs.rule_names.declared.stage.Stage.{Stage}
 
 nothing_left : (is : List Instr) → length is ≡ 0 → length (filter is_kept_instr is) ≡ 0
 nothing_left [] e = refl

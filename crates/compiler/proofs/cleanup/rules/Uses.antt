@@ -3,23 +3,23 @@ use Rattle.std.proofs.Common.{◌≡◌, ℕ, ◌+◌, ◌≤◌, Bool, true, fa
 use Rattle.std.proofs.lemmas.Bool.{and_parts, eq-eqb, or_left, or_right}
 use Rattle.std.specs.List.{list_all, list_any}
 use Rattle.std.specs.Prelude.{filter, map, not, option_to_list, cond}
-use Rattle.flow_blocks.specs.Edges.{block_edges, edges_of_blocks}
+use Rattle.pass_proofs.specs.flow_blocks.Edges.{block_edges, edges_of_blocks}
 use Rattle.ir_base.specs.declared.outcome.Place.{Place}
 use Rattle.pass_cleanup.proofs.Parts.{position_clean}
 use Rattle.pass_cleanup.specs.Cleanup.{clean_block, clean_function, is_kept_instr}
 use Rattle.compiler.proofs.cleanup.rules.Carried.{NoneIn, head_out, left_of, parts_out}
 use Rattle.compiler.proofs.cleanup.rules.Definitions.{definitions_clean, gone_in}
 use Rattle.compiler.specs.cleanup.rules.Clean.{NamesNothingGone, goes, goes_with, is_left, is_number, names_gone}
-use Rattle.rule_uses.specs.Undefined.{IsFirstUndefined, params_of}
-use Rattle.rule_uses.specs.Uses.{block_values, phi_values, uses_of, values_at}
-use Rattle.rule_laws.proofs.rules.local_rules.Names.{numbers}
-use Rattle.rule_laws.proofs.rules.local_rules.Woven.{apart_names}
-use Rattle.ir_laws.proofs.paths.source_rules.Locals.{Apart}
-use Rattle.rule_laws.proofs.rules.source_rules.Locals.{block_names, made_by, names_are}
-use Rattle.ir_laws.proofs.facts.Lists.{phi_names, row_of, times_joined}
-use Rattle.ir_parts.specs.Contents.{ending_operands, instr_operands, result_of}
-use Rattle.ir_parts.specs.Locals.{locals_of}
-use Rattle.ir_parts.specs.Parts.{Ending, Head, OfInstr, OfPhi, Part, Signature, block_parts, block_place, blocks_parts, function_place, instr_parts, instr_place, phi_parts}
+use Rattle.pass_proofs.specs.rule_uses.Undefined.{IsFirstUndefined, params_of}
+use Rattle.pass_proofs.specs.rule_uses.Uses.{block_values, phi_values, uses_of, values_at}
+use Rattle.pass_proofs.proofs.rule_laws.rules.local_rules.Names.{numbers}
+use Rattle.pass_proofs.proofs.rule_laws.rules.local_rules.Woven.{apart_names}
+use Rattle.pass_proofs.proofs.ir_laws.paths.source_rules.Locals.{Apart}
+use Rattle.pass_proofs.proofs.rule_laws.rules.source_rules.Locals.{block_names, made_by, names_are}
+use Rattle.pass_proofs.proofs.ir_laws.facts.Lists.{phi_names, row_of, times_joined}
+use Rattle.pass_proofs.specs.ir_parts.Contents.{ending_operands, instr_operands, result_of}
+use Rattle.pass_proofs.specs.ir_parts.Locals.{locals_of}
+use Rattle.pass_proofs.specs.ir_parts.Parts.{Ending, Head, OfInstr, OfPhi, Part, Signature, block_parts, block_place, blocks_parts, function_place, instr_parts, instr_place, phi_parts}
 use Rattle.ir_model.specs.Names.{position_of}
 use Rattle.ir_model.specs.declared.instr.Incoming.{Incoming}
 use Rattle.ir_model.specs.declared.instr.Instr.{Instr}
@@ -28,17 +28,17 @@ use Rattle.ir_model.specs.declared.module.Block.{Block}
 use Rattle.ir_model.specs.declared.module.Function.{Function}
 use Rattle.ir_model.specs.declared.module.Module.{Module}
 use Rattle.ir_model.specs.declared.operand.Operand.{Operand}
-use Rattle.ir_paths.specs.Paths.{targets}
-use Rattle.rule_names.specs.Definitions.{first_twice}
-use Rattle.run_laws.specs.changed.Changed.{Each}
-use Rattle.rule_laws.proofs.rules.woven_rules.Once.{apart_once, times_block}
-use Rattle.ir_laws.proofs.facts.Members.{each_passes, each_turns}
-use Rattle.rule_laws.proofs.rules.woven_rules.Operands.{instr_itself, term_itself}
-use Rattle.rule_laws.proofs.rules.woven_rules.Uses.{uses_woven}
-use Rattle.rule_laws.specs.rules.woven_rules.Blocks.{AreWoven, AreWovenBlocks, Done, Gone, IsWoven, IsWovenBlock, Kept, NoBlock, OneBlock, Remain, times_made}
-use Rattle.ir_laws.specs.facts.woven_rules.Pairs.{Empty, Pair, Pairwise, times}
-use Rattle.rule_laws.specs.rules.woven_rules.Parts.{IncomingStays, PhiStays}
-use Rattle.rule_laws.specs.rules.woven_rules.Weaving.{IsInPlace, Same, Weaving, goes_in}
+use Rattle.pass_proofs.specs.ir_paths.Paths.{targets}
+use Rattle.pass_proofs.specs.rule_names.Definitions.{first_twice}
+use Rattle.pass_proofs.specs.run_laws.changed.Changed.{Each}
+use Rattle.pass_proofs.proofs.rule_laws.rules.woven_rules.Once.{apart_once, times_block}
+use Rattle.pass_proofs.proofs.ir_laws.facts.Members.{each_passes, each_turns}
+use Rattle.pass_proofs.proofs.rule_laws.rules.woven_rules.Operands.{instr_itself, term_itself}
+use Rattle.pass_proofs.proofs.rule_laws.rules.woven_rules.Uses.{uses_woven}
+use Rattle.pass_proofs.specs.rule_laws.rules.woven_rules.Blocks.{AreWoven, AreWovenBlocks, Done, Gone, IsWoven, IsWovenBlock, Kept, NoBlock, OneBlock, Remain, times_made}
+use Rattle.pass_proofs.specs.ir_laws.facts.woven_rules.Pairs.{Empty, Pair, Pairwise, times}
+use Rattle.pass_proofs.specs.rule_laws.rules.woven_rules.Parts.{IncomingStays, PhiStays}
+use Rattle.pass_proofs.specs.rule_laws.rules.woven_rules.Weaving.{IsInPlace, Same, Weaving, goes_in}
 
 -- what blocks make stands among their names
 made_least : (v : ℕ) (bs : List Block) → times_made v bs ≤ times v (row_of block_names bs)

@@ -7,8 +7,8 @@ use Rattle.pass_cleanup.specs.Cleanup.{clean_block, clean_function, clean_module
 use Rattle.compiler.proofs.cleanup.rules.Carried.{carried}
 use Rattle.compiler.proofs.cleanup.rules.Rules.{first_left, stays_there}
 use Rattle.compiler.specs.cleanup.rules.Clean.{NamesNothingGone, goes, goes_with, is_left, is_number}
-use Rattle.ir_parts.specs.Contents.{part_operands}
-use Rattle.ir_parts.specs.Parts.{Ending, OfInstr, OfPhi}
+use Rattle.pass_proofs.specs.ir_parts.Contents.{part_operands}
+use Rattle.pass_proofs.specs.ir_parts.Parts.{Ending, OfInstr, OfPhi}
 use Rattle.ir_model.specs.Ty.{Ty, array, int, named, ptr, structure, token}
 use Rattle.ir_model.specs.Layout.{unnamed}
 use Rattle.ir_model.specs.declared.instr.Incoming.{Incoming}
@@ -18,19 +18,19 @@ use Rattle.ir_model.specs.declared.module.Function.{Function}
 use Rattle.ir_model.specs.declared.module.Module.{Module}
 use Rattle.ir_model.specs.declared.operand.Arg.{Arg}
 use Rattle.ir_model.specs.declared.operand.Operand.{Operand}
-use Rattle.ir_locals.specs.Tables.{first_in, or_first}
-use Rattle.run_laws.specs.changed.Changed.{Each}
-use Rattle.rule_values.specs.Fits.{fits, fits_integer, is_tokenless}
-use Rattle.rule_values.specs.Geps.{indices_fit, inner_part, leads_in, part_of}
-use Rattle.rule_values.specs.Instrs.{fits_instr}
-use Rattle.rule_values.specs.Kinds.{block_kind, call_kind, instr_kind, param_kind, phi_kind, result_kind, value_kind}
-use Rattle.rule_values.specs.Values.{breaks_values, first_wrong_value}
-use Rattle.rule_values.specs.declared.kinds.Kind.{Kind}
-use Rattle.rule_laws.proofs.rules.woven_rules.Alike.{IsAlike, Local, Other, instr_alike, phi_alike, term_alike}
-use Rattle.ir_laws.proofs.facts.Members.{each_passes, each_turns}
-use Rattle.rule_laws.proofs.rules.woven_rules.Operands.{instr_itself, term_itself}
-use Rattle.ir_laws.specs.facts.woven_rules.Pairs.{Empty, Pair, Pairwise}
-use Rattle.rule_laws.specs.rules.woven_rules.Parts.{IncomingStays}
+use Rattle.pass_proofs.specs.ir_locals.Tables.{first_in, or_first}
+use Rattle.pass_proofs.specs.run_laws.changed.Changed.{Each}
+use Rattle.pass_proofs.specs.rule_values.Fits.{fits, fits_integer, is_tokenless}
+use Rattle.pass_proofs.specs.rule_values.Geps.{indices_fit, inner_part, leads_in, part_of}
+use Rattle.pass_proofs.specs.rule_values.Instrs.{fits_instr}
+use Rattle.pass_proofs.specs.rule_values.Kinds.{block_kind, call_kind, instr_kind, param_kind, phi_kind, result_kind, value_kind}
+use Rattle.pass_proofs.specs.rule_values.Values.{breaks_values, first_wrong_value}
+use Rattle.pass_proofs.specs.rule_values.declared.kinds.Kind.{Kind}
+use Rattle.pass_proofs.proofs.rule_laws.rules.woven_rules.Alike.{IsAlike, Local, Other, instr_alike, phi_alike, term_alike}
+use Rattle.pass_proofs.proofs.ir_laws.facts.Members.{each_passes, each_turns}
+use Rattle.pass_proofs.proofs.rule_laws.rules.woven_rules.Operands.{instr_itself, term_itself}
+use Rattle.pass_proofs.specs.ir_laws.facts.woven_rules.Pairs.{Empty, Pair, Pairwise}
+use Rattle.pass_proofs.specs.rule_laws.rules.woven_rules.Parts.{IncomingStays}
 
 -- ---- kinds
 

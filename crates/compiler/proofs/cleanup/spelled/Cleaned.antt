@@ -12,10 +12,10 @@ use Rattle.ir_model.specs.declared.instr.Instr.{Instr}
 use Rattle.ir_model.specs.declared.module.Block.{Block}
 use Rattle.ir_model.specs.declared.module.Declaration.{Declaration}
 use Rattle.ir_model.specs.declared.module.Function.{Function}
-use Rattle.text_symbols.specs.declared.sym.Sym.{Sym}
-use Rattle.rule_laws.proofs.rules.spelled.Symbols.{written_first, written_rest}
+use Rattle.pass_proofs.specs.text_symbols.declared.sym.Sym.{Sym}
+use Rattle.pass_proofs.proofs.rule_laws.rules.spelled.Symbols.{written_first, written_rest}
 use Rattle.text_canonical.proofs.grammar.Again.{written_both}
-use Rattle.run_laws.specs.changed.Changed.{Each}
+use Rattle.pass_proofs.specs.run_laws.changed.Changed.{Each}
 use Rattle.text_canonical.specs.order.Shape as shape
 
 module _ (names : List Name) where

@@ -4,9 +4,9 @@ use Rattle.std.specs.List.{list_all}
 use Rattle.std.specs.Prelude.{not, ◌&&◌}
 use Rattle.compiler.specs.cleanup.rules.Clean.{calls_left}
 use Rattle.ir_base.specs.declared.outcome.Place.{Place}
-use Rattle.ir_laws.proofs.facts.Truth.{and_both, and_first, and_second, holds}
-use Rattle.ir_parts.specs.Contents.{part_operands}
-use Rattle.ir_parts.specs.Parts.{Part}
+use Rattle.pass_proofs.proofs.ir_laws.facts.Truth.{and_both, and_first, and_second, holds}
+use Rattle.pass_proofs.specs.ir_parts.Contents.{part_operands}
+use Rattle.pass_proofs.specs.ir_parts.Parts.{Part}
 use Rattle.compiler.specs.cleanup.unnamed_intrinsics.Unnamed.{is_no_intrinsic, names_intrinsic}
 
 -- ---- a part whose operands and callee are no intrinsics

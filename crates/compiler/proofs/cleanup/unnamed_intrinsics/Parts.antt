@@ -8,23 +8,23 @@ use Rattle.pass_cleanup.specs.Cleanup.{is_kept_callee}
 use Rattle.pass_split.specs.Parts.{plain_of, plain_shape}
 use Rattle.frame_layout.specs.declared.layout.Layout.{Layout}
 use Rattle.compiler.specs.cleanup.rules.Clean.{calls_left}
-use Rattle.rule_laws.specs.rules.function_rules.Kept.{KeepsFunctionRules}
-use Rattle.rule_laws.specs.frames.same_names.Parts.{HasPart, HasPartsOf}
-use Rattle.ir_parts.specs.Contents.{part_operands}
-use Rattle.ir_parts.specs.Parts.{Part as FunctionPart, first_part, parts_of}
-use Rattle.pass_intrinsics.specs.Shapes.{shape_of}
-use Rattle.pass_intrinsics.specs.declared.shape.Part.{Part}
-use Rattle.pass_intrinsics.specs.declared.shape.Shape.{Shape}
+use Rattle.pass_proofs.specs.rule_laws.rules.function_rules.Kept.{KeepsFunctionRules}
+use Rattle.pass_proofs.specs.rule_laws.frames.same_names.Parts.{HasPart, HasPartsOf}
+use Rattle.pass_proofs.specs.ir_parts.Contents.{part_operands}
+use Rattle.pass_proofs.specs.ir_parts.Parts.{Part as FunctionPart, first_part, parts_of}
+use Rattle.pass_proofs.specs.pass_intrinsics.Shapes.{shape_of}
+use Rattle.pass_proofs.specs.pass_intrinsics.declared.shape.Part.{Part}
+use Rattle.pass_proofs.specs.pass_intrinsics.declared.shape.Shape.{Shape}
 use Rattle.ir_model.specs.Table.{callee_named}
 use Rattle.ir_model.specs.declared.module.Function.{Function}
 use Rattle.ir_model.specs.declared.module.Module.{Module}
 use Rattle.ir_model.specs.declared.operand.Operand.{Operand}
-use Rattle.rule_locals.specs.Intrinsics.{misplaces}
+use Rattle.pass_proofs.specs.rule_locals.Intrinsics.{misplaces}
 use Rattle.compiler.proofs.cleanup.outside.Outside.{names_other, parts_pass, passes, turned_passes}
 use Rattle.compiler.proofs.cleanup.unnamed_intrinsics.Sources.{free_name}
 use Rattle.pass_proofs.specs.split.rules.Parted.{IsPartOf}
 use Rattle.compiler.specs.cleanup.unnamed_intrinsics.Unnamed.{NamesNoIntrinsic, is_no_intrinsic, names_intrinsic}
-use Rattle.rule_names.specs.declared.stage.Stage.{Stage}
+use Rattle.pass_proofs.specs.rule_names.declared.stage.Stage.{Stage}
 
 -- ---- no operand is a coro intrinsic's address where each name outside is no coro intrinsic's
 

@@ -6,14 +6,14 @@ use Rattle.compiler.specs.cleanup.rules.Clean.{calls_left, is_left_callee}
 use Rattle.ir_base.specs.declared.name.Name.{Name}
 use Rattle.ir_base.specs.declared.outcome.Place.{Place}
 use Rattle.pass_cleanup.specs.Cleanup.{is_kept_callee}
-use Rattle.rule_laws.proofs.rules.local_rules.Accepted.{accepted_breaks_none}
-use Rattle.rule_laws.proofs.rules.local_rules.Carried.{Passing, none_of, passing}
-use Rattle.ir_laws.proofs.facts.Members.{each_joined, each_left, each_right}
-use Rattle.ir_laws.proofs.facts.Truth.{and_both, and_first, and_second, holds, first_no as or_first_out, second_no as or_second_out}
-use Rattle.rule_laws.proofs.rules.source_rules.Shaped.{function_shaped}
-use Rattle.ir_parts.specs.Contents.{part_operands}
-use Rattle.ir_parts.specs.Parts.{Ending, OfInstr, OfPhi, Part, block_parts, blocks_parts, instr_parts, instr_place, parts_of, phi_parts}
-use Rattle.rule_all.specs.Refused.{IsRefused}
+use Rattle.pass_proofs.proofs.rule_laws.rules.local_rules.Accepted.{accepted_breaks_none}
+use Rattle.pass_proofs.proofs.rule_laws.rules.local_rules.Carried.{Passing, none_of, passing}
+use Rattle.pass_proofs.proofs.ir_laws.facts.Members.{each_joined, each_left, each_right}
+use Rattle.pass_proofs.proofs.ir_laws.facts.Truth.{and_both, and_first, and_second, holds, first_no as or_first_out, second_no as or_second_out}
+use Rattle.pass_proofs.proofs.rule_laws.rules.source_rules.Shaped.{function_shaped}
+use Rattle.pass_proofs.specs.ir_parts.Contents.{part_operands}
+use Rattle.pass_proofs.specs.ir_parts.Parts.{Ending, OfInstr, OfPhi, Part, block_parts, blocks_parts, instr_parts, instr_place, parts_of, phi_parts}
+use Rattle.pass_proofs.specs.rule_all.Refused.{IsRefused}
 use Rattle.ir_model.specs.Names.{first_where, global_named, same_name, same_text}
 use Rattle.ir_model.specs.Table.{all_allocators, all_intrinsics, allocator_in, callee_named, callee_or, intrinsic_in, intrinsic_word}
 use Rattle.ir_model.specs.declared.instr.Instr.{Instr}
@@ -26,11 +26,11 @@ use Rattle.ir_model.specs.declared.operand.Allocator.{Allocator}
 use Rattle.ir_model.specs.declared.operand.Callee.{Callee}
 use Rattle.ir_model.specs.declared.operand.Intrinsic.{Intrinsic}
 use Rattle.ir_model.specs.declared.operand.Operand.{Operand}
-use Rattle.rule_locals.specs.Addresses.{calls_indirectly, first_function_pointer, is_no_function, points_to_functions}
-use Rattle.ir_tables.proofs.Tables.{same_name-same, same_text-same}
-use Rattle.rule_names.specs.Reserved.{begins_with, is_allocator, is_part, is_reserved}
-use Rattle.rule_names.specs.declared.stage.Stage.{Stage}
-use Rattle.rule_laws.specs.rules.plain_rules.Items.{KeepsItemRules}
+use Rattle.pass_proofs.specs.rule_locals.Addresses.{calls_indirectly, first_function_pointer, is_no_function, points_to_functions}
+use Rattle.pass_proofs.proofs.ir_tables.Tables.{same_name-same, same_text-same}
+use Rattle.pass_proofs.specs.rule_names.Reserved.{begins_with, is_allocator, is_part, is_reserved}
+use Rattle.pass_proofs.specs.rule_names.declared.stage.Stage.{Stage}
+use Rattle.pass_proofs.specs.rule_laws.rules.plain_rules.Items.{KeepsItemRules}
 use Rattle.compiler.proofs.cleanup.unnamed_intrinsics.Early.{named_by}
 use Rattle.compiler.specs.cleanup.unnamed_intrinsics.Unnamed.{NamesNoIntrinsic, is_no_intrinsic, names_intrinsic}
 use Rattle.text_canonical.specs.order.Shape as shape

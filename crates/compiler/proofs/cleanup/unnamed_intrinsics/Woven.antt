@@ -2,10 +2,10 @@
 use Rattle.std.proofs.Common.{◌≡◌, ◌⊎◌, inl, inr, ℕ, true, refl, ap}
 use Rattle.std.specs.Prelude.{not}
 use Rattle.compiler.specs.cleanup.rules.Clean.{calls_left, is_left_callee}
-use Rattle.ir_laws.proofs.facts.Truth.{and_second}
-use Rattle.ir_parts.specs.Contents.{instr_operands, part_operands}
-use Rattle.ir_parts.specs.Parts.{Ending, OfInstr, OfPhi}
-use Rattle.rule_laws.specs.rules.function_rules.Kept.{KeepsFunctionRules}
+use Rattle.pass_proofs.proofs.ir_laws.facts.Truth.{and_second}
+use Rattle.pass_proofs.specs.ir_parts.Contents.{instr_operands, part_operands}
+use Rattle.pass_proofs.specs.ir_parts.Parts.{Ending, OfInstr, OfPhi}
+use Rattle.pass_proofs.specs.rule_laws.rules.function_rules.Kept.{KeepsFunctionRules}
 use Rattle.ir_model.specs.declared.instr.Instr.{Instr}
 use Rattle.ir_model.specs.declared.module.Function.{Function}
 use Rattle.ir_model.specs.declared.module.Module.{Module}
@@ -13,16 +13,16 @@ use Rattle.ir_model.specs.declared.operand.Callee.{Callee}
 use Rattle.ir_model.specs.declared.operand.Operand.{Operand}
 use Rattle.compiler.proofs.cleanup.unnamed_intrinsics.Early.{calls_free, named_by, operands_free}
 use Rattle.compiler.specs.cleanup.unnamed_intrinsics.Unnamed.{NamesNoIntrinsic, is_no_intrinsic, names_intrinsic}
-use Rattle.rule_laws.proofs.rules.woven_rules.Carried.{Carries, carried}
-use Rattle.rule_laws.proofs.rules.woven_rules.Laid.{IsLike, IsSafe, KeptOne, NoPromise, Remains, Renamed, Stayed, Unnamed, Valued, laid}
-use Rattle.rule_laws.proofs.rules.woven_rules.Once.{below}
-use Rattle.rule_laws.proofs.rules.woven_rules.Operands.{all_beside, term_pairs}
-use Rattle.ir_laws.proofs.facts.Members.{all_pass, each_turns}
-use Rattle.rule_laws.proofs.rules.woven_rules.Rules.{incoming_pairs, remain_pairs}
-use Rattle.rule_laws.specs.rules.woven_rules.Blocks.{IsWoven, is_copy, may_stand}
-use Rattle.rule_laws.specs.rules.woven_rules.Pairs.{AreIncomingOnce}
-use Rattle.rule_laws.specs.rules.woven_rules.Parts.{Call, CalleeStays, Direct, Indirect, InstrStays}
-use Rattle.rule_laws.specs.rules.woven_rules.Weaving.{Weaving, names_nothing}
+use Rattle.pass_proofs.proofs.rule_laws.rules.woven_rules.Carried.{Carries, carried}
+use Rattle.pass_proofs.proofs.rule_laws.rules.woven_rules.Laid.{IsLike, IsSafe, KeptOne, NoPromise, Remains, Renamed, Stayed, Unnamed, Valued, laid}
+use Rattle.pass_proofs.proofs.rule_laws.rules.woven_rules.Once.{below}
+use Rattle.pass_proofs.proofs.rule_laws.rules.woven_rules.Operands.{all_beside, term_pairs}
+use Rattle.pass_proofs.proofs.ir_laws.facts.Members.{all_pass, each_turns}
+use Rattle.pass_proofs.proofs.rule_laws.rules.woven_rules.Rules.{incoming_pairs, remain_pairs}
+use Rattle.pass_proofs.specs.rule_laws.rules.woven_rules.Blocks.{IsWoven, is_copy, may_stand}
+use Rattle.pass_proofs.specs.rule_laws.rules.woven_rules.Pairs.{AreIncomingOnce}
+use Rattle.pass_proofs.specs.rule_laws.rules.woven_rules.Parts.{Call, CalleeStays, Direct, Indirect, InstrStays}
+use Rattle.pass_proofs.specs.rule_laws.rules.woven_rules.Weaving.{Weaving, names_nothing}
 
 module _ (w : Weaving) (m : Module) (f g : Function) where
   abbrev Like : Operand → Operand → Type 0

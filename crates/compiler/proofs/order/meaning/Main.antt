@@ -2,10 +2,10 @@
 use Rattle.std.proofs.Common.{◌≡◌, ℕ, ◌<◌, List, [], ◌∷◌, length, Option, Some, None, refl, subst}
 use Rattle.std.proofs.lemmas.Option.{slice_get_within}
 use Rattle.std.specs.Prelude.{ℤ, map, slice_get, unwrap_or}
-use Rattle.run_agreement.specs.Agreements.{AgreesWithin}
+use Rattle.pass_proofs.specs.run_agreement.Agreements.{AgreesWithin}
 use Rattle.ir_base.specs.declared.name.Name.{Name}
 use Rattle.ir_base.specs.declared.outcome.Word.{Word}
-use Rattle.rule_laws.proofs.rules.source_rules.Shaped.{function_shaped}
+use Rattle.pass_proofs.proofs.rule_laws.rules.source_rules.Shaped.{function_shaped}
 use Rattle.ir_model.specs.Names.{function_at, no_function}
 use Rattle.ir_model.specs.declared.instr.Instr.{Instr}
 use Rattle.ir_model.specs.declared.instr.Phi.{Phi}
@@ -14,18 +14,18 @@ use Rattle.ir_model.specs.declared.module.Function.{Function}
 use Rattle.ir_model.specs.declared.module.Module.{Module}
 use Rattle.ir_model.specs.declared.module.Param.{Param}
 use Rattle.compiler.proofs.order.rules.Ordered.{ordered}
-use Rattle.ir_laws.specs.facts.names_apart.Apart.{AreApart, AreNamesApart}
-use Rattle.ir_laws.specs.facts.order_rules.Renumbered.{IsRenumbered, renumbered_block, renumbered_function, renumbered_instr, renumbered_param, renumbered_phi}
+use Rattle.pass_proofs.specs.ir_laws.facts.names_apart.Apart.{AreApart, AreNamesApart}
+use Rattle.pass_proofs.specs.ir_laws.facts.order_rules.Renumbered.{IsRenumbered, renumbered_block, renumbered_function, renumbered_instr, renumbered_param, renumbered_phi}
 use Rattle.text_canonical.specs.order.Order.{function_order, module_order}
 use Rattle.text_canonical.specs.order.Shape.{Each, IsBlock, IsFunction, IsInstr, IsParam, IsPhi, IsPlaced, IsShaped}
-use Rattle.ir_laws.specs.facts.order_meaning.Beside.{IsHeld, IsHeldResult}
+use Rattle.pass_proofs.specs.ir_laws.facts.order_meaning.Beside.{IsHeld, IsHeldResult}
 use Rattle.compiler.proofs.order.meaning.Placed.{ordered_placed}
 use Rattle.compiler.proofs.order.meaning.Simulation.{agrees}
 use Rattle.compiler.specs.order.meaning.Beside.{HeldIn, IsBlockHeld, IsOrdered}
-use Rattle.rule_laws.specs.texts.order_meaning.Held.{HoldsResults, IsBlockPlaced, IsParamPlaced, IsPhiPlaced, SetsPlaced}
+use Rattle.pass_proofs.specs.rule_laws.texts.order_meaning.Held.{HoldsResults, IsBlockPlaced, IsParamPlaced, IsPhiPlaced, SetsPlaced}
 use Rattle.run_plain.specs.Plain.{PlainAt}
-use Rattle.run_laws.specs.changed.Changed.{result_of}
-use Rattle.rule_laws.proofs.texts.order_rules.Ordered.{each_of}
+use Rattle.pass_proofs.specs.run_laws.changed.Changed.{result_of}
+use Rattle.pass_proofs.proofs.rule_laws.texts.order_rules.Ordered.{each_of}
 
 within : (names : List Name) (i : ℕ) → IsPlaced names i → i < length names
 within names i h = slice_get_within names i h.0 h.1

@@ -17,13 +17,13 @@ use Rattle.ir_model.specs.declared.module.Param.{Param}
 use Rattle.ir_model.specs.declared.operand.Arg.{Arg}
 use Rattle.ir_model.specs.declared.operand.Callee.{Callee}
 use Rattle.ir_model.specs.declared.operand.Operand.{Operand}
-use Rattle.ir_laws.proofs.facts.Renumbering.{equal_same}
-use Rattle.ir_laws.specs.facts.order_rules.Renumbered.{IsRenumbered, StaysApart, renumbered_arg, renumbered_block, renumbered_callee, renumbered_function, renumbered_instr, renumbered_operand}
+use Rattle.pass_proofs.proofs.ir_laws.facts.Renumbering.{equal_same}
+use Rattle.pass_proofs.specs.ir_laws.facts.order_rules.Renumbered.{IsRenumbered, StaysApart, renumbered_arg, renumbered_block, renumbered_callee, renumbered_function, renumbered_instr, renumbered_operand}
 use Rattle.text_canonical.specs.order.Order.{function_order, module_order, param_order}
 use Rattle.text_canonical.specs.order.Places.{each_order}
-use Rattle.run_states.proofs.order_meaning.Actions.{AreLike, renumbered_here}
-use Rattle.run_states.proofs.order_meaning.Moved.{AreFoundAlike}
-use Rattle.run_step.specs.Step.{fetch, fetch_in, fetch_or, fits_function, fits_params, has_markers, is_lifetime, is_marker_of, same_result}
+use Rattle.pass_proofs.proofs.run_states.order_meaning.Actions.{AreLike, renumbered_here}
+use Rattle.pass_proofs.proofs.run_states.order_meaning.Moved.{AreFoundAlike}
+use Rattle.pass_proofs.specs.run_step.Step.{fetch, fetch_in, fetch_or, fits_function, fits_params, has_markers, is_lifetime, is_marker_of, same_result}
 
 -- ---- one function
 

@@ -17,10 +17,10 @@ use Rattle.text_canonical.proofs.order.Holds.{placed_is}
 use Rattle.text_canonical.specs.order.Order.{arg_order, block_order, callee_order, case_order, function_order, incoming_order, instr_order, operand_order, param_order, phi_order, result_order, term_order}
 use Rattle.text_canonical.specs.order.Places.{each_order, local_order, placed, placed_if}
 use Rattle.text_canonical.specs.order.Shape.{Each, IsBlock, IsFunction, IsInstr, IsParam, IsPhi, IsPlaced, IsSet}
-use Rattle.rule_laws.specs.texts.order_meaning.Held.{HoldsResults, IsBlockPlaced, IsParamPlaced, IsPhiPlaced, SetsPlaced}
+use Rattle.pass_proofs.specs.rule_laws.texts.order_meaning.Held.{HoldsResults, IsBlockPlaced, IsParamPlaced, IsPhiPlaced, SetsPlaced}
 use Rattle.text_canonical.proofs.grammar.Again.{Extends}
 use Rattle.text_canonical.proofs.grammar.Names.{place_extends, place_found}
-use Rattle.rule_laws.proofs.texts.order_rules.Ordered.{each_of}
+use Rattle.pass_proofs.proofs.rule_laws.texts.order_rules.Ordered.{each_of}
 
 -- ---- the names only become more
 

@@ -1,16 +1,16 @@
 -- A run and that with the names in order go side by side, one step with one.
 use Rattle.std.proofs.Common.{◌≡◌, ℕ, inl, List, [], ◌∷◌, length, Option, Some, None, Result, Ok, Err, refl, sym, ap, ◌∙◌, subst, arith}
 use Rattle.std.specs.Prelude.{ℤ, if◌then◌else◌, map, slice_get}
-use Rattle.run_agreement.proofs.Lockstep.{Advance, ShowsSame, Simulates, lockstep_one, lockstep_within}
-use Rattle.run_agreement.proofs.Costs.{weaken_by}
-use Rattle.run_agreement.specs.Agreements.{AgreesWithin}
-use Rattle.run_agreement.specs.Costs.{AgreesBy}
-use Rattle.run_agreement.specs.Machines.{IsFine, IsRunning, Machine}
-use Rattle.run_memory.specs.Memory.{access_bytes, encode, owner_rights}
-use Rattle.run_memory.specs.declared.block.Kind.{Kind}
-use Rattle.run_memory.specs.declared.block.Life.{Life}
-use Rattle.run_memory.specs.declared.block.MemoryBlock.{MemoryBlock}
-use Rattle.run_memory.specs.declared.pointer.Value.{Value}
+use Rattle.pass_proofs.proofs.run_agreement.Lockstep.{Advance, ShowsSame, Simulates, lockstep_one, lockstep_within}
+use Rattle.pass_proofs.proofs.run_agreement.Costs.{weaken_by}
+use Rattle.pass_proofs.specs.run_agreement.Agreements.{AgreesWithin}
+use Rattle.pass_proofs.specs.run_agreement.Costs.{AgreesBy}
+use Rattle.pass_proofs.specs.run_agreement.Machines.{IsFine, IsRunning, Machine}
+use Rattle.pass_proofs.specs.run_memory.Memory.{access_bytes, encode, owner_rights}
+use Rattle.pass_proofs.specs.run_memory.declared.block.Kind.{Kind}
+use Rattle.pass_proofs.specs.run_memory.declared.block.Life.{Life}
+use Rattle.pass_proofs.specs.run_memory.declared.block.MemoryBlock.{MemoryBlock}
+use Rattle.pass_proofs.specs.run_memory.declared.pointer.Value.{Value}
 use Rattle.ir_base.specs.declared.cause.Cause.{Cause}
 use Rattle.ir_base.specs.declared.outcome.Event.{Event}
 use Rattle.ir_base.specs.declared.outcome.Outcome.{Outcome}
@@ -24,13 +24,13 @@ use Rattle.ir_model.specs.declared.module.Module.{Module}
 use Rattle.ir_model.specs.declared.operand.Operand.{Operand}
 use Rattle.compiler.specs.order.meaning.Beside.{IsInOrderOf, IsOrdered}
 use Rattle.text_canonical.specs.order.Order.{function_order, module_order}
-use Rattle.run_states.proofs.order_meaning.Actions.{MovedAction, action_moved}
+use Rattle.pass_proofs.proofs.run_states.order_meaning.Actions.{MovedAction, action_moved}
 use Rattle.compiler.proofs.order.meaning.Modules.{are_like, fetch_same, found_alike, function_there}
-use Rattle.run_states.proofs.order_meaning.Moved.{operand_moved}
+use Rattle.pass_proofs.proofs.run_states.order_meaning.Moved.{operand_moved}
 use Rattle.compiler.proofs.order.meaning.States.{Goes, Related, act_goes, entered, given_by, instr_held, state_like}
-use Rattle.run_step.specs.Runs.{SeenEvent, seen_event, seen_of}
-use Rattle.run_step.specs.Step.{Action, Fetched, action_of, entry_values, fetch, fetch_in, global_block, is_alignment}
-use Rattle.run_step.specs.Values.{access_of, operand_value, stored}
+use Rattle.pass_proofs.specs.run_step.Runs.{SeenEvent, seen_event, seen_of}
+use Rattle.pass_proofs.specs.run_step.Step.{Action, Fetched, action_of, entry_values, fetch, fetch_in, global_block, is_alignment}
+use Rattle.pass_proofs.specs.run_step.Values.{access_of, operand_value, stored}
 use Rattle.run_plain.specs.Plain.{PlainAt, PlainGiven, plain_act, plain_advance, plain_context, plain_first, plain_function, plain_or_undefined, plain_step, plain_work}
 use Rattle.run_plain.specs.declared.state.PlainState.{PlainState}
 

@@ -2,9 +2,9 @@
 use Rattle.std.proofs.Common.{◌≡◌, ℕ, zero, suc, ◌+◌, Bool, true, false, List, [], ◌∷◌, length, Option, Some, None, Result, Ok, Err, refl, sym, ap, ◌∙◌, subst}
 use Rattle.std.proofs.lemmas.List.{length-replicate}
 use Rattle.std.specs.Prelude.{ℤ, ◌==◌, if◌then◌else◌, map, option_map, replicate, slice_get, unwrap_or}
-use Rattle.run_memory.specs.Memory.{killed}
-use Rattle.run_memory.specs.declared.block.MemoryBlock.{MemoryBlock}
-use Rattle.run_memory.specs.declared.pointer.Value.{Value}
+use Rattle.pass_proofs.specs.run_memory.Memory.{killed}
+use Rattle.pass_proofs.specs.run_memory.declared.block.MemoryBlock.{MemoryBlock}
+use Rattle.pass_proofs.specs.run_memory.declared.pointer.Value.{Value}
 use Rattle.ir_base.specs.declared.cause.Cause.{Cause}
 use Rattle.ir_base.specs.declared.outcome.Outcome.{Outcome}
 use Rattle.ir_model.specs.Names.{function_at, is_noalloc, position_of}
@@ -15,21 +15,21 @@ use Rattle.ir_model.specs.declared.module.Function.{Function}
 use Rattle.ir_model.specs.declared.module.Module.{Module}
 use Rattle.ir_model.specs.declared.operand.Intrinsic.{Intrinsic}
 pub use Rattle.compiler.specs.order.meaning.Beside.{AreOrderedBelow, HeldIn, HeldResultIn, IsBlockHeld, IsOrdered, IsOrderedOf, MovedIn, ordered_like, ordered_state}
-use Rattle.ir_laws.specs.facts.order_rules.Renumbered.{renumbered_block, renumbered_function}
+use Rattle.pass_proofs.specs.ir_laws.facts.order_rules.Renumbered.{renumbered_block, renumbered_function}
 use Rattle.text_canonical.specs.order.Order.{function_order, module_order}
 use Rattle.text_canonical.specs.order.Shape.{Each}
-use Rattle.run_states.proofs.order_meaning.Actions.{MovedAction}
-use Rattle.ir_laws.specs.paths.order_meaning.Beside.{moved_slot}
+use Rattle.pass_proofs.proofs.run_states.order_meaning.Actions.{MovedAction}
+use Rattle.pass_proofs.specs.ir_laws.paths.order_meaning.Beside.{moved_slot}
 use Rattle.compiler.proofs.order.meaning.Modules.{block_there, found_alike, function_there, position_same}
-use Rattle.run_states.proofs.order_meaning.Moved.{params_moved, phis_moved, result_moved}
-use Rattle.run_step.specs.Results.{and_then}
-use Rattle.run_step.specs.Step.{Action, Coro, Deallocate, Done, Enter, GoTo, NewSlot, Return, Stuck, Work, deallocated, entry_values, fetch, fetch_in, fetch_or, label_of, outcome_of, phis_of, risen, set_memory, values_in, without_slots}
-use Rattle.run_step.specs.Values.{Env, value_in, with_result}
-use Rattle.run_step.specs.declared.world.Slot.{Slot}
+use Rattle.pass_proofs.proofs.run_states.order_meaning.Moved.{params_moved, phis_moved, result_moved}
+use Rattle.pass_proofs.specs.run_step.Results.{and_then}
+use Rattle.pass_proofs.specs.run_step.Step.{Action, Coro, Deallocate, Done, Enter, GoTo, NewSlot, Return, Stuck, Work, deallocated, entry_values, fetch, fetch_in, fetch_or, label_of, outcome_of, phis_of, risen, set_memory, values_in, without_slots}
+use Rattle.pass_proofs.specs.run_step.Values.{Env, value_in, with_result}
+use Rattle.pass_proofs.specs.run_step.declared.world.Slot.{Slot}
 use Rattle.run_plain.specs.Plain.{PlainGiven, counted, plain_act, plain_call, plain_called, plain_coro, plain_go_to, plain_pop, plain_returned, plain_settled, plain_work}
 use Rattle.run_plain.specs.declared.state.PlainActivation.{PlainActivation}
 use Rattle.run_plain.specs.declared.state.PlainState.{PlainState}
-use Rattle.run_laws.specs.changed.Changed.{result_at, result_of}
+use Rattle.pass_proofs.specs.run_laws.changed.Changed.{result_at, result_of}
 
 abbrev pub given_by : Module → List ℤ → PlainGiven
 given_by m answers = record { code = m; answers = answers }

@@ -3,30 +3,30 @@ use Rattle.std.proofs.Common.{◌≡◌, ℕ, List, [], ◌∷◌, refl, sym, ap
 use Rattle.std.proofs.lemmas.Option.{slice_get-map}
 use Rattle.std.specs.Prelude.{map, option_map, slice_get}
 use Rattle.ir_base.specs.declared.name.Name.{Name}
-use Rattle.rule_laws.proofs.rules.source_rules.Shaped.{function_shaped}
-use Rattle.rule_laws.proofs.rules.function_rules.Signatures.{plain_rules_by_signatures}
-use Rattle.rule_laws.proofs.rules.plain_rules.Accepted.{accepted}
-use Rattle.rule_laws.proofs.rules.plain_rules.Told.{items_of_accepted}
-use Rattle.rule_laws.proofs.rules.same_names.Items.{same_names_keep_items}
-use Rattle.ir_laws.specs.facts.function_rules.Signatures.{HaveSameSignatures, heading}
-use Rattle.rule_laws.specs.rules.plain_rules.Kept.{AllKeepPlainRules, HasNoCoroutine, KeepsPlainRules}
-use Rattle.ir_laws.specs.facts.same_names.Same.{HaveSameNames, naming}
-use Rattle.rule_all.specs.Refused.{IsRefused}
+use Rattle.pass_proofs.proofs.rule_laws.rules.source_rules.Shaped.{function_shaped}
+use Rattle.pass_proofs.proofs.rule_laws.rules.function_rules.Signatures.{plain_rules_by_signatures}
+use Rattle.pass_proofs.proofs.rule_laws.rules.plain_rules.Accepted.{accepted}
+use Rattle.pass_proofs.proofs.rule_laws.rules.plain_rules.Told.{items_of_accepted}
+use Rattle.pass_proofs.proofs.rule_laws.rules.same_names.Items.{same_names_keep_items}
+use Rattle.pass_proofs.specs.ir_laws.facts.function_rules.Signatures.{HaveSameSignatures, heading}
+use Rattle.pass_proofs.specs.rule_laws.rules.plain_rules.Kept.{AllKeepPlainRules, HasNoCoroutine, KeepsPlainRules}
+use Rattle.pass_proofs.specs.ir_laws.facts.same_names.Same.{HaveSameNames, naming}
+use Rattle.pass_proofs.specs.rule_all.Refused.{IsRefused}
 use Rattle.ir_model.specs.Ty.{Ty}
 use Rattle.ir_model.specs.declared.module.Function.{Function}
 use Rattle.ir_model.specs.declared.module.Module.{Module}
 use Rattle.ir_model.specs.declared.module.Param.{Param}
-use Rattle.rule_locals.specs.Intrinsics.{first_misplaced}
+use Rattle.pass_proofs.specs.rule_locals.Intrinsics.{first_misplaced}
 use Rattle.text_canonical.specs.order.Order.{function_order, module_order, param_order}
 use Rattle.text_canonical.specs.order.Places.{each_order}
 use Rattle.text_canonical.specs.order.Shape.{IsShaped}
-use Rattle.rule_names.specs.declared.stage.Stage.{Stage}
-use Rattle.rule_laws.proofs.rules.order_rules.Accepted.{no_coroutine_of_accepted, rules_of_accepted}
-use Rattle.rule_laws.proofs.rules.order_rules.Contents.{maps_forget}
+use Rattle.pass_proofs.specs.rule_names.declared.stage.Stage.{Stage}
+use Rattle.pass_proofs.proofs.rule_laws.rules.order_rules.Accepted.{no_coroutine_of_accepted, rules_of_accepted}
+use Rattle.pass_proofs.proofs.rule_laws.rules.order_rules.Contents.{maps_forget}
 use Rattle.compiler.proofs.order.rules.Ordered.{ordered}
-use Rattle.rule_laws.proofs.rules.order_rules.Whole.{all_same}
-use Rattle.ir_laws.specs.facts.names_apart.Apart.{AreNamesApart}
-use Rattle.rule_laws.specs.rules.order_rules.Same.{HaveSameFaults}
+use Rattle.pass_proofs.proofs.rule_laws.rules.order_rules.Whole.{all_same}
+use Rattle.pass_proofs.specs.ir_laws.facts.names_apart.Apart.{AreNamesApart}
+use Rattle.pass_proofs.specs.rule_laws.rules.order_rules.Same.{HaveSameFaults}
 
 -- ---- one function
 

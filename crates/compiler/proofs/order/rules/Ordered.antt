@@ -18,11 +18,11 @@ use Rattle.text_canonical.specs.order.Order.{arg_order, block_order, callee_orde
 use Rattle.text_canonical.specs.order.Places.{each_order, local_order, placed, placed_if}
 use Rattle.text_canonical.specs.order.Shape.{Each, IsArg, IsBlock, IsCallee, IsCase, IsFunction, IsIncoming, IsInstr, IsOperand, IsParam, IsPhi, IsPlaced, IsSet, IsTerminator}
 use Rattle.compiler.proofs.order.rules.Positions.{order_is, position_in, positions_stay_apart}
-use Rattle.ir_laws.specs.facts.names_apart.Apart.{AreApart}
-use Rattle.ir_laws.specs.facts.order_rules.Renumbered.{IsRenumbered, renumbered_arg, renumbered_block, renumbered_callee, renumbered_case, renumbered_incoming, renumbered_instr, renumbered_operand, renumbered_param, renumbered_phi, renumbered_term}
+use Rattle.pass_proofs.specs.ir_laws.facts.names_apart.Apart.{AreApart}
+use Rattle.pass_proofs.specs.ir_laws.facts.order_rules.Renumbered.{IsRenumbered, renumbered_arg, renumbered_block, renumbered_callee, renumbered_case, renumbered_incoming, renumbered_instr, renumbered_operand, renumbered_param, renumbered_phi, renumbered_term}
 use Rattle.text_canonical.proofs.grammar.Again.{Extends}
 use Rattle.text_canonical.proofs.grammar.Names.{place_extends}
-use Rattle.rule_laws.proofs.texts.order_rules.Ordered.{each_of}
+use Rattle.pass_proofs.proofs.rule_laws.texts.order_rules.Ordered.{each_of}
 
 -- what comes of a part is this where all names begin with those behind it, and those before it are among them
 record Follows {A : Type 0} (all ns : List Name) (r : A × List Name) (x : A) : Type 0 where

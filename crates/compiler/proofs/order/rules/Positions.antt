@@ -3,14 +3,14 @@ use Rattle.std.proofs.Common.{◌≡◌, ℕ, suc, ◌+◌, ◌<◌, Bool, true,
 use Rattle.std.proofs.lemmas.Option.{slice_get_within}
 use Rattle.std.specs.Prelude.{if◌then◌else◌, option_map, slice_get, unwrap_or}
 use Rattle.ir_base.specs.declared.name.Name.{Name}
-use Rattle.ir_laws.proofs.facts.same_names.Lists.{what_is_found}
-use Rattle.ir_laws.proofs.facts.Truth.{same_name-itself}
+use Rattle.pass_proofs.proofs.ir_laws.facts.same_names.Lists.{what_is_found}
+use Rattle.pass_proofs.proofs.ir_laws.facts.Truth.{same_name-itself}
 use Rattle.ir_model.specs.Names.{first_where, same_name}
-use Rattle.ir_tables.proofs.Tables.{same_name-same}
+use Rattle.pass_proofs.proofs.ir_tables.Tables.{same_name-same}
 use Rattle.text_canonical.specs.order.Places.{behind, local_order, placed, placed_if}
 use Rattle.text_canonical.specs.order.Shape.{IsPlaced}
-use Rattle.ir_laws.specs.facts.names_apart.Apart.{AreApart}
-use Rattle.ir_laws.specs.facts.order_rules.Renumbered.{StaysApart}
+use Rattle.pass_proofs.specs.ir_laws.facts.names_apart.Apart.{AreApart}
+use Rattle.pass_proofs.specs.ir_laws.facts.order_rules.Renumbered.{StaysApart}
 use Rattle.text_canonical.proofs.grammar.Again.{Extends}
 
 -- the first position of a name

@@ -2,15 +2,15 @@
 use Rattle.std.specs.Prelude.{ℕ, Bool, List, None, Ok}
 use Rattle.pass_cleanup.specs.Cleanable.{IsCleanable}
 use Rattle.pass_split.specs.Parts.{split_module}
-use Rattle.frame_contents.specs.Frames.{AreLayouts}
+use Rattle.pass_proofs.specs.frame_contents.Frames.{AreLayouts}
 use Rattle.pass_early.specs.Early.{early_module}
 use Rattle.frame_layout.specs.declared.layout.Layouts.{Layouts}
-use Rattle.rule_all.specs.Refused.{IsRefused}
-use Rattle.text_grammar.specs.Text.{StandsFor}
+use Rattle.pass_proofs.specs.rule_all.Refused.{IsRefused}
+use Rattle.pass_proofs.specs.text_grammar.Text.{StandsFor}
 use Rattle.ir_model.specs.declared.module.Module.{Module}
 use Rattle.compiler.proofs.cleanup.cleanable.Whole.{split_cleanable}
 use Rattle.compiler.proofs.whole.lowered_sources.Row.{is_ready}
-use Rattle.rule_names.specs.declared.stage.Stage.{Stage}
+use Rattle.pass_proofs.specs.rule_names.declared.stage.Stage.{Stage}
 use Rattle.pass_frames.specs.Framed.{IsFramedForm}
 
 pub sources_cleanable : (text : List ℕ) (m : Module) → StandsFor text m → IsRefused Stage.Source m None → (share : Bool) (layouts : Layouts) → AreLayouts m share (Ok layouts) → (n : Module) → IsFramedForm layouts (early_module m) n → IsCleanable (split_module layouts n)

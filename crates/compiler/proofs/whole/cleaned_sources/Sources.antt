@@ -1,18 +1,18 @@
 -- Each run of what splitting gives of an accepted source agrees with that of what is lowered.
 use Rattle.std.specs.Prelude.{ℕ, ℤ, Bool, List, None, Ok}
-use Rattle.run_agreement.specs.Agreements.{AgreesWithin}
+use Rattle.pass_proofs.specs.run_agreement.Agreements.{AgreesWithin}
 use Rattle.ir_base.specs.declared.outcome.Word.{Word}
 use Rattle.pass_cleanup.proofs.Simulation.{clean_agrees}
 use Rattle.pass_cleanup.specs.Cleanup.{clean_module}
 use Rattle.pass_split.specs.Parts.{split_module}
-use Rattle.frame_contents.specs.Frames.{AreLayouts}
+use Rattle.pass_proofs.specs.frame_contents.Frames.{AreLayouts}
 use Rattle.pass_early.specs.Early.{early_module}
 use Rattle.frame_layout.specs.declared.layout.Layouts.{Layouts}
-use Rattle.rule_all.specs.Refused.{IsRefused}
-use Rattle.text_grammar.specs.Text.{StandsFor}
+use Rattle.pass_proofs.specs.rule_all.Refused.{IsRefused}
+use Rattle.pass_proofs.specs.text_grammar.Text.{StandsFor}
 use Rattle.ir_model.specs.declared.module.Module.{Module}
 use Rattle.compiler.proofs.whole.cleanable_sources.Sources.{sources_cleanable}
-use Rattle.rule_names.specs.declared.stage.Stage.{Stage}
+use Rattle.pass_proofs.specs.rule_names.declared.stage.Stage.{Stage}
 use Rattle.run_plain.specs.Plain.{PlainAt}
 use Rattle.pass_frames.specs.Framed.{IsFramedForm}
 

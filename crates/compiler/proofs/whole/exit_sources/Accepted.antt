@@ -1,26 +1,26 @@
 -- The framed form of what the first pass makes of a source that breaks no rule has what blocks on the edges that leave windows ask.
 use Rattle.std.proofs.Common.{◌≡◌, ℕ, Bool, true, List, Ok, refl}
 use Rattle.std.specs.Prelude.{None, Option, Some, slice_get, unwrap_or}
-use Rattle.frame_contents.specs.Frames.{AreLayouts}
+use Rattle.pass_proofs.specs.frame_contents.Frames.{AreLayouts}
 use Rattle.pass_early.specs.Early.{early_module}
-use Rattle.ir_laws.specs.facts.sound_states.Named.{AreLocalsNamed, HasNamedLocals}
+use Rattle.pass_proofs.specs.ir_laws.facts.sound_states.Named.{AreLocalsNamed, HasNamedLocals}
 use Rattle.frame_layout.specs.declared.layout.Layouts.{Layouts}
-use Rattle.rule_laws.proofs.rules.function_rules.Signatures.{go_by_signatures}
-use Rattle.rule_laws.specs.rules.function_rules.Kept.{KeepsFunctionRules}
-use Rattle.rule_all.specs.Refused.{IsRefused}
-use Rattle.text_grammar.specs.Text.{StandsFor}
+use Rattle.pass_proofs.proofs.rule_laws.rules.function_rules.Signatures.{go_by_signatures}
+use Rattle.pass_proofs.specs.rule_laws.rules.function_rules.Kept.{KeepsFunctionRules}
+use Rattle.pass_proofs.specs.rule_all.Refused.{IsRefused}
+use Rattle.pass_proofs.specs.text_grammar.Text.{StandsFor}
 use Rattle.ir_model.specs.Names.{no_function}
 use Rattle.ir_model.specs.declared.module.Function.{Function}
 use Rattle.ir_model.specs.declared.module.Module.{Module}
 use Rattle.pass_proofs.proofs.frames.numbers.Numbers.{number_given}
 use Rattle.compiler.proofs.whole.lowered_sources.Coroutines.{IsFramedWell, framed_well}
 use Rattle.pass_proofs.proofs.frames.unnamed.Positions.{Becomes, FramedBy, StandsAs, Unchanged, stands_as}
-use Rattle.ir_laws.proofs.facts.Truth.{not_both}
+use Rattle.pass_proofs.proofs.ir_laws.facts.Truth.{not_both}
 use Rattle.compiler.proofs.whole.lowered_sources.Sources.{early_rules}
 use Rattle.pass_proofs.proofs.frames.headings.Headings.{framed_signatures}
-use Rattle.rule_names.specs.declared.stage.Stage.{Stage}
+use Rattle.pass_proofs.specs.rule_names.declared.stage.Stage.{Stage}
 use Rattle.pass_frames.specs.Framed.{IsFramedForm, layout_at}
-use Rattle.rule_laws.proofs.rules.named_results.Named.{locals_tabled}
+use Rattle.pass_proofs.proofs.rule_laws.rules.named_results.Named.{locals_tabled}
 use Rattle.pass_proofs.specs.exits.states.Exits.{AreExitsKept}
 
 module _ (text : List ℕ) (m : Module) (stands : StandsFor text m) (accepted : IsRefused Stage.Source m None) (share : Bool) (layouts : Layouts) (laid : AreLayouts m share (Ok layouts)) (n : Module) (form : IsFramedForm layouts (early_module m) n) where

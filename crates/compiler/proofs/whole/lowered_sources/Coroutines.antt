@@ -1,12 +1,12 @@
 -- A coroutine of a framed form of a source that breaks no rule may be split.
 use Rattle.std.proofs.Common.{◌≡◌, ℕ, ◌≤◌, Bool, true, List, Ok, length, sym, subst}
 use Rattle.std.specs.Prelude.{None, Some, slice_get}
-use Rattle.rule_laws.specs.frames.crossing.Crossed.{IsNothingNeeded}
-use Rattle.frame_contents.specs.Frames.{AreLayouts}
+use Rattle.pass_proofs.specs.rule_laws.frames.crossing.Crossed.{IsNothingNeeded}
+use Rattle.pass_proofs.specs.frame_contents.Frames.{AreLayouts}
 use Rattle.pass_early.specs.Early.{early_module}
-use Rattle.rule_laws.specs.rules.path_rules.Paths.{KeepsPaths}
-use Rattle.rule_laws.specs.rules.path_rules.Shape.{KeepsShape}
-use Rattle.rule_laws.proofs.rules.sources.Tables.{all_tabled}
+use Rattle.pass_proofs.specs.rule_laws.rules.path_rules.Paths.{KeepsPaths}
+use Rattle.pass_proofs.specs.rule_laws.rules.path_rules.Shape.{KeepsShape}
+use Rattle.pass_proofs.proofs.rule_laws.rules.sources.Tables.{all_tabled}
 use Rattle.pass_proofs.specs.edges.rules.Phis.{ArePhisEnteredByJumps}
 use Rattle.compiler.proofs.whole.exits.Unnamed.{names_none}
 use Rattle.pass_proofs.proofs.split.exits.Whole.{splittable_kept}
@@ -14,39 +14,39 @@ use Rattle.frame_layout.specs.declared.layout.Layout.{Layout}
 use Rattle.frame_layout.specs.declared.layout.Layouts.{Layouts}
 use Rattle.pass_proofs.proofs.frames.numbers.Numbers.{all_near}
 use Rattle.pass_proofs.proofs.early.numbers.Small.{early_few}
-use Rattle.rule_laws.specs.frames.suspend_counts.Given.{IsGiven}
+use Rattle.pass_proofs.specs.rule_laws.frames.suspend_counts.Given.{IsGiven}
 use Rattle.pass_proofs.proofs.split.crossing.Crossed.{only_these}
 use Rattle.pass_proofs.proofs.frames.crossing.Whole.{framed_end_first, framed_frames, framed_nothing}
-use Rattle.rule_laws.specs.frames.needed.Crossed.{AreFramesUnneeded}
+use Rattle.pass_proofs.specs.rule_laws.frames.needed.Crossed.{AreFramesUnneeded}
 use Rattle.pass_proofs.specs.split.crossing.Ended.{AreEndedFirst}
 use Rattle.pass_proofs.proofs.frames.rules.Built.{form_kept, passes_fit}
 use Rattle.pass_proofs.specs.frames.rules.Buildable.{IsBuildable}
-use Rattle.rule_laws.specs.frames.shape.Passes.{IsKept}
+use Rattle.pass_proofs.specs.rule_laws.frames.shape.Passes.{IsKept}
 use Rattle.pass_proofs.specs.frames.shape.Passes.{PassesFit}
-use Rattle.rule_laws.proofs.rules.function_rules.Signatures.{go_by_signatures}
-use Rattle.rule_laws.specs.rules.function_rules.Kept.{KeepsFunctionRules}
-use Rattle.ir_laws.specs.facts.function_rules.Signatures.{HaveSameSignatures}
-use Rattle.pass_intrinsics.specs.Shapes.{suspends_of}
-use Rattle.rule_all.specs.Refused.{IsRefused}
-use Rattle.text_grammar.specs.Text.{StandsFor}
+use Rattle.pass_proofs.proofs.rule_laws.rules.function_rules.Signatures.{go_by_signatures}
+use Rattle.pass_proofs.specs.rule_laws.rules.function_rules.Kept.{KeepsFunctionRules}
+use Rattle.pass_proofs.specs.ir_laws.facts.function_rules.Signatures.{HaveSameSignatures}
+use Rattle.pass_proofs.specs.pass_intrinsics.Shapes.{suspends_of}
+use Rattle.pass_proofs.specs.rule_all.Refused.{IsRefused}
+use Rattle.pass_proofs.specs.text_grammar.Text.{StandsFor}
 use Rattle.ir_model.specs.declared.module.Function.{Function}
 use Rattle.ir_model.specs.declared.module.Module.{Module}
 use Rattle.pass_proofs.proofs.early.named_sources.BeginNames.{HasBeginName}
 use Rattle.compiler.proofs.whole.lowered_sources.Sources.{early_named, early_others, early_rules, early_unnamed, early_unused, early_wide}
-use Rattle.ir_laws.proofs.facts.Lists.{blocks_twice}
+use Rattle.pass_proofs.proofs.ir_laws.facts.Lists.{blocks_twice}
 use Rattle.pass_proofs.proofs.split.front_rules.Paths.{ends_kept}
 use Rattle.pass_proofs.proofs.edges.front_rules.Paths.{frames_kept, nothing_kept}
 use Rattle.pass_proofs.proofs.edges.front_rules.Whole.{all_kept, jumps_kept}
 use Rattle.compiler.proofs.cleanup.front_rules.Whole.{unnamed_kept}
-use Rattle.pass_front.specs.Front.{with_allocas_first, with_front_allocas}
+use Rattle.pass_proofs.specs.pass_front.Front.{with_allocas_first, with_front_allocas}
 use Rattle.compiler.proofs.whole.lowered_sources.Unnamed.{framed_free, framed_jumped}
-use Rattle.rule_names.specs.declared.stage.Stage.{Stage}
-use Rattle.rule_laws.proofs.texts.named_texts.Placed.{locals_named, uses_named}
+use Rattle.pass_proofs.specs.rule_names.declared.stage.Stage.{Stage}
+use Rattle.pass_proofs.proofs.rule_laws.texts.named_texts.Placed.{locals_named, uses_named}
 use Rattle.pass_proofs.proofs.frames.slots_behind.Behind.{blocks_behind}
 use Rattle.pass_frames.specs.Framed.{IsFramedCoroutine, celled, copied, placed}
 use Rattle.pass_proofs.specs.split.rules.Splittable.{IsSplittable}
 use Rattle.compiler.specs.cleanup.unnamed_intrinsics.Unnamed.{NamesNoIntrinsic}
-use Rattle.pass_exits.specs.ExitBlocks.{with_exit_blocks}
+use Rattle.pass_proofs.specs.pass_exits.ExitBlocks.{with_exit_blocks}
 
 -- what a framed coroutine is
 pub record IsFramedWell (m : Module) (k : ℕ) (g : Function) : Type 0 where

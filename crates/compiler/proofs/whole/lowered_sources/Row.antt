@@ -5,7 +5,7 @@ use Rattle.std.specs.List.{list_all}
 use Rattle.pass_cleanup.specs.Cleanup.{clean_module}
 use Rattle.pass_cleanup.specs.Free.{calls_id_alone}
 use Rattle.pass_split.specs.Parts.{split_module}
-use Rattle.frame_contents.specs.Frames.{AreLayouts}
+use Rattle.pass_proofs.specs.frame_contents.Frames.{AreLayouts}
 use Rattle.pass_early.specs.Early.{early_module}
 use Rattle.frame_layout.specs.declared.layout.Layout.{Layout}
 use Rattle.frame_layout.specs.declared.layout.Layouts.{Layouts}
@@ -13,25 +13,25 @@ use Rattle.pass_proofs.proofs.frames.numbers.Framed.{framed_as_many}
 use Rattle.pass_proofs.proofs.frames.numbers.Numbers.{number_given}
 use Rattle.pass_proofs.proofs.frames.numbers.Small.{shape_small}
 use Rattle.pass_proofs.proofs.exits.rules.Unnamed.{stays_small}
-use Rattle.rule_laws.proofs.rules.function_rules.Signatures.{go_by_signatures}
-use Rattle.rule_all.specs.Refused.{IsRefused}
-use Rattle.text_grammar.specs.Text.{StandsFor}
+use Rattle.pass_proofs.proofs.rule_laws.rules.function_rules.Signatures.{go_by_signatures}
+use Rattle.pass_proofs.specs.rule_all.Refused.{IsRefused}
+use Rattle.pass_proofs.specs.text_grammar.Text.{StandsFor}
 use Rattle.ir_model.specs.declared.module.Function.{Function}
 use Rattle.ir_model.specs.declared.module.Module.{Module}
 use Rattle.compiler.proofs.cleanup.accepted.Row.{split_accepted}
 use Rattle.compiler.specs.cleanup.accepted.Ready.{IsCoroutineReady, IsPlainReady, IsReady}
 use Rattle.compiler.proofs.whole.lowered_sources.Coroutines.{exits_splittable, exits_unnamed, framed_few, framed_well}
 use Rattle.pass_proofs.proofs.frames.unnamed.Positions.{Becomes, FramedBy, StandsAs, Unchanged, stands_as}
-use Rattle.ir_laws.proofs.facts.Numbers.{names_stay_short}
-use Rattle.ir_laws.proofs.facts.Truth.{not_both}
+use Rattle.pass_proofs.proofs.ir_laws.facts.Numbers.{names_stay_short}
+use Rattle.pass_proofs.proofs.ir_laws.facts.Truth.{not_both}
 use Rattle.compiler.proofs.whole.lowered_sources.Sources.{early_items, early_rules, early_unnamed}
-use Rattle.rule_names.specs.declared.stage.Stage.{Stage}
+use Rattle.pass_proofs.specs.rule_names.declared.stage.Stage.{Stage}
 use Rattle.pass_proofs.proofs.early.widths.Headings.{early_names}
 use Rattle.pass_proofs.proofs.frames.headings.Headings.{framed_names, framed_signatures}
-use Rattle.rule_laws.proofs.texts.widths.Texts.{text_names_short}
+use Rattle.pass_proofs.proofs.rule_laws.texts.widths.Texts.{text_names_short}
 use Rattle.pass_frames.specs.Framed.{IsFramedForm, layout_at}
-use Rattle.rule_laws.proofs.rules.same_names.Items.{same_names_keep_items}
-use Rattle.ir_laws.specs.facts.same_names.Short.{HaveShortNames}
+use Rattle.pass_proofs.proofs.rule_laws.rules.same_names.Items.{same_names_keep_items}
+use Rattle.pass_proofs.specs.ir_laws.facts.same_names.Short.{HaveShortNames}
 
 module _ (text : List ℕ) (m : Module) (stands : StandsFor text m) (accepted : IsRefused Stage.Source m None) (share : Bool) (layouts : Layouts) (laid : AreLayouts m share (Ok layouts)) (n : Module) (form : IsFramedForm layouts (early_module m) n) where
   abbrev e : Module

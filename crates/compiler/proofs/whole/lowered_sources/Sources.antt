@@ -2,42 +2,42 @@
 use Rattle.std.proofs.Common.{◌≡◌, ℕ, Bool, true, List, length, refl, sym, ap, ◌∙◌, subst}
 use Rattle.std.proofs.lemmas.Option.{slice_get-map}
 use Rattle.std.specs.Prelude.{None, Option, Some, if◌then◌else◌, option_map, slice_get, unwrap_or}
-use Rattle.rule_laws.specs.rules.counted.Widths.{first_other_width}
+use Rattle.pass_proofs.specs.rule_laws.rules.counted.Widths.{first_other_width}
 use Rattle.pass_proofs.proofs.early.local_rules.Turned.{turned_function}
 use Rattle.pass_early.specs.BeginName.{with_begin_name}
 use Rattle.pass_early.specs.Early.{early_function, early_module, early_named as early_coroutine, renaming_of}
-use Rattle.rule_laws.proofs.rules.local_rules.Accepted.{accepted_breaks_none}
-use Rattle.rule_laws.proofs.rules.sources.Tables.{all_tabled}
-use Rattle.rule_laws.specs.rules.source_rules.Named.{HasTabledLocals}
+use Rattle.pass_proofs.proofs.rule_laws.rules.local_rules.Accepted.{accepted_breaks_none}
+use Rattle.pass_proofs.proofs.rule_laws.rules.sources.Tables.{all_tabled}
+use Rattle.pass_proofs.specs.rule_laws.rules.source_rules.Named.{HasTabledLocals}
 use Rattle.ir_model.specs.Calls.{first_result}
 use Rattle.ir_model.specs.Names.{no_function}
 use Rattle.ir_model.specs.declared.operand.Intrinsic.{Intrinsic}
 use Rattle.pass_proofs.proofs.early.unused_frames.Early.{named_unused}
-use Rattle.rule_laws.specs.rules.unused.Unused.{AreFramesUnused}
-use Rattle.rule_laws.proofs.rules.path_rules.Passes.{accepted_shape}
+use Rattle.pass_proofs.specs.rule_laws.rules.unused.Unused.{AreFramesUnused}
+use Rattle.pass_proofs.proofs.rule_laws.rules.path_rules.Passes.{accepted_shape}
 use Rattle.pass_proofs.proofs.early.elision.sources.Alike.{accepted_rules}
-use Rattle.rule_laws.specs.rules.sources.Rules.{BreaksNoOtherRule}
+use Rattle.pass_proofs.specs.rule_laws.rules.sources.Rules.{BreaksNoOtherRule}
 use Rattle.pass_proofs.proofs.early.function_rules.Early.{all_kept}
-use Rattle.rule_laws.proofs.rules.function_rules.Shaped.{all_shaped}
-use Rattle.rule_laws.specs.rules.function_rules.Kept.{AllKeepFunctionRules}
-use Rattle.rule_all.specs.Refused.{IsRefused}
-use Rattle.text_grammar.specs.Text.{StandsFor}
+use Rattle.pass_proofs.proofs.rule_laws.rules.function_rules.Shaped.{all_shaped}
+use Rattle.pass_proofs.specs.rule_laws.rules.function_rules.Kept.{AllKeepFunctionRules}
+use Rattle.pass_proofs.specs.rule_all.Refused.{IsRefused}
+use Rattle.pass_proofs.specs.text_grammar.Text.{StandsFor}
 use Rattle.ir_model.specs.declared.module.Function.{Function}
 use Rattle.ir_model.specs.declared.module.Module.{Module}
 use Rattle.pass_proofs.proofs.early.named_sources.BeginNames.{HasBeginName, begin_there, blocks_same, early_begin, name_by}
 use Rattle.text_canonical.proofs.order.Shaped.{text_is_shaped}
-use Rattle.rule_names.specs.declared.stage.Stage.{Stage}
-use Rattle.rule_laws.proofs.texts.named_texts.Placed.{locals_named, uses_named}
-use Rattle.rule_laws.proofs.rules.plain_rules.Told.{items_of_accepted}
-use Rattle.rule_laws.specs.rules.plain_rules.Items.{KeepsItemRules}
+use Rattle.pass_proofs.specs.rule_names.declared.stage.Stage.{Stage}
+use Rattle.pass_proofs.proofs.rule_laws.texts.named_texts.Placed.{locals_named, uses_named}
+use Rattle.pass_proofs.proofs.rule_laws.rules.plain_rules.Told.{items_of_accepted}
+use Rattle.pass_proofs.specs.rule_laws.rules.plain_rules.Items.{KeepsItemRules}
 use Rattle.pass_proofs.proofs.early.widths.Headings.{early_names}
 use Rattle.pass_proofs.proofs.early.widths.Widths.{early_widths}
-use Rattle.rule_laws.proofs.rules.widths.Written.{text_wide}
-use Rattle.rule_laws.proofs.rules.same_names.Items.{same_names_keep_items}
+use Rattle.pass_proofs.proofs.rule_laws.rules.widths.Written.{text_wide}
+use Rattle.pass_proofs.proofs.rule_laws.rules.same_names.Items.{same_names_keep_items}
 use Rattle.compiler.proofs.whole.unnamed_intrinsics.Early.{early_free}
 use Rattle.compiler.proofs.cleanup.unnamed_intrinsics.Sources.{source_free}
 use Rattle.compiler.specs.cleanup.unnamed_intrinsics.Unnamed.{NamesNoIntrinsic}
-use Rattle.rule_laws.proofs.rules.short_names.Sources.{results_below}
+use Rattle.pass_proofs.proofs.rule_laws.rules.short_names.Sources.{results_below}
 
 -- a function of the pass's result comes from the source's at its position
 pub record ComesFrom (m : Module) (k : ℕ) (g : Function) : Type 0 where

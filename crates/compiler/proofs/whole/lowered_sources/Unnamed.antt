@@ -7,13 +7,13 @@ use Rattle.pass_proofs.specs.addresses.rules.Addresses.{AddressesFit, left_over,
 use Rattle.pass_proofs.specs.cells.rules.Asked.{AreCellsFor}
 use Rattle.pass_proofs.specs.cells.rules.Weaving.{cells_weaving}
 use Rattle.pass_proofs.specs.copies.rules.Copies.{copied_slots, copy_weaving}
-use Rattle.rule_shape.specs.OneOfEach.{wrong_call}
-use Rattle.rule_shape.specs.Switches.{wrong_switch}
-use Rattle.frame_contents.specs.declared.contents.Contents.{Contents}
+use Rattle.pass_proofs.specs.rule_shape.OneOfEach.{wrong_call}
+use Rattle.pass_proofs.specs.rule_shape.Switches.{wrong_switch}
+use Rattle.pass_proofs.specs.frame_contents.declared.contents.Contents.{Contents}
 use Rattle.pass_proofs.specs.edges.rules.Phis.{ArePhisEnteredByJumps}
-use Rattle.pass_edges.specs.EdgeBlocks.{with_edge_blocks}
+use Rattle.pass_proofs.specs.pass_edges.EdgeBlocks.{with_edge_blocks}
 use Rattle.pass_proofs.specs.fetch.rules.Fetches.{fetch_weaving}
-use Rattle.pass_addresses.specs.Placing.{slot_fetches, with_frame_addresses, without_markers}
+use Rattle.pass_proofs.specs.pass_addresses.Placing.{slot_fetches, with_frame_addresses, without_markers}
 use Rattle.frame_layout.specs.declared.layout.Layout.{Layout}
 use Rattle.pass_proofs.proofs.frames.shape.Addresses.{once_unmarked, rules_unmarked}
 use Rattle.pass_proofs.proofs.edges.calls.Edges.{edges_shaped}
@@ -21,26 +21,26 @@ use Rattle.pass_proofs.proofs.frames.shape.Fits.{cells_fit}
 use Rattle.pass_proofs.proofs.frames.shape.Framed.{begin_is, coroutine_d, jumps_d, once_c, once_d, once_e, rules_c, rules_d, rules_e, woven_c, woven_d, shape_d}
 use Rattle.pass_proofs.proofs.edges.calls.Jumps.{jumps_stay}
 use Rattle.pass_proofs.specs.frames.shape.Passes.{PassesFit}
-use Rattle.rule_laws.specs.rules.function_rules.Kept.{KeepsFunctionRules}
+use Rattle.pass_proofs.specs.rule_laws.rules.function_rules.Kept.{KeepsFunctionRules}
 use Rattle.ir_model.specs.Calls.{first_result}
 use Rattle.ir_model.specs.declared.module.Function.{Function}
 use Rattle.ir_model.specs.declared.module.Module.{Module}
 use Rattle.ir_model.specs.declared.operand.Intrinsic.{Intrinsic}
-use Rattle.frame_classes.specs.declared.class.SlotClass.{SlotClass}
+use Rattle.pass_proofs.specs.frame_classes.declared.class.SlotClass.{SlotClass}
 use Rattle.pass_frames.specs.Framed.{begin_block, begin_of, celled, copied, offsets_of, placed}
 use Rattle.pass_frames.specs.Tables.{class_flags, label_flags, sizes_by_name}
-use Rattle.frame_crossing.specs.Crossing.{AreCrossing}
+use Rattle.pass_proofs.specs.frame_crossing.Crossing.{AreCrossing}
 use Rattle.compiler.proofs.whole.unnamed_intrinsics.Early.{edges_free}
 use Rattle.compiler.proofs.cleanup.unnamed_intrinsics.Woven.{woven_free}
 use Rattle.compiler.specs.cleanup.unnamed_intrinsics.Unnamed.{NamesNoIntrinsic}
-use Rattle.pass_fetch.specs.Blocks.{with_fetches}
-use Rattle.pass_fetch.specs.declared.fetch.Fetch.{Fetch}
-use Rattle.rule_windows.specs.Outside.{IsFirstOutside}
-use Rattle.rule_windows.specs.Windows.{IsFirstWindow}
-use Rattle.rule_laws.specs.rules.woven_rules.Blocks.{IsWoven}
-use Rattle.rule_laws.specs.rules.woven_rules.Pairs.{AreIncomingOnce}
-use Rattle.rule_laws.specs.rules.woven_rules.Weaving.{Weaving}
-use Rattle.rule_laws.specs.frames.woven_shape.Shaped.{IsShaped}
+use Rattle.pass_proofs.specs.pass_fetch.Blocks.{with_fetches}
+use Rattle.pass_proofs.specs.pass_fetch.declared.fetch.Fetch.{Fetch}
+use Rattle.pass_proofs.specs.rule_windows.Outside.{IsFirstOutside}
+use Rattle.pass_proofs.specs.rule_windows.Windows.{IsFirstWindow}
+use Rattle.pass_proofs.specs.rule_laws.rules.woven_rules.Blocks.{IsWoven}
+use Rattle.pass_proofs.specs.rule_laws.rules.woven_rules.Pairs.{AreIncomingOnce}
+use Rattle.pass_proofs.specs.rule_laws.rules.woven_rules.Weaving.{Weaving}
+use Rattle.pass_proofs.specs.rule_laws.frames.woven_shape.Shaped.{IsShaped}
 
 -- ---- slots become bytes of the frame
 

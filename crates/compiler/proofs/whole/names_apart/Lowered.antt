@@ -5,18 +5,18 @@ use Rattle.pass_cleanup.specs.Cleanup.{clean_function, clean_module}
 use Rattle.pass_split.specs.Parts.{split_functions, split_module}
 use Rattle.pass_early.specs.Early.{early_module}
 use Rattle.frame_layout.specs.declared.layout.Layouts.{Layouts}
-use Rattle.rule_all.specs.Refused.{IsRefused}
-use Rattle.text_grammar.specs.Text.{StandsFor}
+use Rattle.pass_proofs.specs.rule_all.Refused.{IsRefused}
+use Rattle.pass_proofs.specs.text_grammar.Text.{StandsFor}
 use Rattle.ir_model.specs.declared.module.Module.{Module}
-use Rattle.rule_names.specs.declared.stage.Stage.{Stage}
+use Rattle.pass_proofs.specs.rule_names.declared.stage.Stage.{Stage}
 use Rattle.pass_frames.specs.Framed.{IsFramedForm}
-use Rattle.ir_laws.proofs.facts.Members.{at_each, each_there}
+use Rattle.pass_proofs.proofs.ir_laws.facts.Members.{at_each, each_there}
 use Rattle.pass_proofs.proofs.frames.unnamed.Positions.{stands_as}
-use Rattle.rule_laws.proofs.rules.names_apart.Sources.{source_tables}
+use Rattle.pass_proofs.proofs.rule_laws.rules.names_apart.Sources.{source_tables}
 use Rattle.pass_proofs.proofs.split.names_apart.Split.{IsApart, functions_apart}
 use Rattle.compiler.proofs.cleanup.names.Split.{clean_apart}
-use Rattle.ir_laws.specs.facts.names_apart.Apart.{AreNamesApart}
-use Rattle.rule_laws.specs.rules.names_apart.Words.{AreNamesFew, IsSplitTable}
+use Rattle.pass_proofs.specs.ir_laws.facts.names_apart.Apart.{AreNamesApart}
+use Rattle.pass_proofs.specs.rule_laws.rules.names_apart.Words.{AreNamesFew, IsSplitTable}
 use Rattle.pass_proofs.proofs.frames.names_apart.Lowered.{ready_at}
 
 pub lowered_apart : (text : List ℕ) (m : Module) → StandsFor text m → IsRefused Stage.Source m None → (layouts : Layouts) (n : Module) → IsFramedForm layouts (early_module m) n

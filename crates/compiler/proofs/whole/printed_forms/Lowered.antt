@@ -1,42 +1,42 @@
 -- The row of passes, from the text of a source to the lowered module.
 use Rattle.std.proofs.Common.{◌≡◌, ℕ, zero, suc, Bool, true, false, List, [], ◌∷◌, ◌++◌, Ok, length, refl, sym, ap, ◌∙◌, subst}
 use Rattle.std.specs.Prelude.{None, Some, filter, if◌then◌else◌, slice_get}
-use Rattle.ir_laws.proofs.facts.Members.{each_joined, each_filtered, each_by as each_at}
-use Rattle.pass_front.specs.Front.{is_alloca, is_no_alloca, with_allocas_first, with_front_allocas}
+use Rattle.pass_proofs.proofs.ir_laws.facts.Members.{each_joined, each_filtered, each_by as each_at}
+use Rattle.pass_proofs.specs.pass_front.Front.{is_alloca, is_no_alloca, with_allocas_first, with_front_allocas}
 use Rattle.text_canonical.specs.canonical.ItemSymbols.{IsPrintable, declaration_symbols, declarations_symbols, function_symbols, functions_symbols, global_item_symbols, global_items_symbols, type_items_symbols, types_symbols}
 use Rattle.text_canonical.specs.canonical.Items.{module_text}
 use Rattle.text_canonical.specs.canonical.Marks.{close_round, open_round, word}
 use Rattle.text_canonical.specs.canonical.OperandSymbols.{global_symbol, result_symbols}
 use Rattle.text_canonical.specs.canonical.Written.{AreWritten}
 use Rattle.pass_cleanup.specs.Cleanup.{clean_module}
-use Rattle.text_names.specs.Spelling.{IsName}
+use Rattle.pass_proofs.specs.text_names.Spelling.{IsName}
 use Rattle.pass_split.specs.Given.{has_given_call}
 use Rattle.pass_split.specs.Parts.{marked_parts, plain_of, plain_shape, split_module}
-use Rattle.frame_contents.specs.Frames.{AreLayouts}
-use Rattle.frame_contents.specs.declared.contents.Contents.{Contents}
+use Rattle.pass_proofs.specs.frame_contents.Frames.{AreLayouts}
+use Rattle.pass_proofs.specs.frame_contents.declared.contents.Contents.{Contents}
 use Rattle.pass_early.specs.Early.{early_module}
-use Rattle.pass_edges.specs.EdgeBlocks.{with_edge_blocks}
-use Rattle.rule_laws.proofs.rules.source_rules.Shaped.{function_shaped}
-use Rattle.rule_laws.specs.rules.source_rules.Named.{HasTabledLocals}
+use Rattle.pass_proofs.specs.pass_edges.EdgeBlocks.{with_edge_blocks}
+use Rattle.pass_proofs.proofs.rule_laws.rules.source_rules.Shaped.{function_shaped}
+use Rattle.pass_proofs.specs.rule_laws.rules.source_rules.Named.{HasTabledLocals}
 use Rattle.frame_layout.specs.declared.layout.Layout.{Layout}
 use Rattle.frame_layout.specs.declared.layout.Layouts.{Layouts}
-use Rattle.pass_intrinsics.specs.Shapes.{shape_of}
-use Rattle.pass_intrinsics.specs.declared.shape.Shape.{Shape}
-use Rattle.rule_all.specs.Refused.{IsRefused}
-use Rattle.text_grammar.specs.Text.{StandsFor}
+use Rattle.pass_proofs.specs.pass_intrinsics.Shapes.{shape_of}
+use Rattle.pass_proofs.specs.pass_intrinsics.declared.shape.Shape.{Shape}
+use Rattle.pass_proofs.specs.rule_all.Refused.{IsRefused}
+use Rattle.pass_proofs.specs.text_grammar.Text.{StandsFor}
 use Rattle.ir_model.specs.declared.module.Block.{Block}
 use Rattle.ir_model.specs.declared.module.Declaration.{Declaration}
 use Rattle.ir_model.specs.declared.module.Function.{Function}
 use Rattle.ir_model.specs.declared.module.GlobalItem.{GlobalItem}
 use Rattle.ir_model.specs.declared.module.Module.{Module}
 use Rattle.ir_model.specs.declared.module.TypeItem.{TypeItem}
-use Rattle.text_symbols.specs.declared.sym.Sym.{Sym}
+use Rattle.pass_proofs.specs.text_symbols.declared.sym.Sym.{Sym}
 use Rattle.compiler.proofs.cleanup.accepted.Row.{all_kept, some_part}
 use Rattle.pass_proofs.proofs.split.exited.Whence.{ComesBy, comes_by}
 use Rattle.pass_proofs.proofs.frames.unnamed.Positions.{Becomes, FramedBy, StandsAs, Unchanged, stands_as}
 use Rattle.compiler.proofs.whole.lowered_sources.Row.{is_ready}
 use Rattle.compiler.proofs.whole.lowered_sources.Sources.{comes_from, early_rules}
-use Rattle.rule_laws.proofs.frames.turned.Turned.{AreTurned, NoneTurned, OneTurned}
+use Rattle.pass_proofs.proofs.rule_laws.frames.turned.Turned.{AreTurned, NoneTurned, OneTurned}
 use Rattle.pass_proofs.proofs.split.plain_functions.Whole.{blocks_turned}
 use Rattle.pass_proofs.proofs.addresses.spelled.Addressed.{addresses_spelled}
 use Rattle.pass_proofs.proofs.cells.spelled.Celled.{cells_spelled}
@@ -51,31 +51,31 @@ use Rattle.pass_proofs.proofs.copies.spelled.Entry.{copies_entry}
 use Rattle.pass_proofs.proofs.early.spelled.Entry.{early_filled}
 use Rattle.pass_proofs.proofs.edges.spelled.Entry.{edges_entry}
 use Rattle.pass_proofs.proofs.exits.spelled.Entry.{exits_entry}
-use Rattle.rule_laws.proofs.rules.spelled.Entry.{shape_filled, unled_entry}
-use Rattle.rule_laws.proofs.rules.spelled.Judged.{function_stands}
+use Rattle.pass_proofs.proofs.rule_laws.rules.spelled.Entry.{shape_filled, unled_entry}
+use Rattle.pass_proofs.proofs.rule_laws.rules.spelled.Judged.{function_stands}
 use Rattle.pass_proofs.proofs.split.spelled.Reachable.{parts_filled}
 use Rattle.pass_proofs.proofs.split.spelled.Split.{parts_spelled, turned_spelled}
-use Rattle.rule_laws.proofs.rules.spelled.Symbols.{written_first, written_rest}
+use Rattle.pass_proofs.proofs.rule_laws.rules.spelled.Symbols.{written_first, written_rest}
 use Rattle.pass_proofs.proofs.split.spelled.Tabled.{parts_tabled, turned_tabled}
-use Rattle.rule_laws.proofs.rules.spelled.Text.{source_spelled}
+use Rattle.pass_proofs.proofs.rule_laws.rules.spelled.Text.{source_spelled}
 use Rattle.compiler.specs.cleanup.accepted.Ready.{IsReady}
-use Rattle.ir_laws.specs.facts.spelled.Filled.{HasFilledPhis, HasNoEntryPhis, IsFilled}
-use Rattle.ir_laws.specs.facts.spelled.Named.{AreItemsNamed}
-use Rattle.rule_laws.specs.rules.spelled.Spelled.{IsSpelledBlock, IsSpelledFunction, IsSpelledInstr}
+use Rattle.pass_proofs.specs.ir_laws.facts.spelled.Filled.{HasFilledPhis, HasNoEntryPhis, IsFilled}
+use Rattle.pass_proofs.specs.ir_laws.facts.spelled.Named.{AreItemsNamed}
+use Rattle.pass_proofs.specs.rule_laws.rules.spelled.Spelled.{IsSpelledBlock, IsSpelledFunction, IsSpelledInstr}
 use Rattle.text_canonical.proofs.order.Modules.{stands_in_order}
 use Rattle.text_canonical.proofs.order.Shaped.{text_is_shaped}
 use Rattle.text_canonical.specs.order.Order.{module_order}
-use Rattle.rule_names.specs.declared.stage.Stage.{Stage}
+use Rattle.pass_proofs.specs.rule_names.declared.stage.Stage.{Stage}
 use Rattle.text_canonical.proofs.grammar.Again.{written_both}
 use Rattle.text_canonical.proofs.grammar.Whole.{is_printable}
 use Rattle.text_canonical.specs.grammar.Bytes.{AreBytes}
-use Rattle.frame_classes.specs.declared.class.SlotClass.{SlotClass}
+use Rattle.pass_proofs.specs.frame_classes.declared.class.SlotClass.{SlotClass}
 use Rattle.pass_frames.specs.Framed.{IsFramedCoroutine, IsFramedForm, begin_block, begin_of, celled, copied, layout_at, offsets_of, placed}
 use Rattle.pass_frames.specs.Tables.{class_flags, label_flags, sizes_by_name}
-use Rattle.run_laws.specs.changed.Changed.{Each}
-use Rattle.pass_cells.specs.Cells.{fetched_function}
-use Rattle.pass_exits.specs.ExitBlocks.{with_exit_blocks}
-use Rattle.text_symbols.specs.declared.word.Word.TheVariants as words
+use Rattle.pass_proofs.specs.run_laws.changed.Changed.{Each}
+use Rattle.pass_proofs.specs.pass_cells.Cells.{fetched_function}
+use Rattle.pass_proofs.specs.pass_exits.ExitBlocks.{with_exit_blocks}
+use Rattle.pass_proofs.specs.text_symbols.declared.word.Word.TheVariants as words
 use Rattle.text_canonical.specs.order.Shape as shape
 
 -- ---- a coroutine whose frame is built

@@ -1,11 +1,11 @@
 -- Lemmas on main.
 use Rattle.std.proofs.Common.{ℕ, List}
 use Rattle.std.specs.Prelude.{ℤ}
-use Rattle.run_agreement.specs.Costs.{AgreesBy}
+use Rattle.pass_proofs.specs.run_agreement.Costs.{AgreesBy}
 use Rattle.ir_base.specs.declared.outcome.Word.{Word}
 use Rattle.pass_cleanup.specs.Cleaned.{plain_machine}
 use Rattle.ir_model.specs.declared.module.Module.{Module}
-use Rattle.ir_laws.specs.facts.names_apart.Apart.{AreNamesApart}
+use Rattle.pass_proofs.specs.ir_laws.facts.names_apart.Apart.{AreNamesApart}
 use Rattle.text_canonical.specs.order.Order.{module_order}
 use Rattle.text_canonical.specs.order.Shape.{IsShaped}
 use Rattle.compiler.proofs.order.meaning.Simulation.{corresponds}

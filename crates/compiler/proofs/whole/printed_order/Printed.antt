@@ -1,21 +1,21 @@
 -- Each run of what is lowered of an accepted source agrees with that of what its text stands for.
 use Rattle.std.specs.Prelude.{ℕ, ℤ, Bool, List, None, Ok}
-use Rattle.run_agreement.specs.Agreements.{AgreesWithin}
+use Rattle.pass_proofs.specs.run_agreement.Agreements.{AgreesWithin}
 use Rattle.text_canonical.specs.canonical.Items.{module_text}
 use Rattle.ir_base.specs.declared.outcome.Word.{Word}
 use Rattle.pass_cleanup.specs.Cleanup.{clean_module}
 use Rattle.pass_split.specs.Parts.{split_module}
-use Rattle.frame_contents.specs.Frames.{AreLayouts}
+use Rattle.pass_proofs.specs.frame_contents.Frames.{AreLayouts}
 use Rattle.pass_early.specs.Early.{early_module}
 use Rattle.frame_layout.specs.declared.layout.Layouts.{Layouts}
-use Rattle.rule_all.specs.Refused.{IsRefused}
-use Rattle.text_grammar.specs.Text.{StandsFor}
+use Rattle.pass_proofs.specs.rule_all.Refused.{IsRefused}
+use Rattle.pass_proofs.specs.text_grammar.Text.{StandsFor}
 use Rattle.ir_model.specs.declared.module.Module.{Module}
 use Rattle.compiler.proofs.whole.names_apart.Lowered.{lowered_apart}
 use Rattle.compiler.proofs.whole.printed_forms.Lowered.{lowered_shaped, lowered_stands}
-use Rattle.rule_laws.specs.rules.names_apart.Words.{AreNamesFew}
+use Rattle.pass_proofs.specs.rule_laws.rules.names_apart.Words.{AreNamesFew}
 use Rattle.text_canonical.specs.order.Order.{module_order}
-use Rattle.rule_names.specs.declared.stage.Stage.{Stage}
+use Rattle.pass_proofs.specs.rule_names.declared.stage.Stage.{Stage}
 use Rattle.compiler.proofs.order.meaning.Main.{order_agrees}
 use Rattle.run_plain.specs.Plain.{PlainAt}
 use Rattle.text_canonical.specs.grammar.Bytes.{AreBytes}

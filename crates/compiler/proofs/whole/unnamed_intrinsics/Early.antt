@@ -5,23 +5,23 @@ use Rattle.std.specs.Prelude.{not, ◌&&◌}
 use Rattle.compiler.specs.cleanup.rules.Clean.{calls_left, is_left_callee}
 use Rattle.ir_base.specs.declared.outcome.Place.{Place}
 use Rattle.pass_proofs.proofs.early.local_rules.Rules.{all_in_args, all_in_instr, all_in_phi, all_in_term}
-use Rattle.ir_laws.proofs.facts.Truth.{and_second}
+use Rattle.pass_proofs.proofs.ir_laws.facts.Truth.{and_second}
 use Rattle.pass_proofs.proofs.early.local_rules.Turned.{Any, Begins, Saves, Stays, Turns, turned_function}
 use Rattle.pass_early.specs.Early.{early_function}
 use Rattle.pass_early.specs.Renaming.{renamed, renamed_callee, renamed_instr, renamed_phi, renamed_term}
 use Rattle.pass_early.specs.declared.renaming.Renaming.{Renaming}
 use Rattle.pass_proofs.specs.edges.paths.Spots.{table_of}
 use Rattle.pass_proofs.proofs.edges.rules.Homes.{own_block}
-use Rattle.pass_edges.specs.EdgeBlocks.{split_phi, with_edge_blocks}
-use Rattle.pass_edges.specs.Edges.{edges_at, ends_in_suspend, phi_flags}
-use Rattle.ir_parts.specs.Contents.{arg_operands}
-use Rattle.ir_parts.specs.Parts.{Ending, OfInstr, OfPhi}
+use Rattle.pass_proofs.specs.pass_edges.EdgeBlocks.{split_phi, with_edge_blocks}
+use Rattle.pass_proofs.specs.pass_edges.Edges.{edges_at, ends_in_suspend, phi_flags}
+use Rattle.pass_proofs.specs.ir_parts.Contents.{arg_operands}
+use Rattle.pass_proofs.specs.ir_parts.Parts.{Ending, OfInstr, OfPhi}
 use Rattle.ir_model.specs.declared.instr.Instr.{Instr}
 use Rattle.ir_model.specs.declared.module.Function.{Function}
 use Rattle.ir_model.specs.declared.operand.Callee.{Callee}
 use Rattle.ir_model.specs.declared.operand.Intrinsic.{Intrinsic}
 use Rattle.ir_model.specs.declared.operand.Operand.{Operand}
-use Rattle.run_laws.specs.changed.Changed.{Each}
+use Rattle.pass_proofs.specs.run_laws.changed.Changed.{Each}
 use Rattle.compiler.specs.cleanup.unnamed_intrinsics.Unnamed.{NamesNoIntrinsic, is_no_intrinsic, names_intrinsic}
 use Rattle.compiler.proofs.cleanup.unnamed_intrinsics.Early.{calls_free, named_by, operands_free}
 use Rattle.pass_proofs.proofs.early.local_rules.Carried as early

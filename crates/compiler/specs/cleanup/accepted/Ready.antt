@@ -2,18 +2,18 @@
 use Rattle.std.specs.Prelude.{◌≡◌, ℕ, true, false, Some, slice_get}
 use Rattle.frame_layout.specs.declared.layout.Layout.{Layout}
 use Rattle.frame_layout.specs.declared.layout.Layouts.{Layouts}
-use Rattle.rule_laws.specs.frames.suspend_counts.Given.{IsGiven}
-use Rattle.rule_laws.specs.rules.function_rules.Kept.{KeepsFunctionRules}
-use Rattle.pass_intrinsics.specs.Shapes.{shape_of}
+use Rattle.pass_proofs.specs.rule_laws.frames.suspend_counts.Given.{IsGiven}
+use Rattle.pass_proofs.specs.rule_laws.rules.function_rules.Kept.{KeepsFunctionRules}
+use Rattle.pass_proofs.specs.pass_intrinsics.Shapes.{shape_of}
 use Rattle.ir_model.specs.declared.module.Function.{Function}
 use Rattle.ir_model.specs.declared.module.Module.{Module}
-use Rattle.rule_laws.specs.rules.plain_rules.Items.{KeepsItemRules}
-use Rattle.rule_names.specs.declared.stage.Stage.{Stage}
-use Rattle.ir_laws.specs.facts.same_names.Short.{HaveShortNames}
-use Rattle.rule_laws.specs.frames.replaced.Parted.{IsSmall}
+use Rattle.pass_proofs.specs.rule_laws.rules.plain_rules.Items.{KeepsItemRules}
+use Rattle.pass_proofs.specs.rule_names.declared.stage.Stage.{Stage}
+use Rattle.pass_proofs.specs.ir_laws.facts.same_names.Short.{HaveShortNames}
+use Rattle.pass_proofs.specs.rule_laws.frames.replaced.Parted.{IsSmall}
 use Rattle.pass_proofs.specs.split.rules.Splittable.{IsSplittable}
 use Rattle.compiler.specs.cleanup.unnamed_intrinsics.Unnamed.{NamesNoIntrinsic}
-use Rattle.pass_exits.specs.ExitBlocks.{with_exit_blocks}
+use Rattle.pass_proofs.specs.pass_exits.ExitBlocks.{with_exit_blocks}
 
 -- a function that is no coroutine breaks no rule of functions, and names no coro intrinsic but where it calls it
 pub record IsPlainReady (m : Module) (k : ℕ) (f : Function) : Type 0 where

@@ -3,8 +3,8 @@ use Rattle.std.specs.Prelude.{◌≡◌, ℕ, Bool, true, false, not, Some, None
 use Rattle.std.specs.List.{list_all, list_any}
 use Rattle.ir_base.specs.declared.outcome.Place.{Place}
 use Rattle.pass_cleanup.specs.Cleanup.{is_kept_callee, is_kept_instr}
-use Rattle.ir_parts.specs.Contents.{part_operands, result_of}
-use Rattle.ir_parts.specs.Parts.{OfInstr, Part, first_part, parts_of}
+use Rattle.pass_proofs.specs.ir_parts.Contents.{part_operands, result_of}
+use Rattle.pass_proofs.specs.ir_parts.Parts.{OfInstr, Part, first_part, parts_of}
 use Rattle.ir_model.specs.Table.{callee_named}
 use Rattle.ir_model.specs.declared.instr.Instr.{Instr}
 use Rattle.ir_model.specs.declared.module.Function.{Function}

@@ -4,8 +4,8 @@ use Rattle.std.specs.List.{list_all}
 use Rattle.compiler.specs.cleanup.rules.Clean.{calls_left}
 use Rattle.ir_base.specs.declared.outcome.Place.{Place}
 use Rattle.pass_cleanup.specs.Cleanup.{is_kept_callee}
-use Rattle.ir_parts.specs.Contents.{part_operands}
-use Rattle.ir_parts.specs.Parts.{Part, first_part, parts_of}
+use Rattle.pass_proofs.specs.ir_parts.Contents.{part_operands}
+use Rattle.pass_proofs.specs.ir_parts.Parts.{Part, first_part, parts_of}
 use Rattle.ir_model.specs.Table.{callee_named}
 use Rattle.ir_model.specs.declared.module.Function.{Function}
 use Rattle.ir_model.specs.declared.operand.Operand.{Operand}

@@ -10,13 +10,13 @@ use Rattle.ir_model.specs.declared.module.Module.{Module}
 use Rattle.ir_model.specs.declared.module.Param.{Param}
 use Rattle.text_canonical.specs.order.Order.{function_order}
 use Rattle.text_canonical.specs.order.Shape.{Each}
-use Rattle.run_step.specs.Values.{Env}
+use Rattle.pass_proofs.specs.run_step.Values.{Env}
 use Rattle.run_plain.specs.declared.state.PlainActivation.{PlainActivation}
 use Rattle.run_plain.specs.declared.state.PlainState.{PlainState}
-use Rattle.ir_laws.specs.facts.order_rules.Renumbered.{IsRenumbered}
-use Rattle.run_laws.specs.changed.Changed.{result_of}
-use Rattle.ir_laws.specs.facts.order_meaning.Beside.{IsHeld, IsHeldResult}
-use Rattle.ir_laws.specs.paths.order_meaning.Beside.{AreMoved, moved_slot}
+use Rattle.pass_proofs.specs.ir_laws.facts.order_rules.Renumbered.{IsRenumbered}
+use Rattle.pass_proofs.specs.run_laws.changed.Changed.{result_of}
+use Rattle.pass_proofs.specs.ir_laws.facts.order_meaning.Beside.{IsHeld, IsHeldResult}
+use Rattle.pass_proofs.specs.ir_laws.paths.order_meaning.Beside.{AreMoved, moved_slot}
 
 -- ---- a function that moves its names, and holds what it sets
 

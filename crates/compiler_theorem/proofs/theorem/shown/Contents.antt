@@ -1,17 +1,17 @@
 -- What a frame holds is one.
 use Rattle.std.proofs.Common.{◌≡◌, ℕ, suc, ◌+◌, List, [], ◌∷◌, ◌++◌, Some, length, refl, sym, ◌∙◌, arith}
 use Rattle.std.specs.Prelude.{slice_get}
-use Rattle.frame_classes.specs.Classes.{IsOf}
-use Rattle.frame_classes.specs.declared.class.SlotClass.{SlotClass}
-use Rattle.frame_contents.specs.Frames.{AreContents}
-use Rattle.frame_contents.specs.Held.{held_of}
-use Rattle.frame_contents.specs.declared.contents.Contents.{Contents}
-use Rattle.frame_crossing.specs.Crossing.{AreCrossed, CrossedBy, LeftOut, More, NoMore, Nothing, Taken, suspends_of}
-use Rattle.frame_crossing.specs.Values.{values_of}
-use Rattle.ir_model.specs.declared.module.Function.{Function}
-use Rattle.ir_model.specs.declared.module.Module.{Module}
-use Rattle.ir_paths.specs.Slots.{allocas_of}
-use Rattle.ir_paths.specs.declared.point.Point.{Point}
+use Rattle.compiler.specs.frame_classes.Classes.{IsOf}
+use Rattle.compiler.specs.frame_classes.declared.class.SlotClass.{SlotClass}
+use Rattle.compiler.specs.frame_contents.Frames.{AreContents}
+use Rattle.compiler.specs.frame_contents.Held.{held_of}
+use Rattle.compiler.specs.frame_contents.declared.contents.Contents.{Contents}
+use Rattle.compiler.specs.frame_crossing.Crossing.{AreCrossed, CrossedBy, LeftOut, More, NoMore, Nothing, Taken, suspends_of}
+use Rattle.compiler.specs.frame_crossing.Values.{values_of}
+use Rattle.compiler.specs.ir_model.declared.module.Function.{Function}
+use Rattle.compiler.specs.ir_model.declared.module.Module.{Module}
+use Rattle.compiler.specs.ir_paths.Slots.{allocas_of}
+use Rattle.compiler.specs.ir_paths.declared.point.Point.{Point}
 
 module _ (f : Function) where
   crossed_once : (v k : ℕ) (ss : List Point) (a b : List (ℕ × ℕ)) → AreCrossed f v k ss a → AreCrossed f v k ss b

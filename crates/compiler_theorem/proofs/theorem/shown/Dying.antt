@@ -1,12 +1,12 @@
 -- What lives after slots have died is what it was before, and no slot of these.
 use Rattle.std.proofs.Common.{◌≡◌, false, ℕ, true, List, Some, ap, ◌∙◌, arith}
 use Rattle.std.specs.Prelude.{slice_get}
-use Rattle.run_memory.specs.Memory.{is_live, killed_block}
-use Rattle.run_memory.specs.declared.block.MemoryBlock.{MemoryBlock}
-use Rattle.run_slots.proofs.Times.{Dies, IsLeft, Stays, same_there, without_at, without_back}
-use Rattle.run_slots.specs.Slots.{times}
-use Rattle.run_step.specs.Step.{without_slots}
-use Rattle.run_step.specs.declared.world.Slot.{Slot}
+use Rattle.compiler.specs.run_memory.Memory.{is_live, killed_block}
+use Rattle.compiler.specs.run_memory.declared.block.MemoryBlock.{MemoryBlock}
+use Rattle.pass_frames_meaning.proofs.run_slots.Times.{Dies, IsLeft, Stays, same_there, without_at, without_back}
+use Rattle.pass_frames_meaning.specs.run_slots.Slots.{times}
+use Rattle.compiler.specs.run_step.Step.{without_slots}
+use Rattle.compiler.specs.run_step.declared.world.Slot.{Slot}
 
 pub record HasLived (m : List MemoryBlock) (ss : List Slot) (n : ℕ) (w : MemoryBlock) : Type 0 where
   pub there : slice_get m n ≡ Some w

@@ -2,15 +2,15 @@
 use Rattle.std.proofs.Common.{◌≡◌, ◌⊎◌, inl, inr, ℕ, suc, ◌+◌, ◌*◌, ◌/◌, ◌%◌, ◌<◌, Bool, true, false, List, [], ◌∷◌, Option, Some, None, length, refl, sym, ap, ◌∙◌, subst, arith, if◌then◌else◌, ◌&&◌, ◌==◌}
 use Rattle.std.proofs.lemmas.Bool.{and_parts, eqb-true}
 use Rattle.std.specs.Prelude.{nat_lt, replicate}
-use Rattle.ir_base.specs.declared.outcome.Word.{Word}
-use Rattle.run_laws.proofs.memory.Matching.{encode_kept, same_pointer-true}
-use Rattle.run_laws.specs.memory.Pointers.{AreBytes, Home, IsValue}
-use Rattle.run_memory.specs.Memory.{are_parts, decode, digits, encode, integer_from, number_of, onto, parts}
-use Rattle.run_memory.specs.declared.block.Byte.{Byte}
-use Rattle.run_memory.specs.declared.pointer.Access.{Access}
-use Rattle.run_memory.specs.declared.pointer.Pointer.{Pointer}
-use Rattle.run_memory.specs.declared.pointer.Value.{Value}
-use Rattle.run_types.specs.Fitting as fitting
+use Rattle.compiler.specs.ir_base.declared.outcome.Word.{Word}
+use Rattle.compiler.proofs.run_laws.memory.Matching.{encode_kept, same_pointer-true}
+use Rattle.compiler.specs.run_laws.memory.Pointers.{AreBytes, Home, IsValue}
+use Rattle.compiler.specs.run_memory.Memory.{are_parts, decode, digits, encode, integer_from, number_of, onto, parts}
+use Rattle.compiler.specs.run_memory.declared.block.Byte.{Byte}
+use Rattle.compiler.specs.run_memory.declared.pointer.Access.{Access}
+use Rattle.compiler.specs.run_memory.declared.pointer.Pointer.{Pointer}
+use Rattle.compiler.specs.run_memory.declared.pointer.Value.{Value}
+use Rattle.pass_frames_meaning.specs.run_types.Fitting as fitting
 
 -- ---- numbers
 

@@ -9,32 +9,32 @@ use Rattle.compiler_theorem.specs.theorem.Anew.{Anew, IsAnewOf, IsSlotOf}
 use Rattle.compiler_theorem.specs.theorem.Built.{building}
 use Rattle.compiler_theorem.specs.theorem.Lowered.{IsLowered, Lowered, early}
 use Rattle.compiler_theorem.specs.theorem.SharedBytes.{HasField}
-use Rattle.frame_classes.specs.Classes.{IsOf}
-use Rattle.frame_classes.specs.declared.class.SlotClass.{SlotClass}
-use Rattle.frame_contents.specs.Frames.{AreContents}
-use Rattle.frame_contents.specs.Held.{position_of}
-use Rattle.frame_contents.specs.declared.held.Holding.{Holding}
-use Rattle.frame_layout.specs.declared.layout.Layout.{Layout}
-use Rattle.ir_laws.proofs.facts.Lists.{below}
-use Rattle.ir_model.specs.Names.{function_at, no_function}
-use Rattle.ir_model.specs.declared.module.Function.{Function}
-use Rattle.ir_model.specs.declared.module.Module.{Module}
-use Rattle.ir_paths.specs.Slots.{allocas_of}
-use Rattle.pass_early.specs.BeginName.{with_begin_name}
-use Rattle.pass_early.specs.Early.{early_function, early_named}
-use Rattle.pass_frames.specs.Tables.{offset_at}
-use Rattle.pass_frames_proof.specs.Places.{Framing}
-use Rattle.pass_kept_proof.proofs.Read.{listed_by_name}
-use Rattle.pass_proofs.proofs.early.frames.Frames.{contents_early}
-use Rattle.pass_proofs.proofs.early.frames.Functions.{StaysUnderEach, stays_under_all}
-use Rattle.pass_proofs.proofs.early.frames.Modules.{named_holds, renamed_holds, saved_holds}
-use Rattle.pass_proofs.proofs.early.frames.NoParams.{accepted_apart}
-use Rattle.pass_proofs.proofs.early.source_rules.Accepted.{all_named_keep}
-use Rattle.pass_proofs.specs.early.renaming.Passes.{renamed_coroutine}
-use Rattle.pass_proofs.specs.early.saves.SavesWritten.{saved_function}
-use Rattle.rule_laws.proofs.rules.sources.Tables.{all_tabled}
-use Rattle.rule_laws.proofs.texts.named_texts.Placed.{locals_named, uses_named}
-use Rattle.run_framed.specs.Framed.{layout_of}
+use Rattle.compiler.specs.frame_classes.Classes.{IsOf}
+use Rattle.compiler.specs.frame_classes.declared.class.SlotClass.{SlotClass}
+use Rattle.compiler.specs.frame_contents.Frames.{AreContents}
+use Rattle.compiler.specs.frame_contents.Held.{position_of}
+use Rattle.compiler.specs.frame_contents.declared.held.Holding.{Holding}
+use Rattle.compiler.specs.frame_layout.declared.layout.Layout.{Layout}
+use Rattle.compiler.proofs.ir_laws.facts.Lists.{below}
+use Rattle.compiler.specs.ir_model.Names.{function_at, no_function}
+use Rattle.compiler.specs.ir_model.declared.module.Function.{Function}
+use Rattle.compiler.specs.ir_model.declared.module.Module.{Module}
+use Rattle.compiler.specs.ir_paths.Slots.{allocas_of}
+use Rattle.compiler.specs.pass_early.BeginName.{with_begin_name}
+use Rattle.compiler.specs.pass_early.Early.{early_function, early_named}
+use Rattle.compiler.specs.pass_frames.Tables.{offset_at}
+use Rattle.pass_frames_meaning.specs.pass_frames_proof.Places.{Framing}
+use Rattle.compiler.proofs.pass_kept_proof.Read.{listed_by_name}
+use Rattle.compiler.proofs.pass_proofs.early.frames.Frames.{contents_early}
+use Rattle.compiler.proofs.pass_proofs.early.frames.Functions.{StaysUnderEach, stays_under_all}
+use Rattle.compiler.proofs.pass_proofs.early.frames.Modules.{named_holds, renamed_holds, saved_holds}
+use Rattle.compiler.proofs.pass_proofs.early.frames.NoParams.{accepted_apart}
+use Rattle.compiler.proofs.pass_proofs.early.source_rules.Accepted.{all_named_keep}
+use Rattle.compiler.specs.pass_proofs.early.renaming.Passes.{renamed_coroutine}
+use Rattle.compiler.specs.pass_proofs.early.saves.SavesWritten.{saved_function}
+use Rattle.compiler.proofs.rule_laws.rules.sources.Tables.{all_tabled}
+use Rattle.compiler.proofs.rule_laws.texts.named_texts.Placed.{locals_named, uses_named}
+use Rattle.compiler.specs.run_framed.Framed.{layout_of}
 
 -- a coroutine of the early form is one of the source
 coroutine_was : (fs : List Function) (func : ℕ)

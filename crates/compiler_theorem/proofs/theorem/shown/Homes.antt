@@ -2,13 +2,13 @@
 use Rattle.std.proofs.Common.{◌≡◌, ℕ, zero, suc, ◌+◌, ◌<◌, ◌^◌, ◌%◌, List, [], ◌∷◌, length, refl, sym, ap, ◌∙◌, subst, arith}
 use Rattle.std.proofs.Math.Nat.{mod-add-mod}
 use Rattle.compiler_theorem.specs.theorem.Rows.{joined, joined_home}
-use Rattle.run_laws.proofs.memory.Homes.{seen_within}
-use Rattle.run_laws.specs.memory.Pointers.{AreBytes, Home, IsByte, IsSeen, IsValue, home_of, moved_pointer}
-use Rattle.run_memory.specs.Pointers.{moved}
-use Rattle.run_memory.specs.declared.block.Byte.{Byte}
-use Rattle.run_memory.specs.declared.pointer.Offset.{Offset}
-use Rattle.run_memory.specs.declared.pointer.Pointer.{Pointer}
-use Rattle.run_memory.specs.declared.pointer.Value.{Value}
+use Rattle.compiler.proofs.run_laws.memory.Homes.{seen_within}
+use Rattle.compiler.specs.run_laws.memory.Pointers.{AreBytes, Home, IsByte, IsSeen, IsValue, home_of, moved_pointer}
+use Rattle.compiler.specs.run_memory.Pointers.{moved}
+use Rattle.compiler.specs.run_memory.declared.block.Byte.{Byte}
+use Rattle.compiler.specs.run_memory.declared.pointer.Offset.{Offset}
+use Rattle.compiler.specs.run_memory.declared.pointer.Pointer.{Pointer}
+use Rattle.compiler.specs.run_memory.declared.pointer.Value.{Value}
 
 -- a home within the list
 pub home_joined : (homes more : List Home) (b : ℕ) → b < length homes

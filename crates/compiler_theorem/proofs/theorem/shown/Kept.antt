@@ -2,21 +2,21 @@
 use Rattle.std.proofs.Common.{◌≡◌, ℕ, zero, suc, List, [], ◌∷◌, Some, map, refl, sym, ap, ◌∙◌, subst}
 use Rattle.std.proofs.lemmas.Option.{slice_get-map}
 use Rattle.std.specs.Prelude.{ℤ, option_map, slice_get}
-use Rattle.ir_model.specs.declared.module.Frame.{Frame}
-use Rattle.ir_model.specs.declared.module.Module.{Module}
-use Rattle.pass_early.specs.Early.{early_module}
-use Rattle.pass_kept_proof.specs.Related.{AreInstances}
-use Rattle.pass_proofs.proofs.early.path_rules.RenamedOperands.{map_was}
-use Rattle.pass_proofs.specs.early.early_states.Beside.{IsEarlyOf, unsaved_module}
-use Rattle.pass_proofs.specs.early.save_states.SavedState.{saved_instance}
-use Rattle.pass_proofs.specs.edges.simulation.Beside.{IsEarlySplitOf}
-use Rattle.pass_proofs.specs.edges.states.MovedState.{edges_split, moved_instance}
-use Rattle.pass_proofs.specs.kept.sources.Beside.{IsKeptOf}
-use Rattle.run_source.specs.Source.{given}
-use Rattle.run_source.specs.declared.state.Instance.{Instance}
-use Rattle.run_source.specs.declared.state.State.{State}
-use Rattle.run_source_tables.specs.Given.{Given}
-use Rattle.run_states.specs.shortened.Shortened.{short_instance}
+use Rattle.compiler.specs.ir_model.declared.module.Frame.{Frame}
+use Rattle.compiler.specs.ir_model.declared.module.Module.{Module}
+use Rattle.compiler.specs.pass_early.Early.{early_module}
+use Rattle.compiler.specs.pass_kept_proof.Related.{AreInstances}
+use Rattle.compiler.proofs.pass_proofs.early.path_rules.RenamedOperands.{map_was}
+use Rattle.compiler.specs.pass_proofs.early.early_states.Beside.{IsEarlyOf, unsaved_module}
+use Rattle.compiler.specs.pass_proofs.early.save_states.SavedState.{saved_instance}
+use Rattle.compiler.specs.pass_proofs.edges.simulation.Beside.{IsEarlySplitOf}
+use Rattle.compiler.specs.pass_proofs.edges.states.MovedState.{edges_split, moved_instance}
+use Rattle.compiler.specs.pass_proofs.kept.sources.Beside.{IsKeptOf}
+use Rattle.compiler.specs.run_source.Source.{given}
+use Rattle.compiler.specs.run_source.declared.state.Instance.{Instance}
+use Rattle.compiler.specs.run_source.declared.state.State.{State}
+use Rattle.compiler.specs.run_source_tables.Given.{Given}
+use Rattle.compiler.specs.run_states.shortened.Shortened.{short_instance}
 
 -- an instance with the same slots
 pub record IsLike (x y : Instance) : Type 0 where

@@ -2,27 +2,27 @@
 use Rattle.std.proofs.Common.{false, ◌≡◌, inl, inr, ℕ, zero, suc, List, [], ◌∷◌, ◌++◌, Some, None, map, length, take, replicate, refl, sym, ap, ◌∙◌, subst}
 use Rattle.std.proofs.lemmas.Option.{slice_get-map}
 use Rattle.std.specs.Prelude.{ℤ, option_map, slice_get}
-use Rattle.ir_model.specs.Names.{function_at}
-use Rattle.ir_model.specs.declared.module.Frame.{Frame}
-use Rattle.ir_model.specs.declared.module.Module.{Module}
-use Rattle.ir_paths.specs.declared.point.Point.{Point}
-use Rattle.pass_early.specs.Early.{early_module}
-use Rattle.pass_kept_proof.specs.Needed.{IsNeededBehind}
-use Rattle.pass_kept_proof.specs.Related.{AreInstances, IsInstance, IsStatus}
-use Rattle.pass_proofs.proofs.early.path_rules.RenamedOperands.{map_was}
-use Rattle.pass_proofs.specs.early.early_states.Beside.{unsaved_module}
-use Rattle.pass_proofs.specs.early.save_states.SavedState.{saved_instance, saved_status, saved_values}
-use Rattle.pass_proofs.specs.early.saves.SavesWritten.{save_count}
-use Rattle.pass_proofs.specs.early.saves.Spots.{back_of}
-use Rattle.pass_proofs.specs.edges.states.MovedState.{edge_count, edges_split, moved_instance, moved_status, moved_values}
-use Rattle.pass_proofs.specs.kept.sources.Beside.{IsKeptOf}
-use Rattle.run_source.specs.Source.{given}
-use Rattle.run_source.specs.declared.state.Instance.{Instance}
-use Rattle.run_source.specs.declared.state.State.{State}
-use Rattle.run_source.specs.declared.state.Status.{Status}
-use Rattle.run_source_tables.specs.Given.{Given}
-use Rattle.run_states.specs.shortened.Shortened.{cut, short_instance, short_status}
-use Rattle.run_step.specs.Values.{Env}
+use Rattle.compiler.specs.ir_model.Names.{function_at}
+use Rattle.compiler.specs.ir_model.declared.module.Frame.{Frame}
+use Rattle.compiler.specs.ir_model.declared.module.Module.{Module}
+use Rattle.compiler.specs.ir_paths.declared.point.Point.{Point}
+use Rattle.compiler.specs.pass_early.Early.{early_module}
+use Rattle.compiler.specs.pass_kept_proof.Needed.{IsNeededBehind}
+use Rattle.compiler.specs.pass_kept_proof.Related.{AreInstances, IsInstance, IsStatus}
+use Rattle.compiler.proofs.pass_proofs.early.path_rules.RenamedOperands.{map_was}
+use Rattle.compiler.specs.pass_proofs.early.early_states.Beside.{unsaved_module}
+use Rattle.compiler.specs.pass_proofs.early.save_states.SavedState.{saved_instance, saved_status, saved_values}
+use Rattle.compiler.specs.pass_proofs.early.saves.SavesWritten.{save_count}
+use Rattle.compiler.specs.pass_proofs.early.saves.Spots.{back_of}
+use Rattle.compiler.specs.pass_proofs.edges.states.MovedState.{edge_count, edges_split, moved_instance, moved_status, moved_values}
+use Rattle.compiler.specs.pass_proofs.kept.sources.Beside.{IsKeptOf}
+use Rattle.compiler.specs.run_source.Source.{given}
+use Rattle.compiler.specs.run_source.declared.state.Instance.{Instance}
+use Rattle.compiler.specs.run_source.declared.state.State.{State}
+use Rattle.compiler.specs.run_source.declared.state.Status.{Status}
+use Rattle.compiler.specs.run_source_tables.Given.{Given}
+use Rattle.compiler.specs.run_states.shortened.Shortened.{cut, short_instance, short_status}
+use Rattle.compiler.specs.run_step.Values.{Env}
 use Rattle.compiler_theorem.specs.theorem.Suspended.{HasValue, IsSuspendedAlike, IsSuspendedAs, kept_place}
 
 -- ---- values

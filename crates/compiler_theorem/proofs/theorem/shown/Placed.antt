@@ -5,17 +5,17 @@ use Rattle.std.specs.List.{Contains}
 use Rattle.std.specs.Prelude.{slice_get}
 use Rattle.compiler_theorem.proofs.theorem.shown.Whole.{whole_stands}
 use Rattle.compiler_theorem.specs.theorem.SharedBytes.{Frame, StandAt}
-use Rattle.frame_contents.specs.Held.{position_of}
-use Rattle.pass_frames.specs.Tables.{offset_at}
-use Rattle.pass_frames_proof.specs.Related.{AreBuiltOf, Building}
-use Rattle.run_framed.specs.Framed.{frame_rights}
-use Rattle.run_laws.specs.memory.Pointers.{AreBytes, Home, home_of}
-use Rattle.run_memory.specs.Memory.{is_live}
-use Rattle.run_memory.specs.declared.block.MemoryBlock.{MemoryBlock}
-use Rattle.run_slots.proofs.Times.{same_there, there_at, there_below}
-use Rattle.run_source.specs.declared.state.Instance.{Instance}
-use Rattle.run_source.specs.declared.state.State.{State}
-use Rattle.run_step.specs.declared.world.Slot.{Slot}
+use Rattle.compiler.specs.frame_contents.Held.{position_of}
+use Rattle.compiler.specs.pass_frames.Tables.{offset_at}
+use Rattle.pass_frames_meaning.specs.pass_frames_proof.Related.{AreBuiltOf, Building}
+use Rattle.compiler.specs.run_framed.Framed.{frame_rights}
+use Rattle.compiler.specs.run_laws.memory.Pointers.{AreBytes, Home, home_of}
+use Rattle.compiler.specs.run_memory.Memory.{is_live}
+use Rattle.compiler.specs.run_memory.declared.block.MemoryBlock.{MemoryBlock}
+use Rattle.pass_frames_meaning.proofs.run_slots.Times.{same_there, there_at, there_below}
+use Rattle.compiler.specs.run_source.declared.state.Instance.{Instance}
+use Rattle.compiler.specs.run_source.declared.state.State.{State}
+use Rattle.compiler.specs.run_step.declared.world.Slot.{Slot}
 
 module _ (b : Building) (u t : State) (h : AreBuiltOf b u t) where
   -- the frame of an instance is there

@@ -3,17 +3,17 @@ use Rattle.std.proofs.Common.{◌≡◌, ℕ, zero, suc, ◌+◌, ◌≤◌, Boo
 use Rattle.std.proofs.lemmas.Bool.{false≢true}
 use Rattle.std.specs.List.{Contains}
 use Rattle.std.specs.Prelude.{IsTrue, slice_get, ◌==◌}
-use Rattle.ir_model.specs.declared.module.Module.{Module}
-use Rattle.pass_renewed_proof.specs.Beside.{AreInstancesBeside, AreSlots, Both, First, IsInstanceBeside, NoSlots, Second}
-use Rattle.pass_renewed_proof.specs.Ledger.{Ledger}
-use Rattle.pass_renewed_proof.specs.Renewed.{Flags, Roots}
-use Rattle.run_laws.specs.embedded.Making.{whole_home}
-use Rattle.run_laws.specs.memory.Pointers.{home_of}
-use Rattle.run_memory.specs.declared.block.MemoryBlock.{MemoryBlock}
-use Rattle.run_slots.proofs.Times.{equal_is, itself as same_number}
-use Rattle.run_slots.specs.Slots.{once_if, times}
-use Rattle.run_source.specs.declared.state.Instance.{Instance}
-use Rattle.run_step.specs.declared.world.Slot.{Slot}
+use Rattle.compiler.specs.ir_model.declared.module.Module.{Module}
+use Rattle.pass_frames_meaning.specs.pass_renewed_proof.Beside.{AreInstancesBeside, AreSlots, Both, First, IsInstanceBeside, NoSlots, Second}
+use Rattle.pass_frames_meaning.specs.pass_renewed_proof.Ledger.{Ledger}
+use Rattle.pass_frames_meaning.specs.pass_renewed_proof.Renewed.{Flags, Roots}
+use Rattle.compiler.specs.run_laws.embedded.Making.{whole_home}
+use Rattle.compiler.specs.run_laws.memory.Pointers.{home_of}
+use Rattle.compiler.specs.run_memory.declared.block.MemoryBlock.{MemoryBlock}
+use Rattle.pass_frames_meaning.proofs.run_slots.Times.{equal_is, itself as same_number}
+use Rattle.pass_frames_meaning.specs.run_slots.Slots.{once_if, times}
+use Rattle.compiler.specs.run_source.declared.state.Instance.{Instance}
+use Rattle.compiler.specs.run_step.declared.world.Slot.{Slot}
 
 -- ---- a slot of an instance
 

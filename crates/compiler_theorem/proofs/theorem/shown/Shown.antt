@@ -13,18 +13,18 @@ use Rattle.compiler_theorem.specs.theorem.SharedBytes.{AreDistancesIn, AreValues
 use Rattle.compiler_theorem.specs.theorem.ShownSlots.{AreFieldsShown, step_homes}
 use Rattle.compiler_theorem.specs.theorem.Suspended.{IsSuspendedAs}
 use Rattle.compiler_theorem.specs.theorem.Theorem.{AreMadeAnew}
-use Rattle.frame_crossing.specs.Crossing.{Crosses}
-use Rattle.ir_model.specs.Names.{function_at}
-use Rattle.ir_paths.specs.declared.point.Point.{Point}
-use Rattle.pass_frames_proof.specs.Related.{AreBuiltOf}
-use Rattle.pass_proofs.specs.kept.sources.Beside.{IsKeptOf}
-use Rattle.run_framed.specs.Framed.{layout_of}
-use Rattle.run_laws.specs.memory.Pointers.{Home}
-use Rattle.run_source.specs.declared.state.Instance.{Instance}
-use Rattle.run_source.specs.declared.state.State.{State}
-use Rattle.run_source.specs.declared.state.Status.{Status}
-use Rattle.run_step.specs.Values.{Env}
-use Rattle.run_types.specs.Fitting.{HaveBytes}
+use Rattle.compiler.specs.frame_crossing.Crossing.{Crosses}
+use Rattle.compiler.specs.ir_model.Names.{function_at}
+use Rattle.compiler.specs.ir_paths.declared.point.Point.{Point}
+use Rattle.pass_frames_meaning.specs.pass_frames_proof.Related.{AreBuiltOf}
+use Rattle.compiler.specs.pass_proofs.kept.sources.Beside.{IsKeptOf}
+use Rattle.compiler.specs.run_framed.Framed.{layout_of}
+use Rattle.compiler.specs.run_laws.memory.Pointers.{Home}
+use Rattle.compiler.specs.run_source.declared.state.Instance.{Instance}
+use Rattle.compiler.specs.run_source.declared.state.State.{State}
+use Rattle.compiler.specs.run_source.declared.state.Status.{Status}
+use Rattle.compiler.specs.run_step.Values.{Env}
+use Rattle.pass_frames_meaning.specs.run_types.Fitting.{HaveBytes}
 
 module _ (l : Lowered) (low : IsLowered l) (a : Anew) (r : Run) (s v u t : State)
     (fields : AreFieldsKept a l low r.answers) (small : KeepSmallOffsets s)

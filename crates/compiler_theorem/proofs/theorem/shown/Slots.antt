@@ -15,29 +15,29 @@ use Rattle.compiler_theorem.specs.theorem.Rows.{joined}
 use Rattle.compiler_theorem.specs.theorem.SharedBytes.{AreSlotsIn, Frame, StandAt}
 use Rattle.compiler_theorem.specs.theorem.ShownSlots.{AreSlotsShown, step_homes}
 use Rattle.compiler_theorem.specs.theorem.Theorem.{AreMadeAnew}
-use Rattle.frame_contents.specs.Held.{position_of}
-use Rattle.ir_model.specs.Names.{function_at}
-use Rattle.pass_frames.specs.Tables.{offset_at}
-use Rattle.pass_frames_proof.specs.Related.{AreBuiltOf, Building}
-use Rattle.pass_proofs.specs.kept.sources.Beside.{IsKeptOf}
-use Rattle.run_agreement.specs.Machines.{state_at}
-use Rattle.run_framed.specs.Framed.{layout_of}
-use Rattle.run_hooks.proofs.Steps.{same_runs, source_step}
-use Rattle.run_hooks.specs.Hooks.{step_of}
-use Rattle.run_hooks.specs.Meanings.{source_hooks}
-use Rattle.run_laws.specs.memory.Pointers.{AreBytes, Home}
-use Rattle.run_memory.specs.declared.block.Byte.{Byte}
-use Rattle.run_memory.specs.declared.block.MemoryBlock.{MemoryBlock}
-use Rattle.run_slots.proofs.Meanings.{source_keeps_slots}
-use Rattle.run_slots.proofs.Steps.{states_slotted}
-use Rattle.run_slots.proofs.Times.{itself, same_there}
-use Rattle.run_slots.specs.Slots.{IsSlottedState, once_if, times, times_in}
-use Rattle.run_source.specs.Source.{continue, first_state, given, step}
-use Rattle.run_source.specs.declared.state.Instance.{Instance}
-use Rattle.run_source.specs.declared.state.State.{State}
-use Rattle.run_source_tables.specs.Given.{Given}
-use Rattle.run_step.specs.declared.world.Slot.{Slot}
-use Rattle.run_step.specs.declared.world.World.{World}
+use Rattle.compiler.specs.frame_contents.Held.{position_of}
+use Rattle.compiler.specs.ir_model.Names.{function_at}
+use Rattle.compiler.specs.pass_frames.Tables.{offset_at}
+use Rattle.pass_frames_meaning.specs.pass_frames_proof.Related.{AreBuiltOf, Building}
+use Rattle.compiler.specs.pass_proofs.kept.sources.Beside.{IsKeptOf}
+use Rattle.compiler.specs.run_agreement.Machines.{state_at}
+use Rattle.compiler.specs.run_framed.Framed.{layout_of}
+use Rattle.pass_frames_meaning.proofs.run_hooks.Steps.{same_runs, source_step}
+use Rattle.pass_frames_meaning.specs.run_hooks.Hooks.{step_of}
+use Rattle.pass_frames_meaning.specs.run_hooks.Meanings.{source_hooks}
+use Rattle.compiler.specs.run_laws.memory.Pointers.{AreBytes, Home}
+use Rattle.compiler.specs.run_memory.declared.block.Byte.{Byte}
+use Rattle.compiler.specs.run_memory.declared.block.MemoryBlock.{MemoryBlock}
+use Rattle.pass_frames_meaning.proofs.run_slots.Meanings.{source_keeps_slots}
+use Rattle.pass_frames_meaning.proofs.run_slots.Steps.{states_slotted}
+use Rattle.pass_frames_meaning.proofs.run_slots.Times.{itself, same_there}
+use Rattle.pass_frames_meaning.specs.run_slots.Slots.{IsSlottedState, once_if, times, times_in}
+use Rattle.compiler.specs.run_source.Source.{continue, first_state, given, step}
+use Rattle.compiler.specs.run_source.declared.state.Instance.{Instance}
+use Rattle.compiler.specs.run_source.declared.state.State.{State}
+use Rattle.compiler.specs.run_source_tables.Given.{Given}
+use Rattle.compiler.specs.run_step.declared.world.Slot.{Slot}
+use Rattle.compiler.specs.run_step.declared.world.World.{World}
 
 -- ---- slots of a source's run
 

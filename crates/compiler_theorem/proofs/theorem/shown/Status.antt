@@ -6,26 +6,26 @@ use Rattle.compiler_theorem.proofs.theorem.shown.Renewed.{instance_beside}
 use Rattle.compiler_theorem.specs.theorem.SharedBytes.{StandAt}
 use Rattle.compiler_theorem.specs.theorem.ShownSlots.{step_homes}
 use Rattle.compiler_theorem.specs.theorem.Suspended.{IsSuspendedAs}
-use Rattle.ir_model.specs.declared.module.Module.{Module}
-use Rattle.ir_paths.specs.declared.point.Point.{Point}
-use Rattle.pass_renewed_meaning.specs.Followed.{AreInStep, Ended, Goes}
-use Rattle.pass_renewed_proof.specs.Beside.{IsBeside, IsStatusBeside}
-use Rattle.pass_renewed_proof.specs.Renewed.{Flags, Roots}
-use Rattle.pass_renewed_proof.specs.SlotEnvs.{AreSlotEnvs}
-use Rattle.run_laws.specs.access.Lines.{Holds}
-use Rattle.run_laws.specs.memory.Pointers.{AreBytes, Home, IsValue}
-use Rattle.run_memory.specs.Memory.{Rights, decode, digits, encode}
-use Rattle.run_memory.specs.declared.block.Byte.{Byte}
-use Rattle.run_memory.specs.declared.block.MemoryBlock.{MemoryBlock}
-use Rattle.run_memory.specs.declared.pointer.Access.{Access}
-use Rattle.run_memory.specs.declared.pointer.Value.{Value}
-use Rattle.run_slots.proofs.Times.{same_there}
-use Rattle.run_source.specs.declared.state.Instance.{Instance}
-use Rattle.run_source.specs.declared.state.State.{State}
-use Rattle.run_source.specs.declared.state.Status.{Status}
-use Rattle.run_step.specs.Values.{Env}
-use Rattle.run_types.specs.Fitting.{HaveBytes}
-use Rattle.run_types.specs.Fitting as fitting
+use Rattle.compiler.specs.ir_model.declared.module.Module.{Module}
+use Rattle.compiler.specs.ir_paths.declared.point.Point.{Point}
+use Rattle.pass_frames_meaning.specs.pass_renewed_meaning.Followed.{AreInStep, Ended, Goes}
+use Rattle.pass_frames_meaning.specs.pass_renewed_proof.Beside.{IsBeside, IsStatusBeside}
+use Rattle.pass_frames_meaning.specs.pass_renewed_proof.Renewed.{Flags, Roots}
+use Rattle.pass_frames_meaning.specs.pass_renewed_proof.SlotEnvs.{AreSlotEnvs}
+use Rattle.compiler.specs.run_laws.access.Lines.{Holds}
+use Rattle.compiler.specs.run_laws.memory.Pointers.{AreBytes, Home, IsValue}
+use Rattle.compiler.specs.run_memory.Memory.{Rights, decode, digits, encode}
+use Rattle.compiler.specs.run_memory.declared.block.Byte.{Byte}
+use Rattle.compiler.specs.run_memory.declared.block.MemoryBlock.{MemoryBlock}
+use Rattle.compiler.specs.run_memory.declared.pointer.Access.{Access}
+use Rattle.compiler.specs.run_memory.declared.pointer.Value.{Value}
+use Rattle.pass_frames_meaning.proofs.run_slots.Times.{same_there}
+use Rattle.compiler.specs.run_source.declared.state.Instance.{Instance}
+use Rattle.compiler.specs.run_source.declared.state.State.{State}
+use Rattle.compiler.specs.run_source.declared.state.Status.{Status}
+use Rattle.compiler.specs.run_step.Values.{Env}
+use Rattle.pass_frames_meaning.specs.run_types.Fitting.{HaveBytes}
+use Rattle.pass_frames_meaning.specs.run_types.Fitting as fitting
 
 -- ---- where slots are made anew
 

@@ -7,23 +7,23 @@ use Rattle.compiler_theorem.proofs.theorem.shown.Dying.{has_lived, stays_there, 
 use Rattle.compiler_theorem.proofs.theorem.shown.Renewed.{IsBoth, IsOneOfBoth, New, Old, both_slot, instance_beside, one_of_both}
 use Rattle.compiler_theorem.proofs.theorem.shown.Whole.{whole_stands}
 use Rattle.compiler_theorem.specs.theorem.ShownSlots.{step_homes}
-use Rattle.ir_model.specs.declared.module.Module.{Module}
-use Rattle.pass_renewed_meaning.specs.Followed.{AreInStep, Ended, Goes}
-use Rattle.pass_renewed_proof.specs.Beside.{IsBeside, IsEarly, IsOwn, IsSeated}
-use Rattle.pass_renewed_proof.specs.Ledger.{Seen}
-use Rattle.pass_renewed_proof.specs.Renewed.{Flags, Roots}
-use Rattle.run_laws.specs.embedded.Making.{whole_home}
-use Rattle.run_laws.specs.memory.Pointers.{AreBytes, Home, home_of}
-use Rattle.run_memory.specs.Memory.{is_live, owner_rights}
-use Rattle.run_memory.specs.declared.block.Byte.{Byte}
-use Rattle.run_memory.specs.declared.block.MemoryBlock.{MemoryBlock}
-use Rattle.run_slots.proofs.Times.{same_there, without_back}
-use Rattle.run_slots.specs.Slots.{times}
-use Rattle.run_source.specs.Source.{returned}
-use Rattle.run_source.specs.declared.state.Activation.{Activation}
-use Rattle.run_source.specs.declared.state.Instance.{Instance}
-use Rattle.run_source.specs.declared.state.State.{State}
-use Rattle.run_step.specs.declared.world.Slot.{Slot}
+use Rattle.compiler.specs.ir_model.declared.module.Module.{Module}
+use Rattle.pass_frames_meaning.specs.pass_renewed_meaning.Followed.{AreInStep, Ended, Goes}
+use Rattle.pass_frames_meaning.specs.pass_renewed_proof.Beside.{IsBeside, IsEarly, IsOwn, IsSeated}
+use Rattle.pass_frames_meaning.specs.pass_renewed_proof.Ledger.{Seen}
+use Rattle.pass_frames_meaning.specs.pass_renewed_proof.Renewed.{Flags, Roots}
+use Rattle.compiler.specs.run_laws.embedded.Making.{whole_home}
+use Rattle.compiler.specs.run_laws.memory.Pointers.{AreBytes, Home, home_of}
+use Rattle.compiler.specs.run_memory.Memory.{is_live, owner_rights}
+use Rattle.compiler.specs.run_memory.declared.block.Byte.{Byte}
+use Rattle.compiler.specs.run_memory.declared.block.MemoryBlock.{MemoryBlock}
+use Rattle.pass_frames_meaning.proofs.run_slots.Times.{same_there, without_back}
+use Rattle.pass_frames_meaning.specs.run_slots.Slots.{times}
+use Rattle.compiler.specs.run_source.Source.{returned}
+use Rattle.compiler.specs.run_source.declared.state.Activation.{Activation}
+use Rattle.compiler.specs.run_source.declared.state.Instance.{Instance}
+use Rattle.compiler.specs.run_source.declared.state.State.{State}
+use Rattle.compiler.specs.run_step.declared.world.Slot.{Slot}
 
 -- a block with other bytes stands for another
 pub record HasStanding (homes : List Home) (memory : List MemoryBlock) (c : ℕ) (x : MemoryBlock) : Type 0 where

@@ -13,30 +13,30 @@ use Rattle.compiler_theorem.specs.theorem.SharedBytes.{Frame, HasField, StandAt}
 use Rattle.compiler_theorem.specs.theorem.ShownSlots.{step_homes}
 use Rattle.compiler_theorem.specs.theorem.Suspended.{HasValue, IsDistanceKept, IsFieldKept, IsSuspendedAlike, IsSuspendedAs, IsValueKept, kept_place}
 use Rattle.compiler_theorem.specs.theorem.Theorem.{AreMadeAnew}
-use Rattle.ir_model.specs.Names.{function_at}
-use Rattle.ir_model.specs.Ty.{Ty}
-use Rattle.ir_paths.specs.declared.point.Point.{Point}
-use Rattle.pass_cells.specs.declared.plan.KeptValue.{KeptValue}
-use Rattle.pass_fetch.specs.Fetching.{value_bytes}
-use Rattle.pass_frames.specs.Tables.{offset_at}
-use Rattle.pass_frames_proof.specs.Places.{Framing}
-use Rattle.pass_frames_proof.specs.Related.{AreBuiltOf, AreFieldsRight, AreInstances, Building, IsDistanceOf, IsKeptAs, IsStatus, IsSuspendNumber}
-use Rattle.pass_proofs.specs.kept.sources.Beside.{IsKeptOf}
-use Rattle.pass_renewed_proof.specs.SlotEnvs.{IsAddress}
-use Rattle.run_framed.specs.Framed.{frame_rights, layout_of}
-use Rattle.run_laws.specs.access.Lines.{Holds}
-use Rattle.run_laws.specs.memory.Pointers.{Home, IsValue}
-use Rattle.run_memory.specs.Memory.{Rights, decode, digits, encode}
-use Rattle.run_memory.specs.Pointers.{moved}
-use Rattle.run_memory.specs.declared.block.Byte.{Byte}
-use Rattle.run_memory.specs.declared.pointer.Access.{Access}
-use Rattle.run_memory.specs.declared.pointer.Offset.{Offset}
-use Rattle.run_memory.specs.declared.pointer.Pointer.{Pointer}
-use Rattle.run_memory.specs.declared.pointer.Value.{Value}
-use Rattle.run_source.specs.declared.state.State.{State}
-use Rattle.run_source.specs.declared.state.Status.{Status}
-use Rattle.run_step.specs.Values.{Env, access_of, value_in}
-use Rattle.run_types.specs.Fitting.{HaveBytes}
+use Rattle.compiler.specs.ir_model.Names.{function_at}
+use Rattle.compiler.specs.ir_model.Ty.{Ty}
+use Rattle.compiler.specs.ir_paths.declared.point.Point.{Point}
+use Rattle.compiler.specs.pass_cells.declared.plan.KeptValue.{KeptValue}
+use Rattle.compiler.specs.pass_fetch.Fetching.{value_bytes}
+use Rattle.compiler.specs.pass_frames.Tables.{offset_at}
+use Rattle.pass_frames_meaning.specs.pass_frames_proof.Places.{Framing}
+use Rattle.pass_frames_meaning.specs.pass_frames_proof.Related.{AreBuiltOf, AreFieldsRight, AreInstances, Building, IsDistanceOf, IsKeptAs, IsStatus, IsSuspendNumber}
+use Rattle.compiler.specs.pass_proofs.kept.sources.Beside.{IsKeptOf}
+use Rattle.pass_frames_meaning.specs.pass_renewed_proof.SlotEnvs.{IsAddress}
+use Rattle.compiler.specs.run_framed.Framed.{frame_rights, layout_of}
+use Rattle.compiler.specs.run_laws.access.Lines.{Holds}
+use Rattle.compiler.specs.run_laws.memory.Pointers.{Home, IsValue}
+use Rattle.compiler.specs.run_memory.Memory.{Rights, decode, digits, encode}
+use Rattle.compiler.specs.run_memory.Pointers.{moved}
+use Rattle.compiler.specs.run_memory.declared.block.Byte.{Byte}
+use Rattle.compiler.specs.run_memory.declared.pointer.Access.{Access}
+use Rattle.compiler.specs.run_memory.declared.pointer.Offset.{Offset}
+use Rattle.compiler.specs.run_memory.declared.pointer.Pointer.{Pointer}
+use Rattle.compiler.specs.run_memory.declared.pointer.Value.{Value}
+use Rattle.compiler.specs.run_source.declared.state.State.{State}
+use Rattle.compiler.specs.run_source.declared.state.Status.{Status}
+use Rattle.compiler.specs.run_step.Values.{Env, access_of, value_in}
+use Rattle.pass_frames_meaning.specs.run_types.Fitting.{HaveBytes}
 
 -- ---- values in a row
 

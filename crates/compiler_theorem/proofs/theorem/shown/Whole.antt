@@ -2,14 +2,14 @@
 use Rattle.std.proofs.Common.{◌≡◌, Bool, true, false, ℕ, ◌+◌, ◌<◌, ◌≤◌, List, Some, None, length, take, drop, ap, ◌∙◌, subst, arith, get_or}
 use Rattle.std.proofs.lemmas.List.{take_all}
 use Rattle.std.specs.Prelude.{option_map, slice_get}
-use Rattle.pass_renewed_proof.proofs.Places.{muted_at}
-use Rattle.run_laws.proofs.memory.Matching.{cut_stands}
-use Rattle.run_laws.specs.memory.Pointers.{AreBytes, Home, IsByte, home_of}
-use Rattle.run_laws.specs.memory.Standing.{Embeds}
-use Rattle.run_laws.specs.transfer.Muted.{ended_if, muted}
-use Rattle.run_memory.specs.Memory.{Rights, is_below, is_live, owner_rights}
-use Rattle.run_memory.specs.declared.block.Byte.{Byte}
-use Rattle.run_memory.specs.declared.block.MemoryBlock.{MemoryBlock}
+use Rattle.pass_frames_meaning.proofs.pass_renewed_proof.Places.{muted_at}
+use Rattle.compiler.proofs.run_laws.memory.Matching.{cut_stands}
+use Rattle.compiler.specs.run_laws.memory.Pointers.{AreBytes, Home, IsByte, home_of}
+use Rattle.compiler.specs.run_laws.memory.Standing.{Embeds}
+use Rattle.compiler.specs.run_laws.transfer.Muted.{ended_if, muted}
+use Rattle.compiler.specs.run_memory.Memory.{Rights, is_below, is_live, owner_rights}
+use Rattle.compiler.specs.run_memory.declared.block.Byte.{Byte}
+use Rattle.compiler.specs.run_memory.declared.block.MemoryBlock.{MemoryBlock}
 
 -- all bytes of a block stand from the home's offset on
 pub record IsWhole (homes : List Home) (n : List MemoryBlock) (b : ℕ) (x : MemoryBlock) : Type 0 where

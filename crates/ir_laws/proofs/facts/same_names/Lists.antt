@@ -1,8 +1,8 @@
 -- Lemmas on lists, that speak of no pass.
 use Rattle.std.proofs.Common.{◌≡◌, ℕ, zero, suc, Bool, true, false, List, [], ◌∷◌, refl, sym, ap, ◌∙◌, subst, Option, Some, None}
 use Rattle.std.specs.Prelude.{option_map, slice_get, if◌then◌else◌}
-use Rattle.ir_base.specs.declared.name.Name.{Name}
-use Rattle.ir_model.specs.Names.{first_where, same_name}
+use Rattle.run_laws.specs.ir_base.declared.name.Name.{Name}
+use Rattle.run_laws.specs.ir_model.Names.{first_where, same_name}
 use Rattle.ir_laws.proofs.facts.Truth.{differ, same_name-itself}
 use Rattle.ir_laws.proofs.facts.Lists.{AreDistinct}
 

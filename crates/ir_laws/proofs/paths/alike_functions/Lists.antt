@@ -2,12 +2,12 @@
 use Rattle.std.proofs.Common.{◌≡◌, Bool, true, List, [], ◌∷◌, Some, None, Option, refl}
 use Rattle.ir_laws.proofs.paths.renamed.Outside.{where_pass}
 use Rattle.ir_laws.specs.facts.renamed.Regular.{passes}
-use Rattle.ir_model.specs.declared.instr.Instr.{Instr}
-use Rattle.ir_model.specs.declared.module.Function.{Function}
-use Rattle.ir_paths.proofs.Search.{or_left, or_right, same_point-itself}
-use Rattle.ir_paths.specs.Paths.{has_point, same_point}
-use Rattle.ir_paths.specs.Windows.{instr_at, points_where}
-use Rattle.ir_paths.specs.declared.point.Point.{Point}
+use Rattle.run_laws.specs.ir_model.declared.instr.Instr.{Instr}
+use Rattle.run_laws.specs.ir_model.declared.module.Function.{Function}
+use Rattle.run_laws.proofs.ir_paths.Search.{or_left, or_right, same_point-itself}
+use Rattle.run_laws.specs.ir_paths.Paths.{has_point, same_point}
+use Rattle.run_laws.specs.ir_paths.Windows.{instr_at, points_where}
+use Rattle.run_laws.specs.ir_paths.declared.point.Point.{Point}
 use Rattle.run_laws.specs.changed.Changed.{Each}
 
 -- ---- points at which a test passes

@@ -1,13 +1,13 @@
 -- What holds of the names of slots and of their addresses.
 use Rattle.std.proofs.Common.{◌≡◌, ℕ, zero, suc, ◌⊎◌, inl, inr, Bool, true, false, List, [], ◌∷◌, length, Some, subst}
 use Rattle.std.specs.Prelude.{flat_map, slice_get, if◌then◌else◌, ◌==◌}
-use Rattle.ir_model.specs.declared.instr.Instr.{Instr}
-use Rattle.ir_model.specs.declared.module.Block.{Block}
-use Rattle.ir_model.specs.declared.module.Function.{Function}
-use Rattle.ir_model.specs.declared.operand.Operand.{Operand}
-use Rattle.ir_paths.proofs.Search.{either, eq_from}
-use Rattle.ir_paths.specs.Slots.{addresses_of, addresses_within, allocas_in, allocas_of, geps_from, has_name, is_gep}
-use Rattle.ir_paths.specs.Windows.{points_where}
+use Rattle.run_laws.specs.ir_model.declared.instr.Instr.{Instr}
+use Rattle.run_laws.specs.ir_model.declared.module.Block.{Block}
+use Rattle.run_laws.specs.ir_model.declared.module.Function.{Function}
+use Rattle.run_laws.specs.ir_model.declared.operand.Operand.{Operand}
+use Rattle.run_laws.proofs.ir_paths.Search.{either, eq_from}
+use Rattle.run_laws.specs.ir_paths.Slots.{addresses_of, addresses_within, allocas_in, allocas_of, geps_from, has_name, is_gep}
+use Rattle.run_laws.specs.ir_paths.Windows.{points_where}
 use Rattle.ir_laws.proofs.facts.Members.{each_joined as each_append, at_each as each_at}
 use Rattle.run_laws.specs.changed.Changed.{Each}
 

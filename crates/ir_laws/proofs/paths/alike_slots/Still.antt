@@ -2,9 +2,9 @@
 use Rattle.std.proofs.Common.{◌≡◌, inl, List, refl, sym, ap, ◌∙◌}
 use Rattle.ir_laws.proofs.paths.alike_slots.SlotsAlike.{AreLone}
 use Rattle.ir_laws.proofs.paths.alike_slots.Strands.{AreCarried, AreStrands}
-use Rattle.ir_model.specs.declared.module.Function.{Function}
-use Rattle.ir_paths.specs.Paths.{has_point, nexts}
-use Rattle.ir_paths.specs.declared.point.Point.{Point}
+use Rattle.run_laws.specs.ir_model.declared.module.Function.{Function}
+use Rattle.run_laws.specs.ir_paths.Paths.{has_point, nexts}
+use Rattle.run_laws.specs.ir_paths.declared.point.Point.{Point}
 
 abbrev pub stay : Point → Point
 stay p = p

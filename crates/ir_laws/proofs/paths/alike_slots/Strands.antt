@@ -1,9 +1,9 @@
 -- Lemmas on strands, that speak of no pass.
 use Rattle.std.proofs.Common.{◌≡◌, ◌⊎◌, false, List, []}
-use Rattle.ir_model.specs.declared.module.Function.{Function}
-use Rattle.ir_paths.proofs.Search.{Has}
-use Rattle.ir_paths.specs.Paths.{Leads, has_point, nexts}
-use Rattle.ir_paths.specs.declared.point.Point.{Point}
+use Rattle.run_laws.specs.ir_model.declared.module.Function.{Function}
+use Rattle.run_laws.proofs.ir_paths.Search.{Has}
+use Rattle.run_laws.specs.ir_paths.Paths.{Leads, has_point, nexts}
+use Rattle.run_laws.specs.ir_paths.declared.point.Point.{Point}
 use Rattle.ir_laws.proofs.paths.expanded.Strands.{AreStrands as AreWays}
 
 -- the points of f have fronts and backs in g, as edges lead, and points are apart

@@ -2,7 +2,7 @@
 use Rattle.std.proofs.Common.{◌≡◌, inl, inr, Bool, true, List, [], ◌∷◌, ap, ◌∙◌}
 use Rattle.std.specs.List.{list_all}
 use Rattle.ir_laws.proofs.facts.Truth.{and_first, and_second}
-use Rattle.flow_solver.specs.Paths.{IsListed}
+use Rattle.run_laws.specs.flow_solver.Paths.{IsListed}
 
 -- ---- tests that all elements pass
 

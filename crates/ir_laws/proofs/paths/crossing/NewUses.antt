@@ -1,7 +1,7 @@
 -- Lemmas on new uses, that speak of no pass.
 use Rattle.std.proofs.Common.{◌≡◌, inl, inr, ℕ, sym, ap}
 use Rattle.std.specs.Prelude.{Option, Some, None, option_to_list}
-use Rattle.flow_solver.specs.Paths.{IsListed}
+use Rattle.run_laws.specs.flow_solver.Paths.{IsListed}
 
 -- ---- what a rule on names says of locals
 

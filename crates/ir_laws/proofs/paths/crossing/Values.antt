@@ -1,8 +1,8 @@
 -- Lemmas on values, that speak of no pass.
 use Rattle.std.proofs.Common.{◌≡◌, inl, inr, ℕ, suc, List, [], ◌∷◌, sym, ap}
 use Rattle.std.specs.Prelude.{Some, slice_get}
-use Rattle.flow_solver.specs.Paths.{IsListed}
-use Rattle.ir_model.specs.declared.instr.Instr.{Instr}
+use Rattle.run_laws.specs.flow_solver.Paths.{IsListed}
+use Rattle.run_laws.specs.ir_model.declared.instr.Instr.{Instr}
 
 -- ---- a cell is none of the values
 

@@ -1,9 +1,9 @@
 -- Lemmas on entered, that speak of no pass.
 use Rattle.std.proofs.Common.{ℕ, ◌≡◌}
-use Rattle.flow_solver.specs.Paths.{IsListed}
-use Rattle.ir_model.specs.declared.module.Block.{Block}
-use Rattle.ir_model.specs.declared.module.Function.{Function}
-use Rattle.ir_paths.specs.Paths.{targets}
+use Rattle.run_laws.specs.flow_solver.Paths.{IsListed}
+use Rattle.run_laws.specs.ir_model.declared.module.Block.{Block}
+use Rattle.run_laws.specs.ir_model.declared.module.Function.{Function}
+use Rattle.run_laws.specs.ir_paths.Paths.{targets}
 
 pub record IsPredecessor (f : Function) (label n : ℕ) : Type 0 where
   pub block : Block

@@ -6,8 +6,8 @@ use Rattle.ir_laws.proofs.facts.Truth.{itself, is_number}
 use Rattle.ir_laws.proofs.facts.local_rules.Woven.{other_number}
 use Rattle.ir_laws.proofs.paths.source_rules.Locals.{Apart, listed_either, listed_left, listed_right}
 use Rattle.ir_laws.proofs.facts.Lists.{row_of}
-use Rattle.flow_solver.specs.Paths.{IsListed}
-use Rattle.ir_model.specs.Names.{first_where}
+use Rattle.run_laws.specs.flow_solver.Paths.{IsListed}
+use Rattle.run_laws.specs.ir_model.Names.{first_where}
 use Rattle.ir_laws.proofs.paths.replaced.Known.{listed_mapped}
 use Rattle.ir_laws.proofs.facts.Members.{all_pass}
 use Rattle.ir_laws.specs.paths.woven_rules.Pairs.{AreDifferent}

@@ -2,7 +2,7 @@
 use Rattle.std.proofs.Common.{Bool, List, [], false, inl, inr, refl, true, ◌∷◌, ◌≡◌}
 use Rattle.std.specs.List.{list_any}
 use Rattle.std.specs.Prelude.{◌||◌}
-use Rattle.flow_solver.specs.Paths.{IsListed}
+use Rattle.run_laws.specs.flow_solver.Paths.{IsListed}
 
 -- ---- tests
 

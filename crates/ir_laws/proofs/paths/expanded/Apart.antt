@@ -1,8 +1,8 @@
 -- Lemmas on apart, that speak of no pass.
 use Rattle.std.proofs.Common.{◌≡◌, ap, ◌∙◌}
-use Rattle.ir_paths.proofs.Search.{same_point-itself, same_point-same}
-use Rattle.ir_paths.specs.Paths.{same_point}
-use Rattle.ir_paths.specs.declared.point.Point.{Point}
+use Rattle.run_laws.proofs.ir_paths.Search.{same_point-itself, same_point-same}
+use Rattle.run_laws.specs.ir_paths.Paths.{same_point}
+use Rattle.run_laws.specs.ir_paths.declared.point.Point.{Point}
 use Rattle.ir_laws.proofs.facts.Truth.{same_truth}
 
 -- points are the same where what they are moved to is

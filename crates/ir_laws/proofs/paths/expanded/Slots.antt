@@ -1,9 +1,9 @@
 -- Lemmas on slots, that speak of no pass.
 use Rattle.std.proofs.Common.{◌≡◌, ℕ, ◌⊎◌, inl, inr, true, List, [], ◌∷◌, subst}
 use Rattle.std.specs.Prelude.{◌==◌}
-use Rattle.ir_paths.specs.Slots.{has_name}
+use Rattle.run_laws.specs.ir_paths.Slots.{has_name}
 use Rattle.run_laws.specs.changed.Changed.{Each}
-use Rattle.ir_paths.proofs.Search.{either, eq_from}
+use Rattle.run_laws.proofs.ir_paths.Search.{either, eq_from}
 
 pub each_has : (P : ℕ → Type 0) (vs : List ℕ) (a : ℕ) → Each P vs → has_name vs a ≡ true → P a
 each_has P [] a h e = absurd (cc)

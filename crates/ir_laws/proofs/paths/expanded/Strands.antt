@@ -1,9 +1,9 @@
 -- Paths of a function, and those of one in which some points have become two, the first of which leads to the second alone.
 use Rattle.std.proofs.Common.{◌≡◌, ◌⊎◌, inl, inr, false, List, [], ◌∷◌, sym, subst, ⊎_elim}
-use Rattle.ir_model.specs.declared.module.Function.{Function}
-use Rattle.ir_paths.proofs.Search.{Has}
-use Rattle.ir_paths.specs.Paths.{IsPath, Leads, has_point, nexts}
-use Rattle.ir_paths.specs.declared.point.Point.{Point}
+use Rattle.run_laws.specs.ir_model.declared.module.Function.{Function}
+use Rattle.run_laws.proofs.ir_paths.Search.{Has}
+use Rattle.run_laws.specs.ir_paths.Paths.{IsPath, Leads, has_point, nexts}
+use Rattle.run_laws.specs.ir_paths.declared.point.Point.{Point}
 pub use Rattle.ir_laws.specs.paths.expanded.Avoided.{AreAvoided}
 
 -- an edge leads from x to y, and no other one from x

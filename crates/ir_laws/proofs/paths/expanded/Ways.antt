@@ -1,9 +1,9 @@
 -- Lemmas on ways, that speak of no pass.
 use Rattle.std.proofs.Common.{◌≡◌, ◌⊎◌, inl, inr, true, List, [], ◌∷◌, sym, ap, ◌∙◌}
 use Rattle.std.specs.Prelude.{map}
-use Rattle.ir_paths.proofs.Search.{Has, either, or_left, or_right, same_point-itself, same_point-same}
-use Rattle.ir_paths.specs.Paths.{has_point, same_point}
-use Rattle.ir_paths.specs.declared.point.Point.{Point}
+use Rattle.run_laws.proofs.ir_paths.Search.{Has, either, or_left, or_right, same_point-itself, same_point-same}
+use Rattle.run_laws.specs.ir_paths.Paths.{has_point, same_point}
+use Rattle.run_laws.specs.ir_paths.declared.point.Point.{Point}
 
 -- ---- points that are moved
 

@@ -1,8 +1,8 @@
 -- Lemmas on windows, that speak of no pass.
 use Rattle.std.proofs.Common.{◌≡◌, ℕ, refl}
 use Rattle.std.specs.Prelude.{Some, None, Option, slice_get}
-use Rattle.ir_model.specs.declared.module.Block.{Block}
-use Rattle.ir_paths.specs.Windows.{instr_in}
+use Rattle.run_laws.specs.ir_model.declared.module.Block.{Block}
+use Rattle.run_laws.specs.ir_paths.Windows.{instr_in}
 use Rattle.ir_laws.specs.facts.expanded.Spots.{instrs_in}
 
 pub instr_at_is : (o : Option Block) (at : ℕ) → instr_in o at ≡ slice_get (instrs_in o) at

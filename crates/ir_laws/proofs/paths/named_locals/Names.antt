@@ -1,12 +1,12 @@
 -- Where each local is a position of its function's table, so are the names that writing saves out looks at.
 use Rattle.std.proofs.Common.{ℕ, List, [], ◌∷◌, length}
-use Rattle.ir_model.specs.Names.{function_at}
-use Rattle.ir_model.specs.declared.instr.Instr.{Instr}
-use Rattle.ir_model.specs.declared.module.Block.{Block}
-use Rattle.ir_model.specs.declared.module.Module.{Module}
-use Rattle.ir_model.specs.declared.operand.Arg.{Arg}
-use Rattle.ir_model.specs.declared.operand.Callee.{Callee}
-use Rattle.ir_paths.specs.Windows.{call_operand, call_result, operand_at}
+use Rattle.run_laws.specs.ir_model.Names.{function_at}
+use Rattle.run_laws.specs.ir_model.declared.instr.Instr.{Instr}
+use Rattle.run_laws.specs.ir_model.declared.module.Block.{Block}
+use Rattle.run_laws.specs.ir_model.declared.module.Module.{Module}
+use Rattle.run_laws.specs.ir_model.declared.operand.Arg.{Arg}
+use Rattle.run_laws.specs.ir_model.declared.operand.Callee.{Callee}
+use Rattle.run_laws.specs.ir_paths.Windows.{call_operand, call_result, operand_at}
 use Rattle.run_laws.specs.changed.Changed.{Each, operands_of, result_of, values_of, Each as EachOperand}
 use Rattle.ir_laws.specs.paths.expanded.Tokens.{HasNamedToken, address_name}
 use Rattle.ir_laws.specs.facts.expanded.Tokens.{IsNamed, IsNamedResult}

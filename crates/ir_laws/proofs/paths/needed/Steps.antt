@@ -1,8 +1,8 @@
 -- Lemmas on steps, that speak of no pass.
 use Rattle.std.proofs.Common.{◌≡◌, ℕ, refl}
-use Rattle.ir_model.specs.declared.instr.Terminator.{Terminator}
-use Rattle.ir_model.specs.declared.operand.Operand.{Operand}
-use Rattle.ir_paths.specs.Windows.{label_of_term}
+use Rattle.run_laws.specs.ir_model.declared.instr.Terminator.{Terminator}
+use Rattle.run_laws.specs.ir_model.declared.operand.Operand.{Operand}
+use Rattle.run_laws.specs.ir_paths.Windows.{label_of_term}
 use Rattle.ir_laws.specs.facts.woven_rules.Parts.{Branch, Jump, Return, ReturnVoid, Switch, TermStays, Unreachable}
 
 pub label_same : (R : Operand → Operand → Type 0) (n : ℕ) (t u : Terminator) → TermStays R t u → label_of_term n u ≡ label_of_term n t

@@ -1,7 +1,7 @@
 -- Lemmas on outside, that speak of no pass.
 use Rattle.std.proofs.Common.{ℕ, ◌-◌, length}
-use Rattle.ir_model.specs.declared.module.Block.{Block}
-use Rattle.ir_paths.specs.declared.point.Point.{Point}
+use Rattle.run_laws.specs.ir_model.declared.module.Block.{Block}
+use Rattle.run_laws.specs.ir_paths.declared.point.Point.{Point}
 
 -- the end of a block's instructions
 abbrev pub end_at : ℕ → Block → Point

@@ -4,13 +4,13 @@ use Rattle.std.specs.Prelude.{Some, None, Option, slice_get, if◌then◌else◌
 use Rattle.ir_laws.proofs.paths.renamed.Outside.{where_pass}
 use Rattle.ir_laws.proofs.paths.renamed.Uses.{stands_in}
 use Rattle.ir_laws.specs.facts.renamed.Regular.{passes}
-use Rattle.ir_model.specs.declared.instr.Instr.{Instr}
-use Rattle.ir_model.specs.declared.module.Block.{Block}
-use Rattle.ir_model.specs.declared.module.Function.{Function}
-use Rattle.ir_paths.proofs.Search.{Has, has_left, has_right, or_left, or_right, same_point-itself}
-use Rattle.ir_paths.specs.Paths.{has_point, same_point}
-use Rattle.ir_paths.specs.Windows.{instr_at, points_from, points_in, points_where}
-use Rattle.ir_paths.specs.declared.point.Point.{Point}
+use Rattle.run_laws.specs.ir_model.declared.instr.Instr.{Instr}
+use Rattle.run_laws.specs.ir_model.declared.module.Block.{Block}
+use Rattle.run_laws.specs.ir_model.declared.module.Function.{Function}
+use Rattle.run_laws.proofs.ir_paths.Search.{Has, has_left, has_right, or_left, or_right, same_point-itself}
+use Rattle.run_laws.specs.ir_paths.Paths.{has_point, same_point}
+use Rattle.run_laws.specs.ir_paths.Windows.{instr_at, points_from, points_in, points_where}
+use Rattle.run_laws.specs.ir_paths.declared.point.Point.{Point}
 use Rattle.ir_laws.proofs.facts.Truth.{same_truth}
 
 abbrev point : ℕ → ℕ → Point

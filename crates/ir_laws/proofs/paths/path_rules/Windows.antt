@@ -1,12 +1,12 @@
 -- Lemmas on windows, that speak of no pass.
 use Rattle.std.proofs.Common.{◌≡◌, ◌⊎◌, inl, inr, ℕ, zero, suc, Bool, true, List, [], ◌∷◌, sym, ap, ◌∙◌, subst}
 use Rattle.std.specs.Prelude.{Some, slice_get}
-use Rattle.ir_model.specs.declared.instr.Instr.{Instr}
-use Rattle.ir_model.specs.declared.operand.Intrinsic.{Intrinsic}
-use Rattle.ir_paths.proofs.Search.{either, or_left, or_right, same_point-itself, same_point-same}
-use Rattle.ir_paths.specs.Paths.{has_point, same_point}
-use Rattle.ir_paths.specs.Windows.{is_call_of}
-use Rattle.ir_paths.specs.declared.point.Point.{Point}
+use Rattle.run_laws.specs.ir_model.declared.instr.Instr.{Instr}
+use Rattle.run_laws.specs.ir_model.declared.operand.Intrinsic.{Intrinsic}
+use Rattle.run_laws.proofs.ir_paths.Search.{either, or_left, or_right, same_point-itself, same_point-same}
+use Rattle.run_laws.specs.ir_paths.Paths.{has_point, same_point}
+use Rattle.run_laws.specs.ir_paths.Windows.{is_call_of}
+use Rattle.run_laws.specs.ir_paths.declared.point.Point.{Point}
 use Rattle.run_laws.specs.changed.Changed.{Each}
 
 abbrev pub is_save : Instr → Bool

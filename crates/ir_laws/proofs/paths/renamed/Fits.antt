@@ -2,12 +2,12 @@
 use Rattle.std.proofs.Common.{◌≡◌, Bool, true, false, length, refl, ap, ◌∙◌}
 use Rattle.std.specs.Prelude.{Some, None, Option, slice_get, ◌==◌}
 use Rattle.std.proofs.lemmas.Bool.{eqb-true}
-use Rattle.ir_model.specs.declared.instr.Instr.{Instr}
-use Rattle.ir_model.specs.declared.module.Block.{Block}
-use Rattle.ir_model.specs.declared.module.Function.{Function}
-use Rattle.ir_paths.specs.Windows.{instr_at, instr_in}
-use Rattle.ir_paths.specs.declared.point.Point.{Point}
-use Rattle.run_step.specs.Step.{AtInstr, AtTerm, Fetched, Nowhere, fetch, fetch_in, fetch_or}
+use Rattle.run_laws.specs.ir_model.declared.instr.Instr.{Instr}
+use Rattle.run_laws.specs.ir_model.declared.module.Block.{Block}
+use Rattle.run_laws.specs.ir_model.declared.module.Function.{Function}
+use Rattle.run_laws.specs.ir_paths.Windows.{instr_at, instr_in}
+use Rattle.run_laws.specs.ir_paths.declared.point.Point.{Point}
+use Rattle.run_laws.specs.run_step.Step.{AtInstr, AtTerm, Fetched, Nowhere, fetch, fetch_in, fetch_or}
 
 -- ---- what stands at a point
 

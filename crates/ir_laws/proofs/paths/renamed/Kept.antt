@@ -1,10 +1,10 @@
 -- Lemmas on kept, that speak of no pass.
 use Rattle.std.proofs.Common.{◌≡◌, true, false, refl}
 use Rattle.run_source.specs.Source.{begin}
-use Rattle.ir_model.specs.declared.instr.Instr.{Instr}
-use Rattle.ir_model.specs.declared.operand.Callee.{Callee}
-use Rattle.ir_model.specs.declared.operand.Intrinsic.{Intrinsic}
-use Rattle.ir_paths.specs.Windows.{is_call_of}
+use Rattle.run_laws.specs.ir_model.declared.instr.Instr.{Instr}
+use Rattle.run_laws.specs.ir_model.declared.operand.Callee.{Callee}
+use Rattle.run_laws.specs.ir_model.declared.operand.Intrinsic.{Intrinsic}
+use Rattle.run_laws.specs.ir_paths.Windows.{is_call_of}
 
 -- ---- calls of coro.frame and coro.begin
 

@@ -2,11 +2,11 @@
 use Rattle.std.proofs.Common.{◌≡◌, refl}
 use Rattle.std.specs.Prelude.{Some, None, Option, slice_get}
 use Rattle.ir_laws.proofs.paths.renamed.Fits.{stands}
-use Rattle.ir_model.specs.declared.instr.Instr.{Instr}
-use Rattle.ir_model.specs.declared.module.Block.{Block}
-use Rattle.ir_model.specs.declared.module.Function.{Function}
-use Rattle.ir_paths.specs.Windows.{instr_at, instr_in}
-use Rattle.ir_paths.specs.declared.point.Point.{Point}
+use Rattle.run_laws.specs.ir_model.declared.instr.Instr.{Instr}
+use Rattle.run_laws.specs.ir_model.declared.module.Block.{Block}
+use Rattle.run_laws.specs.ir_model.declared.module.Function.{Function}
+use Rattle.run_laws.specs.ir_paths.Windows.{instr_at, instr_in}
+use Rattle.run_laws.specs.ir_paths.declared.point.Point.{Point}
 
 -- the instruction at a point stands in a block
 pub record StandsIn (f : Function) (p : Point) (i : Instr) : Type 0 where

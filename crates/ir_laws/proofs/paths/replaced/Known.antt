@@ -1,7 +1,7 @@
 -- Lemmas on known, that speak of no pass.
 use Rattle.std.proofs.Common.{inl, inr, List, [], ◌∷◌, sym, ap, subst}
 use Rattle.std.specs.Prelude.{map}
-use Rattle.flow_solver.specs.Paths.{IsListed}
+use Rattle.run_laws.specs.flow_solver.Paths.{IsListed}
 use Rattle.run_laws.specs.changed.Changed.{Each}
 
 -- what each element of a list has

@@ -3,7 +3,7 @@ use Rattle.std.proofs.Common.{List, Some, [], arith, refl, suc, ℕ, ⊎_elim, �
 use Rattle.std.specs.Prelude.{slice_get}
 use Rattle.ir_laws.proofs.paths.source_rules.Locals.{listed_either}
 use Rattle.ir_laws.proofs.facts.Lists.{row_of}
-use Rattle.flow_solver.specs.Paths.{IsListed}
+use Rattle.run_laws.specs.flow_solver.Paths.{IsListed}
 use Rattle.ir_laws.specs.paths.woven_rules.Pairs.{AreDifferent}
 use Rattle.ir_laws.proofs.paths.edges.Lists.{joined_different as different_joined}
 

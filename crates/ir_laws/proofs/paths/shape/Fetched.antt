@@ -2,8 +2,8 @@
 use Rattle.std.proofs.Common.{◌≡◌, ℕ, zero, suc, ◌+◌, true, List, [], ◌∷◌, ap, ◌∙◌}
 use Rattle.std.specs.Prelude.{Some, slice_get}
 use Rattle.ir_laws.proofs.paths.shape.Steady.{AreOrdered, is_suspend}
-use Rattle.ir_model.specs.declared.instr.Instr.{Instr}
-use Rattle.ir_paths.specs.Windows.{call_result}
+use Rattle.run_laws.specs.ir_model.declared.instr.Instr.{Instr}
+use Rattle.run_laws.specs.ir_paths.Windows.{call_result}
 
 pub ordered_value : (V : ℕ → Type 0) (at : ℕ) (is : List Instr) → AreOrdered V at is → (x : ℕ) (i : Instr) → slice_get is x ≡ Some i → is_suspend i ≡ true → (v : ℕ) → call_result i ≡ Some v → V v
 ordered_value V at [] o x i e s v r = absurd (cc)

@@ -1,9 +1,9 @@
 -- Lemmas on steady, that speak of no pass.
 use Rattle.std.proofs.Common.{◌≡◌, ℕ, ◌+◌, Bool, true, List, [], ◌∷◌}
 use Rattle.std.specs.Prelude.{Some}
-use Rattle.ir_model.specs.declared.instr.Instr.{Instr}
-use Rattle.ir_model.specs.declared.operand.Intrinsic.{Intrinsic}
-use Rattle.ir_paths.specs.Windows.{call_result, is_call_of}
+use Rattle.run_laws.specs.ir_model.declared.instr.Instr.{Instr}
+use Rattle.run_laws.specs.ir_model.declared.operand.Intrinsic.{Intrinsic}
+use Rattle.run_laws.specs.ir_paths.Windows.{call_result, is_call_of}
 
 abbrev pub is_end : Instr → Bool
 is_end i = is_call_of Intrinsic.CoroEnd i

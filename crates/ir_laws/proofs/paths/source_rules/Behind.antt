@@ -1,6 +1,6 @@
 -- Lemmas on behind, that speak of no pass.
 use Rattle.std.proofs.Common.{inl, inr, List, [], ◌∷◌, refl}
-use Rattle.flow_solver.specs.Paths.{IsListed}
+use Rattle.run_laws.specs.flow_solver.Paths.{IsListed}
 use Rattle.run_laws.specs.changed.Changed.{Each}
 
 pub each_listed : {A : Type 0} (xs ys : List A) → ((x : A) → IsListed x xs → IsListed x ys) → Each (λ x. IsListed x ys) xs

@@ -1,7 +1,7 @@
 -- Lemmas on locals, that speak of no pass.
 use Rattle.std.proofs.Common.{◌≡◌, ◌⊎◌, inl, inr, ⊎_elim, ℕ, zero, suc, ◌+◌, List, [], ◌∷◌, ◌++◌, subst}
 use Rattle.std.specs.Prelude.{Some, slice_get}
-use Rattle.flow_solver.specs.Paths.{IsListed}
+use Rattle.run_laws.specs.flow_solver.Paths.{IsListed}
 use Rattle.ir_laws.proofs.facts.Lists.{row_of}
 
 -- ---- lists of which no element is another

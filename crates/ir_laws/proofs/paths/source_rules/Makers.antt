@@ -1,11 +1,11 @@
 -- Lemmas on makers, that speak of no pass.
 use Rattle.std.proofs.Common.{◌≡◌, ℕ, true}
 use Rattle.std.specs.Prelude.{Some}
-use Rattle.ir_model.specs.declared.instr.Instr.{Instr}
-use Rattle.ir_model.specs.declared.module.Function.{Function}
-use Rattle.ir_model.specs.declared.operand.Intrinsic.{Intrinsic}
-use Rattle.ir_paths.specs.Windows.{instr_at, is_call_of}
-use Rattle.ir_paths.specs.declared.point.Point.{Point}
+use Rattle.run_laws.specs.ir_model.declared.instr.Instr.{Instr}
+use Rattle.run_laws.specs.ir_model.declared.module.Function.{Function}
+use Rattle.run_laws.specs.ir_model.declared.operand.Intrinsic.{Intrinsic}
+use Rattle.run_laws.specs.ir_paths.Windows.{instr_at, is_call_of}
+use Rattle.run_laws.specs.ir_paths.declared.point.Point.{Point}
 use Rattle.run_laws.specs.changed.Changed.{result_of}
 
 -- an instruction of a function that makes the value

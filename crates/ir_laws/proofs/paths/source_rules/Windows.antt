@@ -2,8 +2,8 @@
 use Rattle.std.proofs.Common.{◌≡◌, inr, suc, List, [], ◌∷◌, length, ap, arith}
 use Rattle.std.specs.List.{cons_option}
 use Rattle.std.specs.Prelude.{Some, None, Option, slice_get}
-use Rattle.flow_solver.specs.Paths.{IsListed}
-use Rattle.ir_paths.specs.declared.point.Point.{Point}
+use Rattle.run_laws.specs.flow_solver.Paths.{IsListed}
+use Rattle.run_laws.specs.ir_paths.declared.point.Point.{Point}
 
 -- ---- saves with their suspends
 

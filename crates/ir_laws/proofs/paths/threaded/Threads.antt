@@ -1,12 +1,12 @@
 -- Functions of which the second has a block of its own on some of the edges of the first, which holds a jump alone; phis stay.
 use Rattle.std.proofs.Common.{◌≡◌, ◌⊎◌, ℕ, [], Some}
 use Rattle.std.specs.Prelude.{slice_get}
-use Rattle.flow_solver.specs.Paths.{IsListed}
-use Rattle.ir_model.specs.Names.{position_of}
-use Rattle.ir_model.specs.declared.instr.Terminator.{Terminator}
-use Rattle.ir_model.specs.declared.module.Block.{Block}
-use Rattle.ir_model.specs.declared.module.Function.{Function}
-use Rattle.ir_paths.specs.Paths.{targets}
+use Rattle.run_laws.specs.flow_solver.Paths.{IsListed}
+use Rattle.run_laws.specs.ir_model.Names.{position_of}
+use Rattle.run_laws.specs.ir_model.declared.instr.Terminator.{Terminator}
+use Rattle.run_laws.specs.ir_model.declared.module.Block.{Block}
+use Rattle.run_laws.specs.ir_model.declared.module.Function.{Function}
+use Rattle.run_laws.specs.ir_paths.Paths.{targets}
 
 -- the block with another terminator
 abbrev pub ended : Block → Terminator → Block

@@ -1,9 +1,9 @@
 -- Lemmas on whole, that speak of no pass.
 use Rattle.std.proofs.Common.{◌≡◌, inl, inr, ⊎_elim, true, List, [], ◌∷◌, ap, sym, ◌∙◌}
-use Rattle.flow_solver.specs.Paths.{IsListed}
-use Rattle.ir_paths.proofs.Search.{either, or_left, or_right, same_point-itself, same_point-same}
-use Rattle.ir_paths.specs.Paths.{has_point, same_point}
-use Rattle.ir_paths.specs.declared.point.Point.{Point}
+use Rattle.run_laws.specs.flow_solver.Paths.{IsListed}
+use Rattle.run_laws.proofs.ir_paths.Search.{either, or_left, or_right, same_point-itself, same_point-same}
+use Rattle.run_laws.specs.ir_paths.Paths.{has_point, same_point}
+use Rattle.run_laws.specs.ir_paths.declared.point.Point.{Point}
 
 -- ---- lists of points
 

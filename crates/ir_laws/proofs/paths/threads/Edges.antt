@@ -1,8 +1,8 @@
 -- Lemmas on edges, that speak of no pass.
 use Rattle.std.proofs.Common.{◌≡◌, ◌⊎◌, inl, inr, true, false, [], ◌∷◌}
-use Rattle.ir_paths.proofs.Search.{Has, either, or_left, same_point-itself, same_point-same}
-use Rattle.ir_paths.specs.Paths.{same_point}
-use Rattle.ir_paths.specs.declared.point.Point.{Point}
+use Rattle.run_laws.proofs.ir_paths.Search.{Has, either, or_left, same_point-itself, same_point-same}
+use Rattle.run_laws.specs.ir_paths.Paths.{same_point}
+use Rattle.run_laws.specs.ir_paths.declared.point.Point.{Point}
 
 -- the only one of a list
 pub only_one : (y z : Point) → Has (y ∷ []) z → z ≡ y

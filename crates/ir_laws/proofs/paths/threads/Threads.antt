@@ -1,9 +1,9 @@
 -- Paths of a function, and those of one that has points of its own on some edges.
 use Rattle.std.proofs.Common.{◌≡◌, ◌⊎◌, inl, inr, false, List, [], ◌∷◌, sym, subst, ◌∙◌, ◌↔◌}
-use Rattle.ir_model.specs.declared.module.Function.{Function}
-use Rattle.ir_paths.proofs.Search.{Has}
-use Rattle.ir_paths.specs.Paths.{IsPath, Leads, has_point, nexts}
-use Rattle.ir_paths.specs.declared.point.Point.{Point}
+use Rattle.run_laws.specs.ir_model.declared.module.Function.{Function}
+use Rattle.run_laws.proofs.ir_paths.Search.{Has}
+use Rattle.run_laws.specs.ir_paths.Paths.{IsPath, Leads, has_point, nexts}
+use Rattle.run_laws.specs.ir_paths.declared.point.Point.{Point}
 use Rattle.ir_laws.specs.paths.threads.Threads.{AreAvoidedToo, AreThreads, IsBetween, IsOnEdge, LeadsOnlyTo, LeadsOver}
 use Rattle.ir_laws.proofs.paths.alike_slots.Strands.{leads_at}
 use Rattle.ir_laws.proofs.paths.expanded.Strands.{leads_on}

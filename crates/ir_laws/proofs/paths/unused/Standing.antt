@@ -1,11 +1,11 @@
 -- Where an instruction stands.
 use Rattle.std.proofs.Common.{◌≡◌, refl}
 use Rattle.std.specs.Prelude.{None, Option, Some, slice_get}
-use Rattle.ir_model.specs.declared.instr.Instr.{Instr}
-use Rattle.ir_model.specs.declared.module.Block.{Block}
-use Rattle.ir_model.specs.declared.module.Function.{Function}
-use Rattle.ir_paths.specs.Windows.{instr_at, instr_in}
-use Rattle.ir_paths.specs.declared.point.Point.{Point}
+use Rattle.run_laws.specs.ir_model.declared.instr.Instr.{Instr}
+use Rattle.run_laws.specs.ir_model.declared.module.Block.{Block}
+use Rattle.run_laws.specs.ir_model.declared.module.Function.{Function}
+use Rattle.run_laws.specs.ir_paths.Windows.{instr_at, instr_in}
+use Rattle.run_laws.specs.ir_paths.declared.point.Point.{Point}
 
 pub record IsAt (f : Function) (p : Point) (i : Instr) : Type 0 where
   pub block : Block

@@ -2,8 +2,8 @@
 use Rattle.std.proofs.Common.{◌≡◌, inl, inr, ⊎_elim, ℕ, zero, suc, List, [], ◌∷◌, ◌++◌, refl, sym, ap, ◌∙◌, subst}
 use Rattle.std.specs.Prelude.{Some, map, slice_get}
 use Rattle.ir_laws.proofs.paths.source_rules.Locals.{Apart, listed_either, listed_left, listed_right}
-use Rattle.flow_solver.specs.Paths.{IsListed}
-use Rattle.ir_model.specs.declared.module.Block.{Block}
+use Rattle.run_laws.specs.flow_solver.Paths.{IsListed}
+use Rattle.run_laws.specs.ir_model.declared.module.Block.{Block}
 use Rattle.ir_laws.proofs.paths.uses.Sources.{IsIn}
 use Rattle.ir_laws.proofs.facts.Numbers.{Source}
 use Rattle.ir_laws.proofs.facts.uses.Sources.{label_of}

@@ -1,7 +1,7 @@
 -- Lemmas on paths, that speak of no pass.
 use Rattle.std.proofs.Common.{◌≡◌, inl, inr, ℕ, zero, suc, List, [], ◌∷◌, refl, sym, ap}
 use Rattle.std.specs.Prelude.{Some, map, slice_get}
-use Rattle.flow_solver.specs.Paths.{IsListed}
+use Rattle.run_laws.specs.flow_solver.Paths.{IsListed}
 
 -- ---- lists
 

@@ -1,8 +1,8 @@
 -- Lemmas on sources, that speak of no pass.
 use Rattle.std.proofs.Common.{◌≡◌, List}
 use Rattle.std.specs.Prelude.{Some, slice_get}
-use Rattle.flow_solver.specs.Paths.{IsListed}
-use Rattle.ir_model.specs.declared.module.Block.{Block}
+use Rattle.run_laws.specs.flow_solver.Paths.{IsListed}
+use Rattle.run_laws.specs.ir_model.declared.module.Block.{Block}
 use Rattle.ir_laws.proofs.facts.Numbers.{Head, Last, Of, Source}
 
 -- a block stands in the front of a part, among the pieces of a block of the function, or is the mark of the end

@@ -3,7 +3,7 @@ use Rattle.std.proofs.Common.{◌≡◌, inl, inr, ℕ, ◌≤◌, List, [], ◌
 use Rattle.std.specs.Prelude.{◌==◌}
 use Rattle.ir_laws.proofs.facts.Truth.{itself}
 use Rattle.ir_laws.proofs.facts.local_rules.Woven.{other_number}
-use Rattle.flow_solver.specs.Paths.{IsListed}
+use Rattle.run_laws.specs.flow_solver.Paths.{IsListed}
 use Rattle.ir_laws.specs.facts.woven_rules.Pairs.{one_if, times}
 
 pub times_none : (n : ℕ) (xs : List ℕ) → (IsListed n xs → ⊥) → times n xs ≡ 0

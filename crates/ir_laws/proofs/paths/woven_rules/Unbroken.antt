@@ -1,6 +1,6 @@
 -- Lemmas on unbroken, that speak of no pass.
 use Rattle.std.proofs.Common.{inl, inr, List, [], ◌∷◌, refl, sym, subst}
-use Rattle.flow_solver.specs.Paths.{IsListed}
+use Rattle.run_laws.specs.flow_solver.Paths.{IsListed}
 use Rattle.run_laws.specs.changed.Changed.{Each}
 
 -- ---- lists

@@ -1,5 +1,5 @@
 -- Lemmas on moved state, that speak of no pass.
-use Rattle.ir_model.specs.declared.instr.Terminator.{Terminator}
+use Rattle.run_laws.specs.ir_model.declared.instr.Terminator.{Terminator}
 
 -- ---- what is asked of a module and of a state
 

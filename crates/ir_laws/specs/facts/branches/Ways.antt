@@ -1,8 +1,8 @@
 -- Lemmas on ways, that speak of no pass.
 use Rattle.std.specs.Prelude.{ℕ, ◌≡◌}
 use Rattle.ir_laws.specs.facts.threads.Moved.{ArePaired}
-use Rattle.ir_model.specs.declared.instr.Case.{Case}
-use Rattle.ir_model.specs.declared.instr.Terminator.{Terminator}
+use Rattle.run_laws.specs.ir_model.declared.instr.Case.{Case}
+use Rattle.run_laws.specs.ir_model.declared.instr.Terminator.{Terminator}
 
 -- terminators with the same operands, whose labels are related
 abbrev pub TermsPaired : (ℕ → ℕ → Type 0) → Terminator → Terminator → Type 0

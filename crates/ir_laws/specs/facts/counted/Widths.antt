@@ -1,6 +1,6 @@
 -- The widths of integers.
 use Rattle.std.specs.Prelude.{ℕ, Bool, true, ◌||◌, ◌==◌}
-use Rattle.ir_model.specs.Ty.{Ty, int}
+use Rattle.run_laws.specs.ir_model.Ty.{Ty, int}
 
 -- the widths that types are written with
 abbrev pub is_width : ℕ → Bool

@@ -1,7 +1,7 @@
 -- Lemmas on spots, that speak of no pass.
 use Rattle.std.specs.Prelude.{List, [], Some, None, Option}
-use Rattle.ir_model.specs.declared.instr.Instr.{Instr}
-use Rattle.ir_model.specs.declared.module.Block.{Block}
+use Rattle.run_laws.specs.ir_model.declared.instr.Instr.{Instr}
+use Rattle.run_laws.specs.ir_model.declared.module.Block.{Block}
 
 abbrev pub instrs_in : Option Block → List Instr
 instrs_in None = []

@@ -1,6 +1,6 @@
 -- Lemmas on tokens, that speak of no pass.
 use Rattle.std.specs.Prelude.{ℕ, Some, None, Option, ◌<◌}
-use Rattle.ir_model.specs.declared.operand.Operand.{Operand}
+use Rattle.run_laws.specs.ir_model.declared.operand.Operand.{Operand}
 
 -- a local is one of so many names
 abbrev pub IsNamed : ℕ → Operand → Type 0

@@ -1,9 +1,9 @@
 -- Modules whose functions are called alike.
 use Rattle.std.specs.Prelude.{◌≡◌, List, Option, map}
-use Rattle.ir_base.specs.declared.name.Name.{Name}
-use Rattle.ir_model.specs.Ty.{Ty}
-use Rattle.ir_model.specs.declared.module.Function.{Function}
-use Rattle.ir_model.specs.declared.module.Module.{Module}
+use Rattle.run_laws.specs.ir_base.declared.name.Name.{Name}
+use Rattle.run_laws.specs.ir_model.Ty.{Ty}
+use Rattle.run_laws.specs.ir_model.declared.module.Function.{Function}
+use Rattle.run_laws.specs.ir_model.declared.module.Module.{Module}
 
 -- what calls of a function go by
 pub record Heading : Type 0 where

@@ -1,9 +1,9 @@
 -- Tables of names in which no name stands twice.
 use Rattle.std.specs.Prelude.{◌≡◌, ℕ, true, List, Some, slice_get}
-use Rattle.ir_base.specs.declared.name.Name.{Name}
-use Rattle.ir_model.specs.Names.{same_name}
-use Rattle.ir_model.specs.declared.module.Function.{Function}
-use Rattle.ir_model.specs.declared.module.Module.{Module}
+use Rattle.run_laws.specs.ir_base.declared.name.Name.{Name}
+use Rattle.run_laws.specs.ir_model.Names.{same_name}
+use Rattle.run_laws.specs.ir_model.declared.module.Function.{Function}
+use Rattle.run_laws.specs.ir_model.declared.module.Module.{Module}
 
 -- positions of the same name are the same
 abbrev pub AreApart : List Name → Type 0

@@ -1,17 +1,17 @@
 -- Functions whose locals stand at other positions of the table of names.
 use Rattle.std.specs.Prelude.{◌≡◌, ℕ, List, map, option_map}
-use Rattle.ir_base.specs.declared.name.Name.{Name}
-use Rattle.ir_model.specs.declared.instr.Case.{Case}
-use Rattle.ir_model.specs.declared.instr.Incoming.{Incoming}
-use Rattle.ir_model.specs.declared.instr.Instr.{Instr}
-use Rattle.ir_model.specs.declared.instr.Phi.{Phi}
-use Rattle.ir_model.specs.declared.instr.Terminator.{Terminator}
-use Rattle.ir_model.specs.declared.module.Block.{Block}
-use Rattle.ir_model.specs.declared.module.Function.{Function}
-use Rattle.ir_model.specs.declared.module.Param.{Param}
-use Rattle.ir_model.specs.declared.operand.Arg.{Arg}
-use Rattle.ir_model.specs.declared.operand.Callee.{Callee}
-use Rattle.ir_model.specs.declared.operand.Operand.{Operand}
+use Rattle.run_laws.specs.ir_base.declared.name.Name.{Name}
+use Rattle.run_laws.specs.ir_model.declared.instr.Case.{Case}
+use Rattle.run_laws.specs.ir_model.declared.instr.Incoming.{Incoming}
+use Rattle.run_laws.specs.ir_model.declared.instr.Instr.{Instr}
+use Rattle.run_laws.specs.ir_model.declared.instr.Phi.{Phi}
+use Rattle.run_laws.specs.ir_model.declared.instr.Terminator.{Terminator}
+use Rattle.run_laws.specs.ir_model.declared.module.Block.{Block}
+use Rattle.run_laws.specs.ir_model.declared.module.Function.{Function}
+use Rattle.run_laws.specs.ir_model.declared.module.Param.{Param}
+use Rattle.run_laws.specs.ir_model.declared.operand.Arg.{Arg}
+use Rattle.run_laws.specs.ir_model.declared.operand.Callee.{Callee}
+use Rattle.run_laws.specs.ir_model.declared.operand.Operand.{Operand}
 
 abbrev pub renumbered_operand : (ℕ → ℕ) → Operand → Operand
 renumbered_operand to (Operand.Local n) = Operand.Local (to n)

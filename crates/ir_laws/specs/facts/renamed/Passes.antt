@@ -1,7 +1,7 @@
 -- Lemmas on passes, that speak of no pass.
 use Rattle.std.specs.Prelude.{map}
-use Rattle.ir_model.specs.declared.module.Function.{Function}
-use Rattle.ir_model.specs.declared.module.Module.{Module}
+use Rattle.run_laws.specs.ir_model.declared.module.Function.{Function}
+use Rattle.run_laws.specs.ir_model.declared.module.Module.{Module}
 
 -- the module with each of its functions changed
 abbrev pub with_functions : (Function → Function) → Module → Module

@@ -1,6 +1,6 @@
 -- Lemmas on regular, that speak of no pass.
 use Rattle.std.specs.Prelude.{ℕ, Bool, false, Some, None, Option, ◌==◌}
-use Rattle.ir_model.specs.declared.instr.Instr.{Instr}
+use Rattle.run_laws.specs.ir_model.declared.instr.Instr.{Instr}
 
 -- ---- what stands at a point
 

@@ -1,8 +1,8 @@
 -- Lemmas on splittable, that speak of no pass.
 use Rattle.std.specs.Prelude.{Bool, true, false}
-use Rattle.ir_model.specs.declared.instr.Instr.{Instr}
-use Rattle.ir_model.specs.declared.operand.Callee.{Callee}
-use Rattle.ir_model.specs.declared.operand.Intrinsic.{Intrinsic}
+use Rattle.run_laws.specs.ir_model.declared.instr.Instr.{Instr}
+use Rattle.run_laws.specs.ir_model.declared.operand.Callee.{Callee}
+use Rattle.run_laws.specs.ir_model.declared.operand.Intrinsic.{Intrinsic}
 
 -- ---- begin
 

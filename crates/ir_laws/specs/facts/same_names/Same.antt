@@ -1,8 +1,8 @@
 -- Modules that differ in the bodies and types of their functions alone.
 use Rattle.std.specs.Prelude.{Bool, map, ◌≡◌}
-use Rattle.ir_base.specs.declared.name.Name.{Name}
-use Rattle.ir_model.specs.declared.module.Function.{Function}
-use Rattle.ir_model.specs.declared.module.Module.{Module}
+use Rattle.run_laws.specs.ir_base.declared.name.Name.{Name}
+use Rattle.run_laws.specs.ir_model.declared.module.Function.{Function}
+use Rattle.run_laws.specs.ir_model.declared.module.Module.{Module}
 
 -- the name of a function, and whether it is a coroutine
 abbrev pub naming : Function → Name × Bool

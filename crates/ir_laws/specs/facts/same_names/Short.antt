@@ -1,8 +1,8 @@
 -- Names whose numbers are written in full.
 use Rattle.std.specs.Prelude.{ℕ, Some, slice_get, ◌≡◌, ◌<◌, ◌^◌}
-use Rattle.ir_base.specs.declared.name.Name.{Name}
-use Rattle.ir_model.specs.declared.module.Function.{Function}
-use Rattle.ir_model.specs.declared.module.Module.{Module}
+use Rattle.run_laws.specs.ir_base.declared.name.Name.{Name}
+use Rattle.run_laws.specs.ir_model.declared.module.Function.{Function}
+use Rattle.run_laws.specs.ir_model.declared.module.Module.{Module}
 
 -- a name that is a number has one below 2^64; in a text they are below 2^32
 abbrev pub IsShort : Name → Type 0

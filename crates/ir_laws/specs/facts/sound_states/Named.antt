@@ -1,13 +1,13 @@
 -- Locals that are positions of their function's table of names: readers make no others.
 use Rattle.std.specs.Prelude.{ℕ, length, ◌<◌}
-use Rattle.ir_model.specs.Names.{function_at}
-use Rattle.ir_model.specs.declared.instr.Incoming.{Incoming}
-use Rattle.ir_model.specs.declared.instr.Instr.{Instr}
-use Rattle.ir_model.specs.declared.instr.Phi.{Phi}
-use Rattle.ir_model.specs.declared.module.Block.{Block}
-use Rattle.ir_model.specs.declared.module.Function.{Function}
-use Rattle.ir_model.specs.declared.module.Module.{Module}
-use Rattle.ir_model.specs.declared.module.Param.{Param}
+use Rattle.run_laws.specs.ir_model.Names.{function_at}
+use Rattle.run_laws.specs.ir_model.declared.instr.Incoming.{Incoming}
+use Rattle.run_laws.specs.ir_model.declared.instr.Instr.{Instr}
+use Rattle.run_laws.specs.ir_model.declared.instr.Phi.{Phi}
+use Rattle.run_laws.specs.ir_model.declared.module.Block.{Block}
+use Rattle.run_laws.specs.ir_model.declared.module.Function.{Function}
+use Rattle.run_laws.specs.ir_model.declared.module.Module.{Module}
+use Rattle.run_laws.specs.ir_model.declared.module.Param.{Param}
 use Rattle.run_laws.specs.changed.Changed.{Each, operands_of, operands_of_term, result_of, Each as EachOperand}
 use Rattle.ir_laws.specs.facts.expanded.Tokens.{IsNamed, IsNamedResult}
 

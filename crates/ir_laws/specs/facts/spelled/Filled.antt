@@ -1,8 +1,8 @@
 -- Functions of which each phi has an operand.
 use Rattle.std.specs.Prelude.{◌≡◌, List, [], ◌∷◌}
-use Rattle.ir_model.specs.declared.instr.Phi.{Phi}
-use Rattle.ir_model.specs.declared.module.Block.{Block}
-use Rattle.ir_model.specs.declared.module.Function.{Function}
+use Rattle.run_laws.specs.ir_model.declared.instr.Phi.{Phi}
+use Rattle.run_laws.specs.ir_model.declared.module.Block.{Block}
+use Rattle.run_laws.specs.ir_model.declared.module.Function.{Function}
 use Rattle.run_laws.specs.changed.Changed.{Each}
 
 -- the phi has an operand

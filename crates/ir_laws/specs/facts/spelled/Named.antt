@@ -1,6 +1,6 @@
 -- Modules whose items have names that can be written.
 use Rattle.text_names.specs.Spelling.{IsName}
-use Rattle.ir_model.specs.declared.module.Module.{Module}
+use Rattle.run_laws.specs.ir_model.declared.module.Module.{Module}
 use Rattle.run_laws.specs.changed.Changed.{Each}
 
 -- the names of functions, declarations and globals can be written

@@ -1,9 +1,9 @@
 -- Lemmas on parts, that speak of no pass.
 use Rattle.std.specs.Prelude.{◌≡◌, ℕ, List, Some, None}
-use Rattle.ir_model.specs.declared.instr.Case.{Case}
-use Rattle.ir_model.specs.declared.instr.Terminator.{Terminator}
-use Rattle.ir_model.specs.declared.operand.Arg.{Arg}
-use Rattle.ir_model.specs.declared.operand.Operand.{Operand}
+use Rattle.run_laws.specs.ir_model.declared.instr.Case.{Case}
+use Rattle.run_laws.specs.ir_model.declared.instr.Terminator.{Terminator}
+use Rattle.run_laws.specs.ir_model.declared.operand.Arg.{Arg}
+use Rattle.run_laws.specs.ir_model.declared.operand.Operand.{Operand}
 use Rattle.run_laws.specs.changed.Changed.{Each}
 
 -- an argument of the same type

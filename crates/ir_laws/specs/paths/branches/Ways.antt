@@ -1,6 +1,6 @@
 -- Lemmas on ways, that speak of no pass.
 use Rattle.std.specs.Prelude.{ℕ, ◌≡◌}
-use Rattle.run_step.specs.Step.{AtInstr, AtTerm, Fetched, Nowhere}
+use Rattle.run_laws.specs.run_step.Step.{AtInstr, AtTerm, Fetched, Nowhere}
 use Rattle.ir_laws.specs.facts.branches.Ways.{TermsPaired}
 
 -- what stands at a place, and what stands there then: the same, or terminators whose labels are related

@@ -1,7 +1,7 @@
 -- Points that paths avoid, where points have become two.
 use Rattle.std.specs.Prelude.{false, List, ◌≡◌}
-use Rattle.ir_paths.specs.Paths.{has_point}
-use Rattle.ir_paths.specs.declared.point.Point.{Point}
+use Rattle.run_laws.specs.ir_paths.Paths.{has_point}
+use Rattle.run_laws.specs.ir_paths.declared.point.Point.{Point}
 
 -- where a point is avoided, its front or its back is, and where either is, the point is
 pub record AreAvoided (front back : Point → Point) (avoided besides : List Point) : Type 0 where

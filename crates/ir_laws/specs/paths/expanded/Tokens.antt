@@ -1,10 +1,10 @@
 -- What writing saves out asks of the calls of a coroutine.
 use Rattle.std.specs.Prelude.{ℕ, length, Some, None, Option}
 pub use Rattle.run_laws.specs.changed.Changed.{Each}
-use Rattle.ir_model.specs.declared.instr.Instr.{Instr}
-use Rattle.ir_model.specs.declared.module.Block.{Block}
-use Rattle.ir_model.specs.declared.module.Function.{Function}
-use Rattle.ir_paths.specs.Windows.{call_operand, call_result}
+use Rattle.run_laws.specs.ir_model.declared.instr.Instr.{Instr}
+use Rattle.run_laws.specs.ir_model.declared.module.Block.{Block}
+use Rattle.run_laws.specs.ir_model.declared.module.Function.{Function}
+use Rattle.run_laws.specs.ir_paths.Windows.{call_operand, call_result}
 use Rattle.ir_laws.specs.facts.expanded.Tokens.{IsNamed, IsNamedResult}
 
 -- the name of an address: of an alloca or a getelementptr

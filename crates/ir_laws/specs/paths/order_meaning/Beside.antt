@@ -1,7 +1,7 @@
 -- Lemmas on beside, that speak of no pass.
 use Rattle.std.specs.Prelude.{◌≡◌, ℕ, length}
-use Rattle.run_step.specs.Values.{Env, value_in}
-use Rattle.run_step.specs.declared.world.Slot.{Slot}
+use Rattle.run_laws.specs.run_step.Values.{Env, value_in}
+use Rattle.run_laws.specs.run_step.declared.world.Slot.{Slot}
 
 -- each name has its value at the name to which it goes
 pub record AreMoved (to : ℕ → ℕ) (k l : ℕ) (vs ws : Env) : Type 0 where

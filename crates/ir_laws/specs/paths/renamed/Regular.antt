@@ -1,15 +1,15 @@
 -- Lemmas on regular, that speak of no pass.
 use Rattle.std.specs.Prelude.{◌≡◌, ℕ, Bool, false, List, [], length, IsTrue, Some, slice_get, ◌==◌, ◌&&◌, ◌||◌, if◌then◌else◌}
 use Rattle.std.specs.List.{list_any}
-use Rattle.ir_model.specs.Names.{is_local, position_of}
-use Rattle.ir_model.specs.declared.module.Block.{Block}
-use Rattle.ir_model.specs.declared.module.Function.{Function}
-use Rattle.ir_model.specs.declared.operand.Intrinsic.{Intrinsic}
-use Rattle.ir_model.specs.declared.operand.Operand.{Operand}
-use Rattle.ir_paths.specs.Paths.{has_point, nexts, targets}
-use Rattle.ir_paths.specs.Windows.{instr_at, is_call_of}
-use Rattle.ir_paths.specs.declared.point.Point.{Point}
-use Rattle.run_step.specs.Step.{AtInstr, AtTerm, Fetched, Nowhere, fetch, incoming_from, label_of, phis_of}
+use Rattle.run_laws.specs.ir_model.Names.{is_local, position_of}
+use Rattle.run_laws.specs.ir_model.declared.module.Block.{Block}
+use Rattle.run_laws.specs.ir_model.declared.module.Function.{Function}
+use Rattle.run_laws.specs.ir_model.declared.operand.Intrinsic.{Intrinsic}
+use Rattle.run_laws.specs.ir_model.declared.operand.Operand.{Operand}
+use Rattle.run_laws.specs.ir_paths.Paths.{has_point, nexts, targets}
+use Rattle.run_laws.specs.ir_paths.Windows.{instr_at, is_call_of}
+use Rattle.run_laws.specs.ir_paths.declared.point.Point.{Point}
+use Rattle.run_laws.specs.run_step.Step.{AtInstr, AtTerm, Fetched, Nowhere, fetch, incoming_from, label_of, phis_of}
 use Rattle.run_laws.specs.changed.Changed.{operands_of, operands_of_term, result_of}
 use Rattle.ir_laws.specs.facts.renamed.Regular.{is_result, passes}
 

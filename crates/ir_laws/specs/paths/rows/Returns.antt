@@ -1,11 +1,11 @@
 -- The blocks to which the resume and destroy edges of suspends lead.
 use Rattle.std.specs.Prelude.{◌≡◌, ℕ, List, [], Some, slice_get}
-use Rattle.flow_solver.specs.Paths.{IsListed}
-use Rattle.ir_model.specs.Names.{position_of}
-use Rattle.ir_model.specs.declared.instr.Terminator.{Terminator}
-use Rattle.ir_model.specs.declared.module.Block.{Block}
-use Rattle.ir_model.specs.declared.module.Function.{Function}
-use Rattle.ir_paths.specs.Paths.{targets}
+use Rattle.run_laws.specs.flow_solver.Paths.{IsListed}
+use Rattle.run_laws.specs.ir_model.Names.{position_of}
+use Rattle.run_laws.specs.ir_model.declared.instr.Terminator.{Terminator}
+use Rattle.run_laws.specs.ir_model.declared.module.Block.{Block}
+use Rattle.run_laws.specs.ir_model.declared.module.Function.{Function}
+use Rattle.run_laws.specs.ir_paths.Paths.{targets}
 use Rattle.ir_laws.specs.paths.woven_rules.Pairs.{AreDifferent}
 
 -- an edge leads from a place among the targets of a block to a label

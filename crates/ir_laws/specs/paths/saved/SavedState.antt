@@ -1,7 +1,7 @@
 -- Lemmas on saved state, that speak of no pass.
 use Rattle.std.specs.Prelude.{ℕ}
-use Rattle.ir_model.specs.Names.{function_at}
-use Rattle.ir_model.specs.declared.module.Module.{Module}
+use Rattle.run_laws.specs.ir_model.Names.{function_at}
+use Rattle.run_laws.specs.ir_model.declared.module.Module.{Module}
 use Rattle.ir_laws.specs.paths.expanded.Tokens.{HasNamedTokens}
 
 -- ---- what is asked of a module and of a state

@@ -1,8 +1,8 @@
 -- Lemmas on labels, that speak of no pass.
 use Rattle.std.specs.Prelude.{ℕ, length, ◌<◌}
-use Rattle.ir_model.specs.declared.module.Block.{Block}
-use Rattle.ir_model.specs.declared.module.Function.{Function}
-use Rattle.ir_paths.specs.Paths.{targets}
+use Rattle.run_laws.specs.ir_model.declared.module.Block.{Block}
+use Rattle.run_laws.specs.ir_model.declared.module.Function.{Function}
+use Rattle.run_laws.specs.ir_paths.Paths.{targets}
 use Rattle.run_laws.specs.changed.Changed.{Each}
 
 -- the label of a block and those of its terminator are among so many names

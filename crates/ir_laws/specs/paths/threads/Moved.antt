@@ -1,9 +1,9 @@
 -- The windows of a function, and those of the function whose edges have blocks.
 use Rattle.std.specs.Prelude.{Bool, true, IsTrue, ◌≡◌, ◌⊎◌, ◌||◌}
-use Rattle.ir_model.specs.declared.module.Function.{Function}
-use Rattle.ir_paths.specs.Paths.{has_point, nexts, same_point}
-use Rattle.ir_paths.specs.declared.point.Point.{Point}
-use Rattle.ir_paths.specs.declared.point.Window.{Window}
+use Rattle.run_laws.specs.ir_model.declared.module.Function.{Function}
+use Rattle.run_laws.specs.ir_paths.Paths.{has_point, nexts, same_point}
+use Rattle.run_laws.specs.ir_paths.declared.point.Point.{Point}
+use Rattle.run_laws.specs.ir_paths.declared.point.Window.{Window}
 use Rattle.ir_laws.specs.paths.threads.Threads.{IsBetween}
 
 -- where a branch to a point goes then: to where the point is moved, or to the point between

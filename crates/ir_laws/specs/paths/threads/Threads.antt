@@ -1,8 +1,8 @@
 -- Functions of which the second has a point of its own on some of the edges of the first.
 use Rattle.std.specs.Prelude.{false, List, ◌≡◌, ◌⊎◌, IsTrue}
-use Rattle.ir_model.specs.declared.module.Function.{Function}
-use Rattle.ir_paths.specs.Paths.{has_point, nexts}
-use Rattle.ir_paths.specs.declared.point.Point.{Point}
+use Rattle.run_laws.specs.ir_model.declared.module.Function.{Function}
+use Rattle.run_laws.specs.ir_paths.Paths.{has_point, nexts}
+use Rattle.run_laws.specs.ir_paths.declared.point.Point.{Point}
 
 -- an edge leads from x to y, and no other one from x
 pub record LeadsOnlyTo (g : Function) (x y : Point) : Type 0 where

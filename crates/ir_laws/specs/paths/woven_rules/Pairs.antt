@@ -1,6 +1,6 @@
 -- Lemmas on pairs, that speak of no pass.
 use Rattle.std.specs.Prelude.{ℕ, List, [], ◌∷◌}
-use Rattle.flow_solver.specs.Paths.{IsListed}
+use Rattle.run_laws.specs.flow_solver.Paths.{IsListed}
 
 -- no number stands twice
 abbrev pub AreDifferent : List ℕ → Type 0

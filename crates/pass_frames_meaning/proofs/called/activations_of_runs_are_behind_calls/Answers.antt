@@ -2,15 +2,15 @@ use Rattle.std.proofs.Common.{subst, sym}
 use Rattle.pass_frames_meaning.proofs.called.CalledHooks.{framed_keeps_called, renewed_keeps_called, states_called}
 use Rattle.pass_frames_meaning.proofs.called.activations_of_runs_are_behind_calls.Goals as goal
 use Rattle.pass_frames_meaning.specs.Called.{IsCalledState}
-use Rattle.pass_renewed_proof.specs.Renewed.{renewed_step}
-use Rattle.run_framed.specs.Framed.{framed_step}
-use Rattle.run_hooks.proofs.Keeping.{framed_keeps, renewed_keeps}
-use Rattle.run_hooks.proofs.PlacedKeeping.{framed_keeps_placed, renewed_keeps_placed}
-use Rattle.run_hooks.proofs.PlacedSteps.{states_placed}
-use Rattle.run_hooks.proofs.Steps.{framed_steps, renewed_steps, same_runs}
-use Rattle.run_hooks.specs.Hooks.{step_of}
-use Rattle.run_hooks.specs.Meanings.{framed_hooks, renewed_hooks}
-use Rattle.run_source.specs.Source.{first_state}
+use Rattle.pass_frames_proof.specs.pass_renewed_proof.Renewed.{renewed_step}
+use Rattle.pass_frames_proof.specs.run_framed.Framed.{framed_step}
+use Rattle.pass_renewed_meaning.proofs.run_hooks.Keeping.{framed_keeps, renewed_keeps}
+use Rattle.pass_renewed_meaning.proofs.run_hooks.PlacedKeeping.{framed_keeps_placed, renewed_keeps_placed}
+use Rattle.pass_renewed_meaning.proofs.run_hooks.PlacedSteps.{states_placed}
+use Rattle.pass_renewed_meaning.proofs.run_hooks.Steps.{framed_steps, renewed_steps, same_runs}
+use Rattle.pass_renewed_meaning.specs.run_hooks.Hooks.{step_of}
+use Rattle.pass_renewed_meaning.specs.run_hooks.Meanings.{framed_hooks, renewed_hooks}
+use Rattle.pass_frames_proof.specs.run_source.Source.{first_state}
 
 pub returns-clause-renewed : goal.returns-clause-renewed
 returns-clause-renewed c =

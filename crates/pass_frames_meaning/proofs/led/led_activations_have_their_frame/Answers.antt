@@ -1,14 +1,14 @@
 use Rattle.std.proofs.Common.{◌≡◌, ℕ, Bool, Some, Option, sym, ◌∙◌, subst}
 use Rattle.std.specs.Prelude.{slice_get}
-use Rattle.ir_model.specs.Names.{function_at}
-use Rattle.ir_model.specs.declared.module.Module.{Module}
+use Rattle.pass_frames_proof.specs.ir_model.Names.{function_at}
+use Rattle.pass_frames_proof.specs.ir_model.declared.module.Module.{Module}
 use Rattle.pass_frames_meaning.proofs.led.Values.{led_to}
 use Rattle.pass_frames_meaning.proofs.led.led_activations_have_their_frame.Goals as goal
 use Rattle.pass_frames_meaning.specs.Led.{AreLed, AreLedWith, IsLed}
-use Rattle.run_source.specs.State.{frame_address_of}
-use Rattle.run_source.specs.declared.state.Instance.{Instance}
-use Rattle.run_source.specs.declared.state.State.{State}
-use Rattle.run_step.specs.Values.{value_in}
+use Rattle.pass_frames_proof.specs.run_source.State.{frame_address_of}
+use Rattle.pass_frames_proof.specs.run_source.declared.state.Instance.{Instance}
+use Rattle.pass_frames_proof.specs.run_source.declared.state.State.{State}
+use Rattle.pass_frames_proof.specs.run_step.Values.{value_in}
 
 own : (m : Module) (counts : ℕ → ℕ → Bool) (s : State) → IsLed m counts s → (i : ℕ) (x : Instance)
     → s.top.instance ≡ Some i → slice_get s.instances i ≡ Some x

@@ -4,18 +4,18 @@ use Rattle.pass_frames_meaning.proofs.led.LedHooks.{renewed_keeps_led, states_le
 use Rattle.pass_frames_meaning.proofs.led.SoundRuns.{runs_sound}
 use Rattle.pass_frames_meaning.proofs.led.names_of_runs_lead_to_slots.Goals as goal
 use Rattle.pass_frames_meaning.specs.Led.{IsLedState}
-use Rattle.pass_renewed_proof.specs.Renewed.{renewed_step}
-use Rattle.run_hooks.proofs.Keeping.{renewed_keeps}
-use Rattle.run_hooks.proofs.PlacedKeeping.{renewed_keeps_placed}
-use Rattle.run_hooks.proofs.PlacedSteps.{states_placed}
-use Rattle.run_hooks.proofs.Reaching.{states_reached}
-use Rattle.run_hooks.proofs.Steps.{renewed_steps, same_runs}
-use Rattle.run_hooks.specs.Hooks.{step_of}
-use Rattle.run_hooks.specs.Meanings.{renewed_hooks}
-use Rattle.run_source.specs.Source.{first_state}
-use Rattle.run_source.specs.declared.state.State.{State}
-use Rattle.run_states.specs.sound_states.Sound.{HasValues}
-use Rattle.run_step.specs.Runs.{iterate}
+use Rattle.pass_frames_proof.specs.pass_renewed_proof.Renewed.{renewed_step}
+use Rattle.pass_renewed_meaning.proofs.run_hooks.Keeping.{renewed_keeps}
+use Rattle.pass_renewed_meaning.proofs.run_hooks.PlacedKeeping.{renewed_keeps_placed}
+use Rattle.pass_renewed_meaning.proofs.run_hooks.PlacedSteps.{states_placed}
+use Rattle.pass_renewed_meaning.proofs.run_hooks.Reaching.{states_reached}
+use Rattle.pass_renewed_meaning.proofs.run_hooks.Steps.{renewed_steps, same_runs}
+use Rattle.pass_renewed_meaning.specs.run_hooks.Hooks.{step_of}
+use Rattle.pass_renewed_meaning.specs.run_hooks.Meanings.{renewed_hooks}
+use Rattle.pass_frames_proof.specs.run_source.Source.{first_state}
+use Rattle.pass_frames_proof.specs.run_source.declared.state.State.{State}
+use Rattle.pass_frames_proof.specs.run_states.sound_states.Sound.{HasValues}
+use Rattle.pass_frames_proof.specs.run_step.Runs.{iterate}
 
 pub returns : goal.returns
 returns c =

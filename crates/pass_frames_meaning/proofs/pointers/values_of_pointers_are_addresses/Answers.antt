@@ -4,12 +4,12 @@ use Rattle.pass_frames_meaning.proofs.pointers.Renewed.{renewed_keeps_pointing}
 use Rattle.pass_frames_meaning.proofs.pointers.Runs.{states_point}
 use Rattle.pass_frames_meaning.proofs.pointers.values_of_pointers_are_addresses.Goals as goal
 use Rattle.pass_frames_meaning.specs.Pointers.{IsPointingState}
-use Rattle.pass_renewed_proof.specs.Renewed.{renewed_step}
-use Rattle.run_hooks.proofs.Keeping.{renewed_keeps}
-use Rattle.run_hooks.proofs.Steps.{renewed_steps, same_runs}
-use Rattle.run_hooks.specs.Hooks.{step_of}
-use Rattle.run_hooks.specs.Meanings.{renewed_hooks}
-use Rattle.run_source.specs.Source.{first_state}
+use Rattle.pass_frames_proof.specs.pass_renewed_proof.Renewed.{renewed_step}
+use Rattle.pass_renewed_meaning.proofs.run_hooks.Keeping.{renewed_keeps}
+use Rattle.pass_renewed_meaning.proofs.run_hooks.Steps.{renewed_steps, same_runs}
+use Rattle.pass_renewed_meaning.specs.run_hooks.Hooks.{step_of}
+use Rattle.pass_renewed_meaning.specs.run_hooks.Meanings.{renewed_hooks}
+use Rattle.pass_frames_proof.specs.run_source.Source.{first_state}
 
 pub returns-clause-step : goal.returns-clause-step
 returns-clause-step c = λ h rules keeps s reached k. step_points h rules keeps s k reached

@@ -4,13 +4,13 @@ use Rattle.pass_frames_meaning.proofs.sized.Renewed.{renewed_keeps_sizes}
 use Rattle.pass_frames_meaning.proofs.sized.Sized.{state_sized, states_sized, step_longer}
 use Rattle.pass_frames_meaning.proofs.sized.sizes_of_slots_stay.Goals as goal
 use Rattle.pass_frames_meaning.specs.Sized.{IsSizedAt, IsSizedState}
-use Rattle.pass_renewed_proof.specs.Renewed.{renewed_step}
-use Rattle.run_hooks.proofs.Keeping.{renewed_keeps}
-use Rattle.run_hooks.proofs.Reaching.{states_reached}
-use Rattle.run_hooks.proofs.Steps.{renewed_steps, same_runs}
-use Rattle.run_hooks.specs.Hooks.{step_of}
-use Rattle.run_hooks.specs.Meanings.{renewed_hooks}
-use Rattle.run_source.specs.Source.{first_state}
+use Rattle.pass_frames_proof.specs.pass_renewed_proof.Renewed.{renewed_step}
+use Rattle.pass_renewed_meaning.proofs.run_hooks.Keeping.{renewed_keeps}
+use Rattle.pass_renewed_meaning.proofs.run_hooks.Reaching.{states_reached}
+use Rattle.pass_renewed_meaning.proofs.run_hooks.Steps.{renewed_steps, same_runs}
+use Rattle.pass_renewed_meaning.specs.run_hooks.Hooks.{step_of}
+use Rattle.pass_renewed_meaning.specs.run_hooks.Meanings.{renewed_hooks}
+use Rattle.pass_frames_proof.specs.run_source.Source.{first_state}
 
 pub returns-clause-blocks : goal.returns-clause-blocks
 returns-clause-blocks c = step_longer

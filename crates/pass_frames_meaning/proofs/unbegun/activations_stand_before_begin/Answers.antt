@@ -4,14 +4,14 @@ use Rattle.pass_frames_meaning.proofs.unbegun.Renewed.{renewed_keeps_unbegun}
 use Rattle.pass_frames_meaning.proofs.unbegun.Unbegun.{states_unbegun, step_unbegun}
 use Rattle.pass_frames_meaning.proofs.unbegun.activations_stand_before_begin.Goals as goal
 use Rattle.pass_frames_meaning.specs.Unbegun.{IsUnbegunState}
-use Rattle.pass_renewed_proof.specs.Renewed.{renewed_step}
-use Rattle.run_hooks.proofs.Keeping.{renewed_keeps}
-use Rattle.run_hooks.proofs.PlacedKeeping.{renewed_keeps_placed}
-use Rattle.run_hooks.proofs.PlacedSteps.{states_placed}
-use Rattle.run_hooks.proofs.Steps.{renewed_steps, same_runs}
-use Rattle.run_hooks.specs.Hooks.{step_of}
-use Rattle.run_hooks.specs.Meanings.{renewed_hooks}
-use Rattle.run_source.specs.Source.{first_state}
+use Rattle.pass_frames_proof.specs.pass_renewed_proof.Renewed.{renewed_step}
+use Rattle.pass_renewed_meaning.proofs.run_hooks.Keeping.{renewed_keeps}
+use Rattle.pass_renewed_meaning.proofs.run_hooks.PlacedKeeping.{renewed_keeps_placed}
+use Rattle.pass_renewed_meaning.proofs.run_hooks.PlacedSteps.{states_placed}
+use Rattle.pass_renewed_meaning.proofs.run_hooks.Steps.{renewed_steps, same_runs}
+use Rattle.pass_renewed_meaning.specs.run_hooks.Hooks.{step_of}
+use Rattle.pass_renewed_meaning.specs.run_hooks.Meanings.{renewed_hooks}
+use Rattle.pass_frames_proof.specs.run_source.Source.{first_state}
 
 pub returns-clause-step : goal.returns-clause-step
 returns-clause-step c = step_unbegun

@@ -1,7 +1,7 @@
 use Rattle.pass_frames_proof.proofs.lines.Cells.{cell_loads, cell_stores}
 use Rattle.pass_frames_proof.proofs.lines.cells_are_loaded_and_stored.Goals as goal
 use Rattle.pass_frames_proof.specs.Related.{Anything}
-use Rattle.run_laws.specs.memory.Pointers.{IsValue}
+use Rattle.pass_proofs.specs.run_laws.memory.Pointers.{IsValue}
 
 pub returns-clause-load : goal.returns-clause-load
 returns-clause-load c = λ c w a n cell ty homes v t h. cell_loads c w a n cell ty (IsValue homes v) t h

@@ -4,15 +4,15 @@ use Rattle.std.specs.Prelude.{Option, Some, filter, map, option_to_list, slice_g
 use Rattle.pass_proofs.specs.addresses.rules.Addresses.{HasBegin}
 use Rattle.pass_proofs.proofs.addresses.rules.Unmarked.{promise_result as same_promise}
 use Rattle.pass_proofs.specs.addresses.begin_order.Behind.{IsBehind, IsIncomingBehind}
-use Rattle.ir_base.specs.declared.outcome.Place.{Place}
-use Rattle.rule_uses.specs.Uses.{Use, block_uses, block_values, blocks_uses, incoming_use, incoming_uses, instr_uses, local_of, made_by_instrs, phi_uses, phi_values, uses_at, uses_of, values_at}
-use Rattle.ir_laws.proofs.facts.Members.{each_behind}
-use Rattle.ir_laws.proofs.paths.source_rules.Locals.{listed_either, listed_left, listed_right}
+use Rattle.rule_laws.specs.ir_base.declared.outcome.Place.{Place}
+use Rattle.rule_laws.specs.rule_uses.Uses.{Use, block_uses, block_values, blocks_uses, incoming_use, incoming_uses, instr_uses, local_of, made_by_instrs, phi_uses, phi_values, uses_at, uses_of, values_at}
+use Rattle.rule_laws.proofs.ir_laws.facts.Members.{each_behind}
+use Rattle.rule_laws.proofs.ir_laws.paths.source_rules.Locals.{listed_either, listed_left, listed_right}
 use Rattle.rule_laws.proofs.rules.source_rules.Locals.{made_by}
-use Rattle.flow_solver.specs.Paths.{IsListed}
+use Rattle.rule_laws.specs.flow_solver.Paths.{IsListed}
 use Rattle.pass_addresses.specs.Placing.{stays, without_promise_of}
-use Rattle.ir_parts.specs.Contents.{ending_operands, instr_operands}
-use Rattle.ir_parts.specs.Parts.{instr_place}
+use Rattle.rule_laws.specs.ir_parts.Contents.{ending_operands, instr_operands}
+use Rattle.rule_laws.specs.ir_parts.Parts.{instr_place}
 use Rattle.ir_model.specs.Names.{position_of}
 use Rattle.ir_model.specs.declared.instr.Incoming.{Incoming}
 use Rattle.ir_model.specs.declared.instr.Instr.{Instr}
@@ -20,7 +20,7 @@ use Rattle.ir_model.specs.declared.instr.Phi.{Phi}
 use Rattle.ir_model.specs.declared.module.Block.{Block}
 use Rattle.ir_model.specs.declared.module.Function.{Function}
 use Rattle.ir_model.specs.declared.operand.Operand.{Operand}
-use Rattle.run_laws.specs.changed.Changed.{Each}
+use Rattle.rule_laws.specs.run_laws.changed.Changed.{Each}
 
 module _ (h : Function) (begin : ℕ) (offsets : List (Option ℕ)) where
   abbrev Has : Use → Type 0

@@ -2,9 +2,9 @@
 use Rattle.std.proofs.Common.{◌≡◌, ℕ, false, List, sym, ap, ◌∙◌, subst}
 use Rattle.std.specs.Prelude.{Option, map}
 use Rattle.pass_proofs.specs.addresses.begin_order.Behind.{IsBehind, IsIncomingBehind}
-use Rattle.rule_uses.specs.Undefined.{ReachesWithout, params_of}
-use Rattle.rule_uses.specs.Uses.{values_at}
-use Rattle.flow_solver.specs.Paths.{IsListed}
+use Rattle.rule_laws.specs.rule_uses.Undefined.{ReachesWithout, params_of}
+use Rattle.rule_laws.specs.rule_uses.Uses.{values_at}
+use Rattle.rule_laws.specs.flow_solver.Paths.{IsListed}
 use Rattle.rule_laws.specs.rules.function_rules.Kept.{KeepsFunctionRules}
 use Rattle.ir_model.specs.Names.{position_of}
 use Rattle.ir_model.specs.declared.instr.Incoming.{Incoming}
@@ -12,11 +12,11 @@ use Rattle.ir_model.specs.declared.instr.Phi.{Phi}
 use Rattle.ir_model.specs.declared.module.Function.{Function}
 use Rattle.ir_model.specs.declared.module.Module.{Module}
 use Rattle.ir_model.specs.declared.operand.Operand.{Operand}
-use Rattle.run_laws.specs.changed.Changed.{Each}
+use Rattle.rule_laws.specs.run_laws.changed.Changed.{Each}
 use Rattle.rule_laws.proofs.rules.woven_rules.Edges.{same_edges, same_position}
 use Rattle.rule_laws.proofs.rules.woven_rules.Laid.{AreLaidBlocks, laid}
 use Rattle.rule_laws.proofs.rules.woven_rules.Once.{below}
-use Rattle.ir_laws.proofs.facts.Members.{each_turns}
+use Rattle.rule_laws.proofs.ir_laws.facts.Members.{each_turns}
 use Rattle.rule_laws.proofs.rules.woven_rules.Uses.{path_before, within_at}
 use Rattle.rule_laws.specs.rules.woven_rules.Blocks.{IsWoven}
 use Rattle.rule_laws.specs.rules.woven_rules.Pairs.{AreIncomingOnce}

@@ -2,14 +2,14 @@
 use Rattle.std.proofs.Common.{◌≡◌, ℕ, Bool, true, false, List, sym, ◌∙◌}
 use Rattle.std.specs.List.{list_all}
 use Rattle.std.specs.Prelude.{None, Option, Some, slice_get, ◌&&◌}
-use Rattle.ir_base.specs.declared.outcome.Place.{Place}
-use Rattle.ir_laws.proofs.facts.Members.{at_each}
+use Rattle.rule_laws.specs.ir_base.declared.outcome.Place.{Place}
+use Rattle.rule_laws.proofs.ir_laws.facts.Members.{at_each}
 use Rattle.rule_laws.proofs.rules.local_rules.Fitting.{either, no_either}
-use Rattle.ir_laws.proofs.facts.Truth.{and_first, holds, first_no, second_no}
-use Rattle.flow_solver.specs.Paths.{IsListed}
+use Rattle.rule_laws.proofs.ir_laws.facts.Truth.{and_first, holds, first_no, second_no}
+use Rattle.rule_laws.specs.flow_solver.Paths.{IsListed}
 use Rattle.pass_addresses.specs.Placing.{stays}
-use Rattle.ir_parts.specs.Contents.{result_of}
-use Rattle.ir_parts.specs.Parts.{OfInstr, Part, parts_of}
+use Rattle.rule_laws.specs.ir_parts.Contents.{result_of}
+use Rattle.rule_laws.specs.ir_parts.Parts.{OfInstr, Part, parts_of}
 use Rattle.rule_laws.specs.rules.function_rules.Kept.{KeepsFunctionRules}
 use Rattle.ir_model.specs.Ty.{Ty}
 use Rattle.ir_model.specs.declared.instr.Instr.{Instr}
@@ -19,13 +19,13 @@ use Rattle.ir_model.specs.declared.module.Module.{Module}
 use Rattle.ir_model.specs.declared.operand.Arg.{Arg}
 use Rattle.ir_model.specs.declared.operand.Callee.{Callee}
 use Rattle.ir_model.specs.declared.operand.Intrinsic.{Intrinsic}
-use Rattle.rule_types.specs.Signatures.{are_wanted, calls_otherwise, is_result}
-use Rattle.rule_types.specs.Wants.{intrinsic_params}
-use Rattle.rule_values.specs.Instrs.{fits_called, fits_instr, fits_result, passes}
-use Rattle.rule_values.specs.Kinds.{value_kind}
-use Rattle.rule_values.specs.Values.{breaks_values}
+use Rattle.rule_laws.specs.rule_types.Signatures.{are_wanted, calls_otherwise, is_result}
+use Rattle.rule_laws.specs.rule_types.Wants.{intrinsic_params}
+use Rattle.rule_laws.specs.rule_values.Instrs.{fits_called, fits_instr, fits_result, passes}
+use Rattle.rule_laws.specs.rule_values.Kinds.{value_kind}
+use Rattle.rule_laws.specs.rule_values.Values.{breaks_values}
 use Rattle.rule_laws.proofs.rules.woven_rules.Unbroken.{Passes, PassesIn, all_pass}
-use Rattle.ir_laws.proofs.paths.woven_rules.Unbroken.{of_listed}
+use Rattle.rule_laws.proofs.ir_laws.paths.woven_rules.Unbroken.{of_listed}
 use Rattle.rule_laws.proofs.rules.address_rules.Unmarked.{no_result}
 
 module _ (m : Module) (k : ℕ) (f : Function) (marked : List Bool) (keeps : KeepsFunctionRules m k f) where

@@ -3,12 +3,12 @@ use Rattle.std.proofs.Common.{◌≡◌, ⊎_elim, inl, inr, ℕ, Bool, true, fa
 use Rattle.std.proofs.lemmas.Option.{slice_get-map}
 use Rattle.std.specs.Prelude.{Some, filter, if◌then◌else◌, map, option_map, option_to_list, slice_get}
 use Rattle.rule_laws.proofs.rules.crossing.Follows.{Uses}
-use Rattle.rule_uses.specs.Uses.{local_of, locals_in}
-use Rattle.ir_laws.proofs.paths.source_rules.Locals.{listed_either, listed_left, listed_right}
-use Rattle.flow_solver.specs.Paths.{IsListed}
+use Rattle.rule_laws.specs.rule_uses.Uses.{local_of, locals_in}
+use Rattle.rule_laws.proofs.ir_laws.paths.source_rules.Locals.{listed_either, listed_left, listed_right}
+use Rattle.rule_laws.specs.flow_solver.Paths.{IsListed}
 use Rattle.pass_addresses.specs.Placing.{turned_block, without_promise_of}
 use Rattle.rule_laws.proofs.frames.needed.Follows.{Ended, Follows, Left, Same}
-use Rattle.ir_parts.specs.Contents.{arg_operands, result_of}
+use Rattle.rule_laws.specs.ir_parts.Contents.{arg_operands, result_of}
 use Rattle.ir_model.specs.declared.instr.Instr.{Instr}
 use Rattle.ir_model.specs.declared.module.Block.{Block}
 use Rattle.ir_model.specs.declared.operand.Arg.{Arg}

@@ -14,8 +14,8 @@ use Rattle.ir_model.specs.declared.module.Block.{Block}
 use Rattle.ir_model.specs.declared.module.Function.{Function}
 use Rattle.ir_model.specs.declared.operand.Callee.{Callee}
 use Rattle.ir_model.specs.declared.operand.Intrinsic.{Intrinsic}
-use Rattle.pass_fetch.specs.Blocks.{with_fetches}
-use Rattle.pass_fetch.specs.Instrs.{fetched_instr}
+use Rattle.rule_laws.specs.pass_fetch.Blocks.{with_fetches}
+use Rattle.rule_laws.specs.pass_fetch.Instrs.{fetched_instr}
 
 -- ---- copies at begin
 

@@ -4,15 +4,15 @@ use Rattle.std.specs.Prelude.{pos}
 use Rattle.std.proofs.lemmas.Bool.{lt-ltb}
 use Rattle.ir_model.specs.Ty.{int, ptr}
 use Rattle.ir_model.specs.declared.operand.Operand.{Operand}
-use Rattle.pass_intrinsics.specs.Lowered.{address, number_arg}
-use Rattle.run_ints.proofs.Wraps.{bits_of-signed}
-use Rattle.run_ints.specs.declared.num.Num.{Num}
-use Rattle.run_laws.proofs.access.Done.{gep_done}
-use Rattle.run_laws.specs.access.Lines.{pointer_at}
-use Rattle.run_memory.specs.Pointers.{offset_of}
-use Rattle.run_memory.specs.declared.pointer.Value.{Value}
-use Rattle.run_step.specs.Step.{Context, Done, Work, instr_action, set_value, value_at}
-use Rattle.run_step.specs.Values.{distance, index_of, indices_of, integer, number_of_width, times}
+use Rattle.rule_laws.specs.pass_intrinsics.Lowered.{address, number_arg}
+use Rattle.rule_laws.proofs.run_ints.Wraps.{bits_of-signed}
+use Rattle.rule_laws.specs.run_ints.declared.num.Num.{Num}
+use Rattle.rule_laws.proofs.run_laws.access.Done.{gep_done}
+use Rattle.rule_laws.specs.run_laws.access.Lines.{pointer_at}
+use Rattle.rule_laws.specs.run_memory.Pointers.{offset_of}
+use Rattle.rule_laws.specs.run_memory.declared.pointer.Value.{Value}
+use Rattle.rule_laws.specs.run_step.Step.{Context, Done, Work, instr_action, set_value, value_at}
+use Rattle.rule_laws.specs.run_step.Values.{distance, index_of, indices_of, integer, number_of_width, times}
 
 -- ---- numbers
 

@@ -6,18 +6,18 @@ use Rattle.std.specs.Prelude.{None, Option, Some, codes, filter, is_some, map, n
 use Rattle.pass_proofs.proofs.addresses.rules.Turning.{MayFilter, TurnsWell, filter_fewer, filter_woven, turned_woven}
 use Rattle.pass_proofs.proofs.addresses.rules.Unmarked.{left_woven, markers_woven, stays_all, unmarked_keeps, unmarked_once}
 use Rattle.pass_proofs.specs.addresses.rules.Addresses.{AddressesFit, HasBegin, left_over, lies_in_frame, turning_weaving}
-use Rattle.rule_uses.specs.Undefined.{IsUndefined}
-use Rattle.rule_uses.specs.Uses.{Use, uses_of}
-use Rattle.ir_laws.proofs.facts.Lists.{get_within}
-use Rattle.ir_laws.proofs.facts.Truth.{and_first, and_second, holds}
+use Rattle.rule_laws.specs.rule_uses.Undefined.{IsUndefined}
+use Rattle.rule_laws.specs.rule_uses.Uses.{Use, uses_of}
+use Rattle.rule_laws.proofs.ir_laws.facts.Lists.{get_within}
+use Rattle.rule_laws.proofs.ir_laws.facts.Truth.{and_first, and_second, holds}
 use Rattle.pass_proofs.proofs.fetch.rules.Fetched.{fetches_woven}
 use Rattle.pass_proofs.proofs.fetch.rules.Good.{final, final_ends, first_second}
 use Rattle.pass_proofs.proofs.fetch.rules.Remaining.{CasesHold, HoldsIn, blocks_hold, fetch_holds}
 use Rattle.pass_proofs.specs.fetch.rules.Fetches.{AreUnfetched, FetchesFit, FitsFetch, FitsTable, HasBase, LeavesMarks, base_of, fetch_weaving, second_name}
-use Rattle.flow_solver.specs.Paths.{IsListed}
+use Rattle.rule_laws.specs.flow_solver.Paths.{IsListed}
 use Rattle.pass_addresses.specs.Placing.{is_flagged, is_none, lies_outside, marks_flagged, slot_fetches, stays, turned_block, with_frame_addresses, without_markers, without_promise_of}
-use Rattle.ir_parts.specs.Contents.{arg_operands, instr_operands}
-use Rattle.ir_parts.specs.Parts.{Ending, OfInstr}
+use Rattle.rule_laws.specs.ir_parts.Contents.{arg_operands, instr_operands}
+use Rattle.rule_laws.specs.ir_parts.Parts.{Ending, OfInstr}
 use Rattle.rule_laws.specs.rules.function_rules.Kept.{KeepsFunctionRules}
 use Rattle.ir_model.specs.Ty.{Ty}
 use Rattle.ir_model.specs.declared.instr.Case.{Case}
@@ -30,27 +30,27 @@ use Rattle.ir_model.specs.declared.operand.Arg.{Arg}
 use Rattle.ir_model.specs.declared.operand.Callee.{Callee}
 use Rattle.ir_model.specs.declared.operand.Intrinsic.{Intrinsic}
 use Rattle.ir_model.specs.declared.operand.Operand.{Operand}
-use Rattle.run_laws.specs.changed.Changed.{Each}
-use Rattle.rule_types.specs.Signatures.{are_wanted, calls_otherwise, is_result}
-use Rattle.rule_types.specs.Wants.{any, is_basic, meets, want}
-use Rattle.rule_types.specs.declared.wants.Basic.{Basic}
-use Rattle.rule_types.specs.declared.wants.Demand.{Demand}
-use Rattle.rule_types.specs.declared.wants.Wanted.{Wanted}
-use Rattle.pass_fetch.specs.Blocks.{end_at, with_fetches}
-use Rattle.pass_fetch.specs.Fetching.{fetch_at, fetch_of}
-use Rattle.pass_fetch.specs.declared.fetch.Fetch.{Fetch}
-use Rattle.rule_values.specs.Fits.{fits_arg, fits_integer}
-use Rattle.rule_values.specs.Kinds.{value_kind}
-use Rattle.rule_values.specs.Switches.{any_twice, bits_in, case_word, fits_case, is_constant}
-use Rattle.rule_values.specs.Values.{breaks_values}
-use Rattle.rule_values.specs.declared.kinds.Kind.{Kind}
+use Rattle.rule_laws.specs.run_laws.changed.Changed.{Each}
+use Rattle.rule_laws.specs.rule_types.Signatures.{are_wanted, calls_otherwise, is_result}
+use Rattle.rule_laws.specs.rule_types.Wants.{any, is_basic, meets, want}
+use Rattle.rule_laws.specs.rule_types.declared.wants.Basic.{Basic}
+use Rattle.rule_laws.specs.rule_types.declared.wants.Demand.{Demand}
+use Rattle.rule_laws.specs.rule_types.declared.wants.Wanted.{Wanted}
+use Rattle.rule_laws.specs.pass_fetch.Blocks.{end_at, with_fetches}
+use Rattle.rule_laws.specs.pass_fetch.Fetching.{fetch_at, fetch_of}
+use Rattle.rule_laws.specs.pass_fetch.declared.fetch.Fetch.{Fetch}
+use Rattle.rule_laws.specs.rule_values.Fits.{fits_arg, fits_integer}
+use Rattle.rule_laws.specs.rule_values.Kinds.{value_kind}
+use Rattle.rule_laws.specs.rule_values.Switches.{any_twice, bits_in, case_word, fits_case, is_constant}
+use Rattle.rule_laws.specs.rule_values.Values.{breaks_values}
+use Rattle.rule_laws.specs.rule_values.declared.kinds.Kind.{Kind}
 use Rattle.rule_laws.proofs.rules.woven_rules.All.{rules_woven}
 use Rattle.rule_laws.proofs.rules.woven_rules.Edges.{incoming_woven}
 use Rattle.rule_laws.proofs.rules.woven_rules.Laid.{valued_old}
 use Rattle.rule_laws.proofs.rules.woven_rules.Once.{names_below}
 use Rattle.rule_laws.proofs.rules.woven_rules.Unbroken.{Passes, PassesIn, all_pass}
-use Rattle.ir_laws.proofs.paths.woven_rules.Unbroken.{each_listed}
-use Rattle.ir_laws.proofs.facts.Members.{each_turns}
+use Rattle.rule_laws.proofs.ir_laws.paths.woven_rules.Unbroken.{each_listed}
+use Rattle.rule_laws.proofs.ir_laws.facts.Members.{each_turns}
 use Rattle.rule_laws.proofs.rules.woven_rules.ValueKinds.{old_kind}
 use Rattle.rule_laws.specs.rules.woven_rules.Blocks.{IsWoven, MayGo}
 use Rattle.rule_laws.specs.rules.woven_rules.Pairs.{AreIncomingOnce}

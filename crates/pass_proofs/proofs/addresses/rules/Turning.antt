@@ -2,14 +2,14 @@
 use Rattle.std.proofs.Common.{◌≡◌, ℕ, ◌+◌, ◌<◌, ◌≤◌, Bool, true, false, List, [], ◌∷◌, ◌++◌, length, refl, arith}
 use Rattle.std.specs.Prelude.{filter, map, ◌==◌, if◌then◌else◌}
 use Rattle.pass_proofs.specs.addresses.rules.Addresses.{turning_weaving}
-use Rattle.rule_uses.specs.Uses.{block_values, phi_values, values_at}
+use Rattle.rule_laws.specs.rule_uses.Uses.{block_values, phi_values, values_at}
 use Rattle.rule_laws.proofs.rules.source_rules.Locals.{block_names, made_by}
-use Rattle.ir_laws.proofs.paths.source_rules.Locals.{listed_right}
-use Rattle.ir_laws.proofs.facts.Lists.{phi_names, row_of, times_joined}
+use Rattle.rule_laws.proofs.ir_laws.paths.source_rules.Locals.{listed_right}
+use Rattle.rule_laws.proofs.ir_laws.facts.Lists.{phi_names, row_of, times_joined}
 use Rattle.rule_laws.specs.rules.source_rules.Named.{HasTabledLocals}
 use Rattle.pass_addresses.specs.Placing.{turned_block, turned_function}
-use Rattle.ir_parts.specs.Contents.{ending_operands, instr_operands}
-use Rattle.rule_uses.specs.Undefined.{params_of}
+use Rattle.rule_laws.specs.ir_parts.Contents.{ending_operands, instr_operands}
+use Rattle.rule_laws.specs.rule_uses.Undefined.{params_of}
 use Rattle.ir_model.specs.Names.{position_of}
 use Rattle.ir_model.specs.declared.instr.Incoming.{Incoming}
 use Rattle.ir_model.specs.declared.instr.Instr.{Instr}
@@ -18,14 +18,14 @@ use Rattle.ir_model.specs.declared.module.Block.{Block}
 use Rattle.ir_model.specs.declared.module.Function.{Function}
 use Rattle.ir_model.specs.declared.module.Module.{Module}
 use Rattle.ir_model.specs.declared.operand.Operand.{Operand}
-use Rattle.run_laws.specs.changed.Changed.{Each}
+use Rattle.rule_laws.specs.run_laws.changed.Changed.{Each}
 use Rattle.rule_laws.proofs.rules.woven_rules.Pieces.{still_stays}
 use Rattle.rule_laws.proofs.rules.woven_rules.Once.{names_below, times_block}
-use Rattle.ir_laws.proofs.paths.woven_rules.Once.{times_none}
-use Rattle.ir_laws.proofs.facts.Members.{each_turns}
+use Rattle.rule_laws.proofs.ir_laws.paths.woven_rules.Once.{times_none}
+use Rattle.rule_laws.proofs.ir_laws.facts.Members.{each_turns}
 use Rattle.rule_laws.proofs.rules.woven_rules.Operands.{term_itself}
 use Rattle.rule_laws.specs.rules.woven_rules.Blocks.{AreWoven, AreWovenBlocks, Done, Gone, IsWoven, MayGo, NoBlock, OneBlock, Remain, times_made}
-use Rattle.ir_laws.specs.facts.woven_rules.Pairs.{Empty, Pair, Pairwise, one_if, times}
+use Rattle.rule_laws.specs.ir_laws.facts.woven_rules.Pairs.{Empty, Pair, Pairwise, one_if, times}
 use Rattle.rule_laws.specs.rules.woven_rules.Parts.{IncomingStays, PhiStays}
 use Rattle.rule_laws.specs.rules.woven_rules.Weaving.{IsInPlace, Same, Weaving, goes_in}
 

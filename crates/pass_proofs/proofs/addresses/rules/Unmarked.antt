@@ -3,14 +3,14 @@ use Rattle.std.proofs.Common.{◌≡◌, ℕ, ◌≤◌, Bool, true, false, List
 use Rattle.std.specs.Prelude.{None, Option, Some, filter, map, option_to_list, ◌&&◌}
 use Rattle.pass_proofs.proofs.addresses.rules.Turning.{MayFilter, TurnsWell, filter_fewer, filter_woven, turned_woven}
 use Rattle.pass_proofs.specs.addresses.rules.Addresses.{left_over, turning_weaving}
-use Rattle.ir_base.specs.declared.outcome.Place.{Place}
+use Rattle.rule_laws.specs.ir_base.declared.outcome.Place.{Place}
 use Rattle.rule_laws.proofs.rules.local_rules.Fitting.{either, no_either}
-use Rattle.ir_laws.proofs.facts.Truth.{and_first, holds, first_no, second_no}
+use Rattle.rule_laws.proofs.ir_laws.facts.Truth.{and_first, holds, first_no, second_no}
 use Rattle.rule_laws.proofs.rules.source_rules.Locals.{made_by}
-use Rattle.ir_laws.proofs.facts.Lists.{row_of}
+use Rattle.rule_laws.proofs.ir_laws.facts.Lists.{row_of}
 use Rattle.pass_addresses.specs.Placing.{stays, without_markers, without_promise, without_promise_of}
-use Rattle.ir_parts.specs.Contents.{ending_operands, instr_operands, result_of}
-use Rattle.ir_parts.specs.Parts.{OfInstr, Part, parts_of}
+use Rattle.rule_laws.specs.ir_parts.Contents.{ending_operands, instr_operands, result_of}
+use Rattle.rule_laws.specs.ir_parts.Parts.{OfInstr, Part, parts_of}
 use Rattle.rule_laws.specs.rules.function_rules.Kept.{KeepsFunctionRules}
 use Rattle.ir_model.specs.Ty.{Ty}
 use Rattle.ir_model.specs.declared.instr.Incoming.{Incoming}
@@ -23,21 +23,21 @@ use Rattle.ir_model.specs.declared.operand.Arg.{Arg}
 use Rattle.ir_model.specs.declared.operand.Callee.{Callee}
 use Rattle.ir_model.specs.declared.operand.Intrinsic.{Intrinsic}
 use Rattle.ir_model.specs.declared.operand.Operand.{Operand}
-use Rattle.run_laws.specs.changed.Changed.{Each}
-use Rattle.rule_types.specs.Signatures.{are_wanted, calls_otherwise, is_result}
-use Rattle.rule_types.specs.Wants.{intrinsic_params}
-use Rattle.rule_values.specs.Instrs.{fits_called, fits_instr, fits_result, passes}
-use Rattle.rule_values.specs.Kinds.{value_kind}
-use Rattle.rule_values.specs.Values.{breaks_values}
+use Rattle.rule_laws.specs.run_laws.changed.Changed.{Each}
+use Rattle.rule_laws.specs.rule_types.Signatures.{are_wanted, calls_otherwise, is_result}
+use Rattle.rule_laws.specs.rule_types.Wants.{intrinsic_params}
+use Rattle.rule_laws.specs.rule_values.Instrs.{fits_called, fits_instr, fits_result, passes}
+use Rattle.rule_laws.specs.rule_values.Kinds.{value_kind}
+use Rattle.rule_laws.specs.rule_values.Values.{breaks_values}
 use Rattle.std.specs.List.{list_all}
 use Rattle.rule_laws.proofs.rules.woven_rules.All.{rules_woven}
 use Rattle.rule_laws.proofs.rules.woven_rules.Edges.{incoming_woven}
 use Rattle.rule_laws.proofs.rules.woven_rules.Unbroken.{Passes, PassesIn, all_pass}
 use Rattle.rule_laws.proofs.rules.woven_rules.Pieces.{still_stays}
-use Rattle.ir_laws.proofs.facts.Members.{each_all, each_turns}
+use Rattle.rule_laws.proofs.ir_laws.facts.Members.{each_all, each_turns}
 use Rattle.rule_laws.specs.rules.woven_rules.Blocks.{AreWoven, Done, IsWoven, MayGo, Remain, Stays, Unpromised}
 use Rattle.rule_laws.specs.rules.woven_rules.Pairs.{AreIncomingOnce}
-use Rattle.ir_laws.specs.facts.woven_rules.Pairs.{times}
+use Rattle.rule_laws.specs.ir_laws.facts.woven_rules.Pairs.{times}
 use Rattle.rule_laws.specs.rules.woven_rules.Weaving.{Weaving, goes_in}
 use Rattle.rule_laws.proofs.rules.address_rules.Unmarked.{no_result}
 

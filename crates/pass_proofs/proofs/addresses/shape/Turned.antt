@@ -7,14 +7,14 @@ use Rattle.pass_addresses.specs.Placing.{lies_outside, stays, turned_block, with
 use Rattle.pass_proofs.proofs.edges.calls.Spared.{AreInstrsOther, AreOther, IsSpared}
 use Rattle.pass_proofs.proofs.edges.calls.Steadily.{AreSteady}
 use Rattle.rule_laws.proofs.rules.shape.Steady.{AreAllOrdered, Ended, IsAlike, IsBlockKept, IsPlain, Keeps, LeadsAt, Left, Stay, all_calls, all_labels, behind_first, first_leads}
-use Rattle.ir_laws.proofs.paths.shape.Steady.{AreOrdered, IsOrdered, is_end}
-use Rattle.ir_parts.specs.Contents.{ending_operands, instr_operands}
+use Rattle.rule_laws.proofs.ir_laws.paths.shape.Steady.{AreOrdered, IsOrdered, is_end}
+use Rattle.rule_laws.specs.ir_parts.Contents.{ending_operands, instr_operands}
 use Rattle.ir_model.specs.declared.instr.Instr.{Instr}
 use Rattle.ir_model.specs.declared.module.Block.{Block}
 use Rattle.ir_model.specs.declared.operand.Callee.{Callee}
 use Rattle.ir_model.specs.declared.operand.Intrinsic.{Intrinsic}
-use Rattle.run_laws.specs.changed.Changed.{Each}
-use Rattle.ir_laws.specs.facts.woven_rules.Pairs.{Empty, Pair, Pairwise}
+use Rattle.rule_laws.specs.run_laws.changed.Changed.{Each}
+use Rattle.rule_laws.specs.ir_laws.facts.woven_rules.Pairs.{Empty, Pair, Pairwise}
 
 -- ---- instructions that go
 

@@ -2,7 +2,7 @@
 use Rattle.std.proofs.Common.{ℕ, Bool, List, [], ◌∷◌, refl}
 use Rattle.std.specs.Prelude.{None, Option, Some, codes, filter, map}
 use Rattle.pass_addresses.specs.Placing.{lies_outside, slot_fetches, stays, turned_block, turned_function, with_frame_addresses, with_null, without_markers, without_promise, without_promise_of}
-use Rattle.ir_parts.specs.Contents.{arg_types}
+use Rattle.rule_laws.specs.ir_parts.Contents.{arg_types}
 use Rattle.ir_model.specs.Ty.{Ty}
 use Rattle.ir_model.specs.declared.instr.Instr.{Instr}
 use Rattle.ir_model.specs.declared.module.Function.{Function}
@@ -10,11 +10,11 @@ use Rattle.ir_model.specs.declared.operand.Arg.{Arg}
 use Rattle.ir_model.specs.declared.operand.Callee.{Callee}
 use Rattle.ir_model.specs.declared.operand.Intrinsic.{Intrinsic}
 use Rattle.pass_proofs.proofs.fetch.spelled.Fetched.{IsSpelledFetch, fetches_spelled}
-use Rattle.ir_laws.proofs.facts.Members.{each_filtered, each_mapped}
+use Rattle.rule_laws.proofs.ir_laws.facts.Members.{each_filtered, each_mapped}
 use Rattle.rule_laws.specs.texts.spelled.Spelled.{IsSpelled}
 use Rattle.rule_laws.specs.rules.spelled.Spelled.{IsSpelledBlock, IsSpelledFunction, IsSpelledInstr}
-use Rattle.run_laws.specs.changed.Changed.{Each}
-use Rattle.pass_fetch.specs.Blocks.{with_fetches}
+use Rattle.rule_laws.specs.run_laws.changed.Changed.{Each}
+use Rattle.rule_laws.specs.pass_fetch.Blocks.{with_fetches}
 
 -- a function with the instructions of each block turned
 turned_spelled : (T : List Instr → List Instr) → ((is : List Instr) → Each IsSpelledInstr is → Each IsSpelledInstr (T is)) → (f : Function) → IsSpelledFunction f → IsSpelledFunction (turned_function T f)

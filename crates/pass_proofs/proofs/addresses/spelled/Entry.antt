@@ -5,8 +5,8 @@ use Rattle.pass_addresses.specs.Placing.{slot_fetches, turned_block, with_frame_
 use Rattle.ir_model.specs.declared.instr.Instr.{Instr}
 use Rattle.ir_model.specs.declared.module.Block.{Block}
 use Rattle.ir_model.specs.declared.module.Function.{Function}
-use Rattle.ir_laws.specs.facts.spelled.Filled.{HasNoEntryPhis}
-use Rattle.pass_fetch.specs.Blocks.{with_fetches}
+use Rattle.rule_laws.specs.ir_laws.facts.spelled.Filled.{HasNoEntryPhis}
+use Rattle.rule_laws.specs.pass_fetch.Blocks.{with_fetches}
 use Rattle.pass_proofs.proofs.fetch.spelled.Entry.{fetches_entry}
 
 turning_entry : (T : List Instr → List Instr) (bs : List Block) → HasNoEntryPhis bs → HasNoEntryPhis (map (turned_block T) bs)

@@ -4,10 +4,10 @@ use Rattle.std.specs.Prelude.{None, Option, Some, replicate, slice_get, slice_se
 use Rattle.rule_laws.specs.frames.begin_order.Behind.{LeadsAgain}
 use Rattle.pass_proofs.proofs.cells.rules.Counts.{phis_rise}
 use Rattle.pass_proofs.proofs.cells.rules.Totals.{block_rise, written_rise}
-use Rattle.ir_laws.proofs.facts.Lists.{set_other}
-use Rattle.flow_solver.specs.Paths.{IsListed}
-use Rattle.pass_intrinsics.specs.Shapes.{suspends_of}
-use Rattle.pass_intrinsics.specs.declared.shape.SuspendPoint.{SuspendPoint}
+use Rattle.rule_laws.proofs.ir_laws.facts.Lists.{set_other}
+use Rattle.rule_laws.specs.flow_solver.Paths.{IsListed}
+use Rattle.rule_laws.specs.pass_intrinsics.Shapes.{suspends_of}
+use Rattle.rule_laws.specs.pass_intrinsics.declared.shape.SuspendPoint.{SuspendPoint}
 use Rattle.ir_model.specs.Ty.{Ty}
 use Rattle.ir_model.specs.declared.instr.Instr.{Instr}
 use Rattle.ir_model.specs.declared.module.Block.{Block}
@@ -17,16 +17,16 @@ use Rattle.ir_model.specs.declared.operand.Arg.{Arg}
 use Rattle.ir_model.specs.declared.operand.Callee.{Callee}
 use Rattle.ir_model.specs.declared.operand.Intrinsic.{Intrinsic}
 use Rattle.ir_model.specs.declared.operand.Operand.{Operand}
-use Rattle.ir_laws.specs.facts.replaced.Splittable.{asks_begin}
-use Rattle.pass_fetch.specs.Blocks.{fetched_block, fetched_blocks, next_after_block, next_after_phis}
-use Rattle.pass_fetch.specs.Fetching.{callee_by, fetch_of, fetched_args, next_after}
-use Rattle.pass_fetch.specs.Instrs.{with_fetched}
-use Rattle.pass_fetch.specs.declared.fetch.Fetch.{Fetch}
-use Rattle.pass_cells.specs.Kept.{entry, joined}
-use Rattle.pass_cells.specs.Plan.{returns_of, with_returns}
-use Rattle.pass_cells.specs.Written.{after_block, entry_blocks, save_row, written_block, written_blocks}
-use Rattle.pass_cells.specs.declared.plan.Plan.{Plan}
-use Rattle.ir_laws.proofs.facts.Truth.{is_number}
+use Rattle.rule_laws.specs.ir_laws.facts.replaced.Splittable.{asks_begin}
+use Rattle.rule_laws.specs.pass_fetch.Blocks.{fetched_block, fetched_blocks, next_after_block, next_after_phis}
+use Rattle.rule_laws.specs.pass_fetch.Fetching.{callee_by, fetch_of, fetched_args, next_after}
+use Rattle.rule_laws.specs.pass_fetch.Instrs.{with_fetched}
+use Rattle.rule_laws.specs.pass_fetch.declared.fetch.Fetch.{Fetch}
+use Rattle.rule_laws.specs.pass_cells.Kept.{entry, joined}
+use Rattle.rule_laws.specs.pass_cells.Plan.{returns_of, with_returns}
+use Rattle.rule_laws.specs.pass_cells.Written.{after_block, entry_blocks, save_row, written_block, written_blocks}
+use Rattle.rule_laws.specs.pass_cells.declared.plan.Plan.{Plan}
+use Rattle.rule_laws.proofs.ir_laws.facts.Truth.{is_number}
 
 -- ---- saves
 

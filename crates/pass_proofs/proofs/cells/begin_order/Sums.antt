@@ -2,22 +2,22 @@
 use Rattle.std.proofs.Common.{◌≡◌, ℕ, ◌+◌, ◌≤◌, Bool, true, false, List, [], ◌∷◌, ◌++◌, refl, arith}
 use Rattle.std.specs.Prelude.{None, Option, Some, ℤ, if◌then◌else◌}
 use Rattle.rule_laws.specs.rules.begin_order.Behind.{other_operands}
-use Rattle.ir_base.specs.declared.ops.CastOp.{CastOp}
-use Rattle.ir_laws.proofs.facts.Members.{each_behind}
-use Rattle.ir_parts.specs.Contents.{arg_operands, instr_operands}
-use Rattle.pass_distances.specs.Sums.{distance_instrs, is_wide, start_instrs, start_value, sum_instrs, sum_value, way_instrs, widened, widening}
-use Rattle.pass_distances.specs.Ways.{inner_type, inner_ways, way_at, ways_of}
-use Rattle.pass_distances.specs.declared.way.Way.{Way}
+use Rattle.rule_laws.specs.ir_base.declared.ops.CastOp.{CastOp}
+use Rattle.rule_laws.proofs.ir_laws.facts.Members.{each_behind}
+use Rattle.rule_laws.specs.ir_parts.Contents.{arg_operands, instr_operands}
+use Rattle.rule_laws.specs.pass_distances.Sums.{distance_instrs, is_wide, start_instrs, start_value, sum_instrs, sum_value, way_instrs, widened, widening}
+use Rattle.rule_laws.specs.pass_distances.Ways.{inner_type, inner_ways, way_at, ways_of}
+use Rattle.rule_laws.specs.pass_distances.declared.way.Way.{Way}
 use Rattle.ir_model.specs.Layout.{unnamed}
 use Rattle.ir_model.specs.Ty.{Ty, array, int, structure}
 use Rattle.ir_model.specs.declared.instr.Instr.{Instr}
 use Rattle.ir_model.specs.declared.module.Module.{Module}
 use Rattle.ir_model.specs.declared.operand.Arg.{Arg}
 use Rattle.ir_model.specs.declared.operand.Operand.{Operand}
-use Rattle.run_laws.specs.changed.Changed.{Each}
-use Rattle.pass_cells.specs.Kept.{entry}
-use Rattle.pass_cells.specs.Written.{cell_of, distance_behind, distance_from, distance_into}
-use Rattle.pass_cells.specs.declared.plan.Plan.{Plan}
+use Rattle.rule_laws.specs.run_laws.changed.Changed.{Each}
+use Rattle.rule_laws.specs.pass_cells.Kept.{entry}
+use Rattle.rule_laws.specs.pass_cells.Written.{cell_of, distance_behind, distance_from, distance_into}
+use Rattle.rule_laws.specs.pass_cells.declared.plan.Plan.{Plan}
 
 module _ (Q : Operand → Type 0) (first : ℕ) (new : (n : ℕ) → first ≤ n → Q (Operand.Local n)) (number : (z : ℤ) → Q (Operand.Number z)) where
   abbrev pub Hold : List Instr → Type 0

@@ -3,11 +3,11 @@ use Rattle.std.proofs.Common.{◌≡◌, ℕ, zero, suc, ◌+◌, Bool, true, fa
 use Rattle.std.specs.List.{list_any}
 use Rattle.std.specs.Prelude.{Option, Some, None, slice_get, ◌||◌, if◌then◌else◌}
 use Rattle.pass_proofs.proofs.cells.rules.Spread.{spread}
-use Rattle.ir_laws.proofs.facts.Members.{each_joined}
-use Rattle.ir_parts.specs.Contents.{instr_operands, result_of}
-use Rattle.pass_distances.specs.Sums.{is_wide, start_instrs, start_value, sum_instrs, way_instrs, widening}
-use Rattle.pass_distances.specs.Ways.{ways_of}
-use Rattle.pass_distances.specs.declared.way.Way.{Way}
+use Rattle.rule_laws.proofs.ir_laws.facts.Members.{each_joined}
+use Rattle.rule_laws.specs.ir_parts.Contents.{instr_operands, result_of}
+use Rattle.rule_laws.specs.pass_distances.Sums.{is_wide, start_instrs, start_value, sum_instrs, way_instrs, widening}
+use Rattle.rule_laws.specs.pass_distances.Ways.{ways_of}
+use Rattle.rule_laws.specs.pass_distances.declared.way.Way.{Way}
 use Rattle.ir_model.specs.Ty.{Ty}
 use Rattle.ir_model.specs.declared.instr.Instr.{Instr}
 use Rattle.ir_model.specs.declared.instr.Phi.{Phi}
@@ -17,16 +17,16 @@ use Rattle.ir_model.specs.declared.operand.Arg.{Arg}
 use Rattle.ir_model.specs.declared.operand.Callee.{Callee}
 use Rattle.ir_model.specs.declared.operand.Intrinsic.{Intrinsic}
 use Rattle.ir_model.specs.declared.operand.Operand.{Operand}
-use Rattle.ir_paths.specs.Windows.{is_call_of}
-use Rattle.run_laws.specs.changed.Changed.{Each}
-use Rattle.pass_fetch.specs.Fetching.{callee_by, fetch_at, fetch_into, fetch_of, fetched_args, fetches_by, fetches_of, fetches_of_all, next_after}
-use Rattle.pass_fetch.specs.Instrs.{next_after_instr, with_fetched}
-use Rattle.pass_fetch.specs.declared.fetch.Fetch.{Fetch}
-use Rattle.pass_cells.specs.Kept.{entry}
-use Rattle.pass_cells.specs.Moves.{address_again, after_saved, again_one, again_values, saved_one, saved_values}
-use Rattle.pass_cells.specs.Written.{after_one, distance_alloca, distance_allocas, distance_behind, distance_from, distance_into, kept_allocas, link_allocas, save_row, stored, stored_at, stored_one, stored_params, stored_phis, stored_result}
-use Rattle.pass_cells.specs.declared.plan.KeptValue.{KeptValue}
-use Rattle.pass_cells.specs.declared.plan.Plan.{Plan}
+use Rattle.rule_laws.specs.ir_paths.Windows.{is_call_of}
+use Rattle.rule_laws.specs.run_laws.changed.Changed.{Each}
+use Rattle.rule_laws.specs.pass_fetch.Fetching.{callee_by, fetch_at, fetch_into, fetch_of, fetched_args, fetches_by, fetches_of, fetches_of_all, next_after}
+use Rattle.rule_laws.specs.pass_fetch.Instrs.{next_after_instr, with_fetched}
+use Rattle.rule_laws.specs.pass_fetch.declared.fetch.Fetch.{Fetch}
+use Rattle.rule_laws.specs.pass_cells.Kept.{entry}
+use Rattle.rule_laws.specs.pass_cells.Moves.{address_again, after_saved, again_one, again_values, saved_one, saved_values}
+use Rattle.rule_laws.specs.pass_cells.Written.{after_one, distance_alloca, distance_allocas, distance_behind, distance_from, distance_into, kept_allocas, link_allocas, save_row, stored, stored_at, stored_one, stored_params, stored_phis, stored_result}
+use Rattle.rule_laws.specs.pass_cells.declared.plan.KeptValue.{KeptValue}
+use Rattle.rule_laws.specs.pass_cells.declared.plan.Plan.{Plan}
 
 -- an instruction that calls no intrinsic
 abbrev pub IsQuiet : Instr → Type 0

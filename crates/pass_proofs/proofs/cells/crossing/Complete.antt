@@ -1,15 +1,15 @@
 -- Each value that crosses a suspend has a place.
 use Rattle.std.proofs.Common.{◌≡◌, ◌⊎◌, inl, inr, ⊎_elim, ℕ, zero, suc, ◌+◌, ◌<◌, Bool, true, false, List, [], ◌∷◌, ◌++◌, length, refl, sym, ap, ◌∙◌, subst, arith}
 use Rattle.std.specs.Prelude.{Option, Some, None, replicate, slice_get, slice_set, if◌then◌else◌}
-use Rattle.ir_laws.proofs.facts.Truth.{either}
-use Rattle.ir_laws.proofs.facts.Lists.{set_here, set_length, set_other, blank_length as blank_long}
-use Rattle.ir_laws.proofs.paths.source_rules.Locals.{listed_left, listed_right}
-use Rattle.flow_solver.specs.Paths.{IsListed}
+use Rattle.rule_laws.proofs.ir_laws.facts.Truth.{either}
+use Rattle.rule_laws.proofs.ir_laws.facts.Lists.{set_here, set_length, set_other, blank_length as blank_long}
+use Rattle.rule_laws.proofs.ir_laws.paths.source_rules.Locals.{listed_left, listed_right}
+use Rattle.rule_laws.specs.flow_solver.Paths.{IsListed}
 use Rattle.ir_model.specs.declared.module.Function.{Function}
-use Rattle.ir_paths.specs.declared.point.Point.{Point}
-use Rattle.frame_crossing.specs.Crossing.{AreCrossed, CrossedBy, Crosses, LeftOut, More, NoMore, Nothing, Taken, suspends_of}
-use Rattle.pass_cells.specs.Kept.{entry, is_new, is_untold, joined, keeping_of, with_value, with_values}
-use Rattle.pass_cells.specs.declared.keeping.Keeping.{Keeping}
+use Rattle.rule_laws.specs.ir_paths.declared.point.Point.{Point}
+use Rattle.rule_laws.specs.frame_crossing.Crossing.{AreCrossed, CrossedBy, Crosses, LeftOut, More, NoMore, Nothing, Taken, suspends_of}
+use Rattle.rule_laws.specs.pass_cells.Kept.{entry, is_new, is_untold, joined, keeping_of, with_value, with_values}
+use Rattle.rule_laws.specs.pass_cells.declared.keeping.Keeping.{Keeping}
 
 -- ---- a value that crosses is among the pairs
 

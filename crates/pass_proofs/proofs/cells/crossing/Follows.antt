@@ -9,14 +9,14 @@ use Rattle.pass_proofs.proofs.cells.rules.Around.{saved_low}
 use Rattle.pass_proofs.proofs.cells.rules.Indices.{behind_low}
 use Rattle.pass_proofs.proofs.cells.rules.Spread.{spread}
 use Rattle.pass_proofs.proofs.cells.rules.Instrs.{same_made}
-use Rattle.rule_uses.specs.Uses.{local_of, locals_in}
-use Rattle.ir_laws.proofs.facts.Members.{each_joined}
-use Rattle.ir_laws.proofs.paths.source_rules.Locals.{listed_either, listed_left, listed_right}
-use Rattle.flow_solver.specs.Paths.{IsListed}
-use Rattle.ir_parts.specs.Contents.{arg_operands, callee_operands, instr_operands, result_of}
-use Rattle.pass_distances.specs.Sums.{is_wide, on_number, start_instrs, start_value, sum_instrs, sum_value, way_instrs, widened, widening}
-use Rattle.pass_distances.specs.Ways.{inner_type, inner_ways, way_at, ways_of}
-use Rattle.pass_distances.specs.declared.way.Way.{Way}
+use Rattle.rule_laws.specs.rule_uses.Uses.{local_of, locals_in}
+use Rattle.rule_laws.proofs.ir_laws.facts.Members.{each_joined}
+use Rattle.rule_laws.proofs.ir_laws.paths.source_rules.Locals.{listed_either, listed_left, listed_right}
+use Rattle.rule_laws.specs.flow_solver.Paths.{IsListed}
+use Rattle.rule_laws.specs.ir_parts.Contents.{arg_operands, callee_operands, instr_operands, result_of}
+use Rattle.rule_laws.specs.pass_distances.Sums.{is_wide, on_number, start_instrs, start_value, sum_instrs, sum_value, way_instrs, widened, widening}
+use Rattle.rule_laws.specs.pass_distances.Ways.{inner_type, inner_ways, way_at, ways_of}
+use Rattle.rule_laws.specs.pass_distances.declared.way.Way.{Way}
 use Rattle.ir_model.specs.Layout.{unnamed}
 use Rattle.ir_model.specs.Ty.{Ty, array, int, named, ptr, structure, token}
 use Rattle.ir_model.specs.declared.instr.Instr.{Instr}
@@ -26,16 +26,16 @@ use Rattle.ir_model.specs.declared.module.Module.{Module}
 use Rattle.ir_model.specs.declared.operand.Arg.{Arg}
 use Rattle.ir_model.specs.declared.operand.Callee.{Callee}
 use Rattle.ir_model.specs.declared.operand.Operand.{Operand}
-use Rattle.run_laws.specs.changed.Changed.{Each}
-use Rattle.pass_fetch.specs.Fetching.{callee_by, fetch_at, fetched_args, fetched_operand, fetches_of_all, next_after, operand_by}
-use Rattle.pass_fetch.specs.Instrs.{next_after_instr, with_fetched}
-use Rattle.pass_fetch.specs.declared.fetch.Fetch.{Fetch}
-use Rattle.pass_cells.specs.Cells.{fetch_by, fetch_for, fetches_of as fetch_table}
-use Rattle.pass_cells.specs.Kept.{entry}
-use Rattle.pass_cells.specs.Moves.{address_again, after_saved, again_one, again_values, saved_one, saved_values}
-use Rattle.pass_cells.specs.Written.{after_one, cell_of, distance_behind, distance_from, distance_into, save_row, stored, stored_at, stored_one, stored_phis, stored_result}
-use Rattle.pass_cells.specs.declared.plan.KeptValue.{KeptValue}
-use Rattle.pass_cells.specs.declared.plan.Plan.{Plan}
+use Rattle.rule_laws.specs.run_laws.changed.Changed.{Each}
+use Rattle.rule_laws.specs.pass_fetch.Fetching.{callee_by, fetch_at, fetched_args, fetched_operand, fetches_of_all, next_after, operand_by}
+use Rattle.rule_laws.specs.pass_fetch.Instrs.{next_after_instr, with_fetched}
+use Rattle.rule_laws.specs.pass_fetch.declared.fetch.Fetch.{Fetch}
+use Rattle.rule_laws.specs.pass_cells.Cells.{fetch_by, fetch_for, fetches_of as fetch_table}
+use Rattle.rule_laws.specs.pass_cells.Kept.{entry}
+use Rattle.rule_laws.specs.pass_cells.Moves.{address_again, after_saved, again_one, again_values, saved_one, saved_values}
+use Rattle.rule_laws.specs.pass_cells.Written.{after_one, cell_of, distance_behind, distance_from, distance_into, save_row, stored, stored_at, stored_one, stored_phis, stored_result}
+use Rattle.rule_laws.specs.pass_cells.declared.plan.KeptValue.{KeptValue}
+use Rattle.rule_laws.specs.pass_cells.declared.plan.Plan.{Plan}
 use Rattle.rule_laws.specs.rules.woven_rules.Weaving.{Weaving}
 use Rattle.rule_laws.proofs.rules.crossing.Follows.{Ended, Extra, Follows, IsExtra, Same, Uses}
 

@@ -2,7 +2,7 @@
 use Rattle.std.proofs.Common.{◌≡◌, ◌⊎◌, inl, inr, ⊎_elim, ℕ, zero, suc, ◌+◌, ◌<◌, ◌≤◌, true, List, [], ◌∷◌, ◌++◌, length, refl, sym, ap, ◌∙◌, subst, arith}
 use Rattle.std.specs.List.{list_all, list_any}
 use Rattle.std.specs.Prelude.{Option, Some, None, map, not, option_map, option_to_list, slice_get, ◌&&◌, ◌==◌, if◌then◌else◌}
-use Rattle.flow_blocks.specs.Edges.{edges_of_blocks}
+use Rattle.rule_laws.specs.flow_blocks.Edges.{edges_of_blocks}
 use Rattle.pass_proofs.proofs.cells.crossing.Calls.{AreQuiet, IsQuiet, agains_quiet, phis_quiet, quiet_ahead, spread_calls}
 use Rattle.rule_laws.proofs.rules.crossing.Follows.{Follows}
 use Rattle.pass_proofs.proofs.cells.crossing.Follows.{HasAPlace, agains_extra, extras_follow, list_stays, operand_stays, phis_extra, spread_follows}
@@ -16,13 +16,13 @@ use Rattle.pass_proofs.proofs.cells.rules.Planned.{IsPlanned, planned_fetches}
 use Rattle.pass_proofs.proofs.cells.rules.Single.{IsSound}
 use Rattle.pass_proofs.proofs.cells.rules.Totals.{fetched_names}
 use Rattle.pass_proofs.proofs.cells.rules.WovenBlocks.{behind, behind_fetches, block_of, next_kept, row_is}
-use Rattle.rule_uses.specs.Uses.{local_of, locals_in, phi_values}
-use Rattle.ir_laws.proofs.facts.Members.{each_joined}
-use Rattle.ir_laws.proofs.facts.Truth.{and_first, and_second}
-use Rattle.ir_laws.proofs.paths.source_rules.Locals.{listed_either, listed_left, listed_right}
-use Rattle.ir_laws.proofs.facts.Lists.{phi_names}
-use Rattle.flow_solver.specs.Paths.{IsListed}
-use Rattle.ir_parts.specs.Contents.{ending_operands}
+use Rattle.rule_laws.specs.rule_uses.Uses.{local_of, locals_in, phi_values}
+use Rattle.rule_laws.proofs.ir_laws.facts.Members.{each_joined}
+use Rattle.rule_laws.proofs.ir_laws.facts.Truth.{and_first, and_second}
+use Rattle.rule_laws.proofs.ir_laws.paths.source_rules.Locals.{listed_either, listed_left, listed_right}
+use Rattle.rule_laws.proofs.ir_laws.facts.Lists.{phi_names}
+use Rattle.rule_laws.specs.flow_solver.Paths.{IsListed}
+use Rattle.rule_laws.specs.ir_parts.Contents.{ending_operands}
 use Rattle.ir_model.specs.Layout.{same_type}
 use Rattle.ir_model.specs.Names.{first_where, position_of}
 use Rattle.ir_model.specs.Ty.{Ty}
@@ -36,25 +36,25 @@ use Rattle.ir_model.specs.declared.module.Function.{Function}
 use Rattle.ir_model.specs.declared.module.Module.{Module}
 use Rattle.ir_model.specs.declared.operand.Intrinsic.{Intrinsic}
 use Rattle.ir_model.specs.declared.operand.Operand.{Operand}
-use Rattle.ir_paths.specs.Paths.{targets}
-use Rattle.ir_paths.specs.Windows.{is_call_of, label_of_term}
-use Rattle.run_laws.specs.changed.Changed.{Each}
-use Rattle.frame_crossing.specs.EdgeUses.{blocks_uses, edge_use, incoming_uses, phis_uses, uses_by}
-use Rattle.frame_crossing.specs.Paths.{phis_in}
-use Rattle.frame_crossing.specs.declared.edge_use.EdgeUse.{EdgeUse}
-use Rattle.pass_fetch.specs.Blocks.{fetched_block, fetched_blocks, fetched_incoming, fetched_phis, next_after_block, next_after_phi, next_after_phis}
-use Rattle.pass_fetch.specs.Fetching.{fetched_operand, next_after}
-use Rattle.pass_fetch.specs.Instrs.{fetched_term, next_after_instrs, term_operands}
-use Rattle.pass_fetch.specs.declared.fetch.Fetch.{Fetch}
-use Rattle.pass_cells.specs.Cells.{fetches_of as fetch_table}
-use Rattle.pass_cells.specs.Moves.{again_values}
-use Rattle.pass_cells.specs.Written.{after_block, again_row, entry_blocks, stored_phis, written_blocks, written_instrs}
-use Rattle.pass_cells.specs.declared.plan.KeptValue.{KeptValue}
-use Rattle.pass_cells.specs.declared.plan.Plan.{Plan}
-use Rattle.rule_values.specs.Fits.{fits_arg, fits_integer}
-use Rattle.rule_values.specs.Switches.{any_twice, bits_in, case_word, fits_case, is_constant}
-use Rattle.rule_values.specs.Values.{fits_ending}
-use Rattle.rule_values.specs.declared.kinds.Kind.{Kind}
+use Rattle.rule_laws.specs.ir_paths.Paths.{targets}
+use Rattle.rule_laws.specs.ir_paths.Windows.{is_call_of, label_of_term}
+use Rattle.rule_laws.specs.run_laws.changed.Changed.{Each}
+use Rattle.rule_laws.specs.frame_crossing.EdgeUses.{blocks_uses, edge_use, incoming_uses, phis_uses, uses_by}
+use Rattle.rule_laws.specs.frame_crossing.Paths.{phis_in}
+use Rattle.rule_laws.specs.frame_crossing.declared.edge_use.EdgeUse.{EdgeUse}
+use Rattle.rule_laws.specs.pass_fetch.Blocks.{fetched_block, fetched_blocks, fetched_incoming, fetched_phis, next_after_block, next_after_phi, next_after_phis}
+use Rattle.rule_laws.specs.pass_fetch.Fetching.{fetched_operand, next_after}
+use Rattle.rule_laws.specs.pass_fetch.Instrs.{fetched_term, next_after_instrs, term_operands}
+use Rattle.rule_laws.specs.pass_fetch.declared.fetch.Fetch.{Fetch}
+use Rattle.rule_laws.specs.pass_cells.Cells.{fetches_of as fetch_table}
+use Rattle.rule_laws.specs.pass_cells.Moves.{again_values}
+use Rattle.rule_laws.specs.pass_cells.Written.{after_block, again_row, entry_blocks, stored_phis, written_blocks, written_instrs}
+use Rattle.rule_laws.specs.pass_cells.declared.plan.KeptValue.{KeptValue}
+use Rattle.rule_laws.specs.pass_cells.declared.plan.Plan.{Plan}
+use Rattle.rule_laws.specs.rule_values.Fits.{fits_arg, fits_integer}
+use Rattle.rule_laws.specs.rule_values.Switches.{any_twice, bits_in, case_word, fits_case, is_constant}
+use Rattle.rule_laws.specs.rule_values.Values.{fits_ending}
+use Rattle.rule_laws.specs.rule_values.declared.kinds.Kind.{Kind}
 use Rattle.rule_laws.specs.rules.woven_rules.Weaving.{Weaving}
 
 -- ---- values of switches are constants

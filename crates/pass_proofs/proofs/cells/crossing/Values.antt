@@ -3,25 +3,25 @@ use Rattle.rule_laws.proofs.rules.counted.DefinedKinds.{made_in}
 use Rattle.std.proofs.Common.{◌≡◌, ◌⊎◌, inl, ⊎_elim, ℕ, ◌<◌, ◌≤◌, Bool, [], refl, sym, ap, ◌∙◌}
 use Rattle.std.specs.Prelude.{Some, None, slice_get, if◌then◌else◌}
 use Rattle.rule_laws.proofs.frames.counted.Keepable.{FoundInstr, blocks_found, distinct_listed, params_found}
-use Rattle.ir_laws.proofs.facts.Lists.{FoundParam, FoundPhi}
+use Rattle.rule_laws.proofs.ir_laws.facts.Lists.{FoundParam, FoundPhi}
 use Rattle.pass_proofs.proofs.cells.rules.Keepable.{no_alloca}
 use Rattle.rule_laws.proofs.rules.counted.Slots.{instr_size}
 use Rattle.pass_proofs.proofs.cells.rules.Whole.{FrontAlloca}
-use Rattle.ir_laws.proofs.facts.Truth.{itself}
+use Rattle.rule_laws.proofs.ir_laws.facts.Truth.{itself}
 use Rattle.rule_laws.proofs.rules.local_rules.Names.{numbers}
-use Rattle.ir_laws.proofs.paths.source_rules.Locals.{listed_either}
-use Rattle.flow_solver.specs.Paths.{IsListed}
+use Rattle.rule_laws.proofs.ir_laws.paths.source_rules.Locals.{listed_either}
+use Rattle.rule_laws.specs.flow_solver.Paths.{IsListed}
 use Rattle.ir_model.specs.Layout.{size_of}
 use Rattle.ir_model.specs.declared.module.Block.{Block}
 use Rattle.ir_model.specs.declared.module.Function.{Function}
 use Rattle.ir_model.specs.declared.module.Module.{Module}
-use Rattle.rule_locals.specs.Markers.{slot_size}
-use Rattle.frame_crossing.specs.Values.{all_defined, blocks_defined, params_defined, values_of}
-use Rattle.pass_cells.specs.Moves.{cell_alloca}
+use Rattle.rule_laws.specs.rule_locals.Markers.{slot_size}
+use Rattle.rule_laws.specs.frame_crossing.Values.{all_defined, blocks_defined, params_defined, values_of}
+use Rattle.rule_laws.specs.pass_cells.Moves.{cell_alloca}
 use Rattle.rule_laws.specs.rules.woven_rules.Blocks.{IsWoven}
-use Rattle.ir_laws.specs.facts.woven_rules.Pairs.{times}
+use Rattle.rule_laws.specs.ir_laws.facts.woven_rules.Pairs.{times}
 use Rattle.rule_laws.specs.rules.woven_rules.Weaving.{Weaving}
-use Rattle.ir_laws.proofs.paths.crossing.Values.{listed_at}
+use Rattle.rule_laws.proofs.ir_laws.paths.crossing.Values.{listed_at}
 
 module _ (w : Weaving) (m : Module) (f g : Function) (woven : IsWoven w m f g) (below : (n : ℕ) → IsListed n (numbers f) → n < w.first) (c : ℕ) (new : w.first ≤ c) (once : times c (numbers g) ≤ 1) (front : FrontAlloca g c) where
   cell_sized : slot_size m g c ≡ None → ⊥

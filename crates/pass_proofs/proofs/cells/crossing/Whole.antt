@@ -3,8 +3,8 @@ use Rattle.std.proofs.Common.{◌≡◌, ◌⊎◌, inr, ⊎_elim, ℕ, zero, su
 use Rattle.std.proofs.lemmas.Bool.{cases_lt}
 use Rattle.std.specs.List.{list_any}
 use Rattle.std.specs.Prelude.{Some, None, map, slice_get, unwrap_or, ◌||◌, ◌==◌}
-use Rattle.flow_blocks.specs.Edges.{block_edges, edges_of_blocks}
-use Rattle.flow_blocks.specs.Reach.{Edge, IsReached, Start}
+use Rattle.rule_laws.specs.flow_blocks.Edges.{block_edges, edges_of_blocks}
+use Rattle.rule_laws.specs.flow_blocks.Reach.{Edge, IsReached, Start}
 use Rattle.pass_proofs.proofs.cells.crossing.Calls.{AreQuiet, front_quiet}
 use Rattle.pass_proofs.proofs.cells.crossing.Complete.{crossed_listed, pair_placed}
 use Rattle.rule_laws.proofs.frames.crossing.Defined.{defined_before, switch_leads}
@@ -17,25 +17,25 @@ use Rattle.rule_laws.proofs.frames.crossing.Paths.{point_found, point_there}
 use Rattle.pass_proofs.proofs.cells.crossing.Values.{no_cell}
 use Rattle.rule_laws.proofs.frames.crossing.Values.{old_value}
 use Rattle.rule_laws.specs.frames.crossing.Crossed.{AreSuspendsApart, IsApart}
-use Rattle.ir_laws.proofs.facts.Lists.{FoundParam, FoundPhi, phi_names, row_of}
+use Rattle.rule_laws.proofs.ir_laws.facts.Lists.{FoundParam, FoundPhi, phi_names, row_of}
 use Rattle.pass_proofs.proofs.cells.rules.Keepable.{keepable, once}
-use Rattle.ir_laws.proofs.paths.counted.Keepable.{param_listed, phi_listed}
+use Rattle.rule_laws.proofs.ir_laws.paths.counted.Keepable.{param_listed, phi_listed}
 use Rattle.pass_proofs.proofs.cells.rules.NewNames.{blocks_are, defined_below, first_kept, first_kept_low, first_phi, first_phi_low, first_use, first_use_low, numbers_few, params_are}
 use Rattle.pass_proofs.proofs.cells.rules.Ends.{AreEndsFetches}
 use Rattle.pass_proofs.proofs.cells.rules.Planned.{IsPlanned}
 use Rattle.pass_proofs.proofs.cells.rules.Single.{IsSound}
 use Rattle.rule_laws.specs.rules.woven_rules.Weaving.{Weaving}
-use Rattle.pass_cells.specs.declared.plan.Plan.{Plan}
+use Rattle.rule_laws.specs.pass_cells.declared.plan.Plan.{Plan}
 use Rattle.rule_laws.proofs.rules.counted.PartFacts.{block_passes}
 use Rattle.rule_laws.proofs.rules.counted.Slots.{alloca_sized}
 use Rattle.pass_proofs.proofs.cells.rules.Whole.{front_is, g, is_woven, loads, p, planned, rows, sound, start, t, w}
 use Rattle.pass_proofs.specs.cells.rules.Asked.{AreCellsFor}
-use Rattle.rule_uses.specs.Undefined.{params_of}
+use Rattle.rule_laws.specs.rule_uses.Undefined.{params_of}
 use Rattle.rule_laws.proofs.rules.local_rules.Names.{numbers}
-use Rattle.ir_laws.proofs.facts.Truth.{holds}
+use Rattle.rule_laws.proofs.ir_laws.facts.Truth.{holds}
 use Rattle.rule_laws.proofs.rules.source_rules.Locals.{block_names, made_by}
-use Rattle.ir_laws.proofs.paths.source_rules.Locals.{in_row, listed_left, listed_right}
-use Rattle.flow_solver.specs.Paths.{IsListed}
+use Rattle.rule_laws.proofs.ir_laws.paths.source_rules.Locals.{in_row, listed_left, listed_right}
+use Rattle.rule_laws.specs.flow_solver.Paths.{IsListed}
 use Rattle.rule_laws.specs.rules.function_rules.Kept.{KeepsFunctionRules}
 use Rattle.ir_model.specs.Names.{first_where, position_of}
 use Rattle.ir_model.specs.declared.instr.Instr.{Instr}
@@ -44,18 +44,18 @@ use Rattle.ir_model.specs.declared.module.Function.{Function}
 use Rattle.ir_model.specs.declared.module.Module.{Module}
 use Rattle.ir_model.specs.declared.module.Param.{Param}
 use Rattle.ir_model.specs.declared.operand.Intrinsic.{Intrinsic}
-use Rattle.ir_paths.specs.Windows.{destroy_label, end_block, is_call_of, label_at, label_of_term, points_in, resume_label}
-use Rattle.ir_paths.specs.declared.point.Point.{Point}
-use Rattle.rule_locals.specs.Markers.{slot_size}
-use Rattle.frame_crossing.specs.Crossing.{AreCrossing, Crosses, suspends_of}
-use Rattle.frame_crossing.specs.EdgeUses.{blocks_uses, edge_use}
-use Rattle.frame_crossing.specs.Paths.{IsNeededBehind, phis_at, phis_in}
-use Rattle.frame_crossing.specs.Values.{values_of}
-use Rattle.pass_fetch.specs.Blocks.{fetched_blocks}
-use Rattle.pass_cells.specs.Written.{entry_blocks}
-use Rattle.pass_cells.specs.declared.plan.KeptValue.{KeptValue}
-use Rattle.rule_values.specs.Kinds.{value_kind}
-use Rattle.rule_values.specs.Values.{breaks_values, fits_ending}
+use Rattle.rule_laws.specs.ir_paths.Windows.{destroy_label, end_block, is_call_of, label_at, label_of_term, points_in, resume_label}
+use Rattle.rule_laws.specs.ir_paths.declared.point.Point.{Point}
+use Rattle.rule_laws.specs.rule_locals.Markers.{slot_size}
+use Rattle.rule_laws.specs.frame_crossing.Crossing.{AreCrossing, Crosses, suspends_of}
+use Rattle.rule_laws.specs.frame_crossing.EdgeUses.{blocks_uses, edge_use}
+use Rattle.rule_laws.specs.frame_crossing.Paths.{IsNeededBehind, phis_at, phis_in}
+use Rattle.rule_laws.specs.frame_crossing.Values.{values_of}
+use Rattle.rule_laws.specs.pass_fetch.Blocks.{fetched_blocks}
+use Rattle.rule_laws.specs.pass_cells.Written.{entry_blocks}
+use Rattle.rule_laws.specs.pass_cells.declared.plan.KeptValue.{KeptValue}
+use Rattle.rule_laws.specs.rule_values.Kinds.{value_kind}
+use Rattle.rule_laws.specs.rule_values.Values.{breaks_values, fits_ending}
 
 -- a position where an instruction passes a test
 passing_at : (t : Instr → Bool) (is : List Instr) → list_any t is ≡ true → (j : ℕ) × ((i : Instr) × ((slice_get is j ≡ Some i) × (t i ≡ true)))

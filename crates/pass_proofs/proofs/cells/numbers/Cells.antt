@@ -1,13 +1,13 @@
 -- What keeps values in cells has no suspends.
 use Rattle.std.proofs.Common.{◌≡◌, ℕ, zero, suc, ◌+◌, Bool, true, false, List, [], ◌∷◌, ◌++◌, length, refl, ◌∙◌, arith}
 use Rattle.std.specs.Prelude.{codes, None, Option, Some, slice_get, if◌then◌else◌}
-use Rattle.ir_base.specs.declared.ops.CastOp.{CastOp}
+use Rattle.rule_laws.specs.ir_base.declared.ops.CastOp.{CastOp}
 use Rattle.rule_laws.proofs.frames.suspend_counts.Counted.{count, joined, one, total}
 use Rattle.pass_proofs.proofs.fetch.numbers.Fetched.{fetched_total}
-use Rattle.ir_parts.specs.Contents.{result_of}
-use Rattle.pass_distances.specs.Sums.{distance_instrs, is_wide, start_instrs, start_value, sum_instrs, way_instrs, widening}
-use Rattle.pass_distances.specs.Ways.{ways_of}
-use Rattle.pass_distances.specs.declared.way.Way.{Way}
+use Rattle.rule_laws.specs.ir_parts.Contents.{result_of}
+use Rattle.rule_laws.specs.pass_distances.Sums.{distance_instrs, is_wide, start_instrs, start_value, sum_instrs, way_instrs, widening}
+use Rattle.rule_laws.specs.pass_distances.Ways.{ways_of}
+use Rattle.rule_laws.specs.pass_distances.declared.way.Way.{Way}
 use Rattle.ir_model.specs.Ty.{Ty, int}
 use Rattle.ir_model.specs.declared.instr.Instr.{Instr}
 use Rattle.ir_model.specs.declared.instr.Phi.{Phi}
@@ -17,14 +17,14 @@ use Rattle.ir_model.specs.declared.module.Module.{Module}
 use Rattle.ir_model.specs.declared.module.Param.{Param}
 use Rattle.ir_model.specs.declared.operand.Arg.{Arg}
 use Rattle.ir_model.specs.declared.operand.Operand.{Operand}
-use Rattle.pass_cells.specs.Cells.{fetched_function, fetches_of, named_function, with_cells, with_plan}
-use Rattle.pass_cells.specs.Kept.{entry}
-use Rattle.pass_cells.specs.Links.{link_name}
-use Rattle.pass_cells.specs.Moves.{address_again, after_again, after_saved, again_one, again_values, cell_alloca, saved_one, saved_values}
-use Rattle.pass_cells.specs.Plan.{plan_of}
-use Rattle.pass_cells.specs.Written.{after_block, after_one, again_row, distance_alloca, distance_allocas, distance_behind, distance_from, distance_into, entry_blocks, entry_front, kept_allocas, link_allocas, save_row, stored, stored_at, stored_one, stored_params, stored_phis, stored_result, written_block, written_blocks, written_instrs, written_one}
-use Rattle.pass_cells.specs.declared.plan.KeptValue.{KeptValue}
-use Rattle.pass_cells.specs.declared.plan.Plan.{Plan}
+use Rattle.rule_laws.specs.pass_cells.Cells.{fetched_function, fetches_of, named_function, with_cells, with_plan}
+use Rattle.rule_laws.specs.pass_cells.Kept.{entry}
+use Rattle.rule_laws.specs.pass_cells.Links.{link_name}
+use Rattle.rule_laws.specs.pass_cells.Moves.{address_again, after_again, after_saved, again_one, again_values, cell_alloca, saved_one, saved_values}
+use Rattle.rule_laws.specs.pass_cells.Plan.{plan_of}
+use Rattle.rule_laws.specs.pass_cells.Written.{after_block, after_one, again_row, distance_alloca, distance_allocas, distance_behind, distance_from, distance_into, entry_blocks, entry_front, kept_allocas, link_allocas, save_row, stored, stored_at, stored_one, stored_params, stored_phis, stored_result, written_block, written_blocks, written_instrs, written_one}
+use Rattle.rule_laws.specs.pass_cells.declared.plan.KeptValue.{KeptValue}
+use Rattle.rule_laws.specs.pass_cells.declared.plan.Plan.{Plan}
 
 -- no suspend in both is none in the row
 none_joined : (xs ys : List Instr) → count xs ≡ 0 → count ys ≡ 0 → count (xs ++ ys) ≡ 0

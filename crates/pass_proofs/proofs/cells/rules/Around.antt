@@ -7,10 +7,10 @@ use Rattle.pass_proofs.proofs.cells.rules.Planned.{HasPlace, IsKeptWell, IsPlann
 use Rattle.rule_laws.proofs.rules.counted.Planned.{IsSlot}
 use Rattle.rule_laws.proofs.rules.counted.Puts.{ArePut, known_grows, puts_joined}
 use Rattle.pass_proofs.proofs.cells.rules.Single.{IsSound, IsTold, address_put, cell_kind, load_kind, load_put, new_kind, old_kind, own_kind, store_put}
-use Rattle.rule_uses.specs.Undefined.{params_of}
-use Rattle.rule_uses.specs.Uses.{made_by_instrs}
-use Rattle.ir_laws.proofs.facts.Members.{each_left, each_right}
-use Rattle.flow_solver.specs.Paths.{IsListed}
+use Rattle.rule_laws.specs.rule_uses.Undefined.{params_of}
+use Rattle.rule_laws.specs.rule_uses.Uses.{made_by_instrs}
+use Rattle.rule_laws.proofs.ir_laws.facts.Members.{each_left, each_right}
+use Rattle.rule_laws.specs.flow_solver.Paths.{IsListed}
 use Rattle.ir_model.specs.Ty.{Ty, ptr}
 use Rattle.ir_model.specs.declared.instr.Instr.{Instr}
 use Rattle.ir_model.specs.declared.instr.Phi.{Phi}
@@ -18,14 +18,14 @@ use Rattle.ir_model.specs.declared.module.Function.{Function}
 use Rattle.ir_model.specs.declared.module.Module.{Module}
 use Rattle.ir_model.specs.declared.module.Param.{Param}
 use Rattle.ir_model.specs.declared.operand.Operand.{Operand}
-use Rattle.run_laws.specs.changed.Changed.{Each}
-use Rattle.pass_cells.specs.Kept.{entry}
-use Rattle.pass_cells.specs.Moves.{address_again, after_again, after_saved, again_one, again_values, saved_one, saved_values}
-use Rattle.pass_cells.specs.Written.{stored, stored_at, stored_one, stored_params, stored_phis, stored_result}
-use Rattle.pass_cells.specs.declared.plan.KeptValue.{KeptValue}
-use Rattle.pass_cells.specs.declared.plan.Plan.{Plan}
-use Rattle.rule_values.specs.Kinds.{kind_of, value_kind}
-use Rattle.rule_values.specs.declared.kinds.Kind.{Kind}
+use Rattle.rule_laws.specs.run_laws.changed.Changed.{Each}
+use Rattle.rule_laws.specs.pass_cells.Kept.{entry}
+use Rattle.rule_laws.specs.pass_cells.Moves.{address_again, after_again, after_saved, again_one, again_values, saved_one, saved_values}
+use Rattle.rule_laws.specs.pass_cells.Written.{stored, stored_at, stored_one, stored_params, stored_phis, stored_result}
+use Rattle.rule_laws.specs.pass_cells.declared.plan.KeptValue.{KeptValue}
+use Rattle.rule_laws.specs.pass_cells.declared.plan.Plan.{Plan}
+use Rattle.rule_laws.specs.rule_values.Kinds.{kind_of, value_kind}
+use Rattle.rule_laws.specs.rule_values.declared.kinds.Kind.{Kind}
 use Rattle.rule_laws.specs.rules.woven_rules.Weaving.{IsKnown, New, Old, Weaving}
 
 pub saved_low : (first n : ℕ) (ks : List ℕ) → first ≤ n → first ≤ after_saved n ks

@@ -2,14 +2,14 @@
 use Rattle.std.proofs.Common.{◌≡◌, ◌⊎◌, ⊎_elim, ℕ, Bool, true, List, sym, ap, ◌∙◌, subst}
 use Rattle.std.specs.Prelude.{Option, Some, None}
 use Rattle.rule_laws.proofs.rules.counted.Types.{is_cell_type}
-use Rattle.ir_parts.specs.Contents.{result_of}
+use Rattle.rule_laws.specs.ir_parts.Contents.{result_of}
 use Rattle.ir_model.specs.Ty.{Ty, array, int, named, ptr, structure, token}
 use Rattle.ir_model.specs.declared.instr.Instr.{Instr}
 use Rattle.ir_model.specs.declared.operand.Arg.{Arg}
 use Rattle.ir_model.specs.declared.operand.Callee.{Callee}
-use Rattle.pass_cells.specs.Kept.{answer_type, result_type}
-use Rattle.rule_values.specs.Kinds.{instr_kind, kind_if, kind_of, result_kind}
-use Rattle.rule_values.specs.declared.kinds.Kind.{Kind}
+use Rattle.rule_laws.specs.pass_cells.Kept.{answer_type, result_type}
+use Rattle.rule_laws.specs.rule_values.Kinds.{instr_kind, kind_if, kind_of, result_kind}
+use Rattle.rule_laws.specs.rule_values.declared.kinds.Kind.{Kind}
 use Rattle.rule_laws.proofs.frames.counted.CellKinds.{IsCellKind, save_or_kind}
 use Rattle.rule_laws.proofs.rules.counted.CellKinds.{own_if}
 

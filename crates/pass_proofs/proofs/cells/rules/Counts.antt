@@ -6,12 +6,12 @@ use Rattle.pass_proofs.proofs.cells.rules.Indices.{behind_low}
 use Rattle.pass_proofs.proofs.cells.rules.Instrs.{same_made}
 use Rattle.rule_laws.proofs.rules.counted.Times.{Adds, adds_as, adds_joined, adds_none, adds_one, adds_wider, made_both, made_one, made_times, same_times}
 use Rattle.rule_laws.proofs.rules.source_rules.Locals.{made_by}
-use Rattle.ir_parts.specs.Contents.{instr_operands, result_of}
-use Rattle.ir_base.specs.declared.ops.BinOp.{BinOp}
-use Rattle.ir_base.specs.declared.ops.CastOp.{CastOp}
-use Rattle.pass_distances.specs.Sums.{distance_instrs, distance_next, is_wide, on_number, start_instrs, start_value, sum_instrs, sum_next, sum_value, way_instrs, widened, widening}
-use Rattle.pass_distances.specs.Ways.{ways_of}
-use Rattle.pass_distances.specs.declared.way.Way.{Way}
+use Rattle.rule_laws.specs.ir_parts.Contents.{instr_operands, result_of}
+use Rattle.rule_laws.specs.ir_base.declared.ops.BinOp.{BinOp}
+use Rattle.rule_laws.specs.ir_base.declared.ops.CastOp.{CastOp}
+use Rattle.rule_laws.specs.pass_distances.Sums.{distance_instrs, distance_next, is_wide, on_number, start_instrs, start_value, sum_instrs, sum_next, sum_value, way_instrs, widened, widening}
+use Rattle.rule_laws.specs.pass_distances.Ways.{ways_of}
+use Rattle.rule_laws.specs.pass_distances.declared.way.Way.{Way}
 use Rattle.ir_model.specs.Ty.{Ty, int}
 use Rattle.ir_model.specs.declared.instr.Instr.{Instr}
 use Rattle.ir_model.specs.declared.instr.Phi.{Phi}
@@ -20,16 +20,16 @@ use Rattle.ir_model.specs.declared.module.Module.{Module}
 use Rattle.ir_model.specs.declared.module.Param.{Param}
 use Rattle.ir_model.specs.declared.operand.Arg.{Arg}
 use Rattle.ir_model.specs.declared.operand.Operand.{Operand}
-use Rattle.pass_fetch.specs.Blocks.{next_after_phi, next_after_phis, next_after_phis_by}
-use Rattle.pass_fetch.specs.Fetching.{fetch_into, fetch_of, fetches_by, fetches_of, fetches_of_all, next_after, next_after_all, next_by}
-use Rattle.pass_fetch.specs.Instrs.{fetched_instr, fetched_instrs, next_after_instr, next_after_instrs, with_fetched}
-use Rattle.pass_fetch.specs.declared.fetch.Fetch.{Fetch}
-use Rattle.pass_cells.specs.Kept.{entry}
-use Rattle.pass_cells.specs.Moves.{address_again, after_again, after_saved, again_one, again_values, saved_one, saved_values}
-use Rattle.ir_laws.specs.facts.woven_rules.Pairs.{times}
-use Rattle.pass_cells.specs.Written.{after_distance, after_distance_into, after_instrs, after_one, distance_behind, distance_from, distance_into, save_row, stored, stored_at, stored_one, stored_params, stored_phis, stored_result, written_instrs, written_one}
-use Rattle.pass_cells.specs.declared.plan.KeptValue.{KeptValue}
-use Rattle.pass_cells.specs.declared.plan.Plan.{Plan}
+use Rattle.rule_laws.specs.pass_fetch.Blocks.{next_after_phi, next_after_phis, next_after_phis_by}
+use Rattle.rule_laws.specs.pass_fetch.Fetching.{fetch_into, fetch_of, fetches_by, fetches_of, fetches_of_all, next_after, next_after_all, next_by}
+use Rattle.rule_laws.specs.pass_fetch.Instrs.{fetched_instr, fetched_instrs, next_after_instr, next_after_instrs, with_fetched}
+use Rattle.rule_laws.specs.pass_fetch.declared.fetch.Fetch.{Fetch}
+use Rattle.rule_laws.specs.pass_cells.Kept.{entry}
+use Rattle.rule_laws.specs.pass_cells.Moves.{address_again, after_again, after_saved, again_one, again_values, saved_one, saved_values}
+use Rattle.rule_laws.specs.ir_laws.facts.woven_rules.Pairs.{times}
+use Rattle.rule_laws.specs.pass_cells.Written.{after_distance, after_distance_into, after_instrs, after_one, distance_behind, distance_from, distance_into, save_row, stored, stored_at, stored_one, stored_params, stored_phis, stored_result, written_instrs, written_one}
+use Rattle.rule_laws.specs.pass_cells.declared.plan.KeptValue.{KeptValue}
+use Rattle.rule_laws.specs.pass_cells.declared.plan.Plan.{Plan}
 
 module _ (n : ℕ) where
   -- a list behind a list

@@ -6,16 +6,16 @@ use Rattle.rule_laws.proofs.rules.counted.Lists.{AreAmong, among_behind, made_gr
 use Rattle.rule_laws.proofs.rules.counted.Puts.{ArePut, known_grows, puts_joined}
 use Rattle.pass_proofs.proofs.cells.rules.Single.{IsSound, IsTold, cell_kind, load_kind, load_put, new_kind, number_put, own_kind, store_of, widening_put}
 use Rattle.rule_laws.proofs.rules.counted.Types.{narrower}
-use Rattle.ir_laws.specs.facts.counted.Widths.{has_width}
-use Rattle.ir_base.specs.declared.ops.BinOp.{BinOp}
-use Rattle.ir_base.specs.declared.ops.CastOp.{CastOp}
-use Rattle.rule_uses.specs.Uses.{made_by_instrs}
-use Rattle.ir_laws.proofs.facts.Truth.{equal_numbers}
-use Rattle.ir_laws.proofs.facts.Members.{each_left, each_right}
-use Rattle.flow_solver.specs.Paths.{IsListed}
-use Rattle.pass_distances.specs.Sums.{distance_instrs, is_wide, on_number, start_instrs, start_value, sum_instrs, sum_value, way_instrs, widened, widening}
-use Rattle.pass_distances.specs.Ways.{field_number, inner_type, inner_ways, way_at, ways_of}
-use Rattle.pass_distances.specs.declared.way.Way.{Way}
+use Rattle.rule_laws.specs.ir_laws.facts.counted.Widths.{has_width}
+use Rattle.rule_laws.specs.ir_base.declared.ops.BinOp.{BinOp}
+use Rattle.rule_laws.specs.ir_base.declared.ops.CastOp.{CastOp}
+use Rattle.rule_laws.specs.rule_uses.Uses.{made_by_instrs}
+use Rattle.rule_laws.proofs.ir_laws.facts.Truth.{equal_numbers}
+use Rattle.rule_laws.proofs.ir_laws.facts.Members.{each_left, each_right}
+use Rattle.rule_laws.specs.flow_solver.Paths.{IsListed}
+use Rattle.rule_laws.specs.pass_distances.Sums.{distance_instrs, is_wide, on_number, start_instrs, start_value, sum_instrs, sum_value, way_instrs, widened, widening}
+use Rattle.rule_laws.specs.pass_distances.Ways.{field_number, inner_type, inner_ways, way_at, ways_of}
+use Rattle.rule_laws.specs.pass_distances.declared.way.Way.{Way}
 use Rattle.ir_model.specs.Layout.{field_offset, size_of, unnamed}
 use Rattle.ir_model.specs.Ty.{Ty, array, int, named, ptr, structure, token}
 use Rattle.ir_model.specs.declared.instr.Instr.{Instr}
@@ -23,12 +23,12 @@ use Rattle.ir_model.specs.declared.module.Function.{Function}
 use Rattle.ir_model.specs.declared.module.Module.{Module}
 use Rattle.ir_model.specs.declared.operand.Arg.{Arg}
 use Rattle.ir_model.specs.declared.operand.Operand.{Operand}
-use Rattle.run_laws.specs.changed.Changed.{Each}
-use Rattle.ir_sizes.specs.Cut.{capped}
-use Rattle.rule_values.specs.Fits.{fits, fits_integer, fits_kind}
-use Rattle.rule_values.specs.declared.kinds.Kind.{Kind}
+use Rattle.rule_laws.specs.run_laws.changed.Changed.{Each}
+use Rattle.rule_laws.specs.ir_sizes.Cut.{capped}
+use Rattle.rule_laws.specs.rule_values.Fits.{fits, fits_integer, fits_kind}
+use Rattle.rule_laws.specs.rule_values.declared.kinds.Kind.{Kind}
 use Rattle.rule_laws.specs.rules.woven_rules.Weaving.{Constant, IsKnown, New, Weaving, kinds_with}
-use Rattle.ir_laws.proofs.facts.Numbers.{min_small}
+use Rattle.rule_laws.proofs.ir_laws.facts.Numbers.{min_small}
 
 capped_small : (n : ℕ) → nat_lt (capped n) (2 ^ 64) ≡ true
 capped_small n = lt-ltb (capped n) (2 ^ 64) (min_small n (2 ^ 64 - 1))

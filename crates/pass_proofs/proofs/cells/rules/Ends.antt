@@ -3,24 +3,24 @@ use Rattle.std.proofs.Common.{◌≡◌, ◌⊎◌, inl, inr, ⊎_elim, ℕ, zer
 use Rattle.std.specs.Prelude.{Option, Some, None, map, replicate, slice_set}
 use Rattle.pass_proofs.proofs.cells.rules.Counts.{operands_rise, phis_rise}
 use Rattle.pass_proofs.proofs.cells.rules.Fetched.{AreFetches, IsFetch, operand_fetch, operand_low}
-use Rattle.ir_laws.proofs.facts.Truth.{either}
+use Rattle.rule_laws.proofs.ir_laws.facts.Truth.{either}
 use Rattle.rule_laws.proofs.rules.counted.Times.{Adds, adds_as, adds_none, adds_wider, made_both, made_times, names_times, same_times, same_one, other_none}
-use Rattle.ir_laws.proofs.facts.Lists.{times_joined, set_length, row_of}
+use Rattle.rule_laws.proofs.ir_laws.facts.Lists.{times_joined, set_length, row_of}
 use Rattle.pass_proofs.proofs.cells.rules.Single.{IsSound}
-use Rattle.ir_laws.proofs.facts.Members.{each_joined}
+use Rattle.rule_laws.proofs.ir_laws.facts.Members.{each_joined}
 use Rattle.rule_laws.proofs.rules.source_rules.Locals.{block_names}
-use Rattle.ir_laws.proofs.paths.source_rules.Locals.{listed_left, listed_right}
-use Rattle.flow_solver.specs.Paths.{IsListed}
+use Rattle.rule_laws.proofs.ir_laws.paths.source_rules.Locals.{listed_left, listed_right}
+use Rattle.rule_laws.specs.flow_solver.Paths.{IsListed}
 use Rattle.ir_model.specs.declared.instr.Incoming.{Incoming}
 use Rattle.ir_model.specs.declared.instr.Instr.{Instr}
 use Rattle.ir_model.specs.declared.instr.Phi.{Phi}
 use Rattle.ir_model.specs.declared.module.Block.{Block}
 use Rattle.ir_model.specs.declared.module.Function.{Function}
-use Rattle.run_laws.specs.changed.Changed.{Each}
-use Rattle.pass_fetch.specs.Blocks.{end_at, ends_of_blocks, ends_of_incoming, ends_of_phis, next_after_phi, next_after_phis, next_after_phis_by, with_end}
-use Rattle.pass_fetch.specs.Fetching.{fetch_into, fetch_of, fetches_by, fetches_of, next_after, next_after_all, next_by}
-use Rattle.pass_fetch.specs.declared.fetch.Fetch.{Fetch}
-use Rattle.ir_laws.specs.facts.woven_rules.Pairs.{times}
+use Rattle.rule_laws.specs.run_laws.changed.Changed.{Each}
+use Rattle.rule_laws.specs.pass_fetch.Blocks.{end_at, ends_of_blocks, ends_of_incoming, ends_of_phis, next_after_phi, next_after_phis, next_after_phis_by, with_end}
+use Rattle.rule_laws.specs.pass_fetch.Fetching.{fetch_into, fetch_of, fetches_by, fetches_of, next_after, next_after_all, next_by}
+use Rattle.rule_laws.specs.pass_fetch.declared.fetch.Fetch.{Fetch}
+use Rattle.rule_laws.specs.ir_laws.facts.woven_rules.Pairs.{times}
 use Rattle.rule_laws.specs.rules.woven_rules.Weaving.{Weaving}
 
 abbrev Rows : Type 0

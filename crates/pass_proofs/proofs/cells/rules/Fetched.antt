@@ -5,12 +5,12 @@ use Rattle.rule_laws.proofs.rules.counted.Lists.{AreAmong, among_behind, row_joi
 use Rattle.rule_laws.proofs.rules.counted.Puts.{ArePut, known_grows}
 use Rattle.pass_proofs.proofs.cells.rules.Single.{IsSound, IsTold, cell_kind, load_put, own_kind}
 use Rattle.rule_laws.proofs.rules.counted.Types.{is_cell_type}
-use Rattle.ir_laws.proofs.facts.Members.{each_left, each_right, each_joined}
-use Rattle.ir_laws.proofs.paths.source_rules.Locals.{listed_left, listed_right}
+use Rattle.rule_laws.proofs.ir_laws.facts.Members.{each_left, each_right, each_joined}
+use Rattle.rule_laws.proofs.ir_laws.paths.source_rules.Locals.{listed_left, listed_right}
 use Rattle.rule_laws.proofs.rules.source_rules.Locals.{made_by}
-use Rattle.ir_laws.proofs.facts.Lists.{row_of}
-use Rattle.flow_solver.specs.Paths.{IsListed}
-use Rattle.ir_parts.specs.Contents.{arg_operands, instr_operands}
+use Rattle.rule_laws.proofs.ir_laws.facts.Lists.{row_of}
+use Rattle.rule_laws.specs.flow_solver.Paths.{IsListed}
+use Rattle.rule_laws.specs.ir_parts.Contents.{arg_operands, instr_operands}
 use Rattle.ir_model.specs.declared.instr.Case.{Case}
 use Rattle.ir_model.specs.declared.instr.Instr.{Instr}
 use Rattle.ir_model.specs.declared.instr.Terminator.{Terminator}
@@ -20,15 +20,15 @@ use Rattle.ir_model.specs.declared.operand.Arg.{Arg}
 use Rattle.ir_model.specs.declared.operand.Callee.{Callee}
 use Rattle.ir_model.specs.declared.operand.Operand.{Operand}
 use Rattle.ir_model.specs.Ty.{Ty}
-use Rattle.run_laws.specs.changed.Changed.{Each}
-use Rattle.pass_fetch.specs.Fetching.{callee_by, fetch_at, fetch_of, fetched_arg, fetched_args, fetched_callee, fetched_operand, fetches_by, fetches_of, fetches_of_all, next_after, next_after_all, next_by, operand_by}
-use Rattle.pass_fetch.specs.Instrs.{fetched_term, term_operands, with_fetched}
-use Rattle.pass_fetch.specs.declared.fetch.Fetch.{Fetch}
-use Rattle.pass_cells.specs.Moves.{load_from}
-use Rattle.rule_values.specs.Kinds.{kind_of, value_kind}
-use Rattle.ir_laws.specs.facts.woven_rules.Pairs.{Empty, Pair, Pairwise}
+use Rattle.rule_laws.specs.run_laws.changed.Changed.{Each}
+use Rattle.rule_laws.specs.pass_fetch.Fetching.{callee_by, fetch_at, fetch_of, fetched_arg, fetched_args, fetched_callee, fetched_operand, fetches_by, fetches_of, fetches_of_all, next_after, next_after_all, next_by, operand_by}
+use Rattle.rule_laws.specs.pass_fetch.Instrs.{fetched_term, term_operands, with_fetched}
+use Rattle.rule_laws.specs.pass_fetch.declared.fetch.Fetch.{Fetch}
+use Rattle.rule_laws.specs.pass_cells.Moves.{load_from}
+use Rattle.rule_laws.specs.rule_values.Kinds.{kind_of, value_kind}
+use Rattle.rule_laws.specs.ir_laws.facts.woven_rules.Pairs.{Empty, Pair, Pairwise}
 use Rattle.rule_laws.specs.rules.woven_rules.Parts.{Alloca, Binary, Call, CalleeStays, Cast, Direct, Gep, Icmp, Indirect, InstrStays, Load, Select, Store}
-use Rattle.ir_laws.specs.facts.woven_rules.Parts.{ArgStays, Branch, Jump, Return, ReturnVoid, Switch, TermStays, Unreachable}
+use Rattle.rule_laws.specs.ir_laws.facts.woven_rules.Parts.{ArgStays, Branch, Jump, Return, ReturnVoid, Switch, TermStays, Unreachable}
 use Rattle.rule_laws.specs.rules.woven_rules.Weaving.{Fetched, IsInPlace, IsKnown, Same, Weaving}
 
 -- a load from a cell into a new name

@@ -2,26 +2,26 @@
 use Rattle.std.proofs.Common.{◌≡◌, inl, inr, ⊎_elim, ℕ, zero, suc, ◌+◌, ◌*◌, ◌<◌, ◌≤◌, true, List, [], ◌∷◌, ◌++◌, length, refl, sym, ap, ◌∙◌, subst, arith}
 use Rattle.std.specs.Prelude.{Option, Some, None, slice_get}
 use Rattle.pass_proofs.proofs.cells.rules.Counts.{lists_joined}
-use Rattle.ir_laws.proofs.facts.Truth.{either}
+use Rattle.rule_laws.proofs.ir_laws.facts.Truth.{either}
 use Rattle.rule_laws.proofs.rules.counted.Lists.{row_joined}
 use Rattle.rule_laws.proofs.rules.counted.Puts.{ArePut}
 use Rattle.pass_proofs.proofs.cells.rules.Single.{IsTold, alloca_put}
 use Rattle.rule_laws.proofs.rules.counted.Times.{Adds, adds_as, adds_joined, adds_none, adds_one, adds_wider, made_both, made_times, same_times}
 use Rattle.rule_laws.proofs.rules.counted.Types.{is_cell_type}
-use Rattle.ir_laws.proofs.facts.Members.{each_joined}
-use Rattle.ir_laws.proofs.paths.source_rules.Locals.{listed_left, listed_right}
+use Rattle.rule_laws.proofs.ir_laws.facts.Members.{each_joined}
+use Rattle.rule_laws.proofs.ir_laws.paths.source_rules.Locals.{listed_left, listed_right}
 use Rattle.rule_laws.proofs.rules.source_rules.Locals.{made_by}
-use Rattle.ir_laws.proofs.facts.Lists.{row_of}
-use Rattle.flow_solver.specs.Paths.{IsListed}
+use Rattle.rule_laws.proofs.ir_laws.facts.Lists.{row_of}
+use Rattle.rule_laws.specs.flow_solver.Paths.{IsListed}
 use Rattle.ir_model.specs.Ty.{Ty, int}
 use Rattle.ir_model.specs.declared.instr.Instr.{Instr}
 use Rattle.ir_model.specs.declared.module.Function.{Function}
 use Rattle.ir_model.specs.declared.module.Module.{Module}
-use Rattle.run_laws.specs.changed.Changed.{Each}
-use Rattle.pass_cells.specs.Links.{cell_name, distance_name, field_name, link_name}
-use Rattle.pass_cells.specs.Moves.{cell_alloca}
-use Rattle.pass_cells.specs.Written.{distance_alloca, distance_allocas, kept_allocas, link_allocas}
-use Rattle.pass_cells.specs.declared.plan.KeptValue.{KeptValue}
+use Rattle.rule_laws.specs.run_laws.changed.Changed.{Each}
+use Rattle.rule_laws.specs.pass_cells.Links.{cell_name, distance_name, field_name, link_name}
+use Rattle.rule_laws.specs.pass_cells.Moves.{cell_alloca}
+use Rattle.rule_laws.specs.pass_cells.Written.{distance_alloca, distance_allocas, kept_allocas, link_allocas}
+use Rattle.rule_laws.specs.pass_cells.declared.plan.KeptValue.{KeptValue}
 use Rattle.rule_laws.specs.rules.woven_rules.Blocks.{IsPutIn}
 use Rattle.rule_laws.specs.rules.woven_rules.Weaving.{Weaving}
 

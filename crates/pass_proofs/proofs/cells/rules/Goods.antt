@@ -6,13 +6,13 @@ use Rattle.pass_proofs.proofs.cells.rules.Instrs.{AreGood}
 use Rattle.pass_proofs.proofs.cells.rules.Keepable.{block_fits, block_widths, keeping_holds, kept_values}
 use Rattle.rule_laws.proofs.rules.counted.PartFacts.{AllMadeBefore, block_made, block_passes}
 use Rattle.pass_proofs.specs.cells.rules.Asked.{AreCellsFor}
-use Rattle.ir_laws.specs.facts.counted.Widths.{has_width}
-use Rattle.ir_base.specs.declared.outcome.Place.{Place}
-use Rattle.rule_uses.specs.Uses.{local_of, locals_in, phi_values}
-use Rattle.ir_laws.proofs.facts.Members.{at_each, each_there}
-use Rattle.ir_laws.proofs.facts.Truth.{holds}
-use Rattle.flow_solver.specs.Paths.{IsListed}
-use Rattle.ir_parts.specs.Contents.{arg_operands, instr_operands, instr_types, result_of}
+use Rattle.rule_laws.specs.ir_laws.facts.counted.Widths.{has_width}
+use Rattle.rule_laws.specs.ir_base.declared.outcome.Place.{Place}
+use Rattle.rule_laws.specs.rule_uses.Uses.{local_of, locals_in, phi_values}
+use Rattle.rule_laws.proofs.ir_laws.facts.Members.{at_each, each_there}
+use Rattle.rule_laws.proofs.ir_laws.facts.Truth.{holds}
+use Rattle.rule_laws.specs.flow_solver.Paths.{IsListed}
+use Rattle.rule_laws.specs.ir_parts.Contents.{arg_operands, instr_operands, instr_types, result_of}
 use Rattle.rule_laws.specs.rules.function_rules.Kept.{KeepsFunctionRules}
 use Rattle.ir_model.specs.declared.instr.Instr.{Instr}
 use Rattle.ir_model.specs.declared.module.Block.{Block}
@@ -21,13 +21,13 @@ use Rattle.ir_model.specs.declared.module.Module.{Module}
 use Rattle.ir_model.specs.declared.operand.Arg.{Arg}
 use Rattle.ir_model.specs.declared.operand.Callee.{Callee}
 use Rattle.ir_model.specs.declared.operand.Operand.{Operand}
-use Rattle.rule_locals.specs.Instrs.{on_instr}
-use Rattle.rule_locals.specs.Markers.{is_marker, is_size_or_all, marks, marks_otherwise, marks_size, marks_slot, slot_size}
-use Rattle.run_laws.specs.changed.Changed.{Each}
-use Rattle.pass_cells.specs.Kept.{entry}
-use Rattle.pass_cells.specs.declared.plan.Plan.{Plan}
-use Rattle.rule_values.specs.Instrs.{fits_instr}
-use Rattle.rule_values.specs.Kinds.{value_kind}
+use Rattle.rule_laws.specs.rule_locals.Instrs.{on_instr}
+use Rattle.rule_laws.specs.rule_locals.Markers.{is_marker, is_size_or_all, marks, marks_otherwise, marks_size, marks_slot, slot_size}
+use Rattle.rule_laws.specs.run_laws.changed.Changed.{Each}
+use Rattle.rule_laws.specs.pass_cells.Kept.{entry}
+use Rattle.rule_laws.specs.pass_cells.declared.plan.Plan.{Plan}
+use Rattle.rule_laws.specs.rule_values.Instrs.{fits_instr}
+use Rattle.rule_laws.specs.rule_values.Kinds.{value_kind}
 use Rattle.rule_laws.specs.rules.woven_rules.Blocks.{is_mark}
 
 -- ---- markers mark slots

@@ -8,35 +8,35 @@ use Rattle.rule_laws.proofs.rules.counted.Lists.{AreAmong}
 use Rattle.pass_proofs.proofs.cells.rules.Planned.{IsPlanned}
 use Rattle.rule_laws.proofs.rules.counted.Puts.{ArePut}
 use Rattle.pass_proofs.proofs.cells.rules.Single.{IsSound, IsTold}
-use Rattle.ir_laws.specs.facts.counted.Widths.{has_width}
-use Rattle.rule_uses.specs.Uses.{local_of, locals_in}
-use Rattle.ir_laws.proofs.facts.Truth.{and_first, and_second}
-use Rattle.ir_laws.proofs.paths.source_rules.Locals.{listed_left, listed_right}
-use Rattle.flow_solver.specs.Paths.{IsListed}
-use Rattle.ir_parts.specs.Contents.{arg_operands, arg_types, instr_operands, instr_types}
-use Rattle.pass_distances.specs.Sums.{sum_next}
-use Rattle.pass_distances.specs.Ways.{ways_of}
-use Rattle.pass_distances.specs.declared.way.Way.{Way}
+use Rattle.rule_laws.specs.ir_laws.facts.counted.Widths.{has_width}
+use Rattle.rule_laws.specs.rule_uses.Uses.{local_of, locals_in}
+use Rattle.rule_laws.proofs.ir_laws.facts.Truth.{and_first, and_second}
+use Rattle.rule_laws.proofs.ir_laws.paths.source_rules.Locals.{listed_left, listed_right}
+use Rattle.rule_laws.specs.flow_solver.Paths.{IsListed}
+use Rattle.rule_laws.specs.ir_parts.Contents.{arg_operands, arg_types, instr_operands, instr_types}
+use Rattle.rule_laws.specs.pass_distances.Sums.{sum_next}
+use Rattle.rule_laws.specs.pass_distances.Ways.{ways_of}
+use Rattle.rule_laws.specs.pass_distances.declared.way.Way.{Way}
 use Rattle.ir_model.specs.Ty.{Ty, array, int, named, ptr, structure, token}
 use Rattle.ir_model.specs.declared.instr.Instr.{Instr}
 use Rattle.ir_model.specs.declared.module.Function.{Function}
 use Rattle.ir_model.specs.declared.module.Module.{Module}
 use Rattle.ir_model.specs.declared.operand.Arg.{Arg}
 use Rattle.ir_model.specs.declared.operand.Operand.{Operand}
-use Rattle.ir_locals.specs.Tables.{or_first}
-use Rattle.run_laws.specs.changed.Changed.{Each}
-use Rattle.rule_types.specs.Wants.{is_ptr}
-use Rattle.pass_fetch.specs.Fetching.{fetched_arg, fetched_args, next_after}
-use Rattle.pass_fetch.specs.Instrs.{with_fetched}
-use Rattle.pass_fetch.specs.declared.fetch.Fetch.{Fetch}
-use Rattle.pass_cells.specs.Kept.{entry}
-use Rattle.pass_cells.specs.Written.{after_distance, after_distance_into, cell_of, distance_behind, distance_from, distance_into}
-use Rattle.pass_cells.specs.declared.plan.Plan.{Plan}
-use Rattle.rule_values.specs.Fits.{fits, fits_integer, fits_kind, is_integer, is_tokenless}
-use Rattle.rule_values.specs.Geps.{indices_fit}
-use Rattle.rule_values.specs.Instrs.{fits_instr}
-use Rattle.rule_values.specs.Kinds.{value_kind}
-use Rattle.rule_values.specs.declared.kinds.Kind.{Kind}
+use Rattle.rule_laws.specs.ir_locals.Tables.{or_first}
+use Rattle.rule_laws.specs.run_laws.changed.Changed.{Each}
+use Rattle.rule_laws.specs.rule_types.Wants.{is_ptr}
+use Rattle.rule_laws.specs.pass_fetch.Fetching.{fetched_arg, fetched_args, next_after}
+use Rattle.rule_laws.specs.pass_fetch.Instrs.{with_fetched}
+use Rattle.rule_laws.specs.pass_fetch.declared.fetch.Fetch.{Fetch}
+use Rattle.rule_laws.specs.pass_cells.Kept.{entry}
+use Rattle.rule_laws.specs.pass_cells.Written.{after_distance, after_distance_into, cell_of, distance_behind, distance_from, distance_into}
+use Rattle.rule_laws.specs.pass_cells.declared.plan.Plan.{Plan}
+use Rattle.rule_laws.specs.rule_values.Fits.{fits, fits_integer, fits_kind, is_integer, is_tokenless}
+use Rattle.rule_laws.specs.rule_values.Geps.{indices_fit}
+use Rattle.rule_laws.specs.rule_values.Instrs.{fits_instr}
+use Rattle.rule_laws.specs.rule_values.Kinds.{value_kind}
+use Rattle.rule_laws.specs.rule_values.declared.kinds.Kind.{Kind}
 use Rattle.rule_laws.specs.rules.woven_rules.Weaving.{Constant, Fetched, IsInPlace, New, Old, Same, Weaving}
 use Rattle.rule_laws.proofs.rules.counted.Indices.{AreMadeBefore, IsMadeBefore}
 

@@ -11,31 +11,31 @@ use Rattle.pass_proofs.proofs.cells.rules.Planned.{IsPlanned, planned_fetches, u
 use Rattle.rule_laws.proofs.rules.counted.Puts.{all_put, puts_woven}
 use Rattle.pass_proofs.proofs.cells.rules.Single.{IsSound, IsTold}
 use Rattle.pass_proofs.proofs.cells.rules.Spread.{spread}
-use Rattle.ir_laws.specs.facts.counted.Widths.{has_width}
-use Rattle.rule_uses.specs.Uses.{local_of, locals_in, made_by_instrs}
-use Rattle.ir_laws.proofs.facts.Members.{each_left, each_right}
-use Rattle.ir_laws.proofs.paths.source_rules.Locals.{listed_left, listed_right}
+use Rattle.rule_laws.specs.ir_laws.facts.counted.Widths.{has_width}
+use Rattle.rule_laws.specs.rule_uses.Uses.{local_of, locals_in, made_by_instrs}
+use Rattle.rule_laws.proofs.ir_laws.facts.Members.{each_left, each_right}
+use Rattle.rule_laws.proofs.ir_laws.paths.source_rules.Locals.{listed_left, listed_right}
 use Rattle.rule_laws.proofs.rules.source_rules.Locals.{made_by}
-use Rattle.ir_laws.proofs.facts.Lists.{row_of}
-use Rattle.flow_solver.specs.Paths.{IsListed}
-use Rattle.ir_parts.specs.Contents.{arg_operands, instr_operands, instr_types, result_of}
+use Rattle.rule_laws.proofs.ir_laws.facts.Lists.{row_of}
+use Rattle.rule_laws.specs.flow_solver.Paths.{IsListed}
+use Rattle.rule_laws.specs.ir_parts.Contents.{arg_operands, instr_operands, instr_types, result_of}
 use Rattle.ir_model.specs.declared.instr.Instr.{Instr}
 use Rattle.ir_model.specs.declared.module.Function.{Function}
 use Rattle.ir_model.specs.declared.module.Module.{Module}
 use Rattle.ir_model.specs.declared.operand.Arg.{Arg}
 use Rattle.ir_model.specs.declared.operand.Callee.{Callee}
 use Rattle.ir_model.specs.declared.operand.Operand.{Operand}
-use Rattle.run_laws.specs.changed.Changed.{Each}
-use Rattle.pass_fetch.specs.Fetching.{fetch_at, fetched_args, fetched_operand, fetches_of_all, next_after, operand_by}
-use Rattle.pass_fetch.specs.Instrs.{next_after_instr, with_fetched}
-use Rattle.pass_fetch.specs.declared.fetch.Fetch.{Fetch}
-use Rattle.pass_cells.specs.Cells.{fetches_of}
-use Rattle.pass_cells.specs.Kept.{entry}
-use Rattle.pass_cells.specs.Moves.{after_saved, saved_values}
-use Rattle.pass_cells.specs.Written.{after_one, distance_behind, save_row, stored_result}
-use Rattle.pass_cells.specs.declared.plan.Plan.{Plan}
-use Rattle.rule_values.specs.Instrs.{fits_instr}
-use Rattle.rule_values.specs.Kinds.{value_kind}
+use Rattle.rule_laws.specs.run_laws.changed.Changed.{Each}
+use Rattle.rule_laws.specs.pass_fetch.Fetching.{fetch_at, fetched_args, fetched_operand, fetches_of_all, next_after, operand_by}
+use Rattle.rule_laws.specs.pass_fetch.Instrs.{next_after_instr, with_fetched}
+use Rattle.rule_laws.specs.pass_fetch.declared.fetch.Fetch.{Fetch}
+use Rattle.rule_laws.specs.pass_cells.Cells.{fetches_of}
+use Rattle.rule_laws.specs.pass_cells.Kept.{entry}
+use Rattle.rule_laws.specs.pass_cells.Moves.{after_saved, saved_values}
+use Rattle.rule_laws.specs.pass_cells.Written.{after_one, distance_behind, save_row, stored_result}
+use Rattle.rule_laws.specs.pass_cells.declared.plan.Plan.{Plan}
+use Rattle.rule_laws.specs.rule_values.Instrs.{fits_instr}
+use Rattle.rule_laws.specs.rule_values.Kinds.{value_kind}
 use Rattle.rule_laws.specs.rules.woven_rules.Blocks.{AreWoven, Kept, Remain, Stays, is_mark}
 use Rattle.rule_laws.specs.rules.woven_rules.Weaving.{Weaving, goes_in}
 

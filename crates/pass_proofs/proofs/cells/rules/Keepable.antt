@@ -7,24 +7,24 @@ use Rattle.pass_proofs.proofs.cells.rules.CellKinds.{result_typed}
 use Rattle.rule_laws.proofs.rules.counted.DefinedKinds.{kind_of_instr, kind_of_param, kind_of_phi, made_in}
 use Rattle.pass_proofs.proofs.cells.rules.Keeping.{IsKeeping, keeping_is}
 use Rattle.rule_laws.proofs.rules.counted.PartFacts.{all_at, block_passes, signature_passes}
-use Rattle.ir_laws.proofs.paths.counted.PartFacts.{all_listed}
+use Rattle.rule_laws.proofs.ir_laws.paths.counted.PartFacts.{all_listed}
 use Rattle.rule_laws.proofs.rules.counted.Slots.{instr_size, param_size, phi_size}
 use Rattle.rule_laws.proofs.rules.counted.Times.{apart_times}
 use Rattle.rule_laws.proofs.rules.counted.Types.{scalar_cell}
 use Rattle.pass_proofs.proofs.cells.rules.ValueTypes.{TellBlock, TellResult, Tells, made_names}
 use Rattle.pass_proofs.specs.cells.rules.Asked.{AreCellsFor}
-use Rattle.ir_laws.specs.facts.counted.Widths.{has_width}
+use Rattle.rule_laws.specs.ir_laws.facts.counted.Widths.{has_width}
 use Rattle.rule_laws.specs.rules.counted.Widths.{is_of_other_width}
-use Rattle.ir_laws.proofs.facts.Members.{at_each, each_there}
+use Rattle.rule_laws.proofs.ir_laws.facts.Members.{at_each, each_there}
 use Rattle.rule_laws.proofs.rules.local_rules.Names.{numbers}
-use Rattle.ir_laws.proofs.facts.Truth.{and_first, and_second, holds}
+use Rattle.rule_laws.proofs.ir_laws.facts.Truth.{and_first, and_second, holds}
 use Rattle.rule_laws.proofs.rules.local_rules.Woven.{apart_names}
-use Rattle.ir_laws.proofs.paths.source_rules.Locals.{Apart, in_row, listed_either, listed_left, listed_right}
+use Rattle.rule_laws.proofs.ir_laws.paths.source_rules.Locals.{Apart, in_row, listed_either, listed_left, listed_right}
 use Rattle.rule_laws.proofs.rules.source_rules.Locals.{made_by, names_are}
-use Rattle.ir_laws.proofs.facts.Lists.{phi_names, row_of, FoundParam, FoundPhi}
-use Rattle.flow_solver.specs.Paths.{IsListed}
-use Rattle.ir_parts.specs.Contents.{instr_types, result_of}
-use Rattle.ir_parts.specs.Locals.{locals_of}
+use Rattle.rule_laws.proofs.ir_laws.facts.Lists.{phi_names, row_of, FoundParam, FoundPhi}
+use Rattle.rule_laws.specs.flow_solver.Paths.{IsListed}
+use Rattle.rule_laws.specs.ir_parts.Contents.{instr_types, result_of}
+use Rattle.rule_laws.specs.ir_parts.Locals.{locals_of}
 use Rattle.rule_laws.specs.rules.function_rules.Kept.{KeepsFunctionRules}
 use Rattle.ir_model.specs.Ty.{Ty}
 use Rattle.ir_model.specs.declared.instr.Instr.{Instr}
@@ -32,19 +32,19 @@ use Rattle.ir_model.specs.declared.module.Block.{Block}
 use Rattle.ir_model.specs.declared.module.Function.{Function}
 use Rattle.ir_model.specs.declared.module.Module.{Module}
 use Rattle.ir_model.specs.declared.module.Param.{Param}
-use Rattle.rule_locals.specs.Markers.{made_size, slot_size}
-use Rattle.run_laws.specs.changed.Changed.{Each}
-use Rattle.frame_crossing.specs.Values.{all_defined, blocks_defined, is_apart, params_defined, values_of}
-use Rattle.rule_types.specs.Signatures.{calls_otherwise}
-use Rattle.pass_cells.specs.Kept.{keeping_of}
-use Rattle.pass_cells.specs.declared.keeping.Keeping.{Keeping}
-use Rattle.rule_values.specs.Fits.{is_scalar}
-use Rattle.rule_values.specs.Instrs.{fits_instr}
-use Rattle.rule_values.specs.Kinds.{instr_kind, value_kind}
-use Rattle.rule_values.specs.Values.{breaks_values, fits_phi, has_scalar, is_scalar_or_void, takes}
-use Rattle.ir_laws.specs.facts.woven_rules.Pairs.{times}
+use Rattle.rule_laws.specs.rule_locals.Markers.{made_size, slot_size}
+use Rattle.rule_laws.specs.run_laws.changed.Changed.{Each}
+use Rattle.rule_laws.specs.frame_crossing.Values.{all_defined, blocks_defined, is_apart, params_defined, values_of}
+use Rattle.rule_laws.specs.rule_types.Signatures.{calls_otherwise}
+use Rattle.rule_laws.specs.pass_cells.Kept.{keeping_of}
+use Rattle.rule_laws.specs.pass_cells.declared.keeping.Keeping.{Keeping}
+use Rattle.rule_laws.specs.rule_values.Fits.{is_scalar}
+use Rattle.rule_laws.specs.rule_values.Instrs.{fits_instr}
+use Rattle.rule_laws.specs.rule_values.Kinds.{instr_kind, value_kind}
+use Rattle.rule_laws.specs.rule_values.Values.{breaks_values, fits_phi, has_scalar, is_scalar_or_void, takes}
+use Rattle.rule_laws.specs.ir_laws.facts.woven_rules.Pairs.{times}
 use Rattle.rule_laws.proofs.frames.counted.Keepable.{FoundBlock, FoundInstr, blocks_found, distinct_listed, params_found}
-use Rattle.ir_laws.proofs.paths.counted.Keepable.{param_listed, phi_listed}
+use Rattle.rule_laws.proofs.ir_laws.paths.counted.Keepable.{param_listed, phi_listed}
 
 -- a value that may be kept: an integer or an address, which the function defines, and which is no slot
 pub record IsKeepable (m : Module) (f : Function) (v : ℕ) : Type 0 where

@@ -1,11 +1,11 @@
 -- The values that are kept, and the place of each: every one has the place at which it stands.
 use Rattle.std.proofs.Common.{◌≡◌, ◌⊎◌, inl, inr, ⊎_elim, ℕ, zero, suc, ◌<◌, Bool, true, false, List, [], ◌∷◌, ◌++◌, length, refl, sym, ap, ◌∙◌, subst, arith}
 use Rattle.std.specs.Prelude.{Option, Some, None, replicate, slice_get, slice_set, if◌then◌else◌}
-use Rattle.ir_laws.proofs.facts.Lists.{get_before, get_last, get_within, set_here, set_length, set_other}
-use Rattle.flow_solver.specs.Paths.{IsListed}
-use Rattle.pass_cells.specs.Kept.{entry, is_new, is_untold, joined, keeping_of, with_value, with_values}
-use Rattle.pass_cells.specs.declared.keeping.Keeping.{Keeping}
-use Rattle.ir_laws.proofs.facts.Truth.{either}
+use Rattle.rule_laws.proofs.ir_laws.facts.Lists.{get_before, get_last, get_within, set_here, set_length, set_other}
+use Rattle.rule_laws.specs.flow_solver.Paths.{IsListed}
+use Rattle.rule_laws.specs.pass_cells.Kept.{entry, is_new, is_untold, joined, keeping_of, with_value, with_values}
+use Rattle.rule_laws.specs.pass_cells.declared.keeping.Keeping.{Keeping}
+use Rattle.rule_laws.proofs.ir_laws.facts.Truth.{either}
 
 -- of so many names; P holds of each value
 pub record IsKeeping (count : ℕ) (P : ℕ → Type 0) (k : Keeping) : Type 0 where

@@ -1,28 +1,28 @@
 -- The labels of phis and of resume and destroy edges.
-use Rattle.ir_laws.proofs.facts.names_apart.Words.{either as either_true}
+use Rattle.rule_laws.proofs.ir_laws.facts.names_apart.Words.{either as either_true}
 use Rattle.std.proofs.Common.{◌≡◌, ◌⊎◌, inl, inr, ⊎_elim, ℕ, zero, suc, ◌+◌, Bool, true, false, List, [], ◌∷◌, length, refl, sym, ap, ◌∙◌, subst}
 use Rattle.std.specs.List.{list_all, list_any}
 use Rattle.std.specs.Prelude.{Option, Some, None, filter, map, not, replicate, slice_get, slice_set, ◌&&◌, ◌==◌, if◌then◌else◌}
-use Rattle.ir_laws.proofs.paths.counted.PartFacts.{all_listed}
+use Rattle.rule_laws.proofs.ir_laws.paths.counted.PartFacts.{all_listed}
 use Rattle.rule_laws.proofs.rules.counted.PartFacts.{block_passes}
 use Rattle.pass_proofs.specs.cells.rules.Asked.{AreCellsFor}
-use Rattle.ir_laws.proofs.facts.Members.{at_each, each_there}
-use Rattle.ir_laws.proofs.facts.Truth.{equal_numbers, and_first, and_second, holds}
-use Rattle.ir_laws.proofs.facts.Lists.{set_other}
+use Rattle.rule_laws.proofs.ir_laws.facts.Members.{at_each, each_there}
+use Rattle.rule_laws.proofs.ir_laws.facts.Truth.{equal_numbers, and_first, and_second, holds}
+use Rattle.rule_laws.proofs.ir_laws.facts.Lists.{set_other}
 use Rattle.rule_laws.proofs.rules.source_rules.Locals.{own_label}
-use Rattle.rule_phis.specs.Edges.{block_at, breaks_edges, differs, fits_edges, has, incoming_labels, into_block, leads, predecessors}
-use Rattle.flow_solver.specs.Paths.{IsListed}
+use Rattle.rule_laws.specs.rule_phis.Edges.{block_at, breaks_edges, differs, fits_edges, has, incoming_labels, into_block, leads, predecessors}
+use Rattle.rule_laws.specs.flow_solver.Paths.{IsListed}
 use Rattle.rule_laws.specs.rules.function_rules.Kept.{KeepsFunctionRules}
-use Rattle.pass_intrinsics.specs.Shapes.{suspends_of}
-use Rattle.pass_intrinsics.specs.declared.shape.SuspendPoint.{SuspendPoint}
+use Rattle.rule_laws.specs.pass_intrinsics.Shapes.{suspends_of}
+use Rattle.rule_laws.specs.pass_intrinsics.declared.shape.SuspendPoint.{SuspendPoint}
 use Rattle.ir_model.specs.Names.{position_of}
 use Rattle.ir_model.specs.declared.instr.Incoming.{Incoming}
 use Rattle.ir_model.specs.declared.module.Block.{Block}
 use Rattle.ir_model.specs.declared.module.Function.{Function}
 use Rattle.ir_model.specs.declared.module.Module.{Module}
-use Rattle.run_laws.specs.changed.Changed.{Each}
-use Rattle.pass_cells.specs.Kept.{entry, joined}
-use Rattle.pass_cells.specs.Plan.{returns_of, with_returns}
+use Rattle.rule_laws.specs.run_laws.changed.Changed.{Each}
+use Rattle.rule_laws.specs.pass_cells.Kept.{entry, joined}
+use Rattle.rule_laws.specs.pass_cells.Plan.{returns_of, with_returns}
 
 -- ---- a phi's operands come from blocks of the function
 

@@ -1,10 +1,10 @@
 -- Cells of distances: whose they are, and that only results of getelementptrs of local slots have one.
 use Rattle.std.proofs.Common.{◌≡◌, ◌⊎◌, inl, inr, ⊎_elim, ℕ, zero, suc, ◌+◌, ◌<◌, ◌≤◌, Bool, true, false, List, [], ◌∷◌, length, refl, sym, ap, ◌∙◌, subst, arith}
 use Rattle.std.specs.Prelude.{Option, Some, None, map, replicate, slice_set, if◌then◌else◌}
-use Rattle.ir_laws.proofs.facts.Truth.{either}
-use Rattle.ir_laws.proofs.facts.Lists.{set_other}
-use Rattle.pass_cells.specs.Kept.{entry, flag_or_false, is_flagged}
-use Rattle.pass_cells.specs.Links.{cells_from, climbed, distance_cell, distance_name, link_name, links_after, links_from, marks_of, slot_by, slots_of, roots_of, unmarked, unmarked_by, with_climbs}
+use Rattle.rule_laws.proofs.ir_laws.facts.Truth.{either}
+use Rattle.rule_laws.proofs.ir_laws.facts.Lists.{set_other}
+use Rattle.rule_laws.specs.pass_cells.Kept.{entry, flag_or_false, is_flagged}
+use Rattle.rule_laws.specs.pass_cells.Links.{cells_from, climbed, distance_cell, distance_name, link_name, links_after, links_from, marks_of, slot_by, slots_of, roots_of, unmarked, unmarked_by, with_climbs}
 
 -- ---- slots
 

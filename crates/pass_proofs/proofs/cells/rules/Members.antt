@@ -2,17 +2,17 @@
 use Rattle.std.proofs.Common.{inr, ℕ, List, [], ◌∷◌, ◌++◌}
 use Rattle.std.specs.Prelude.{Option}
 use Rattle.pass_proofs.proofs.cells.rules.Spread.{spread}
-use Rattle.ir_laws.proofs.paths.source_rules.Locals.{listed_right}
-use Rattle.flow_solver.specs.Paths.{IsListed}
-use Rattle.ir_parts.specs.Contents.{instr_operands, result_of}
+use Rattle.rule_laws.proofs.ir_laws.paths.source_rules.Locals.{listed_right}
+use Rattle.rule_laws.specs.flow_solver.Paths.{IsListed}
+use Rattle.rule_laws.specs.ir_parts.Contents.{instr_operands, result_of}
 use Rattle.ir_model.specs.declared.instr.Instr.{Instr}
 use Rattle.ir_model.specs.declared.module.Module.{Module}
-use Rattle.pass_fetch.specs.Fetching.{fetches_of_all}
-use Rattle.pass_fetch.specs.Instrs.{next_after_instr, with_fetched}
-use Rattle.pass_fetch.specs.declared.fetch.Fetch.{Fetch}
-use Rattle.pass_cells.specs.Moves.{after_saved, saved_values}
-use Rattle.pass_cells.specs.Written.{after_one, distance_behind, save_row, stored_result}
-use Rattle.pass_cells.specs.declared.plan.Plan.{Plan}
+use Rattle.rule_laws.specs.pass_fetch.Fetching.{fetches_of_all}
+use Rattle.rule_laws.specs.pass_fetch.Instrs.{next_after_instr, with_fetched}
+use Rattle.rule_laws.specs.pass_fetch.declared.fetch.Fetch.{Fetch}
+use Rattle.rule_laws.specs.pass_cells.Moves.{after_saved, saved_values}
+use Rattle.rule_laws.specs.pass_cells.Written.{after_one, distance_behind, save_row, stored_result}
+use Rattle.rule_laws.specs.pass_cells.declared.plan.Plan.{Plan}
 
 -- ---- what stands behind the instructions of a block
 

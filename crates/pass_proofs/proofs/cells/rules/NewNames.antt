@@ -9,35 +9,35 @@ use Rattle.pass_proofs.proofs.cells.rules.Keepable.{blocks_tell, keeping_holds, 
 use Rattle.pass_proofs.proofs.cells.rules.Plans.{kept_length, kept_numbered}
 use Rattle.pass_proofs.proofs.cells.rules.Single.{IsTold}
 use Rattle.rule_laws.proofs.rules.counted.Times.{Adds, adds_as, adds_joined, adds_wider, blocks_times, made_both, made_times}
-use Rattle.ir_laws.proofs.paths.woven_rules.Once.{times_listed as listed_times, times_none as unlisted_times}
-use Rattle.ir_laws.proofs.facts.Lists.{times_joined, phi_names, row_of}
+use Rattle.rule_laws.proofs.ir_laws.paths.woven_rules.Once.{times_listed as listed_times, times_none as unlisted_times}
+use Rattle.rule_laws.proofs.ir_laws.facts.Lists.{times_joined, phi_names, row_of}
 use Rattle.pass_proofs.proofs.cells.rules.Totals.{all_rise, blocks_rise, entry_blocks_add, fetched_blocks_add, numbered_length}
 use Rattle.pass_proofs.specs.cells.rules.Asked.{AreCellsFor}
 use Rattle.pass_proofs.specs.cells.rules.Weaving.{plan_weaving}
-use Rattle.ir_base.specs.declared.name.Name.{Name}
-use Rattle.rule_uses.specs.Undefined.{params_of}
-use Rattle.ir_laws.proofs.facts.Members.{each_there}
+use Rattle.rule_laws.specs.ir_base.declared.name.Name.{Name}
+use Rattle.rule_laws.specs.rule_uses.Undefined.{params_of}
+use Rattle.rule_laws.proofs.ir_laws.facts.Members.{each_there}
 use Rattle.rule_laws.proofs.rules.local_rules.Names.{numbers, is_definition as definition_there}
 use Rattle.rule_laws.proofs.rules.source_rules.Locals.{block_names, made_by, names_are}
-use Rattle.ir_laws.proofs.paths.source_rules.Locals.{in_row, listed_right}
-use Rattle.flow_solver.specs.Paths.{IsListed}
-use Rattle.ir_parts.specs.Locals.{locals_of}
+use Rattle.rule_laws.proofs.ir_laws.paths.source_rules.Locals.{in_row, listed_right}
+use Rattle.rule_laws.specs.flow_solver.Paths.{IsListed}
+use Rattle.rule_laws.specs.ir_parts.Locals.{locals_of}
 use Rattle.rule_laws.specs.rules.function_rules.Kept.{KeepsFunctionRules}
 use Rattle.ir_model.specs.declared.instr.Instr.{Instr}
 use Rattle.ir_model.specs.declared.module.Block.{Block}
 use Rattle.ir_model.specs.declared.module.Function.{Function}
 use Rattle.ir_model.specs.declared.module.Module.{Module}
-use Rattle.run_laws.specs.changed.Changed.{Each}
-use Rattle.pass_fetch.specs.Blocks.{ends_of_blocks, fetched_blocks, next_after_blocks, next_after_phis_by, numbered_names}
-use Rattle.pass_fetch.specs.declared.fetch.Fetch.{Fetch}
-use Rattle.pass_cells.specs.Cells.{fetched_function, fetches_of, named_function, with_own_names, with_plan}
-use Rattle.pass_cells.specs.Kept.{keeping_of}
-use Rattle.pass_cells.specs.Links.{link_name}
-use Rattle.pass_cells.specs.Plan.{plan_of}
-use Rattle.pass_cells.specs.Written.{after_blocks, entry_blocks, entry_front, kept_allocas, link_allocas, stored_params}
-use Rattle.pass_cells.specs.declared.plan.Plan.{Plan}
+use Rattle.rule_laws.specs.run_laws.changed.Changed.{Each}
+use Rattle.rule_laws.specs.pass_fetch.Blocks.{ends_of_blocks, fetched_blocks, next_after_blocks, next_after_phis_by, numbered_names}
+use Rattle.rule_laws.specs.pass_fetch.declared.fetch.Fetch.{Fetch}
+use Rattle.rule_laws.specs.pass_cells.Cells.{fetched_function, fetches_of, named_function, with_own_names, with_plan}
+use Rattle.rule_laws.specs.pass_cells.Kept.{keeping_of}
+use Rattle.rule_laws.specs.pass_cells.Links.{link_name}
+use Rattle.rule_laws.specs.pass_cells.Plan.{plan_of}
+use Rattle.rule_laws.specs.pass_cells.Written.{after_blocks, entry_blocks, entry_front, kept_allocas, link_allocas, stored_params}
+use Rattle.rule_laws.specs.pass_cells.declared.plan.Plan.{Plan}
 use Rattle.rule_laws.specs.rules.woven_rules.Blocks.{times_made}
-use Rattle.ir_laws.specs.facts.woven_rules.Pairs.{times}
+use Rattle.rule_laws.specs.ir_laws.facts.woven_rules.Pairs.{times}
 use Rattle.rule_laws.specs.rules.woven_rules.Weaving.{Weaving}
 
 -- ---- the counters of the passes

@@ -3,14 +3,14 @@ use Rattle.std.proofs.Common.{◌≡◌, ℕ, ◌<◌, zero, suc, true, List, []
 use Rattle.std.specs.Prelude.{Option, Some, None, map, slice_get}
 use Rattle.pass_proofs.proofs.cells.rules.Fetched.{AreFetches, IsFetchOf, Loaded, NotFetched}
 use Rattle.rule_laws.proofs.rules.counted.Types.{is_cell_type}
-use Rattle.flow_solver.specs.Paths.{IsListed}
+use Rattle.rule_laws.specs.flow_solver.Paths.{IsListed}
 use Rattle.ir_model.specs.declared.module.Function.{Function}
-use Rattle.pass_fetch.specs.Fetching.{fetch_at}
-use Rattle.pass_cells.specs.Cells.{fetch_by, fetch_for, fetches_of}
-use Rattle.pass_cells.specs.Kept.{entry}
-use Rattle.pass_cells.specs.declared.plan.KeptValue.{KeptValue}
-use Rattle.pass_cells.specs.declared.plan.Plan.{Plan}
-use Rattle.rule_values.specs.Kinds.{kind_of, value_kind}
+use Rattle.rule_laws.specs.pass_fetch.Fetching.{fetch_at}
+use Rattle.rule_laws.specs.pass_cells.Cells.{fetch_by, fetch_for, fetches_of}
+use Rattle.rule_laws.specs.pass_cells.Kept.{entry}
+use Rattle.rule_laws.specs.pass_cells.declared.plan.KeptValue.{KeptValue}
+use Rattle.rule_laws.specs.pass_cells.declared.plan.Plan.{Plan}
+use Rattle.rule_laws.specs.rule_values.Kinds.{kind_of, value_kind}
 use Rattle.rule_laws.specs.rules.woven_rules.Weaving.{Weaving}
 use Rattle.rule_laws.proofs.rules.counted.Planned.{IsSlot}
 

@@ -12,23 +12,23 @@ use Rattle.rule_laws.proofs.rules.counted.Planned.{IsSlot}
 use Rattle.rule_laws.proofs.rules.counted.Types.{is_cell_type}
 use Rattle.pass_proofs.proofs.cells.rules.ValueTypes.{TellBlock, Tells, types_seen}
 use Rattle.pass_proofs.specs.cells.rules.Weaving.{front_allocas}
-use Rattle.ir_laws.proofs.paths.source_rules.Locals.{listed_left, listed_right}
+use Rattle.rule_laws.proofs.ir_laws.paths.source_rules.Locals.{listed_left, listed_right}
 use Rattle.rule_laws.proofs.rules.source_rules.Locals.{made_by}
-use Rattle.ir_laws.proofs.facts.Lists.{row_of}
-use Rattle.flow_solver.specs.Paths.{IsListed}
+use Rattle.rule_laws.proofs.ir_laws.facts.Lists.{row_of}
+use Rattle.rule_laws.specs.flow_solver.Paths.{IsListed}
 use Rattle.ir_model.specs.Ty.{Ty, int}
 use Rattle.ir_model.specs.declared.instr.Instr.{Instr}
 use Rattle.ir_model.specs.declared.module.Function.{Function}
 use Rattle.ir_model.specs.declared.module.Module.{Module}
-use Rattle.run_laws.specs.changed.Changed.{Each}
-use Rattle.pass_cells.specs.Kept.{entry, is_flagged, keeping_of, value_types}
-use Rattle.pass_cells.specs.Links.{bases_of, cell_name, cells_from, distance_name, field_name, link_name, links_from, marks_of, slots_of}
-use Rattle.pass_cells.specs.Plan.{kept_from, kept_value, plan_of, type_at}
-use Rattle.pass_cells.specs.Written.{kept_allocas, link_allocas}
-use Rattle.pass_cells.specs.declared.keeping.Keeping.{Keeping}
-use Rattle.pass_cells.specs.declared.plan.KeptValue.{KeptValue}
-use Rattle.pass_cells.specs.declared.plan.Plan.{Plan}
-use Rattle.rule_values.specs.Kinds.{kind_of, value_kind}
+use Rattle.rule_laws.specs.run_laws.changed.Changed.{Each}
+use Rattle.rule_laws.specs.pass_cells.Kept.{entry, is_flagged, keeping_of, value_types}
+use Rattle.rule_laws.specs.pass_cells.Links.{bases_of, cell_name, cells_from, distance_name, field_name, link_name, links_from, marks_of, slots_of}
+use Rattle.rule_laws.specs.pass_cells.Plan.{kept_from, kept_value, plan_of, type_at}
+use Rattle.rule_laws.specs.pass_cells.Written.{kept_allocas, link_allocas}
+use Rattle.rule_laws.specs.pass_cells.declared.keeping.Keeping.{Keeping}
+use Rattle.rule_laws.specs.pass_cells.declared.plan.KeptValue.{KeptValue}
+use Rattle.rule_laws.specs.pass_cells.declared.plan.Plan.{Plan}
+use Rattle.rule_laws.specs.rule_values.Kinds.{kind_of, value_kind}
 use Rattle.rule_laws.specs.rules.woven_rules.Weaving.{Weaving}
 
 -- ---- what is kept at each place

@@ -3,24 +3,24 @@ use Rattle.std.proofs.Common.{◌≡◌, ℕ, ◌≤◌, Bool, true, false, List
 use Rattle.std.specs.Prelude.{Option, Some, None, not, nat_lt, ◌&&◌, ◌==◌, if◌then◌else◌}
 use Rattle.pass_proofs.proofs.fetch.cells.Types.{cell_aligned}
 use Rattle.rule_laws.proofs.rules.counted.Types.{cell_known, cell_scalar, cell_shallow, cell_sized, cell_tokenless, is_cell_type, kind_fits}
-use Rattle.ir_base.specs.declared.ops.BinOp.{BinOp}
-use Rattle.ir_base.specs.declared.ops.CastOp.{CastOp}
-use Rattle.ir_laws.proofs.facts.Truth.{itself}
-use Rattle.flow_solver.specs.Paths.{IsListed}
-use Rattle.ir_parts.specs.Contents.{result_of}
-use Rattle.pass_distances.specs.Sums.{on_number}
+use Rattle.rule_laws.specs.ir_base.declared.ops.BinOp.{BinOp}
+use Rattle.rule_laws.specs.ir_base.declared.ops.CastOp.{CastOp}
+use Rattle.rule_laws.proofs.ir_laws.facts.Truth.{itself}
+use Rattle.rule_laws.specs.flow_solver.Paths.{IsListed}
+use Rattle.rule_laws.specs.ir_parts.Contents.{result_of}
+use Rattle.rule_laws.specs.pass_distances.Sums.{on_number}
 use Rattle.ir_model.specs.Ty.{Ty, int, ptr}
 use Rattle.ir_model.specs.declared.instr.Instr.{Instr}
 use Rattle.ir_model.specs.declared.module.Function.{Function}
 use Rattle.ir_model.specs.declared.module.Module.{Module}
 use Rattle.ir_model.specs.declared.operand.Operand.{Operand}
-use Rattle.ir_locals.specs.Tables.{or_first}
-use Rattle.rule_types.specs.Depth.{is_shallow}
-use Rattle.pass_fetch.specs.Fetching.{value_bytes}
-use Rattle.pass_cells.specs.Moves.{cell_alloca, load_from, store_to}
-use Rattle.rule_values.specs.Fits.{fits, fits_kind}
-use Rattle.rule_values.specs.Kinds.{kind_of, value_kind}
-use Rattle.rule_values.specs.declared.kinds.Kind.{Kind}
+use Rattle.rule_laws.specs.ir_locals.Tables.{or_first}
+use Rattle.rule_laws.specs.rule_types.Depth.{is_shallow}
+use Rattle.rule_laws.specs.pass_fetch.Fetching.{value_bytes}
+use Rattle.rule_laws.specs.pass_cells.Moves.{cell_alloca, load_from, store_to}
+use Rattle.rule_laws.specs.rule_values.Fits.{fits, fits_kind}
+use Rattle.rule_laws.specs.rule_values.Kinds.{kind_of, value_kind}
+use Rattle.rule_laws.specs.rule_values.declared.kinds.Kind.{Kind}
 use Rattle.rule_laws.specs.rules.woven_rules.Blocks.{IsNew, IsPutIn}
 use Rattle.rule_laws.specs.rules.woven_rules.Weaving.{IsKnown, Weaving, kinds_with}
 

@@ -2,17 +2,17 @@
 use Rattle.std.proofs.Common.{◌≡◌, ℕ, ◌<◌, ◌≤◌, List, [], ◌∷◌, ◌++◌, refl, sym, ap, ◌∙◌, arith, append_assoc}
 use Rattle.std.specs.Prelude.{Option, Some, None}
 use Rattle.pass_proofs.proofs.cells.rules.Fetched.{FromCell, IsFetch}
-use Rattle.ir_parts.specs.Contents.{instr_operands, result_of}
+use Rattle.rule_laws.specs.ir_parts.Contents.{instr_operands, result_of}
 use Rattle.ir_model.specs.declared.instr.Instr.{Instr}
 use Rattle.ir_model.specs.declared.module.Module.{Module}
-use Rattle.run_laws.specs.changed.Changed.{Each}
-use Rattle.pass_fetch.specs.Fetching.{fetches_of_all}
-use Rattle.pass_fetch.specs.Instrs.{fetched_instr, fetched_instrs, next_after_instr, with_fetched}
-use Rattle.pass_fetch.specs.declared.fetch.Fetch.{Fetch}
-use Rattle.pass_cells.specs.Kept.{entry}
-use Rattle.pass_cells.specs.Moves.{after_saved, load_from, saved_values}
-use Rattle.pass_cells.specs.Written.{after_one, distance_behind, save_row, stored_at, stored_result, written_instrs, written_one}
-use Rattle.pass_cells.specs.declared.plan.Plan.{Plan}
+use Rattle.rule_laws.specs.run_laws.changed.Changed.{Each}
+use Rattle.rule_laws.specs.pass_fetch.Fetching.{fetches_of_all}
+use Rattle.rule_laws.specs.pass_fetch.Instrs.{fetched_instr, fetched_instrs, next_after_instr, with_fetched}
+use Rattle.rule_laws.specs.pass_fetch.declared.fetch.Fetch.{Fetch}
+use Rattle.rule_laws.specs.pass_cells.Kept.{entry}
+use Rattle.rule_laws.specs.pass_cells.Moves.{after_saved, load_from, saved_values}
+use Rattle.rule_laws.specs.pass_cells.Written.{after_one, distance_behind, save_row, stored_at, stored_result, written_instrs, written_one}
+use Rattle.rule_laws.specs.pass_cells.declared.plan.Plan.{Plan}
 use Rattle.rule_laws.specs.rules.woven_rules.Weaving.{Weaving}
 
 -- k is the next name of what is written, and n that of what is fetched; the rest stands behind the instructions

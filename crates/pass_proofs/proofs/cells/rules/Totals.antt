@@ -5,21 +5,21 @@ use Rattle.pass_proofs.proofs.cells.rules.Around.{again_low}
 use Rattle.pass_proofs.proofs.cells.rules.Counts.{again_times, fetched_times, fetches_times, instrs_rise, list_behind, lists_joined, operands_rise, phis_stored, written_low, written_times}
 use Rattle.pass_proofs.proofs.cells.rules.Ends.{ends_times}
 use Rattle.rule_laws.proofs.rules.counted.Times.{Adds, adds_as, adds_joined, adds_none, made_both, made_times, names_times}
-use Rattle.ir_laws.proofs.facts.Lists.{times_joined, phi_names, row_of}
+use Rattle.rule_laws.proofs.ir_laws.facts.Lists.{times_joined, phi_names, row_of}
 use Rattle.rule_laws.proofs.rules.source_rules.Locals.{block_names}
 use Rattle.ir_model.specs.Names.{numbered}
 use Rattle.ir_model.specs.declared.instr.Instr.{Instr}
 use Rattle.ir_model.specs.declared.instr.Phi.{Phi}
 use Rattle.ir_model.specs.declared.module.Block.{Block}
 use Rattle.ir_model.specs.declared.module.Module.{Module}
-use Rattle.pass_fetch.specs.Blocks.{end_at, fetched_block, fetched_blocks, fetched_phis, next_after_block, next_after_blocks, next_after_phi, next_after_phis, numbered_names}
-use Rattle.pass_fetch.specs.Fetching.{fetches_of_all}
-use Rattle.pass_fetch.specs.Instrs.{fetched_instrs, next_after_instrs, term_operands}
-use Rattle.pass_fetch.specs.declared.fetch.Fetch.{Fetch}
-use Rattle.pass_cells.specs.Moves.{after_again, again_values}
-use Rattle.pass_cells.specs.Written.{after_block, after_blocks, again_row, entry_blocks, stored_phis, written_block, written_blocks, written_instrs}
-use Rattle.pass_cells.specs.declared.plan.Plan.{Plan}
-use Rattle.ir_laws.specs.facts.woven_rules.Pairs.{times}
+use Rattle.rule_laws.specs.pass_fetch.Blocks.{end_at, fetched_block, fetched_blocks, fetched_phis, next_after_block, next_after_blocks, next_after_phi, next_after_phis, numbered_names}
+use Rattle.rule_laws.specs.pass_fetch.Fetching.{fetches_of_all}
+use Rattle.rule_laws.specs.pass_fetch.Instrs.{fetched_instrs, next_after_instrs, term_operands}
+use Rattle.rule_laws.specs.pass_fetch.declared.fetch.Fetch.{Fetch}
+use Rattle.rule_laws.specs.pass_cells.Moves.{after_again, again_values}
+use Rattle.rule_laws.specs.pass_cells.Written.{after_block, after_blocks, again_row, entry_blocks, stored_phis, written_block, written_blocks, written_instrs}
+use Rattle.rule_laws.specs.pass_cells.declared.plan.Plan.{Plan}
+use Rattle.rule_laws.specs.ir_laws.facts.woven_rules.Pairs.{times}
 
 -- ---- tables of names
 

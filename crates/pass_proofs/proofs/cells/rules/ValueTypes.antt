@@ -2,23 +2,23 @@
 use Rattle.std.proofs.Common.{◌≡◌, ◌⊎◌, inl, inr, ⊎_elim, ℕ, zero, suc, ◌<◌, List, [], ◌∷◌, ◌++◌, length, refl, sym, ap, ◌∙◌, arith}
 use Rattle.std.specs.Prelude.{Option, Some, None, map, option_to_list, replicate, slice_get, slice_set}
 use Rattle.pass_proofs.proofs.cells.rules.Keeping.{IsKeeping}
-use Rattle.ir_laws.proofs.facts.Truth.{either}
-use Rattle.ir_laws.proofs.facts.Lists.{get_within, set_here, set_length, set_other, phi_names, row_of}
-use Rattle.ir_laws.proofs.paths.source_rules.Locals.{listed_either}
+use Rattle.rule_laws.proofs.ir_laws.facts.Truth.{either}
+use Rattle.rule_laws.proofs.ir_laws.facts.Lists.{get_within, set_here, set_length, set_other, phi_names, row_of}
+use Rattle.rule_laws.proofs.ir_laws.paths.source_rules.Locals.{listed_either}
 use Rattle.rule_laws.proofs.rules.source_rules.Locals.{made_by}
-use Rattle.flow_solver.specs.Paths.{IsListed}
-use Rattle.ir_parts.specs.Contents.{result_of}
+use Rattle.rule_laws.specs.flow_solver.Paths.{IsListed}
+use Rattle.rule_laws.specs.ir_parts.Contents.{result_of}
 use Rattle.ir_model.specs.Ty.{Ty, ptr}
 use Rattle.ir_model.specs.declared.instr.Instr.{Instr}
 use Rattle.ir_model.specs.declared.instr.Phi.{Phi}
 use Rattle.ir_model.specs.declared.module.Block.{Block}
 use Rattle.ir_model.specs.declared.module.Function.{Function}
 use Rattle.ir_model.specs.declared.module.Param.{Param}
-use Rattle.run_laws.specs.changed.Changed.{Each}
-use Rattle.pass_cells.specs.Kept.{entry, result_type, value_types, with_block_types, with_param_types, with_phi_types, with_result_type, with_result_types, with_type}
-use Rattle.pass_cells.specs.Plan.{type_at}
-use Rattle.pass_cells.specs.declared.keeping.Keeping.{Keeping}
-use Rattle.rule_values.specs.Kinds.{kind_of, value_kind}
+use Rattle.rule_laws.specs.run_laws.changed.Changed.{Each}
+use Rattle.rule_laws.specs.pass_cells.Kept.{entry, result_type, value_types, with_block_types, with_param_types, with_phi_types, with_result_type, with_result_types, with_type}
+use Rattle.rule_laws.specs.pass_cells.Plan.{type_at}
+use Rattle.rule_laws.specs.pass_cells.declared.keeping.Keeping.{Keeping}
+use Rattle.rule_laws.specs.rule_values.Kinds.{kind_of, value_kind}
 
 -- the values that a block makes, in order
 abbrev pub made_names : Block → List ℕ

@@ -9,7 +9,7 @@ use Rattle.pass_proofs.proofs.cells.rules.Goods.{block_good}
 use Rattle.pass_proofs.proofs.cells.rules.Keepable.{blocks_tell, keeping_holds, once, params_tell}
 use Rattle.pass_proofs.proofs.cells.rules.Labels.{IsLabel, entry_unreturned, labels_there}
 use Rattle.rule_laws.proofs.rules.counted.Lists.{made_listed, row_joined}
-use Rattle.ir_laws.proofs.paths.woven_rules.Unbroken.{each_listed}
+use Rattle.rule_laws.proofs.ir_laws.paths.woven_rules.Unbroken.{each_listed}
 use Rattle.rule_laws.proofs.rules.counted.Members.{made_either}
 use Rattle.pass_proofs.proofs.cells.rules.NewNames.{blocks_are, blocks_told, coroutine_is, defined_below, ends, fetched, first_kept, first_kept_low, first_phi, first_phi_low, first_use, first_use_low, front, last_low, made_once, name_is, params_are, plan, result, result_of_is, table, weaving}
 use Rattle.pass_proofs.proofs.cells.rules.Planned.{IsPlanned, planned_fetches}
@@ -21,16 +21,16 @@ use Rattle.pass_proofs.proofs.cells.rules.Totals.{block_rise, written_rise}
 use Rattle.pass_proofs.proofs.cells.rules.WovenBlocks.{HasEnd, IsEndOf, block_has_end, block_woven, blocks_have_ends, blocks_woven, end_of}
 use Rattle.pass_proofs.specs.cells.rules.Asked.{AreCellsFor}
 use Rattle.pass_proofs.specs.cells.rules.Weaving.{front_allocas, front_cells}
-use Rattle.rule_uses.specs.Undefined.{params_of}
-use Rattle.rule_uses.specs.Uses.{made_by_instrs, phi_values, values_in}
-use Rattle.ir_laws.proofs.facts.Members.{each_there, each_joined, each_left}
-use Rattle.ir_laws.proofs.facts.Truth.{itself}
+use Rattle.rule_laws.specs.rule_uses.Undefined.{params_of}
+use Rattle.rule_laws.specs.rule_uses.Uses.{made_by_instrs, phi_values, values_in}
+use Rattle.rule_laws.proofs.ir_laws.facts.Members.{each_there, each_joined, each_left}
+use Rattle.rule_laws.proofs.ir_laws.facts.Truth.{itself}
 use Rattle.rule_laws.proofs.rules.local_rules.Names.{numbers}
 use Rattle.rule_laws.proofs.rules.local_rules.ValueKinds.{kind_none}
 use Rattle.rule_laws.proofs.rules.source_rules.Locals.{block_names, made_by}
-use Rattle.ir_laws.proofs.paths.source_rules.Locals.{in_row, listed_either, listed_left, listed_right}
-use Rattle.ir_laws.proofs.facts.Lists.{row_of}
-use Rattle.flow_solver.specs.Paths.{IsListed}
+use Rattle.rule_laws.proofs.ir_laws.paths.source_rules.Locals.{in_row, listed_either, listed_left, listed_right}
+use Rattle.rule_laws.proofs.ir_laws.facts.Lists.{row_of}
+use Rattle.rule_laws.specs.flow_solver.Paths.{IsListed}
 use Rattle.rule_laws.specs.rules.function_rules.Kept.{KeepsFunctionRules}
 use Rattle.ir_model.specs.Ty.{Ty}
 use Rattle.ir_model.specs.declared.instr.Incoming.{Incoming}
@@ -39,13 +39,13 @@ use Rattle.ir_model.specs.declared.instr.Phi.{Phi}
 use Rattle.ir_model.specs.declared.module.Block.{Block}
 use Rattle.ir_model.specs.declared.module.Function.{Function}
 use Rattle.ir_model.specs.declared.module.Module.{Module}
-use Rattle.run_laws.specs.changed.Changed.{Each}
-use Rattle.pass_fetch.specs.Blocks.{fetched_block, fetched_blocks, next_after_block, next_after_phis}
-use Rattle.pass_fetch.specs.declared.fetch.Fetch.{Fetch}
-use Rattle.pass_cells.specs.Moves.{again_values, cell_alloca}
-use Rattle.pass_cells.specs.Written.{after_block, again_row, entry_blocks, kept_allocas, link_allocas, row_at, stored_params, stored_phis, written_block, written_blocks}
-use Rattle.pass_cells.specs.declared.plan.Plan.{Plan}
-use Rattle.rule_values.specs.declared.kinds.Kind.{Kind}
+use Rattle.rule_laws.specs.run_laws.changed.Changed.{Each}
+use Rattle.rule_laws.specs.pass_fetch.Blocks.{fetched_block, fetched_blocks, next_after_block, next_after_phis}
+use Rattle.rule_laws.specs.pass_fetch.declared.fetch.Fetch.{Fetch}
+use Rattle.rule_laws.specs.pass_cells.Moves.{again_values, cell_alloca}
+use Rattle.rule_laws.specs.pass_cells.Written.{after_block, again_row, entry_blocks, kept_allocas, link_allocas, row_at, stored_params, stored_phis, written_block, written_blocks}
+use Rattle.rule_laws.specs.pass_cells.declared.plan.Plan.{Plan}
+use Rattle.rule_laws.specs.rule_values.declared.kinds.Kind.{Kind}
 use Rattle.rule_laws.specs.rules.woven_rules.Blocks.{AreWovenBlocks, IsFront, IsWoven, NoBlock, OneBlock}
 use Rattle.rule_laws.specs.rules.woven_rules.Weaving.{New, Weaving}
 

@@ -9,21 +9,21 @@ use Rattle.pass_proofs.proofs.cells.rules.Instrs.{AreGood, instrs_woven}
 use Rattle.pass_proofs.proofs.cells.rules.Labels.{IsLabel}
 use Rattle.rule_laws.proofs.rules.counted.Lists.{AreAmong, made_grows, made_joined, made_listed}
 use Rattle.pass_proofs.proofs.fetch.cells.Members.{fetched_phis_make}
-use Rattle.ir_laws.proofs.paths.woven_rules.Unbroken.{of_listed as listed_each}
+use Rattle.rule_laws.proofs.ir_laws.paths.woven_rules.Unbroken.{of_listed as listed_each}
 use Rattle.rule_laws.proofs.rules.counted.Members.{phis_made, row_among, row_to}
 use Rattle.pass_proofs.proofs.cells.rules.Members.{spread_has}
 use Rattle.pass_proofs.proofs.cells.rules.Planned.{IsPlanned, planned_fetches}
 use Rattle.rule_laws.proofs.rules.counted.Puts.{ArePut, puts_joined, puts_woven}
 use Rattle.pass_proofs.proofs.cells.rules.Single.{IsSound, IsTold}
 use Rattle.pass_proofs.proofs.cells.rules.Spread.{spread, spread_is}
-use Rattle.rule_uses.specs.Uses.{block_values, made_by_instrs, phi_values, values_at, values_in}
-use Rattle.ir_laws.proofs.facts.Members.{at_each, each_joined, each_left, each_right}
-use Rattle.ir_laws.proofs.facts.Truth.{equal_numbers, itself}
+use Rattle.rule_laws.specs.rule_uses.Uses.{block_values, made_by_instrs, phi_values, values_at, values_in}
+use Rattle.rule_laws.proofs.ir_laws.facts.Members.{at_each, each_joined, each_left, each_right}
+use Rattle.rule_laws.proofs.ir_laws.facts.Truth.{equal_numbers, itself}
 use Rattle.rule_laws.proofs.rules.source_rules.Locals.{found_in, made_by}
-use Rattle.ir_laws.proofs.paths.source_rules.Locals.{listed_either, listed_left, listed_right}
-use Rattle.ir_laws.proofs.facts.Lists.{phi_names, row_of}
-use Rattle.flow_solver.specs.Paths.{IsListed}
-use Rattle.ir_parts.specs.Contents.{instr_operands}
+use Rattle.rule_laws.proofs.ir_laws.paths.source_rules.Locals.{listed_either, listed_left, listed_right}
+use Rattle.rule_laws.proofs.ir_laws.facts.Lists.{phi_names, row_of}
+use Rattle.rule_laws.specs.flow_solver.Paths.{IsListed}
+use Rattle.rule_laws.specs.ir_parts.Contents.{instr_operands}
 use Rattle.ir_model.specs.Names.{position_of}
 use Rattle.ir_model.specs.declared.instr.Incoming.{Incoming}
 use Rattle.ir_model.specs.declared.instr.Instr.{Instr}
@@ -31,17 +31,17 @@ use Rattle.ir_model.specs.declared.instr.Phi.{Phi}
 use Rattle.ir_model.specs.declared.module.Block.{Block}
 use Rattle.ir_model.specs.declared.module.Function.{Function}
 use Rattle.ir_model.specs.declared.module.Module.{Module}
-use Rattle.run_laws.specs.changed.Changed.{Each}
-use Rattle.pass_fetch.specs.Blocks.{end_at, fetched_block, fetched_blocks, fetched_incoming, fetched_phi, fetched_phis, next_after_block, next_after_phi, next_after_phis}
-use Rattle.pass_fetch.specs.Fetching.{fetched_operand, fetches_of, fetches_of_all, next_after}
-use Rattle.pass_fetch.specs.Instrs.{fetched_instrs, next_after_instrs, term_operands}
-use Rattle.pass_fetch.specs.declared.fetch.Fetch.{Fetch}
-use Rattle.pass_cells.specs.Cells.{fetches_of as fetch_table}
-use Rattle.pass_cells.specs.Moves.{after_again, again_values}
-use Rattle.pass_cells.specs.Written.{after_block, again_row, stored_phis, written_block, written_blocks, written_instrs}
-use Rattle.pass_cells.specs.declared.plan.Plan.{Plan}
+use Rattle.rule_laws.specs.run_laws.changed.Changed.{Each}
+use Rattle.rule_laws.specs.pass_fetch.Blocks.{end_at, fetched_block, fetched_blocks, fetched_incoming, fetched_phi, fetched_phis, next_after_block, next_after_phi, next_after_phis}
+use Rattle.rule_laws.specs.pass_fetch.Fetching.{fetched_operand, fetches_of, fetches_of_all, next_after}
+use Rattle.rule_laws.specs.pass_fetch.Instrs.{fetched_instrs, next_after_instrs, term_operands}
+use Rattle.rule_laws.specs.pass_fetch.declared.fetch.Fetch.{Fetch}
+use Rattle.rule_laws.specs.pass_cells.Cells.{fetches_of as fetch_table}
+use Rattle.rule_laws.specs.pass_cells.Moves.{after_again, again_values}
+use Rattle.rule_laws.specs.pass_cells.Written.{after_block, again_row, stored_phis, written_block, written_blocks, written_instrs}
+use Rattle.rule_laws.specs.pass_cells.declared.plan.Plan.{Plan}
 use Rattle.rule_laws.specs.rules.woven_rules.Blocks.{AreWoven, AreWovenBlocks, IsWovenBlock, NoBlock, OneBlock}
-use Rattle.ir_laws.specs.facts.woven_rules.Pairs.{Empty, Pair, Pairwise}
+use Rattle.rule_laws.specs.ir_laws.facts.woven_rules.Pairs.{Empty, Pair, Pairwise}
 use Rattle.rule_laws.specs.rules.woven_rules.Parts.{IncomingStays, PhiStays}
 use Rattle.rule_laws.specs.rules.woven_rules.Weaving.{Front, IsInPlace, Weaving}
 

@@ -3,37 +3,37 @@ use Rattle.std.proofs.Common.{◌≡◌, ℕ, ◌+◌, true, [], length, sym, ap
 use Rattle.std.specs.Prelude.{Some, None, Option, slice_get}
 use Rattle.rule_laws.proofs.frames.crossing.Paths.{point_found}
 use Rattle.rule_laws.specs.frames.crossing.Crossed.{AreSuspendsApart, IsApart}
-use Rattle.ir_laws.specs.facts.crossing.Crossed.{is_switch}
-use Rattle.rule_shape.specs.OneOfEach.{wrong_call}
-use Rattle.rule_shape.specs.Switches.{wrong_switch}
-use Rattle.rule_uses.specs.Uses.{made_by_phis}
-use Rattle.ir_laws.proofs.facts.Members.{at_each}
+use Rattle.rule_laws.specs.ir_laws.facts.crossing.Crossed.{is_switch}
+use Rattle.rule_laws.specs.rule_shape.OneOfEach.{wrong_call}
+use Rattle.rule_laws.specs.rule_shape.Switches.{wrong_switch}
+use Rattle.rule_laws.specs.rule_uses.Uses.{made_by_phis}
+use Rattle.rule_laws.proofs.ir_laws.facts.Members.{at_each}
 use Rattle.pass_proofs.proofs.edges.rules.Kept.{rules_kept, suspend_blocks}
 use Rattle.pass_proofs.proofs.edges.rules.Switched.{switched}
 use Rattle.rule_laws.specs.frames.rows.Returns.{HaveOwnReturns, return_labels}
 use Rattle.rule_laws.specs.rules.rows.Returns.{IsSwitched}
 use Rattle.pass_proofs.proofs.edges.shape.Kept.{calls_kept, switches_kept}
 use Rattle.pass_edges.specs.EdgeBlocks.{with_edge_blocks}
-use Rattle.flow_solver.specs.Paths.{IsListed}
+use Rattle.rule_laws.specs.flow_solver.Paths.{IsListed}
 use Rattle.pass_proofs.proofs.edges.calls.Fetched.{call_suspends}
-use Rattle.ir_laws.proofs.paths.shape.Fetched.{ordered_value}
+use Rattle.rule_laws.proofs.ir_laws.paths.shape.Fetched.{ordered_value}
 use Rattle.rule_laws.proofs.rules.shape.Ordered.{IsSuspendValue, all_ordered, placed_calls}
 use Rattle.rule_laws.proofs.frames.shape.Points.{HasPoint, destroy_listed, point_there, resume_listed}
-use Rattle.ir_laws.proofs.paths.shape.Steady.{is_suspend}
+use Rattle.rule_laws.proofs.ir_laws.paths.shape.Steady.{is_suspend}
 use Rattle.rule_laws.proofs.rules.shape.Unneeded.{suspend_result}
 use Rattle.pass_proofs.proofs.cells.shape.Unneeded.{unneeded}
-use Rattle.ir_parts.specs.Contents.{result_of}
+use Rattle.rule_laws.specs.ir_parts.Contents.{result_of}
 use Rattle.rule_laws.specs.rules.function_rules.Kept.{KeepsFunctionRules}
-use Rattle.pass_intrinsics.specs.Shapes.{suspends_of as all_suspends}
+use Rattle.rule_laws.specs.pass_intrinsics.Shapes.{suspends_of as all_suspends}
 use Rattle.ir_model.specs.Names.{position_of}
 use Rattle.ir_model.specs.declared.instr.Instr.{Instr}
 use Rattle.ir_model.specs.declared.module.Block.{Block}
 use Rattle.ir_model.specs.declared.module.Function.{Function}
 use Rattle.ir_model.specs.declared.module.Module.{Module}
 use Rattle.ir_model.specs.declared.operand.Intrinsic.{Intrinsic}
-use Rattle.ir_paths.specs.Windows.{destroy_label, instr_at, instr_in, is_call_of, label_at, label_of_term, resume_label}
-use Rattle.ir_paths.specs.declared.point.Point.{Point}
-use Rattle.frame_crossing.specs.Paths.{phis_at, phis_in}
+use Rattle.rule_laws.specs.ir_paths.Windows.{destroy_label, instr_at, instr_in, is_call_of, label_at, label_of_term, resume_label}
+use Rattle.rule_laws.specs.ir_paths.declared.point.Point.{Point}
+use Rattle.rule_laws.specs.frame_crossing.Paths.{phis_at, phis_in}
 
 module _ (m : Module) (k : ℕ) (f : Function) (rules : KeepsFunctionRules m k f) (coroutine : f.coroutine ≡ true) (own : HaveOwnReturns f) (calls : wrong_call k f ≡ None) (switches : wrong_switch k f ≡ None) where
   no_phis : (label : ℕ) → IsListed label (return_labels (all_suspends f)) → phis_at f (position_of f label) ≡ []

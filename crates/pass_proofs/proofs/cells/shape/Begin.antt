@@ -2,14 +2,14 @@
 use Rattle.std.proofs.Common.{◌≡◌, ⊎_elim, ℕ, true, false, List, [], refl, sym, ap, ◌∙◌, subst}
 use Rattle.std.specs.Prelude.{Some, None, Option, slice_get}
 use Rattle.rule_laws.proofs.frames.counted.Keepable.{FoundBlock, FoundInstr, blocks_found, distinct_listed, params_found}
-use Rattle.ir_laws.proofs.facts.Lists.{FoundParam, FoundPhi}
-use Rattle.ir_laws.proofs.paths.counted.Keepable.{param_listed, phi_listed}
+use Rattle.rule_laws.proofs.ir_laws.facts.Lists.{FoundParam, FoundPhi}
+use Rattle.rule_laws.proofs.ir_laws.paths.counted.Keepable.{param_listed, phi_listed}
 use Rattle.pass_proofs.proofs.cells.rules.Keeping.{keeping_is}
-use Rattle.ir_laws.proofs.paths.source_rules.Locals.{listed_either}
+use Rattle.rule_laws.proofs.ir_laws.paths.source_rules.Locals.{listed_either}
 use Rattle.rule_laws.proofs.rules.source_rules.Locals.{no_param, no_phi, same_instr}
-use Rattle.flow_solver.specs.Paths.{IsListed}
+use Rattle.rule_laws.specs.flow_solver.Paths.{IsListed}
 use Rattle.rule_laws.proofs.rules.shape.Stands.{StandsAt, begin_stands}
-use Rattle.ir_parts.specs.Contents.{result_of}
+use Rattle.rule_laws.specs.ir_parts.Contents.{result_of}
 use Rattle.rule_laws.specs.rules.function_rules.Kept.{KeepsFunctionRules}
 use Rattle.ir_model.specs.Calls.{first_result}
 use Rattle.ir_model.specs.declared.instr.Instr.{Instr}
@@ -18,11 +18,11 @@ use Rattle.ir_model.specs.declared.module.Function.{Function}
 use Rattle.ir_model.specs.declared.module.Module.{Module}
 use Rattle.ir_model.specs.declared.operand.Callee.{Callee}
 use Rattle.ir_model.specs.declared.operand.Intrinsic.{Intrinsic}
-use Rattle.ir_paths.specs.Windows.{instr_at, instr_in, is_call_of}
-use Rattle.ir_paths.specs.declared.point.Point.{Point}
-use Rattle.frame_crossing.specs.Values.{all_defined, blocks_defined, is_apart, is_token_result, params_defined, values_of}
-use Rattle.pass_cells.specs.Kept.{entry, keeping_of}
-use Rattle.ir_laws.proofs.facts.Truth.{or_true}
+use Rattle.rule_laws.specs.ir_paths.Windows.{instr_at, instr_in, is_call_of}
+use Rattle.rule_laws.specs.ir_paths.declared.point.Point.{Point}
+use Rattle.rule_laws.specs.frame_crossing.Values.{all_defined, blocks_defined, is_apart, is_token_result, params_defined, values_of}
+use Rattle.rule_laws.specs.pass_cells.Kept.{entry, keeping_of}
+use Rattle.rule_laws.proofs.ir_laws.facts.Truth.{or_true}
 use Rattle.rule_laws.proofs.rules.shape.Begin.{begin_result}
 
 begin_apart : (i : Instr) → is_call_of Intrinsic.CoroBegin i ≡ true → is_apart i ≡ true

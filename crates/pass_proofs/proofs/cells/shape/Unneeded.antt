@@ -1,22 +1,22 @@
 -- The result of a suspend is needed behind no suspend, as its switch alone uses it; so it isn't kept.
 use Rattle.std.proofs.Common.{◌≡◌, inl, inr, ⊎_elim, ℕ, zero, suc, ◌+◌, ◌<◌, ◌≤◌, Bool, true, false, List, [], ◌∷◌, length, refl, sym, ap, ◌∙◌, subst, arith}
 use Rattle.std.specs.Prelude.{Some, None, Option, map, slice_get, ◌==◌}
-use Rattle.ir_laws.proofs.facts.Truth.{either, equal_numbers, itself}
+use Rattle.rule_laws.proofs.ir_laws.facts.Truth.{either, equal_numbers, itself}
 use Rattle.pass_proofs.proofs.cells.rules.Keeping.{keeping_is}
-use Rattle.rule_shape.specs.Switches.{wrong_switch}
-use Rattle.rule_uses.specs.Uses.{local_of, locals_in}
-use Rattle.ir_laws.proofs.facts.Members.{at_each}
+use Rattle.rule_laws.specs.rule_shape.Switches.{wrong_switch}
+use Rattle.rule_laws.specs.rule_uses.Uses.{local_of, locals_in}
+use Rattle.rule_laws.proofs.ir_laws.facts.Members.{at_each}
 use Rattle.pass_proofs.proofs.early.path_rules.SavedSwitches.{times_in}
-use Rattle.ir_laws.proofs.paths.source_rules.Locals.{listed_either}
+use Rattle.rule_laws.proofs.ir_laws.paths.source_rules.Locals.{listed_either}
 use Rattle.pass_proofs.proofs.edges.rules.Switched.{switched}
 use Rattle.pass_proofs.proofs.edges.shape.Uses.{ends_total}
-use Rattle.flow_solver.specs.Paths.{IsListed}
+use Rattle.rule_laws.specs.flow_solver.Paths.{IsListed}
 use Rattle.pass_proofs.proofs.edges.calls.Fetched.{call_suspends}
 use Rattle.rule_laws.proofs.rules.shape.Ordered.{IsSuspendValue}
 use Rattle.pass_proofs.proofs.edges.calls.Spared.{IsOther, IsSpared, ends_once, none_times, spared, used_at_end}
 use Rattle.rule_laws.proofs.rules.shape.Stands.{StandsAt, suspend_stands}
 use Rattle.pass_proofs.proofs.cells.shape.Written.{other_unused}
-use Rattle.ir_parts.specs.Contents.{ending_operands, instr_operands, result_of}
+use Rattle.rule_laws.specs.ir_parts.Contents.{ending_operands, instr_operands, result_of}
 use Rattle.ir_model.specs.Names.{is_local, position_of}
 use Rattle.ir_model.specs.declared.instr.Incoming.{Incoming}
 use Rattle.ir_model.specs.declared.instr.Instr.{Instr}
@@ -26,16 +26,16 @@ use Rattle.ir_model.specs.declared.module.Block.{Block}
 use Rattle.ir_model.specs.declared.module.Function.{Function}
 use Rattle.ir_model.specs.declared.operand.Intrinsic.{Intrinsic}
 use Rattle.ir_model.specs.declared.operand.Operand.{Operand}
-use Rattle.ir_paths.specs.Windows.{destroy_label, resume_label}
-use Rattle.ir_paths.specs.declared.point.Point.{Point}
-use Rattle.run_step.specs.Step.{AtInstr, fetch, fetch_in, fetch_or}
-use Rattle.run_laws.specs.changed.Changed.{Each}
-use Rattle.frame_crossing.specs.Crossing.{AreCrossed, AreCrossing, CrossedBy, LeftOut, More, NoMore, Nothing, Taken, suspends_of}
-use Rattle.frame_crossing.specs.EdgeUses.{blocks_uses, edge_use, incoming_uses, phis_uses, uses_by}
-use Rattle.frame_crossing.specs.Paths.{Across, IsNeeded, IsNeededBehind, IsNeededFrom, Next, OnEdge, Use, used_by}
-use Rattle.frame_crossing.specs.Values.{values_of}
-use Rattle.frame_crossing.specs.declared.edge_use.EdgeUse.{EdgeUse}
-use Rattle.pass_cells.specs.Kept.{entry, keeping_of}
+use Rattle.rule_laws.specs.ir_paths.Windows.{destroy_label, resume_label}
+use Rattle.rule_laws.specs.ir_paths.declared.point.Point.{Point}
+use Rattle.rule_laws.specs.run_step.Step.{AtInstr, fetch, fetch_in, fetch_or}
+use Rattle.rule_laws.specs.run_laws.changed.Changed.{Each}
+use Rattle.rule_laws.specs.frame_crossing.Crossing.{AreCrossed, AreCrossing, CrossedBy, LeftOut, More, NoMore, Nothing, Taken, suspends_of}
+use Rattle.rule_laws.specs.frame_crossing.EdgeUses.{blocks_uses, edge_use, incoming_uses, phis_uses, uses_by}
+use Rattle.rule_laws.specs.frame_crossing.Paths.{Across, IsNeeded, IsNeededBehind, IsNeededFrom, Next, OnEdge, Use, used_by}
+use Rattle.rule_laws.specs.frame_crossing.Values.{values_of}
+use Rattle.rule_laws.specs.frame_crossing.declared.edge_use.EdgeUse.{EdgeUse}
+use Rattle.rule_laws.specs.pass_cells.Kept.{entry, keeping_of}
 use Rattle.rule_laws.proofs.rules.shape.Unneeded.{suspend_result}
 
 -- ---- no further end uses it

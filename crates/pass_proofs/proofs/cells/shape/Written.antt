@@ -9,19 +9,19 @@ use Rattle.pass_proofs.proofs.cells.rules.Indices.{behind_low}
 use Rattle.pass_proofs.proofs.cells.rules.Planned.{IsPlanned}
 use Rattle.pass_proofs.proofs.cells.rules.Single.{IsSound}
 use Rattle.pass_proofs.proofs.cells.rules.Counts.{written_low}
-use Rattle.rule_uses.specs.Uses.{locals_in}
-use Rattle.ir_laws.proofs.facts.Truth.{itself}
-use Rattle.ir_laws.proofs.facts.Members.{each_joined}
-use Rattle.ir_laws.proofs.facts.local_rules.Woven.{other_number}
+use Rattle.rule_laws.specs.rule_uses.Uses.{locals_in}
+use Rattle.rule_laws.proofs.ir_laws.facts.Truth.{itself}
+use Rattle.rule_laws.proofs.ir_laws.facts.Members.{each_joined}
+use Rattle.rule_laws.proofs.ir_laws.facts.local_rules.Woven.{other_number}
 use Rattle.pass_proofs.proofs.early.path_rules.SavedSwitches.{times_in}
 use Rattle.pass_proofs.proofs.edges.shape.Uses.{ends_total}
-use Rattle.flow_solver.specs.Paths.{IsListed}
+use Rattle.rule_laws.specs.flow_solver.Paths.{IsListed}
 use Rattle.rule_laws.proofs.rules.shape.Ordered.{HasNoFirstEnd, phis_no_end}
 use Rattle.pass_proofs.proofs.edges.calls.Spared.{AreInstrsOther, AreOther, IsOther, IsSpared}
 use Rattle.pass_proofs.proofs.edges.calls.Steadily.{AreSteady, IsFirstClear}
 use Rattle.rule_laws.proofs.rules.shape.Steady.{AreAllOrdered, IsBlockKept, IsPlain, Keeps, LeadsAt, Ended, all_calls, all_labels, behind_first, in_front, row}
-use Rattle.ir_laws.proofs.paths.shape.Steady.{AreOrdered, is_end, is_suspend}
-use Rattle.ir_parts.specs.Contents.{ending_operands, instr_operands, result_of}
+use Rattle.rule_laws.proofs.ir_laws.paths.shape.Steady.{AreOrdered, is_end, is_suspend}
+use Rattle.rule_laws.specs.ir_parts.Contents.{ending_operands, instr_operands, result_of}
 use Rattle.ir_model.specs.Names.{intrinsic_number}
 use Rattle.ir_model.specs.declared.instr.Instr.{Instr}
 use Rattle.ir_model.specs.declared.instr.Phi.{Phi}
@@ -32,14 +32,14 @@ use Rattle.ir_model.specs.declared.module.Param.{Param}
 use Rattle.ir_model.specs.declared.operand.Callee.{Callee}
 use Rattle.ir_model.specs.declared.operand.Intrinsic.{Intrinsic}
 use Rattle.ir_model.specs.declared.operand.Operand.{Operand}
-use Rattle.ir_paths.specs.Windows.{call_result}
-use Rattle.run_laws.specs.changed.Changed.{Each}
-use Rattle.pass_cells.specs.Kept.{entry}
-use Rattle.pass_cells.specs.Moves.{after_again, after_saved, again_values, saved_values}
-use Rattle.pass_cells.specs.Written.{after_block, after_one, again_row, distance_behind, entry_blocks, row_at, save_row, stored, stored_at, stored_one, stored_params, stored_phis, stored_result, written_block, written_blocks, written_instrs, written_one}
-use Rattle.pass_cells.specs.declared.plan.KeptValue.{KeptValue}
-use Rattle.pass_cells.specs.declared.plan.Plan.{Plan}
-use Rattle.ir_laws.specs.facts.woven_rules.Pairs.{Empty, Pair, Pairwise}
+use Rattle.rule_laws.specs.ir_paths.Windows.{call_result}
+use Rattle.rule_laws.specs.run_laws.changed.Changed.{Each}
+use Rattle.rule_laws.specs.pass_cells.Kept.{entry}
+use Rattle.rule_laws.specs.pass_cells.Moves.{after_again, after_saved, again_values, saved_values}
+use Rattle.rule_laws.specs.pass_cells.Written.{after_block, after_one, again_row, distance_behind, entry_blocks, row_at, save_row, stored, stored_at, stored_one, stored_params, stored_phis, stored_result, written_block, written_blocks, written_instrs, written_one}
+use Rattle.rule_laws.specs.pass_cells.declared.plan.KeptValue.{KeptValue}
+use Rattle.rule_laws.specs.pass_cells.declared.plan.Plan.{Plan}
+use Rattle.rule_laws.specs.ir_laws.facts.woven_rules.Pairs.{Empty, Pair, Pairwise}
 use Rattle.rule_laws.specs.rules.woven_rules.Weaving.{Weaving}
 
 -- ---- an instruction that calls no intrinsic is none of the calls

@@ -1,13 +1,13 @@
 -- Where crossing values are kept in cells, a function can still be written.
 use Rattle.std.proofs.Common.{ℕ, zero, suc, ◌+◌, ◌-◌, Bool, true, false, List, [], ◌∷◌, ◌++◌, length, replicate, refl}
 use Rattle.std.specs.Prelude.{None, Option, Some, codes, if◌then◌else◌, map, slice_get}
-use Rattle.ir_laws.proofs.facts.Members.{each_joined, joined_names}
-use Rattle.ir_parts.specs.Contents.{arg_types, result_of}
-use Rattle.pass_distances.specs.Sums.{distance_instrs, is_wide, on_number, start_instrs, start_value, sum_instrs, sum_value, way_instrs, widened, widening}
-use Rattle.pass_distances.specs.Ways.{inner_type, inner_ways, way_at, ways_of}
-use Rattle.pass_distances.specs.declared.way.Way.{Way}
-use Rattle.ir_base.specs.declared.ops.BinOp.{BinOp}
-use Rattle.ir_base.specs.declared.ops.CastOp.{CastOp}
+use Rattle.rule_laws.proofs.ir_laws.facts.Members.{each_joined, joined_names}
+use Rattle.rule_laws.specs.ir_parts.Contents.{arg_types, result_of}
+use Rattle.rule_laws.specs.pass_distances.Sums.{distance_instrs, is_wide, on_number, start_instrs, start_value, sum_instrs, sum_value, way_instrs, widened, widening}
+use Rattle.rule_laws.specs.pass_distances.Ways.{inner_type, inner_ways, way_at, ways_of}
+use Rattle.rule_laws.specs.pass_distances.declared.way.Way.{Way}
+use Rattle.rule_laws.specs.ir_base.declared.ops.BinOp.{BinOp}
+use Rattle.rule_laws.specs.ir_base.declared.ops.CastOp.{CastOp}
 use Rattle.ir_model.specs.Layout.{unnamed}
 use Rattle.ir_model.specs.Ty.{Ty, array, int, named, ptr, structure, token}
 use Rattle.ir_model.specs.declared.instr.Instr.{Instr}
@@ -24,17 +24,17 @@ use Rattle.pass_proofs.proofs.cells.spelled.Names.{own_named}
 use Rattle.rule_laws.proofs.texts.spelled.Types.{byte_spelled, ptr_spelled, truth_spelled, word_spelled}
 use Rattle.rule_laws.specs.texts.spelled.Spelled.{IsSpelled}
 use Rattle.rule_laws.specs.rules.spelled.Spelled.{IsSpelledBlock, IsSpelledFunction, IsSpelledInstr}
-use Rattle.run_laws.specs.changed.Changed.{Each}
-use Rattle.pass_fetch.specs.Blocks.{numbered_names}
-use Rattle.pass_cells.specs.Cells.{fetch_by, fetch_for, fetched_function, fetches_of, named_function, with_cells, with_plan, written_function}
-use Rattle.pass_cells.specs.Kept.{entry, result_type, value_types, with_block_types, with_param_types, with_phi_types, with_result_type, with_result_types, with_type}
-use Rattle.pass_cells.specs.Links.{cell_name, field_name, link_name}
-use Rattle.pass_cells.specs.Moves.{address_again, after_again, after_saved, again_one, again_values, cell_alloca, load_from, saved_one, saved_values, store_to}
-use Rattle.pass_cells.specs.Plan.{kept_from, kept_value, plan_of, type_at}
-use Rattle.pass_cells.specs.Written.{after_block, after_blocks, after_one, again_row, distance_alloca, distance_allocas, distance_behind, distance_from, distance_into, entry_blocks, entry_front, kept_allocas, link_allocas, save_row, stored, stored_at, stored_one, stored_params, stored_phis, stored_result, written_block, written_blocks, written_instrs, written_one}
-use Rattle.pass_cells.specs.declared.keeping.Keeping.{Keeping}
-use Rattle.pass_cells.specs.declared.plan.KeptValue.{KeptValue}
-use Rattle.pass_cells.specs.declared.plan.Plan.{Plan}
+use Rattle.rule_laws.specs.run_laws.changed.Changed.{Each}
+use Rattle.rule_laws.specs.pass_fetch.Blocks.{numbered_names}
+use Rattle.rule_laws.specs.pass_cells.Cells.{fetch_by, fetch_for, fetched_function, fetches_of, named_function, with_cells, with_plan, written_function}
+use Rattle.rule_laws.specs.pass_cells.Kept.{entry, result_type, value_types, with_block_types, with_param_types, with_phi_types, with_result_type, with_result_types, with_type}
+use Rattle.rule_laws.specs.pass_cells.Links.{cell_name, field_name, link_name}
+use Rattle.rule_laws.specs.pass_cells.Moves.{address_again, after_again, after_saved, again_one, again_values, cell_alloca, load_from, saved_one, saved_values, store_to}
+use Rattle.rule_laws.specs.pass_cells.Plan.{kept_from, kept_value, plan_of, type_at}
+use Rattle.rule_laws.specs.pass_cells.Written.{after_block, after_blocks, after_one, again_row, distance_alloca, distance_allocas, distance_behind, distance_from, distance_into, entry_blocks, entry_front, kept_allocas, link_allocas, save_row, stored, stored_at, stored_one, stored_params, stored_phis, stored_result, written_block, written_blocks, written_instrs, written_one}
+use Rattle.rule_laws.specs.pass_cells.declared.keeping.Keeping.{Keeping}
+use Rattle.rule_laws.specs.pass_cells.declared.plan.KeptValue.{KeptValue}
+use Rattle.rule_laws.specs.pass_cells.declared.plan.Plan.{Plan}
 
 abbrev All : List Instr → Type 0
 All is = Each IsSpelledInstr is

@@ -5,11 +5,11 @@ use Rattle.ir_model.specs.declared.instr.Instr.{Instr}
 use Rattle.ir_model.specs.declared.module.Block.{Block}
 use Rattle.ir_model.specs.declared.module.Function.{Function}
 use Rattle.ir_model.specs.declared.module.Module.{Module}
-use Rattle.ir_laws.specs.facts.spelled.Filled.{HasNoEntryPhis}
-use Rattle.pass_cells.specs.Cells.{fetched_function, fetches_of, named_function, with_cells}
-use Rattle.pass_cells.specs.Plan.{plan_of}
-use Rattle.pass_cells.specs.Written.{entry_blocks}
-use Rattle.pass_cells.specs.declared.plan.Plan.{Plan}
+use Rattle.rule_laws.specs.ir_laws.facts.spelled.Filled.{HasNoEntryPhis}
+use Rattle.rule_laws.specs.pass_cells.Cells.{fetched_function, fetches_of, named_function, with_cells}
+use Rattle.rule_laws.specs.pass_cells.Plan.{plan_of}
+use Rattle.rule_laws.specs.pass_cells.Written.{entry_blocks}
+use Rattle.rule_laws.specs.pass_cells.declared.plan.Plan.{Plan}
 use Rattle.pass_proofs.proofs.fetch.spelled.Entry.{fetches_entry}
 
 written_entry : (m : Module) (p : Plan) (front : List Instr) (n : ℕ) (bs : List Block) → HasNoEntryPhis bs → HasNoEntryPhis (entry_blocks m p front n bs)

@@ -1,12 +1,12 @@
 -- Lemmas on names.
 use Rattle.std.proofs.Common.{ℕ, ◌+◌, List, ◌++◌, refl}
 use Rattle.std.specs.Prelude.{codes}
-use Rattle.ir_base.specs.declared.name.Name.{Name}
-use Rattle.text_names.specs.Spelling.{IsName}
-use Rattle.run_laws.specs.changed.Changed.{Each}
-use Rattle.pass_fetch.specs.Blocks.{numbered_names}
-use Rattle.pass_cells.specs.Cells.{with_own_names}
-use Rattle.ir_laws.proofs.facts.Members.{joined_names}
+use Rattle.rule_laws.specs.ir_base.declared.name.Name.{Name}
+use Rattle.rule_laws.specs.text_names.Spelling.{IsName}
+use Rattle.rule_laws.specs.run_laws.changed.Changed.{Each}
+use Rattle.rule_laws.specs.pass_fetch.Blocks.{numbered_names}
+use Rattle.rule_laws.specs.pass_cells.Cells.{with_own_names}
+use Rattle.rule_laws.proofs.ir_laws.facts.Members.{joined_names}
 use Rattle.pass_proofs.proofs.fetch.spelled.Names.{all_numbered}
 
 pub own_named : (names : List Name) (count links : ℕ) → Each IsName names → Each IsName (with_own_names names count links)

@@ -7,19 +7,19 @@ use Rattle.pass_copies.specs.declared.slot.EarlySlot.{EarlySlot}
 use Rattle.pass_proofs.proofs.copies.begin_order.Marks.{flag_back, none_flagged}
 use Rattle.rule_laws.specs.frames.begin_order.Behind.{LeadsAgain}
 use Rattle.pass_proofs.proofs.copies.rules.Slots.{cell_found}
-use Rattle.ir_laws.proofs.facts.Lists.{set_here, set_length, set_other}
-use Rattle.ir_laws.proofs.paths.source_rules.Locals.{listed_either}
-use Rattle.flow_solver.specs.Paths.{IsListed}
-use Rattle.pass_intrinsics.specs.Shapes.{suspends_of}
-use Rattle.pass_intrinsics.specs.declared.shape.SuspendPoint.{SuspendPoint}
+use Rattle.rule_laws.proofs.ir_laws.facts.Lists.{set_here, set_length, set_other}
+use Rattle.rule_laws.proofs.ir_laws.paths.source_rules.Locals.{listed_either}
+use Rattle.rule_laws.specs.flow_solver.Paths.{IsListed}
+use Rattle.rule_laws.specs.pass_intrinsics.Shapes.{suspends_of}
+use Rattle.rule_laws.specs.pass_intrinsics.declared.shape.SuspendPoint.{SuspendPoint}
 use Rattle.ir_model.specs.Ty.{ptr}
 use Rattle.ir_model.specs.declared.instr.Instr.{Instr}
 use Rattle.ir_model.specs.declared.module.Function.{Function}
 use Rattle.ir_model.specs.declared.operand.Operand.{Operand}
-use Rattle.ir_paths.specs.Slots.{allocas_in}
-use Rattle.pass_fetch.specs.Fetching.{fetch_at, fetch_into, fetch_of, fetches_by, fetches_of_all, next_after, value_bytes}
-use Rattle.pass_fetch.specs.declared.fetch.Fetch.{Fetch}
-use Rattle.ir_laws.proofs.facts.Truth.{is_number}
+use Rattle.rule_laws.specs.ir_paths.Slots.{allocas_in}
+use Rattle.rule_laws.specs.pass_fetch.Fetching.{fetch_at, fetch_into, fetch_of, fetches_by, fetches_of_all, next_after, value_bytes}
+use Rattle.rule_laws.specs.pass_fetch.declared.fetch.Fetch.{Fetch}
+use Rattle.rule_laws.proofs.ir_laws.facts.Truth.{is_number}
 
 -- ---- a flagged alloca is a slot
 

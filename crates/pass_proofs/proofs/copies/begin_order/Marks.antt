@@ -3,16 +3,16 @@ use Rattle.std.proofs.Common.{◌≡◌, ◌⊎◌, inl, inr, ⊎_elim, ℕ, zer
 use Rattle.std.specs.Prelude.{None, Option, Some, replicate, slice_get, slice_set, unwrap_or, if◌then◌else◌}
 use Rattle.pass_copies.specs.Uses.{flag_at, is_begin, mark, mark_addresses, mark_args, mark_blocks, mark_instr, mark_instrs, mark_operand, still_before}
 use Rattle.rule_laws.specs.rules.begin_order.Behind.{access_operands}
-use Rattle.ir_laws.proofs.facts.Lists.{get_within, set_here, set_length, set_other}
-use Rattle.flow_solver.specs.Paths.{IsListed}
-use Rattle.ir_parts.specs.Contents.{arg_operands}
+use Rattle.rule_laws.proofs.ir_laws.facts.Lists.{get_within, set_here, set_length, set_other}
+use Rattle.rule_laws.specs.flow_solver.Paths.{IsListed}
+use Rattle.rule_laws.specs.ir_parts.Contents.{arg_operands}
 use Rattle.ir_model.specs.declared.instr.Instr.{Instr}
 use Rattle.ir_model.specs.declared.module.Block.{Block}
 use Rattle.ir_model.specs.declared.operand.Arg.{Arg}
 use Rattle.ir_model.specs.declared.operand.Callee.{Callee}
 use Rattle.ir_model.specs.declared.operand.Intrinsic.{Intrinsic}
 use Rattle.ir_model.specs.declared.operand.Operand.{Operand}
-use Rattle.ir_laws.proofs.facts.Truth.{is_number}
+use Rattle.rule_laws.proofs.ir_laws.facts.Truth.{is_number}
 
 -- ---- flags
 

@@ -9,30 +9,30 @@ use Rattle.pass_copies.specs.declared.slot.EarlySlot.{EarlySlot}
 use Rattle.rule_laws.proofs.rules.crossing.Follows.{IsExtra}
 use Rattle.pass_proofs.proofs.copies.rules.Slots.{cell_found, cell_named, front_range, from_allocas, numbered, temporary_named}
 use Rattle.pass_proofs.specs.copies.rules.Copies.{copied_slots, front_names}
-use Rattle.ir_laws.proofs.paths.source_rules.Locals.{listed_left}
+use Rattle.rule_laws.proofs.ir_laws.paths.source_rules.Locals.{listed_left}
 use Rattle.pass_proofs.proofs.fetch.rules.Puts.{fetch_rises}
 use Rattle.pass_proofs.specs.fetch.rules.Fetches.{base_of}
-use Rattle.flow_solver.specs.Paths.{IsListed}
+use Rattle.rule_laws.specs.flow_solver.Paths.{IsListed}
 use Rattle.rule_laws.proofs.frames.needed.Apart.{apart_no_value}
 use Rattle.pass_proofs.proofs.fetch.crossing.Fetched.{one_follows}
 use Rattle.rule_laws.proofs.frames.needed.Others.{IsOther}
 use Rattle.rule_laws.proofs.frames.needed.Follows.{Ended, Follows, Same, extras_follow}
-use Rattle.ir_parts.specs.Contents.{instr_operands, result_of}
+use Rattle.rule_laws.specs.ir_parts.Contents.{instr_operands, result_of}
 use Rattle.rule_laws.specs.rules.function_rules.Kept.{KeepsFunctionRules}
 use Rattle.ir_model.specs.declared.instr.Instr.{Instr}
 use Rattle.ir_model.specs.declared.module.Block.{Block}
 use Rattle.ir_model.specs.declared.module.Function.{Function}
 use Rattle.ir_model.specs.declared.module.Module.{Module}
 use Rattle.ir_model.specs.declared.operand.Operand.{Operand}
-use Rattle.ir_paths.specs.Windows.{instr_at, instr_in}
-use Rattle.ir_paths.specs.declared.point.Point.{Point}
-use Rattle.run_laws.specs.changed.Changed.{Each}
-use Rattle.frame_crossing.specs.Values.{is_apart, values_of}
-use Rattle.pass_fetch.specs.Fetching.{fetch_of}
-use Rattle.pass_fetch.specs.Instrs.{fetched_instr, next_after_instr}
-use Rattle.pass_fetch.specs.declared.fetch.Fetch.{Fetch}
-use Rattle.ir_laws.proofs.paths.woven_rules.Unbroken.{of_listed}
-use Rattle.ir_laws.proofs.paths.crossing.Values.{listed_at}
+use Rattle.rule_laws.specs.ir_paths.Windows.{instr_at, instr_in}
+use Rattle.rule_laws.specs.ir_paths.declared.point.Point.{Point}
+use Rattle.rule_laws.specs.run_laws.changed.Changed.{Each}
+use Rattle.rule_laws.specs.frame_crossing.Values.{is_apart, values_of}
+use Rattle.rule_laws.specs.pass_fetch.Fetching.{fetch_of}
+use Rattle.rule_laws.specs.pass_fetch.Instrs.{fetched_instr, next_after_instr}
+use Rattle.rule_laws.specs.pass_fetch.declared.fetch.Fetch.{Fetch}
+use Rattle.rule_laws.proofs.ir_laws.paths.woven_rules.Unbroken.{of_listed}
+use Rattle.rule_laws.proofs.ir_laws.paths.crossing.Values.{listed_at}
 
 -- the slot isn't the value, and its temporary and its cell are new
 record IsSpare (first v : ℕ) (s : EarlySlot) : Type 0 where

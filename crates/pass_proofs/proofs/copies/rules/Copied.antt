@@ -12,26 +12,26 @@ use Rattle.pass_copies.specs.declared.slot.EarlySlot.{EarlySlot}
 use Rattle.pass_proofs.proofs.copies.rules.Names.{copies_once}
 use Rattle.pass_proofs.proofs.copies.rules.Slots.{AreNumbered, Cell, IsAlloca, IsFrontOf, Temporary, allocas_listed, cell_found, cell_named, front_allocas, front_range, one_of, temporary_named}
 use Rattle.pass_proofs.specs.copies.rules.Copies.{CopiesFit, HaveSlots, copy_weaving, front_names}
-use Rattle.ir_base.specs.declared.name.Name.{Name}
-use Rattle.ir_base.specs.declared.outcome.Place.{Place}
-use Rattle.rule_uses.specs.Undefined.{params_of}
-use Rattle.rule_uses.specs.Uses.{block_values, made_by_instrs, phi_values, values_at, values_in}
-use Rattle.ir_laws.proofs.facts.Members.{at_each, all_pass as all_tested, each_all}
-use Rattle.ir_laws.proofs.facts.Truth.{itself, and_both, and_first, and_second, holds, second_no}
+use Rattle.rule_laws.specs.ir_base.declared.name.Name.{Name}
+use Rattle.rule_laws.specs.ir_base.declared.outcome.Place.{Place}
+use Rattle.rule_laws.specs.rule_uses.Undefined.{params_of}
+use Rattle.rule_laws.specs.rule_uses.Uses.{block_values, made_by_instrs, phi_values, values_at, values_in}
+use Rattle.rule_laws.proofs.ir_laws.facts.Members.{at_each, all_pass as all_tested, each_all}
+use Rattle.rule_laws.proofs.ir_laws.facts.Truth.{itself, and_both, and_first, and_second, holds, second_no}
 use Rattle.rule_laws.proofs.rules.local_rules.Names.{numbers}
 use Rattle.rule_laws.proofs.rules.local_rules.Woven.{apart_names}
-use Rattle.ir_laws.proofs.paths.source_rules.Locals.{Apart, listed_either, listed_left, listed_right}
+use Rattle.rule_laws.proofs.ir_laws.paths.source_rules.Locals.{Apart, listed_either, listed_left, listed_right}
 use Rattle.rule_laws.proofs.rules.source_rules.Locals.{block_names, made_by, names_are}
-use Rattle.ir_laws.proofs.facts.Lists.{row_of}
+use Rattle.rule_laws.proofs.ir_laws.facts.Lists.{row_of}
 use Rattle.pass_proofs.proofs.fetch.rules.Fetched.{numbered_length}
 use Rattle.pass_proofs.proofs.fetch.rules.Puts.{fetch_range, fetch_rises, fetched_woven, none_goes}
 use Rattle.rule_laws.proofs.rules.fetching_rules.Puts.{int_shallow, ptr_shallow}
 use Rattle.pass_proofs.proofs.fetch.rules.Times.{with_result}
 use Rattle.pass_proofs.specs.fetch.rules.Fetches.{FitsFetch, FitsTable, base_of}
-use Rattle.flow_solver.specs.Paths.{IsListed}
-use Rattle.ir_parts.specs.Contents.{ending_operands, instr_operands, result_of}
-use Rattle.ir_parts.specs.Locals.{locals_of}
-use Rattle.ir_parts.specs.Parts.{OfInstr, Part}
+use Rattle.rule_laws.specs.flow_solver.Paths.{IsListed}
+use Rattle.rule_laws.specs.ir_parts.Contents.{ending_operands, instr_operands, result_of}
+use Rattle.rule_laws.specs.ir_parts.Locals.{locals_of}
+use Rattle.rule_laws.specs.ir_parts.Parts.{OfInstr, Part}
 use Rattle.rule_laws.specs.rules.function_rules.Kept.{KeepsFunctionRules}
 use Rattle.ir_model.specs.Names.{position_of}
 use Rattle.ir_model.specs.Ty.{int, ptr}
@@ -42,33 +42,33 @@ use Rattle.ir_model.specs.declared.module.Module.{Module}
 use Rattle.ir_model.specs.declared.operand.Callee.{Callee}
 use Rattle.ir_model.specs.declared.operand.Intrinsic.{Intrinsic}
 use Rattle.ir_model.specs.declared.operand.Operand.{Operand}
-use Rattle.rule_locals.specs.Extents.{breaks_extents}
-use Rattle.rule_locals.specs.Instrs.{on_instr}
-use Rattle.ir_locals.specs.Tables.{or_first}
-use Rattle.rule_names.specs.Known.{is_label, is_value, knows_type, names_unknown}
-use Rattle.rule_names.specs.declared.stage.Stage.{Stage}
-use Rattle.run_laws.specs.changed.Changed.{Each}
-use Rattle.rule_types.specs.Depth.{is_shallow}
-use Rattle.rule_types.specs.Limits.{all_fit, breaks_limits, is_block_past}
-use Rattle.pass_fetch.specs.Blocks.{numbered_names}
-use Rattle.pass_fetch.specs.Fetching.{fetch_of, fetches_of_all, next_after_all}
-use Rattle.pass_fetch.specs.Instrs.{fetched_instr, next_after_instr, with_fetched}
-use Rattle.pass_fetch.specs.declared.fetch.Fetch.{Fetch}
-use Rattle.rule_values.specs.Fits.{fits_kind, is_tokenless}
-use Rattle.rule_values.specs.Kinds.{value_kind}
-use Rattle.rule_values.specs.Values.{breaks_values}
-use Rattle.rule_values.specs.declared.kinds.Kind.{Kind}
+use Rattle.rule_laws.specs.rule_locals.Extents.{breaks_extents}
+use Rattle.rule_laws.specs.rule_locals.Instrs.{on_instr}
+use Rattle.rule_laws.specs.ir_locals.Tables.{or_first}
+use Rattle.rule_laws.specs.rule_names.Known.{is_label, is_value, knows_type, names_unknown}
+use Rattle.rule_laws.specs.rule_names.declared.stage.Stage.{Stage}
+use Rattle.rule_laws.specs.run_laws.changed.Changed.{Each}
+use Rattle.rule_laws.specs.rule_types.Depth.{is_shallow}
+use Rattle.rule_laws.specs.rule_types.Limits.{all_fit, breaks_limits, is_block_past}
+use Rattle.rule_laws.specs.pass_fetch.Blocks.{numbered_names}
+use Rattle.rule_laws.specs.pass_fetch.Fetching.{fetch_of, fetches_of_all, next_after_all}
+use Rattle.rule_laws.specs.pass_fetch.Instrs.{fetched_instr, next_after_instr, with_fetched}
+use Rattle.rule_laws.specs.pass_fetch.declared.fetch.Fetch.{Fetch}
+use Rattle.rule_laws.specs.rule_values.Fits.{fits_kind, is_tokenless}
+use Rattle.rule_laws.specs.rule_values.Kinds.{value_kind}
+use Rattle.rule_laws.specs.rule_values.Values.{breaks_values}
+use Rattle.rule_laws.specs.rule_values.declared.kinds.Kind.{Kind}
 use Rattle.rule_laws.proofs.rules.woven_rules.Once.{apart_once, names_below}
-use Rattle.ir_laws.proofs.paths.woven_rules.Once.{times_none}
+use Rattle.rule_laws.proofs.ir_laws.paths.woven_rules.Once.{times_none}
 use Rattle.rule_laws.proofs.rules.woven_rules.Operands.{term_itself}
 use Rattle.rule_laws.proofs.rules.woven_rules.Pieces.{known_more, listed_woven, made_contains, phis_itself, still_stays}
 use Rattle.rule_laws.proofs.rules.woven_rules.Told.{told, value_told}
 use Rattle.rule_laws.proofs.rules.woven_rules.Unbroken.{Passes, PassesIn, all_pass}
-use Rattle.ir_laws.proofs.paths.woven_rules.Unbroken.{each_listed, of_listed}
+use Rattle.rule_laws.proofs.ir_laws.paths.woven_rules.Unbroken.{each_listed, of_listed}
 use Rattle.rule_laws.proofs.rules.woven_rules.Uses.{entry_alone}
 use Rattle.rule_laws.proofs.rules.woven_rules.ValueKinds.{made_grows, none_new}
 use Rattle.rule_laws.specs.rules.woven_rules.Blocks.{AreWoven, AreWovenBlocks, Done, IsFront, IsNew, IsPutIn, IsWoven, IsWovenBlock, NoBlock, OneBlock, Remain, is_mark, times_made}
-use Rattle.ir_laws.specs.facts.woven_rules.Pairs.{times}
+use Rattle.rule_laws.specs.ir_laws.facts.woven_rules.Pairs.{times}
 use Rattle.rule_laws.specs.rules.woven_rules.Weaving.{Constant, Front, IsInPlace, IsKnown, IsThere, New, Old, Same, Weaving, goes_in, kinds_with}
 
 -- ---- names rise

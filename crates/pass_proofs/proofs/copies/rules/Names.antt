@@ -6,16 +6,16 @@ use Rattle.pass_copies.specs.Uses.{flag_at, is_begin, still_before}
 use Rattle.pass_copies.specs.declared.copying.Copying.{Copying}
 use Rattle.pass_copies.specs.declared.slot.EarlySlot.{EarlySlot}
 use Rattle.pass_proofs.proofs.copies.rules.Slots.{AreNumbered}
-use Rattle.rule_uses.specs.Uses.{block_values}
+use Rattle.rule_laws.specs.rule_uses.Uses.{block_values}
 use Rattle.rule_laws.proofs.rules.source_rules.Locals.{block_names, made_by}
-use Rattle.ir_laws.proofs.facts.Lists.{phi_names, row_of, times_joined}
+use Rattle.rule_laws.proofs.ir_laws.facts.Lists.{phi_names, row_of, times_joined}
 use Rattle.pass_proofs.proofs.fetch.rules.Times.{made, made_both, made_instr, most_one, not_under, under, under_step}
 use Rattle.ir_model.specs.declared.instr.Instr.{Instr}
 use Rattle.ir_model.specs.declared.module.Block.{Block}
-use Rattle.pass_fetch.specs.Instrs.{fetched_instr, next_after_instr}
+use Rattle.rule_laws.specs.pass_fetch.Instrs.{fetched_instr, next_after_instr}
 use Rattle.rule_laws.proofs.rules.woven_rules.Once.{times_block}
 use Rattle.rule_laws.specs.rules.woven_rules.Blocks.{times_made}
-use Rattle.ir_laws.specs.facts.woven_rules.Pairs.{one_if, times}
+use Rattle.rule_laws.specs.ir_laws.facts.woven_rules.Pairs.{one_if, times}
 
 module _ (c : Copying) (v : ℕ) where
   abbrev Made : List Instr → ℕ

@@ -5,8 +5,8 @@ use Rattle.pass_copies.specs.BeginCopies.{after_block, after_instr, after_instrs
 use Rattle.pass_copies.specs.Uses.{flag_at, is_access, is_begin, still_before}
 use Rattle.pass_copies.specs.declared.copying.Copying.{Copying}
 use Rattle.pass_copies.specs.declared.slot.EarlySlot.{EarlySlot}
-use Rattle.ir_laws.proofs.facts.Members.{each_joined}
-use Rattle.ir_laws.proofs.facts.local_rules.Woven.{other_number}
+use Rattle.rule_laws.proofs.ir_laws.facts.Members.{each_joined}
+use Rattle.rule_laws.proofs.ir_laws.facts.local_rules.Woven.{other_number}
 use Rattle.pass_proofs.proofs.early.path_rules.SavedSwitches.{times_in}
 use Rattle.pass_proofs.proofs.edges.shape.Uses.{ends_total}
 use Rattle.pass_proofs.proofs.fetch.rules.Puts.{fetch_rises}
@@ -16,19 +16,19 @@ use Rattle.rule_laws.proofs.rules.shape.Ordered.{HasNoFirstEnd}
 use Rattle.pass_proofs.proofs.edges.calls.Spared.{AreInstrsOther, AreOther, IsOther, IsSpared}
 use Rattle.pass_proofs.proofs.edges.calls.Steadily.{IsFirstClear}
 use Rattle.rule_laws.proofs.rules.shape.Steady.{AreAllOrdered, Ended, IsAlike, IsBlockKept, IsPlain, Keeps, LeadsAt, behind_first, in_front, row}
-use Rattle.ir_laws.proofs.paths.shape.Steady.{AreOrdered, IsOrdered, is_end, is_suspend}
+use Rattle.rule_laws.proofs.ir_laws.paths.shape.Steady.{AreOrdered, IsOrdered, is_end, is_suspend}
 use Rattle.pass_proofs.proofs.cells.shape.Written.{leads_when, still_ahead}
-use Rattle.ir_parts.specs.Contents.{ending_operands, instr_operands}
+use Rattle.rule_laws.specs.ir_parts.Contents.{ending_operands, instr_operands}
 use Rattle.ir_model.specs.declared.instr.Instr.{Instr}
 use Rattle.ir_model.specs.declared.module.Block.{Block}
 use Rattle.ir_model.specs.declared.operand.Callee.{Callee}
 use Rattle.ir_model.specs.declared.operand.Intrinsic.{Intrinsic}
 use Rattle.ir_model.specs.declared.operand.Operand.{Operand}
-use Rattle.run_laws.specs.changed.Changed.{Each}
-use Rattle.pass_fetch.specs.Fetching.{fetch_of, fetches_of_all}
-use Rattle.pass_fetch.specs.Instrs.{fetched_instr, next_after_instr, with_fetched}
-use Rattle.pass_fetch.specs.declared.fetch.Fetch.{Fetch}
-use Rattle.ir_laws.specs.facts.woven_rules.Pairs.{Empty, Pair, Pairwise}
+use Rattle.rule_laws.specs.run_laws.changed.Changed.{Each}
+use Rattle.rule_laws.specs.pass_fetch.Fetching.{fetch_of, fetches_of_all}
+use Rattle.rule_laws.specs.pass_fetch.Instrs.{fetched_instr, next_after_instr, with_fetched}
+use Rattle.rule_laws.specs.pass_fetch.declared.fetch.Fetch.{Fetch}
+use Rattle.rule_laws.specs.ir_laws.facts.woven_rules.Pairs.{Empty, Pair, Pairwise}
 
 -- ---- what is put in
 

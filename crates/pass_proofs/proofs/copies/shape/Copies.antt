@@ -8,11 +8,11 @@ use Rattle.pass_copies.specs.declared.copying.Copying.{Copying}
 use Rattle.pass_copies.specs.declared.slot.EarlySlot.{EarlySlot}
 use Rattle.pass_proofs.proofs.copies.rules.Slots.{AreNumbered, IsAlloca, IsCellOf, cell_found, cell_named, from_allocas, front_range, numbered, temporary_named}
 use Rattle.pass_proofs.specs.copies.rules.Copies.{copied_slots, copy_weaving, front_names}
-use Rattle.ir_laws.proofs.facts.Members.{each_there}
-use Rattle.ir_laws.proofs.facts.Truth.{itself}
+use Rattle.rule_laws.proofs.ir_laws.facts.Members.{each_there}
+use Rattle.rule_laws.proofs.ir_laws.facts.Truth.{itself}
 use Rattle.pass_proofs.proofs.edges.shape.Uses.{ends_total}
 use Rattle.pass_proofs.specs.fetch.rules.Fetches.{base_of}
-use Rattle.flow_solver.specs.Paths.{IsListed}
+use Rattle.rule_laws.specs.flow_solver.Paths.{IsListed}
 use Rattle.pass_proofs.proofs.copies.shape.Copied.{AreResumedClear, IsApartFrom, all_kept, blocks_other, copied_ends, front_other, front_plain}
 use Rattle.rule_laws.proofs.rules.shape.Ordered.{IsNoEnd, IsSuspendValue, all_ordered, block_no_end, placed_calls}
 use Rattle.rule_laws.proofs.rules.shape.Results.{names_once, suspend_kind, suspend_low}
@@ -26,14 +26,14 @@ use Rattle.ir_model.specs.declared.module.Block.{Block}
 use Rattle.ir_model.specs.declared.module.Function.{Function}
 use Rattle.ir_model.specs.declared.module.Module.{Module}
 use Rattle.ir_model.specs.declared.operand.Operand.{Operand}
-use Rattle.run_laws.specs.changed.Changed.{Each}
-use Rattle.pass_fetch.specs.Fetching.{fetch_of}
-use Rattle.pass_fetch.specs.declared.fetch.Fetch.{Fetch}
-use Rattle.rule_values.specs.Kinds.{value_kind}
-use Rattle.rule_values.specs.declared.kinds.Kind.{Kind}
+use Rattle.rule_laws.specs.run_laws.changed.Changed.{Each}
+use Rattle.rule_laws.specs.pass_fetch.Fetching.{fetch_of}
+use Rattle.rule_laws.specs.pass_fetch.declared.fetch.Fetch.{Fetch}
+use Rattle.rule_laws.specs.rule_values.Kinds.{value_kind}
+use Rattle.rule_laws.specs.rule_values.declared.kinds.Kind.{Kind}
 use Rattle.rule_laws.proofs.rules.woven_rules.Told.{value_told}
-use Rattle.ir_laws.proofs.paths.woven_rules.Unbroken.{each_listed, of_listed}
-use Rattle.ir_laws.specs.facts.woven_rules.Pairs.{Pairwise}
+use Rattle.rule_laws.proofs.ir_laws.paths.woven_rules.Unbroken.{each_listed, of_listed}
+use Rattle.rule_laws.specs.ir_laws.facts.woven_rules.Pairs.{Pairwise}
 use Rattle.rule_laws.specs.rules.woven_shape.Calls.{ShapingCall, calls_of_block}
 use Rattle.rule_laws.specs.frames.woven_shape.Shaped.{IsShaped, KeepsCalls}
 

@@ -3,15 +3,15 @@ use Rattle.std.proofs.Common.{◌≡◌, ◌⊎◌, inl, inr, ⊎_elim, ℕ, zer
 use Rattle.std.specs.Prelude.{Some, None, Option, replicate, slice_set, unwrap_or}
 use Rattle.pass_copies.specs.Slots.{resumed_at, set_resumed}
 use Rattle.pass_copies.specs.Uses.{flag_at}
-use Rattle.ir_laws.proofs.facts.Truth.{either}
-use Rattle.ir_laws.proofs.facts.Lists.{set_other}
+use Rattle.rule_laws.proofs.ir_laws.facts.Truth.{either}
+use Rattle.rule_laws.proofs.ir_laws.facts.Lists.{set_other}
 use Rattle.rule_laws.specs.frames.rows.Returns.{return_labels}
-use Rattle.flow_solver.specs.Paths.{IsListed}
-use Rattle.pass_intrinsics.specs.Shapes.{suspends_of}
-use Rattle.pass_intrinsics.specs.declared.shape.SuspendPoint.{SuspendPoint}
+use Rattle.rule_laws.specs.flow_solver.Paths.{IsListed}
+use Rattle.rule_laws.specs.pass_intrinsics.Shapes.{suspends_of}
+use Rattle.rule_laws.specs.pass_intrinsics.declared.shape.SuspendPoint.{SuspendPoint}
 use Rattle.ir_model.specs.declared.module.Function.{Function}
-use Rattle.pass_cells.specs.Kept.{entry, joined}
-use Rattle.pass_cells.specs.Plan.{returns_of, with_returns}
+use Rattle.rule_laws.specs.pass_cells.Kept.{entry, joined}
+use Rattle.rule_laws.specs.pass_cells.Plan.{returns_of, with_returns}
 use Rattle.pass_proofs.proofs.cells.rules.Labels.{untold}
 
 -- ---- with the suspend

@@ -6,7 +6,7 @@ use Rattle.pass_copies.specs.Slots.{after_slot, early_slot, early_slots, entry_i
 use Rattle.pass_copies.specs.Uses.{flag_at, is_begin, still_before, used_before}
 use Rattle.pass_copies.specs.declared.copying.Copying.{Copying}
 use Rattle.pass_copies.specs.declared.slot.EarlySlot.{EarlySlot}
-use Rattle.ir_laws.proofs.facts.Members.{each_joined, joined_names}
+use Rattle.rule_laws.proofs.ir_laws.facts.Members.{each_joined, joined_names}
 use Rattle.ir_model.specs.declared.instr.Instr.{Instr}
 use Rattle.ir_model.specs.declared.module.Block.{Block}
 use Rattle.ir_model.specs.declared.module.Function.{Function}
@@ -16,10 +16,10 @@ use Rattle.pass_proofs.proofs.copies.spelled.Names.{slots_named}
 use Rattle.rule_laws.proofs.texts.spelled.Types.{ptr_spelled, truth_spelled, word_spelled}
 use Rattle.rule_laws.specs.texts.spelled.Spelled.{IsSpelled}
 use Rattle.rule_laws.specs.rules.spelled.Spelled.{IsSpelledBlock, IsSpelledFunction, IsSpelledInstr}
-use Rattle.run_laws.specs.changed.Changed.{Each}
-use Rattle.pass_fetch.specs.Blocks.{numbered_names}
-use Rattle.pass_fetch.specs.Instrs.{fetched_instr}
-use Rattle.pass_fetch.specs.declared.fetch.Fetch.{Fetch}
+use Rattle.rule_laws.specs.run_laws.changed.Changed.{Each}
+use Rattle.rule_laws.specs.pass_fetch.Blocks.{numbered_names}
+use Rattle.rule_laws.specs.pass_fetch.Instrs.{fetched_instr}
+use Rattle.rule_laws.specs.pass_fetch.declared.fetch.Fetch.{Fetch}
 
 abbrev All : List Instr → Type 0
 All is = Each IsSpelledInstr is

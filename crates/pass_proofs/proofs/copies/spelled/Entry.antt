@@ -5,7 +5,7 @@ use Rattle.pass_copies.specs.declared.copying.Copying.{Copying}
 use Rattle.ir_model.specs.declared.instr.Instr.{Instr}
 use Rattle.ir_model.specs.declared.module.Block.{Block}
 use Rattle.ir_model.specs.declared.module.Function.{Function}
-use Rattle.ir_laws.specs.facts.spelled.Filled.{HasNoEntryPhis}
+use Rattle.rule_laws.specs.ir_laws.facts.spelled.Filled.{HasNoEntryPhis}
 
 copied_entry : (c : Copying) (before : List Bool) (front : List Instr) (n : ℕ) (bs : List Block) → HasNoEntryPhis bs → HasNoEntryPhis (copied_blocks c before front n bs)
 copied_entry c before front n [] h = tt

@@ -2,10 +2,10 @@
 use Rattle.std.proofs.Common.{ℕ, zero, suc, refl}
 use Rattle.std.specs.Prelude.{codes}
 use Rattle.pass_copies.specs.Slots.{early_name, names_of_slot, slot_names, where_name}
-use Rattle.text_names.specs.Spelling.{IsName}
-use Rattle.run_laws.specs.changed.Changed.{Each}
-use Rattle.ir_laws.proofs.facts.Lists.{numbered_named}
-use Rattle.ir_laws.proofs.facts.Members.{joined_names}
+use Rattle.rule_laws.specs.text_names.Spelling.{IsName}
+use Rattle.rule_laws.specs.run_laws.changed.Changed.{Each}
+use Rattle.rule_laws.proofs.ir_laws.facts.Lists.{numbered_named}
+use Rattle.rule_laws.proofs.ir_laws.facts.Members.{joined_names}
 
 early_one_named : (k : ℕ) → IsName (early_name k)
 unfolding early_name

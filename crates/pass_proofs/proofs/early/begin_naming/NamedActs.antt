@@ -3,27 +3,27 @@ use Rattle.std.proofs.Common.{◌≡◌, ℕ, ◌≤◌, Bool, true, false, List
 use Rattle.std.specs.List.{list_all}
 use Rattle.std.specs.Option.{option_map_or}
 use Rattle.std.specs.Prelude.{ℤ, Some, None, Ok, Err, Option, Result, filter, find, is_none, map, not, option_and_then, option_map, replicate, slice_get, unwrap_or, if◌then◌else◌, ◌==◌}
-use Rattle.run_memory.specs.Memory.{own, owner_rights}
-use Rattle.run_memory.specs.declared.block.Kind.{Kind}
-use Rattle.run_memory.specs.declared.block.MemoryBlock.{MemoryBlock}
-use Rattle.run_memory.specs.declared.pointer.Pointer.{Pointer}
-use Rattle.run_memory.specs.declared.pointer.Value.{Value}
-use Rattle.ir_base.specs.declared.cause.Cause.{Cause}
-use Rattle.ir_base.specs.declared.outcome.Outcome.{Outcome}
-use Rattle.run_source.specs.Source.{Sleeper, act, advance_by, begin, begin_at, begun, block_of_slot, branch_leaving, called, continue, coro, destroy, done_at, enter, enter_block, frame_of_promise, given, go_to, is_live_at, is_over, may_leave, mode_of, promise_block, promise_of_frame, push, resume, resumed, save, save_for, sleeper_at, step}
-use Rattle.run_source.specs.State.{frame_address_of, gives, instance_at, next, or_undefined, own_frame, own_instance, point_of, with_left, with_memory, with_status, work_of}
-use Rattle.run_source.specs.declared.state.Activation.{Activation}
-use Rattle.run_source.specs.declared.state.Instance.{Instance}
-use Rattle.run_source.specs.declared.state.Mode.{Mode}
-use Rattle.run_source.specs.declared.state.State.{State}
-use Rattle.run_source.specs.declared.state.Status.{Status}
+use Rattle.rule_laws.specs.run_memory.Memory.{own, owner_rights}
+use Rattle.rule_laws.specs.run_memory.declared.block.Kind.{Kind}
+use Rattle.rule_laws.specs.run_memory.declared.block.MemoryBlock.{MemoryBlock}
+use Rattle.rule_laws.specs.run_memory.declared.pointer.Pointer.{Pointer}
+use Rattle.rule_laws.specs.run_memory.declared.pointer.Value.{Value}
+use Rattle.rule_laws.specs.ir_base.declared.cause.Cause.{Cause}
+use Rattle.rule_laws.specs.ir_base.declared.outcome.Outcome.{Outcome}
+use Rattle.rule_laws.specs.run_source.Source.{Sleeper, act, advance_by, begin, begin_at, begun, block_of_slot, branch_leaving, called, continue, coro, destroy, done_at, enter, enter_block, frame_of_promise, given, go_to, is_live_at, is_over, may_leave, mode_of, promise_block, promise_of_frame, push, resume, resumed, save, save_for, sleeper_at, step}
+use Rattle.rule_laws.specs.run_source.State.{frame_address_of, gives, instance_at, next, or_undefined, own_frame, own_instance, point_of, with_left, with_memory, with_status, work_of}
+use Rattle.rule_laws.specs.run_source.declared.state.Activation.{Activation}
+use Rattle.rule_laws.specs.run_source.declared.state.Instance.{Instance}
+use Rattle.rule_laws.specs.run_source.declared.state.Mode.{Mode}
+use Rattle.rule_laws.specs.run_source.declared.state.State.{State}
+use Rattle.rule_laws.specs.run_source.declared.state.Status.{Status}
 use Rattle.pass_proofs.proofs.early.begin_naming.NamedParts.{block_same, destroy_same, entry_same, fetch_same, label_same, named_fetched, position_same, resume_same, with_begin}
 use Rattle.pass_proofs.proofs.early.begin_naming.NamedSlots.{begin_unnamed, facts_same, final_same, has_final_same, markers_same, place_same, promise_same, suspend_same}
 use Rattle.run_states.proofs.shortened.Short.{blank_short, params_short, set_behind}
 use Rattle.run_states.specs.shortened.Shortened.{short_activation, short_result, short_state}
-use Rattle.ir_laws.proofs.facts.Members.{each_there}
+use Rattle.rule_laws.proofs.ir_laws.facts.Members.{each_there}
 use Rattle.run_states.proofs.renamed.Modules.{IsMild, action_there, function_there, operand_there}
-use Rattle.ir_laws.proofs.facts.Lists.{map_same}
+use Rattle.rule_laws.proofs.ir_laws.facts.Lists.{map_same}
 use Rattle.pass_proofs.specs.early.renaming.Passes.{named_function, named_module}
 use Rattle.pass_early.specs.BeginName.{begin_name, if_unnamed, named_block, named_instr, with_begin_name}
 use Rattle.ir_model.specs.Calls.{first_result, result_of_call}
@@ -36,19 +36,19 @@ use Rattle.ir_model.specs.declared.module.Module.{Module}
 use Rattle.ir_model.specs.declared.operand.Arg.{Arg}
 use Rattle.ir_model.specs.declared.operand.Callee.{Callee}
 use Rattle.ir_model.specs.declared.operand.Intrinsic.{Intrinsic}
-use Rattle.ir_paths.specs.Facts.{all_facts, facts_of}
-use Rattle.ir_paths.specs.Paths.{entry_point}
-use Rattle.ir_paths.specs.Slots.{promise_of}
-use Rattle.ir_paths.specs.Windows.{destroy_label, leaves, operand_at, resume_label, suspend_of}
-use Rattle.ir_paths.specs.declared.point.Point.{Point}
-use Rattle.ir_paths.specs.declared.point.Window.{Window}
-use Rattle.run_step.specs.Results.{and_then, found, ok_if}
-use Rattle.run_step.specs.Step.{Action, Context, Coro, Deallocate, Done, Enter, Fetched, GoTo, NewSlot, Return, Stuck, action_of, block_of, entry_values, fetch, has_markers, incoming_from, instr_action, label_of, phis_of, place_at, values_in, with_all, with_params}
-use Rattle.run_step.specs.Values.{Env, arg_value, arg_values, nth, pointer_to, truth_value}
-use Rattle.ir_laws.specs.facts.sound_states.Named.{AreUsesNamed, HasNamedUses}
-use Rattle.run_source_tables.specs.Given.{Given, facts_at, has_final, is_final, is_true}
-use Rattle.ir_laws.proofs.paths.renamed.Fits.{AnInstr, ATerm, Nothing, Stands, stands}
-use Rattle.run_laws.specs.changed.Changed.{Each}
+use Rattle.rule_laws.specs.ir_paths.Facts.{all_facts, facts_of}
+use Rattle.rule_laws.specs.ir_paths.Paths.{entry_point}
+use Rattle.rule_laws.specs.ir_paths.Slots.{promise_of}
+use Rattle.rule_laws.specs.ir_paths.Windows.{destroy_label, leaves, operand_at, resume_label, suspend_of}
+use Rattle.rule_laws.specs.ir_paths.declared.point.Point.{Point}
+use Rattle.rule_laws.specs.ir_paths.declared.point.Window.{Window}
+use Rattle.rule_laws.specs.run_step.Results.{and_then, found, ok_if}
+use Rattle.rule_laws.specs.run_step.Step.{Action, Context, Coro, Deallocate, Done, Enter, Fetched, GoTo, NewSlot, Return, Stuck, action_of, block_of, entry_values, fetch, has_markers, incoming_from, instr_action, label_of, phis_of, place_at, values_in, with_all, with_params}
+use Rattle.rule_laws.specs.run_step.Values.{Env, arg_value, arg_values, nth, pointer_to, truth_value}
+use Rattle.rule_laws.specs.ir_laws.facts.sound_states.Named.{AreUsesNamed, HasNamedUses}
+use Rattle.rule_laws.specs.run_source_tables.Given.{Given, facts_at, has_final, is_final, is_true}
+use Rattle.rule_laws.proofs.ir_laws.paths.renamed.Fits.{AnInstr, ATerm, Nothing, Stands, stands}
+use Rattle.rule_laws.specs.run_laws.changed.Changed.{Each}
 
 -- ---- functions
 

@@ -3,7 +3,7 @@ use Rattle.std.proofs.Common.{◌≡◌, ℕ, zero, suc, ◌+◌, Bool, true, fa
 use Rattle.std.proofs.lemmas.Option.{slice_get-map}
 use Rattle.std.specs.List.{list_any}
 use Rattle.std.specs.Prelude.{Some, None, Option, option_map, map, nat_lt, slice_get, unwrap_or, if◌then◌else◌, ◌==◌, ◌||◌}
-use Rattle.ir_laws.proofs.facts.Lists.{any_same, first_same}
+use Rattle.rule_laws.proofs.ir_laws.facts.Lists.{any_same, first_same}
 use Rattle.run_states.proofs.renamed.Modules.{length_same}
 use Rattle.pass_early.specs.BeginName.{begin_name, named_block, named_instr}
 use Rattle.ir_model.specs.Names.{position_of}
@@ -14,10 +14,10 @@ use Rattle.ir_model.specs.declared.module.Function.{Function}
 use Rattle.ir_model.specs.declared.operand.Arg.{Arg}
 use Rattle.ir_model.specs.declared.operand.Callee.{Callee}
 use Rattle.ir_model.specs.declared.operand.Intrinsic.{Intrinsic}
-use Rattle.ir_paths.specs.Paths.{block_points, edge_count, edges_from, entry_point, found_from, found_within, has_point, led_to, nexts, nexts_in, opened, points_of_blocks, targets}
-use Rattle.ir_paths.specs.Windows.{destroy_label, end_block, instr_at, instr_in, is_call_of, label_at, points_from, points_in, points_where, resume_label}
-use Rattle.ir_paths.specs.declared.point.Point.{Point}
-use Rattle.run_step.specs.Step.{AtInstr, AtTerm, Fetched, Nowhere, fetch, fetch_in, fetch_or, label_of}
+use Rattle.rule_laws.specs.ir_paths.Paths.{block_points, edge_count, edges_from, entry_point, found_from, found_within, has_point, led_to, nexts, nexts_in, opened, points_of_blocks, targets}
+use Rattle.rule_laws.specs.ir_paths.Windows.{destroy_label, end_block, instr_at, instr_in, is_call_of, label_at, points_from, points_in, points_where, resume_label}
+use Rattle.rule_laws.specs.ir_paths.declared.point.Point.{Point}
+use Rattle.rule_laws.specs.run_step.Step.{AtInstr, AtTerm, Fetched, Nowhere, fetch, fetch_in, fetch_or, label_of}
 
 -- the function with its begins given a name
 abbrev pub with_begin : ℕ → Function → Function

@@ -4,8 +4,8 @@ use Rattle.std.proofs.lemmas.Bool.{eqb-true}
 use Rattle.std.specs.List.{cons_option, list_any}
 use Rattle.std.specs.Prelude.{Some, None, Option, option_map, option_and_then, option_to_list, filter, filter_map, flat_map, map, not, slice_get, if◌then◌else◌, ◌==◌, ◌&&◌, ◌||◌}
 use Rattle.pass_proofs.proofs.early.begin_naming.NamedParts.{block_same, call_of_same, destroy_same, end_same, entry_same, found_same, instr_same, led_same, points_where_same, resume_same, same_but_begin, with_begin}
-use Rattle.ir_base.specs.declared.outcome.Place.{Place}
-use Rattle.ir_laws.proofs.facts.Lists.{any_same, map_same, each_of_each}
+use Rattle.rule_laws.specs.ir_base.declared.outcome.Place.{Place}
+use Rattle.rule_laws.proofs.ir_laws.facts.Lists.{any_same, map_same, each_of_each}
 use Rattle.run_states.proofs.renamed.Modules.{length_same}
 use Rattle.pass_early.specs.BeginName.{named_block, named_instr}
 use Rattle.ir_model.specs.Calls.{first_result, first_result_by, first_result_in, result_of_call}
@@ -18,19 +18,19 @@ use Rattle.ir_model.specs.declared.operand.Arg.{Arg}
 use Rattle.ir_model.specs.declared.operand.Callee.{Callee}
 use Rattle.ir_model.specs.declared.operand.Intrinsic.{Intrinsic}
 use Rattle.ir_model.specs.declared.operand.Operand.{Operand}
-use Rattle.ir_paths.specs.Facts.{facts_of}
-use Rattle.ir_paths.specs.Paths.{block_points, entry_point, found_from, has_point, same_point}
-use Rattle.ir_paths.specs.Slots.{addresses_of, addresses_within, allocas_in, allocas_of, behind_suspends, end_points, exposed_in_block, exposes, geps_from, has_name, have_common, is_escaped, is_gep, is_ramp_slot, local_of, occurs_in_phi, occurs_in_term, points_at, points_behind, promise_of, touches, touching_points}
-use Rattle.ir_paths.specs.Windows.{call_operand, call_result, destroy_label, end_block, instr_at, instr_in, is_call_of, is_suspend_of, operand_at, points_from, points_in, points_where, resume_label, saves_of, suspend_of, window_of, windows_of}
-use Rattle.ir_paths.specs.declared.point.Point.{Point}
-use Rattle.run_step.specs.Step.{has_markers, is_marker_of, phis_of, place_at}
-use Rattle.ir_laws.proofs.facts.Members.{at_each as each_at}
-use Rattle.ir_laws.specs.facts.expanded.Tokens.{IsNamed}
-use Rattle.run_laws.specs.changed.Changed.{Each as EachOf, Each, operands_of, values_of}
-use Rattle.ir_laws.specs.facts.sound_states.Named.{HasNamedOperands}
-use Rattle.run_source_tables.specs.Given.{has_final, is_final, is_final_call, is_true}
-use Rattle.ir_laws.proofs.facts.Options.{left_none as or_left, right_none as or_right}
-use Rattle.ir_laws.proofs.facts.Truth.{false_behind}
+use Rattle.rule_laws.specs.ir_paths.Facts.{facts_of}
+use Rattle.rule_laws.specs.ir_paths.Paths.{block_points, entry_point, found_from, has_point, same_point}
+use Rattle.rule_laws.specs.ir_paths.Slots.{addresses_of, addresses_within, allocas_in, allocas_of, behind_suspends, end_points, exposed_in_block, exposes, geps_from, has_name, have_common, is_escaped, is_gep, is_ramp_slot, local_of, occurs_in_phi, occurs_in_term, points_at, points_behind, promise_of, touches, touching_points}
+use Rattle.rule_laws.specs.ir_paths.Windows.{call_operand, call_result, destroy_label, end_block, instr_at, instr_in, is_call_of, is_suspend_of, operand_at, points_from, points_in, points_where, resume_label, saves_of, suspend_of, window_of, windows_of}
+use Rattle.rule_laws.specs.ir_paths.declared.point.Point.{Point}
+use Rattle.rule_laws.specs.run_step.Step.{has_markers, is_marker_of, phis_of, place_at}
+use Rattle.rule_laws.proofs.ir_laws.facts.Members.{at_each as each_at}
+use Rattle.rule_laws.specs.ir_laws.facts.expanded.Tokens.{IsNamed}
+use Rattle.rule_laws.specs.run_laws.changed.Changed.{Each as EachOf, Each, operands_of, values_of}
+use Rattle.rule_laws.specs.ir_laws.facts.sound_states.Named.{HasNamedOperands}
+use Rattle.rule_laws.specs.run_source_tables.Given.{has_final, is_final, is_final_call, is_true}
+use Rattle.rule_laws.proofs.ir_laws.facts.Options.{left_none as or_left, right_none as or_right}
+use Rattle.rule_laws.proofs.ir_laws.facts.Truth.{false_behind}
 
 module _ (n : ℕ) (f : Function) where
   abbrev g : Function

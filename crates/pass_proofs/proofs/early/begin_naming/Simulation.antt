@@ -2,19 +2,19 @@
 use Rattle.std.proofs.Common.{◌≡◌, inl, ℕ, List, refl, sym, ap, ◌∙◌, subst, arith}
 use Rattle.std.proofs.lemmas.Option.{slice_get-map}
 use Rattle.std.specs.Prelude.{ℤ, Some, None, Option, map, option_and_then, option_map, slice_get}
-use Rattle.run_agreement.proofs.Lockstep.{Advance, ShowsSame, Simulates, lockstep_one, lockstep_within}
-use Rattle.run_agreement.specs.Agreements.{AgreesWithin}
-use Rattle.run_agreement.specs.Costs.{AgreesBy}
-use Rattle.run_agreement.specs.Machines.{IsRunning, Machine}
-use Rattle.run_memory.specs.declared.pointer.Value.{Value}
-use Rattle.ir_base.specs.declared.outcome.Outcome.{Outcome}
-use Rattle.ir_base.specs.declared.outcome.Word.{Word}
-use Rattle.run_source.specs.Source.{SeenOf, SourceAt, advance_by, continue, first_state, given, step}
-use Rattle.run_source.specs.State.{numbered}
-use Rattle.run_source.specs.declared.state.Activation.{Activation}
-use Rattle.run_source.specs.declared.state.Instance.{Instance}
-use Rattle.run_source.specs.declared.state.Mode.{Mode}
-use Rattle.run_source.specs.declared.state.State.{State}
+use Rattle.rule_laws.proofs.run_agreement.Lockstep.{Advance, ShowsSame, Simulates, lockstep_one, lockstep_within}
+use Rattle.rule_laws.specs.run_agreement.Agreements.{AgreesWithin}
+use Rattle.rule_laws.specs.run_agreement.Costs.{AgreesBy}
+use Rattle.rule_laws.specs.run_agreement.Machines.{IsRunning, Machine}
+use Rattle.rule_laws.specs.run_memory.declared.pointer.Value.{Value}
+use Rattle.rule_laws.specs.ir_base.declared.outcome.Outcome.{Outcome}
+use Rattle.rule_laws.specs.ir_base.declared.outcome.Word.{Word}
+use Rattle.rule_laws.specs.run_source.Source.{SeenOf, SourceAt, advance_by, continue, first_state, given, step}
+use Rattle.rule_laws.specs.run_source.State.{numbered}
+use Rattle.rule_laws.specs.run_source.declared.state.Activation.{Activation}
+use Rattle.rule_laws.specs.run_source.declared.state.Instance.{Instance}
+use Rattle.rule_laws.specs.run_source.declared.state.Mode.{Mode}
+use Rattle.rule_laws.specs.run_source.declared.state.State.{State}
 use Rattle.pass_proofs.proofs.early.begin_naming.NamedActs.{called_there, facts_all, mild, step_there}
 use Rattle.run_states.proofs.shortened.ShortActs.{called_short}
 use Rattle.run_states.proofs.shortened.ShortSteps.{step_short}
@@ -24,14 +24,14 @@ use Rattle.pass_proofs.specs.early.renaming.Passes.{named_function, named_module
 use Rattle.pass_proofs.specs.early.early_states.Beside.{IsShortOf, source_machine}
 use Rattle.ir_model.specs.declared.module.Frame.{Frame}
 use Rattle.ir_model.specs.declared.module.Module.{Module}
-use Rattle.ir_paths.specs.Facts.{all_facts}
-use Rattle.ir_paths.specs.declared.point.Facts.{Facts}
-use Rattle.run_step.specs.Runs.{seen_of}
-use Rattle.run_step.specs.declared.world.World.{World}
+use Rattle.rule_laws.specs.ir_paths.Facts.{all_facts}
+use Rattle.rule_laws.specs.ir_paths.declared.point.Facts.{Facts}
+use Rattle.rule_laws.specs.run_step.Runs.{seen_of}
+use Rattle.rule_laws.specs.run_step.declared.world.World.{World}
 use Rattle.run_states.proofs.sound_states.Steps.{first_sound, source_step_sound}
-use Rattle.ir_laws.specs.facts.sound_states.Named.{AreLocalsNamed, AreUsesNamed}
+use Rattle.rule_laws.specs.ir_laws.facts.sound_states.Named.{AreLocalsNamed, AreUsesNamed}
 use Rattle.run_states.specs.sound_states.Sound.{IsInstanceOf, IsSound}
-use Rattle.run_source_tables.specs.Given.{Given}
+use Rattle.rule_laws.specs.run_source_tables.Given.{Given}
 
 -- an activation's instance is one of its function
 own_fits : (m : Module) (t : State) (o : Option ℕ) → IsInstanceOf (map (short_instance m) t.instances) t.top.func o → IsOwned t (option_and_then (numbered t.instances) o)

@@ -3,14 +3,14 @@ use Rattle.std.proofs.Common.{◌≡◌, ℕ, ◌+◌, ◌<◌, inl, Bool, true,
 use Rattle.std.specs.Prelude.{Some, None, Option, map, option_map, slice_get, ◌||◌, ◌==◌}
 use Rattle.pass_proofs.proofs.early.begin_naming.NamedParts.{block_same, call_of_same, destroy_same, end_same, fetch_same, named_fetched, points_where_same, position_same, resume_same, same_but_begin, with_begin}
 use Rattle.pass_proofs.proofs.early.begin_naming.NamedSlots.{begin_unnamed}
-use Rattle.rule_uses.specs.Uses.{local_of, locals_in}
+use Rattle.rule_laws.specs.rule_uses.Uses.{local_of, locals_in}
 use Rattle.rule_laws.proofs.frames.alike_crossing.Alike.{AreAlike, IsAlike}
 use Rattle.rule_laws.proofs.frames.alike_crossing.Counted.{values_named}
 use Rattle.rule_laws.proofs.frames.alike_crossing.Crossing.{AreAsCrossing, crosses_forth, crosses_home, crossing_same}
 use Rattle.pass_proofs.proofs.early.crossing.Renamed.{map_itself}
 use Rattle.pass_early.specs.BeginName.{if_unnamed, named_block, named_instr, with_begin_name}
-use Rattle.flow_solver.specs.Paths.{IsListed}
-use Rattle.ir_parts.specs.Contents.{instr_operands, result_of}
+use Rattle.rule_laws.specs.flow_solver.Paths.{IsListed}
+use Rattle.rule_laws.specs.ir_parts.Contents.{instr_operands, result_of}
 use Rattle.ir_model.specs.Calls.{first_result, result_of_call}
 use Rattle.ir_model.specs.Ty.{Ty}
 use Rattle.ir_model.specs.declared.instr.Incoming.{Incoming}
@@ -21,13 +21,13 @@ use Rattle.ir_model.specs.declared.module.Function.{Function}
 use Rattle.ir_model.specs.declared.operand.Callee.{Callee}
 use Rattle.ir_model.specs.declared.operand.Intrinsic.{Intrinsic}
 use Rattle.ir_model.specs.declared.operand.Operand.{Operand}
-use Rattle.ir_paths.specs.Windows.{instr_in, is_call_of}
-use Rattle.run_step.specs.Step.{AtInstr, AtTerm, Fetched, Nowhere, fetch, fetch_in, fetch_or}
-use Rattle.ir_laws.specs.facts.sound_states.Named.{HasNamedLocals}
-use Rattle.frame_crossing.specs.Crossing.{AreCrossing, suspends_of}
-use Rattle.frame_crossing.specs.EdgeUses.{blocks_uses, edge_uses, incoming_uses, phis_uses, uses_by}
-use Rattle.frame_crossing.specs.Paths.{phis_at, phis_in}
-use Rattle.frame_crossing.specs.Values.{blocks_defined, distinct, instrs_defined, is_apart, is_token_result, params_defined, phis_defined, result_unless, values_of}
+use Rattle.rule_laws.specs.ir_paths.Windows.{instr_in, is_call_of}
+use Rattle.rule_laws.specs.run_step.Step.{AtInstr, AtTerm, Fetched, Nowhere, fetch, fetch_in, fetch_or}
+use Rattle.rule_laws.specs.ir_laws.facts.sound_states.Named.{HasNamedLocals}
+use Rattle.rule_laws.specs.frame_crossing.Crossing.{AreCrossing, suspends_of}
+use Rattle.rule_laws.specs.frame_crossing.EdgeUses.{blocks_uses, edge_uses, incoming_uses, phis_uses, uses_by}
+use Rattle.rule_laws.specs.frame_crossing.Paths.{phis_at, phis_in}
+use Rattle.rule_laws.specs.frame_crossing.Values.{blocks_defined, distinct, instrs_defined, is_apart, is_token_result, params_defined, phis_defined, result_unless, values_of}
 
 -- what an instruction stands for, of which the function's own names are asked
 instr_fetched : (o : Option Block) (x : ℕ) (i : Instr) → fetch_in o x ≡ AtInstr i → instr_in o x ≡ Some i

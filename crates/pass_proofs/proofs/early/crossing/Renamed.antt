@@ -2,9 +2,9 @@
 use Rattle.std.proofs.Common.{◌≡◌, ℕ, ◌+◌, ◌⊎◌, inl, inr, Bool, true, false, List, [], ◌∷◌, ◌++◌, Some, None, Option, refl, sym, ap, ◌∙◌, subst, ◌↔◌}
 use Rattle.std.proofs.lemmas.List.{map-append}
 use Rattle.std.specs.Prelude.{map, option_map, option_to_list, slice_get, if◌then◌else◌, ◌||◌, ◌==◌}
-use Rattle.rule_uses.specs.Uses.{local_of, locals_in, made_by_phis}
+use Rattle.rule_laws.specs.rule_uses.Uses.{local_of, locals_in, made_by_phis}
 use Rattle.pass_proofs.proofs.early.renaming.Actions.{renamed_fetched}
-use Rattle.ir_laws.proofs.facts.Truth.{itself}
+use Rattle.rule_laws.proofs.ir_laws.facts.Truth.{itself}
 use Rattle.pass_proofs.proofs.early.renaming.Parts.{block_same, call_of_same, destroy_same, end_same, fetch_same, points_where_same, position_same, resume_same}
 use Rattle.pass_proofs.specs.early.renaming.Passes.{renamed_block, renamed_coroutine}
 use Rattle.pass_proofs.specs.early.renaming.Regular.{IsPlain}
@@ -14,8 +14,8 @@ use Rattle.rule_laws.proofs.frames.alike_crossing.Values.{values_hold}
 use Rattle.pass_proofs.specs.early.crossing.Plain.{HasPlainNames}
 use Rattle.pass_early.specs.Renaming.{is_renamed, renamed, renamed_arg, renamed_callee, renamed_incoming, renamed_instr, renamed_phi, renamed_term, renamed_value}
 use Rattle.pass_early.specs.declared.renaming.Renaming.{Renaming}
-use Rattle.flow_solver.specs.Paths.{IsListed}
-use Rattle.ir_parts.specs.Contents.{arg_operands, callee_operands, ending_operands, instr_operands, result_of}
+use Rattle.rule_laws.specs.flow_solver.Paths.{IsListed}
+use Rattle.rule_laws.specs.ir_parts.Contents.{arg_operands, callee_operands, ending_operands, instr_operands, result_of}
 use Rattle.ir_model.specs.Names.{position_of}
 use Rattle.ir_model.specs.declared.instr.Case.{Case}
 use Rattle.ir_model.specs.declared.instr.Incoming.{Incoming}
@@ -28,14 +28,14 @@ use Rattle.ir_model.specs.declared.operand.Arg.{Arg}
 use Rattle.ir_model.specs.declared.operand.Callee.{Callee}
 use Rattle.ir_model.specs.declared.operand.Intrinsic.{Intrinsic}
 use Rattle.ir_model.specs.declared.operand.Operand.{Operand}
-use Rattle.ir_paths.specs.Paths.{targets}
-use Rattle.ir_paths.specs.Windows.{is_call_of}
-use Rattle.run_step.specs.Step.{Fetched, Nowhere, AtInstr, AtTerm, fetch}
-use Rattle.frame_crossing.specs.Crossing.{AreCrossing, suspends_of}
-use Rattle.frame_crossing.specs.EdgeUses.{blocks_uses, edge_use, incoming_uses, phis_uses, uses_by}
-use Rattle.frame_crossing.specs.Paths.{phis_at, phis_in}
-use Rattle.frame_crossing.specs.Values.{blocks_defined, distinct, instrs_defined, is_apart, params_defined, phis_defined, result_unless, unless, is_token, values_of}
-use Rattle.frame_crossing.specs.declared.edge_use.EdgeUse.{EdgeUse}
+use Rattle.rule_laws.specs.ir_paths.Paths.{targets}
+use Rattle.rule_laws.specs.ir_paths.Windows.{is_call_of}
+use Rattle.rule_laws.specs.run_step.Step.{Fetched, Nowhere, AtInstr, AtTerm, fetch}
+use Rattle.rule_laws.specs.frame_crossing.Crossing.{AreCrossing, suspends_of}
+use Rattle.rule_laws.specs.frame_crossing.EdgeUses.{blocks_uses, edge_use, incoming_uses, phis_uses, uses_by}
+use Rattle.rule_laws.specs.frame_crossing.Paths.{phis_at, phis_in}
+use Rattle.rule_laws.specs.frame_crossing.Values.{blocks_defined, distinct, instrs_defined, is_apart, params_defined, phis_defined, result_unless, unless, is_token, values_of}
+use Rattle.rule_laws.specs.frame_crossing.declared.edge_use.EdgeUse.{EdgeUse}
 
 -- both or neither of two lists have something, also behind others that both have
 pub listed_behind : {X : Type 0} (y : X) (a b xs ys : List X) → (IsListed y a ↔ IsListed y b) → (IsListed y xs ↔ IsListed y ys) → IsListed y (a ++ xs) ↔ IsListed y (b ++ ys)

@@ -1,15 +1,15 @@
 -- A function and the same with its saves written out are alike, so far as the names of the function's own go.
 use Rattle.std.proofs.Common.{◌≡◌, ℕ, ◌+◌, ◌<◌, ◌≤◌, ◌⊎◌, inl, inr, Bool, true, false, List, [], ◌∷◌, ◌++◌, length, refl, sym, ap, ◌∙◌, subst, arith, add-one, add-zero, ◌↔◌}
 use Rattle.std.specs.Prelude.{Some, None, Option, option_map, slice_get, if◌then◌else◌, ◌==◌}
-use Rattle.rule_uses.specs.Uses.{local_of, locals_in}
+use Rattle.rule_laws.specs.rule_uses.Uses.{local_of, locals_in}
 use Rattle.rule_laws.proofs.frames.alike_crossing.Alike.{AreAlike, IsAlike, IsOfPlace, IsOneOn, IsOther}
 use Rattle.rule_laws.proofs.frames.alike_crossing.Counted.{values_named}
 use Rattle.rule_laws.proofs.frames.alike_crossing.Crossing.{AreAsCrossing, crosses_forth, crosses_home, crossing_same}
 use Rattle.pass_proofs.proofs.early.crossing.Unsaved.{each_from, more_block, more_name}
 use Rattle.pass_proofs.proofs.early.saves.Tokens.{bare_is}
 use Rattle.pass_early.specs.Early.{save_call, saved}
-use Rattle.flow_solver.specs.Paths.{IsListed}
-use Rattle.ir_parts.specs.Contents.{arg_operands, result_of}
+use Rattle.rule_laws.specs.flow_solver.Paths.{IsListed}
+use Rattle.rule_laws.specs.ir_parts.Contents.{arg_operands, result_of}
 use Rattle.ir_model.specs.declared.instr.Incoming.{Incoming}
 use Rattle.ir_model.specs.declared.instr.Instr.{Instr}
 use Rattle.ir_model.specs.declared.instr.Phi.{Phi}
@@ -19,9 +19,9 @@ use Rattle.ir_model.specs.declared.module.Function.{Function}
 use Rattle.ir_model.specs.declared.operand.Arg.{Arg}
 use Rattle.ir_model.specs.declared.operand.Callee.{Callee}
 use Rattle.ir_model.specs.declared.operand.Intrinsic.{Intrinsic}
-use Rattle.ir_paths.specs.Windows.{label_at}
-use Rattle.ir_paths.specs.declared.point.Point.{Point}
-use Rattle.run_step.specs.Step.{AtInstr, Nowhere, fetch, fetch_in, fetch_or}
+use Rattle.rule_laws.specs.ir_paths.Windows.{label_at}
+use Rattle.rule_laws.specs.ir_paths.declared.point.Point.{Point}
+use Rattle.rule_laws.specs.run_step.Step.{AtInstr, Nowhere, fetch, fetch_in, fetch_or}
 use Rattle.pass_proofs.proofs.early.saves.Apart.{back_back, front_back}
 use Rattle.pass_proofs.proofs.early.saves.Behind.{end_saved, suspends_moved}
 use Rattle.pass_proofs.proofs.early.saves.Blocks.{get_block, instrs_saved, position_saved}
@@ -29,12 +29,12 @@ use Rattle.pass_proofs.proofs.early.saves.Instrs.{get_save, instr_then, name_at,
 use Rattle.pass_proofs.proofs.early.saves.Parts.{fetch_back}
 use Rattle.pass_proofs.specs.early.saves.SavesWritten.{behind_save, behind_saves, is_bare, saved_block, saved_blocks, saved_function, with_saves}
 use Rattle.pass_proofs.specs.early.saves.Spots.{back_of, number_of_block, own_saves, place_in}
-use Rattle.ir_laws.specs.facts.expanded.Spots.{instrs_in}
-use Rattle.ir_laws.specs.facts.sound_states.Named.{HasNamedLocals}
-use Rattle.frame_crossing.specs.Crossing.{AreCrossing}
-use Rattle.frame_crossing.specs.EdgeUses.{blocks_uses, edge_uses, incoming_uses, phis_uses, uses_by}
-use Rattle.frame_crossing.specs.Paths.{phis_at, phis_in}
-use Rattle.frame_crossing.specs.Values.{blocks_defined, distinct, instrs_defined, is_apart, params_defined, phis_defined, result_unless, values_of}
+use Rattle.rule_laws.specs.ir_laws.facts.expanded.Spots.{instrs_in}
+use Rattle.rule_laws.specs.ir_laws.facts.sound_states.Named.{HasNamedLocals}
+use Rattle.rule_laws.specs.frame_crossing.Crossing.{AreCrossing}
+use Rattle.rule_laws.specs.frame_crossing.EdgeUses.{blocks_uses, edge_uses, incoming_uses, phis_uses, uses_by}
+use Rattle.rule_laws.specs.frame_crossing.Paths.{phis_at, phis_in}
+use Rattle.rule_laws.specs.frame_crossing.Values.{blocks_defined, distinct, instrs_defined, is_apart, params_defined, phis_defined, result_unless, values_of}
 
 -- ---- values
 

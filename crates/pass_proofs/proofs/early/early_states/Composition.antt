@@ -1,11 +1,11 @@
 -- The first pass keeps states beside each other: its three passes in turn.
 use Rattle.std.proofs.Common.{ℕ, List, sym, subst, arith}
 use Rattle.std.specs.Prelude.{ℤ}
-use Rattle.run_agreement.proofs.Costs.{compose_by, weaken_by}
-use Rattle.run_agreement.specs.Costs.{AgreesBy, IsNear, Through}
-use Rattle.run_agreement.specs.Machines.{Machine}
-use Rattle.ir_base.specs.declared.outcome.Word.{Word}
-use Rattle.run_source.specs.declared.state.State.{State}
+use Rattle.rule_laws.proofs.run_agreement.Costs.{compose_by, weaken_by}
+use Rattle.rule_laws.specs.run_agreement.Costs.{AgreesBy, IsNear, Through}
+use Rattle.rule_laws.specs.run_agreement.Machines.{Machine}
+use Rattle.rule_laws.specs.ir_base.declared.outcome.Word.{Word}
+use Rattle.rule_laws.specs.run_source.declared.state.State.{State}
 use Rattle.pass_early.specs.Early.{early_module}
 use Rattle.pass_proofs.proofs.early.begin_naming.Simulation.{named_corresponds}
 use Rattle.pass_proofs.proofs.early.renaming.Composition.{early_in_turn}
@@ -18,7 +18,7 @@ use Rattle.pass_proofs.specs.early.renaming.Passes.{named_module}
 use Rattle.pass_proofs.specs.early.renaming.Regular.{AllKeepRules}
 use Rattle.pass_proofs.specs.early.early_states.Beside.{IsEarlyOf, IsNearlyEarlyOf, IsSameState, IsSavedOf, IsShortOf, source_machine, unsaved_module}
 use Rattle.pass_proofs.specs.early.saves.SavesWritten.{saves_written}
-use Rattle.ir_laws.specs.facts.sound_states.Named.{AreLocalsNamed, AreUsesNamed}
+use Rattle.rule_laws.specs.ir_laws.facts.sound_states.Named.{AreLocalsNamed, AreUsesNamed}
 use Rattle.ir_model.specs.declared.module.Frame.{Frame}
 use Rattle.ir_model.specs.declared.module.Module.{Module}
 

@@ -1,9 +1,9 @@
 -- The frame of each coroutine of a module, and what it holds, stay under the first pass.
 use Rattle.std.proofs.Common.{◌≡◌, ℕ, Bool, true, List, refl, sym, subst, ◌∙◌, ◌↔◌}
 use Rattle.std.specs.Prelude.{Result}
-use Rattle.frame_contents.specs.Frames.{AreContents, IsFrame}
-use Rattle.frame_contents.specs.declared.contents.Contents.{Contents}
-use Rattle.frame_contents.specs.declared.held.Holding.{Holding}
+use Rattle.rule_laws.specs.frame_contents.Frames.{AreContents, IsFrame}
+use Rattle.rule_laws.specs.frame_contents.declared.contents.Contents.{Contents}
+use Rattle.rule_laws.specs.frame_contents.declared.held.Holding.{Holding}
 use Rattle.pass_proofs.proofs.early.renaming.Composition.{early_in_turn}
 use Rattle.pass_proofs.proofs.early.renaming.Rules.{all_regular}
 use Rattle.pass_proofs.specs.early.renaming.Passes.{named_module}
@@ -14,15 +14,15 @@ use Rattle.pass_proofs.proofs.early.frames.Modules.{named_holds, plain_names, re
 use Rattle.pass_proofs.specs.early.frames.NoParams.{AreBeginsNoParams}
 use Rattle.pass_early.specs.Early.{early_module, renaming_of}
 use Rattle.pass_proofs.proofs.early.meaning.Names.{named_locals, named_uses, renamed_locals, renamed_uses}
-use Rattle.frame_layout.specs.declared.laying.LayoutError.{LayoutError}
-use Rattle.frame_layout.specs.declared.layout.Layout.{Layout}
+use Rattle.rule_laws.specs.frame_layout.declared.laying.LayoutError.{LayoutError}
+use Rattle.rule_laws.specs.frame_layout.declared.layout.Layout.{Layout}
 use Rattle.ir_model.specs.Names.{function_at}
 use Rattle.ir_model.specs.declared.module.Function.{Function}
 use Rattle.ir_model.specs.declared.module.Module.{Module}
 use Rattle.pass_proofs.proofs.early.saves.Parts.{function_saved}
 use Rattle.pass_proofs.specs.early.saves.SavesWritten.{saves_written}
-use Rattle.ir_laws.proofs.paths.named_locals.Names.{tokens_named}
-use Rattle.ir_laws.specs.facts.sound_states.Named.{AreLocalsNamed, AreUsesNamed}
+use Rattle.rule_laws.proofs.ir_laws.paths.named_locals.Names.{tokens_named}
+use Rattle.rule_laws.specs.ir_laws.facts.sound_states.Named.{AreLocalsNamed, AreUsesNamed}
 
 contents_same : (m k : Module) (f g : Function) → HoldAlike m k f g → (c : Contents) → AreContents m f c ↔ AreContents k g c
 contents_same m k f g alike c = (

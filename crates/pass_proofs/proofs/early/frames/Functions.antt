@@ -5,7 +5,7 @@ use Rattle.std.specs.Prelude.{option_map, slice_get, unwrap_or, if◌then◌else
 use Rattle.pass_proofs.proofs.early.renaming.Composition.{early_in_turn}
 use Rattle.pass_proofs.proofs.early.renaming.Rules.{all_regular}
 use Rattle.pass_proofs.specs.early.renaming.Passes.{named_function, named_module, renamed_by_its_own, renamed_coroutine, renamed_function, renamed_module}
-use Rattle.ir_laws.specs.facts.renamed.Passes.{with_functions}
+use Rattle.rule_laws.specs.ir_laws.facts.renamed.Passes.{with_functions}
 use Rattle.pass_proofs.specs.early.renaming.Regular.{AllKeepRules, IsRegular}
 use Rattle.pass_proofs.proofs.early.crossing.Named.{crossing_named}
 use Rattle.pass_proofs.proofs.early.crossing.Renamed.{crossing_renamed}
@@ -23,13 +23,13 @@ use Rattle.ir_model.specs.declared.module.Function.{Function}
 use Rattle.ir_model.specs.declared.module.Module.{Module}
 use Rattle.pass_proofs.proofs.early.saves.Parts.{function_saved}
 use Rattle.pass_proofs.specs.early.saves.SavesWritten.{saved_function}
-use Rattle.ir_laws.specs.paths.expanded.Tokens.{HasNamedTokens}
-use Rattle.ir_laws.proofs.paths.named_locals.Names.{tokens_named}
-use Rattle.frame_conflicts.specs.Conflicts.{AreAliveAt, AreConflicts}
-use Rattle.frame_classes.specs.Classes.{AreClasses}
-use Rattle.frame_classes.specs.declared.class.SlotClass.{SlotClass}
-use Rattle.ir_laws.specs.facts.sound_states.Named.{AreLocalsNamed, AreUsesNamed, HasNamedLocals, HasNamedOperands}
-use Rattle.frame_crossing.specs.Crossing.{AreCrossing}
+use Rattle.rule_laws.specs.ir_laws.paths.expanded.Tokens.{HasNamedTokens}
+use Rattle.rule_laws.proofs.ir_laws.paths.named_locals.Names.{tokens_named}
+use Rattle.rule_laws.specs.frame_conflicts.Conflicts.{AreAliveAt, AreConflicts}
+use Rattle.rule_laws.specs.frame_classes.Classes.{AreClasses}
+use Rattle.rule_laws.specs.frame_classes.declared.class.SlotClass.{SlotClass}
+use Rattle.rule_laws.specs.ir_laws.facts.sound_states.Named.{AreLocalsNamed, AreUsesNamed, HasNamedLocals, HasNamedOperands}
+use Rattle.rule_laws.specs.frame_crossing.Crossing.{AreCrossing}
 
 -- a coroutine of a module whose functions change
 pub changed_there : (change : Function → Function) (m : Module) (func : ℕ) → (function_at m func).coroutine ≡ true → function_at (with_functions change m) func ≡ change (function_at m func)

@@ -1,7 +1,7 @@
 -- What frames hold is the same under each of the three passes.
 use Rattle.std.proofs.Common.{◌≡◌, ℕ, suc, ◌+◌, ◌≤◌, Bool, true, false, List, [], ◌∷◌, ◌++◌, map, Some, None, Option, refl, sym, ap, ◌∙◌, arith}
 use Rattle.std.specs.Prelude.{slice_get, if◌then◌else◌}
-use Rattle.frame_contents.specs.Held.{held_blocks, held_instr, held_instrs, held_phis, if_result, if_value, result_size, value_held, value_size, slot_kind}
+use Rattle.rule_laws.specs.frame_contents.Held.{held_blocks, held_instr, held_instrs, held_phis, if_result, if_value, result_size, value_held, value_size, slot_kind}
 use Rattle.pass_proofs.specs.early.renaming.Passes.{renamed_block}
 use Rattle.pass_proofs.proofs.early.saves.Tokens.{bare_is}
 use Rattle.pass_early.specs.BeginName.{named_block, named_instr}
@@ -17,7 +17,7 @@ use Rattle.ir_model.specs.declared.module.Module.{Module}
 use Rattle.ir_model.specs.declared.operand.Callee.{Callee}
 use Rattle.ir_model.specs.declared.operand.Intrinsic.{Intrinsic}
 use Rattle.pass_proofs.specs.early.saves.SavesWritten.{behind_save, behind_saves, is_bare, saved_blocks, with_saves}
-use Rattle.ir_sizes.specs.Cut.{capped}
+use Rattle.rule_laws.specs.ir_sizes.Cut.{capped}
 
 module _ (m k : Module) (types : k.types ≡ m.types) (promise : Option ℕ) (is_value is_slot : ℕ → Bool) where
   -- an instruction in a module of the same types

@@ -5,13 +5,13 @@ use Rattle.std.proofs.lemmas.List.{length-map}
 use Rattle.std.specs.Prelude.{Result, slice_get, unwrap_or, if◌then◌else◌, ◌==◌}
 use Rattle.pass_proofs.proofs.early.begin_naming.NamedParts.{call_of_same as call_of_named, points_where_same as points_named, with_begin}
 use Rattle.pass_proofs.proofs.early.begin_naming.NamedSlots.{begin_unnamed, promise_same as promise_named}
-use Rattle.frame_contents.specs.Frames.{AreLayouts}
-use Rattle.frame_contents.specs.Held.{crossing_values, fields_of, frame_slots, frame_slots_from, held_blocks, held_of, held_params}
-use Rattle.frame_contents.specs.declared.held.Holding.{Holding}
-use Rattle.frame_contents.specs.declared.module_frames.LayoutsError.{LayoutsError}
-use Rattle.rule_uses.specs.Undefined.{params_of}
+use Rattle.rule_laws.specs.frame_contents.Frames.{AreLayouts}
+use Rattle.rule_laws.specs.frame_contents.Held.{crossing_values, fields_of, frame_slots, frame_slots_from, held_blocks, held_of, held_params}
+use Rattle.rule_laws.specs.frame_contents.declared.held.Holding.{Holding}
+use Rattle.rule_laws.specs.frame_contents.declared.module_frames.LayoutsError.{LayoutsError}
+use Rattle.rule_laws.specs.rule_uses.Undefined.{params_of}
 use Rattle.pass_proofs.proofs.early.renaming.Composition.{early_in_turn}
-use Rattle.ir_laws.proofs.facts.Members.{at_each}
+use Rattle.rule_laws.proofs.ir_laws.facts.Members.{at_each}
 use Rattle.pass_proofs.proofs.early.renaming.Parts.{call_of_same, points_where_same}
 use Rattle.pass_proofs.proofs.early.renaming.Rules.{all_regular}
 use Rattle.pass_proofs.proofs.early.renaming.Slots.{plain_result, promise_same}
@@ -34,28 +34,28 @@ use Rattle.pass_early.specs.Early.{early_module, renaming_of, save_names}
 use Rattle.pass_early.specs.Renaming.{is_renamed}
 use Rattle.pass_early.specs.declared.renaming.Renaming.{Renaming}
 use Rattle.pass_proofs.proofs.early.meaning.Names.{named_locals, named_uses, renamed_locals, renamed_uses}
-use Rattle.flow_solver.specs.Paths.{IsListed}
-use Rattle.frame_layout.specs.declared.layout.Layouts.{Layouts}
+use Rattle.rule_laws.specs.flow_solver.Paths.{IsListed}
+use Rattle.rule_laws.specs.frame_layout.declared.layout.Layouts.{Layouts}
 use Rattle.ir_model.specs.Calls.{first_result}
 use Rattle.ir_model.specs.Names.{function_at, no_function}
 use Rattle.ir_model.specs.declared.module.Block.{Block}
 use Rattle.ir_model.specs.declared.module.Function.{Function}
 use Rattle.ir_model.specs.declared.module.Module.{Module}
 use Rattle.ir_model.specs.declared.operand.Intrinsic.{Intrinsic}
-use Rattle.ir_paths.specs.Slots.{allocas_in, allocas_of, has_name, promise_of}
-use Rattle.ir_paths.specs.Windows.{instr_in, is_call_of, points_where}
-use Rattle.run_step.specs.Step.{phis_of}
+use Rattle.rule_laws.specs.ir_paths.Slots.{allocas_in, allocas_of, has_name, promise_of}
+use Rattle.rule_laws.specs.ir_paths.Windows.{instr_in, is_call_of, points_where}
+use Rattle.rule_laws.specs.run_step.Step.{phis_of}
 use Rattle.pass_proofs.proofs.early.saves.Behind.{suspends_moved}
-use Rattle.ir_laws.proofs.facts.Lists.{get_front}
+use Rattle.rule_laws.proofs.ir_laws.facts.Lists.{get_front}
 use Rattle.pass_proofs.proofs.early.saves.Slots.{same_allocas, same_promise}
 use Rattle.pass_proofs.specs.early.saves.SavesWritten.{save_count, saved_function, saves_written}
 use Rattle.pass_proofs.specs.early.saves.Spots.{back_of}
-use Rattle.run_laws.specs.changed.Changed.{Each}
-use Rattle.ir_laws.specs.paths.expanded.Tokens.{HasNamedTokens}
-use Rattle.ir_laws.proofs.paths.named_locals.Names.{tokens_named}
-use Rattle.frame_classes.specs.declared.class.SlotClass.{SlotClass}
-use Rattle.ir_laws.specs.facts.sound_states.Named.{AreLocalsNamed, AreUsesNamed, HasNamedLocals, HasNamedOperands}
-use Rattle.frame_crossing.specs.Crossing.{AreCrossing}
+use Rattle.rule_laws.specs.run_laws.changed.Changed.{Each}
+use Rattle.rule_laws.specs.ir_laws.paths.expanded.Tokens.{HasNamedTokens}
+use Rattle.rule_laws.proofs.ir_laws.paths.named_locals.Names.{tokens_named}
+use Rattle.rule_laws.specs.frame_classes.declared.class.SlotClass.{SlotClass}
+use Rattle.rule_laws.specs.ir_laws.facts.sound_states.Named.{AreLocalsNamed, AreUsesNamed, HasNamedLocals, HasNamedOperands}
+use Rattle.rule_laws.specs.frame_crossing.Crossing.{AreCrossing}
 
 -- ---- one function
 
@@ -200,7 +200,7 @@ pub plain_names : (func : ℕ) (f : Function) → KeepsRules func f → IsRegula
 plain_names func f rules ok none = record {
   params = λ v l. record { stays = stays v l (is_renamed (renaming_of f) v) refl; is_other = other v l (v == (renaming_of f).to) refl };
   phis = λ b x j p e d.
-      at_each (λ q. IsPlain (renaming_of f) q.result) x.phis j p (subst (λ ps. Rattle.run_laws.specs.changed.Changed.Each (λ q. IsPlain (renaming_of f) q.result) ps) (ap phis_of e) (rules.phis b)) d;
+      at_each (λ q. IsPlain (renaming_of f) q.result) x.phis j p (subst (λ ps. Rattle.rule_laws.specs.run_laws.changed.Changed.Each (λ q. IsPlain (renaming_of f) q.result) ps) (ap phis_of e) (rules.phis b)) d;
   results = λ b x j i v e d s begin frame.
       plain_result (renaming_of f) f ok (record { block = b; at = j }) i v (ap (λ (o : Option Block). instr_in o j) e ∙ d) (sym (same_results i) ∙ s) frame begin;
 }

@@ -3,8 +3,8 @@ use Rattle.std.proofs.Common.{◌≡◌, ℕ, Bool, true, false, length, Some, N
 use Rattle.std.specs.Prelude.{option_map, slice_get, unwrap_or, if◌then◌else◌}
 use Rattle.pass_proofs.proofs.early.begin_naming.NamedParts.{call_of_same, instr_same, with_begin}
 use Rattle.pass_proofs.proofs.early.begin_naming.NamedSlots.{begin_unnamed}
-use Rattle.rule_shape.specs.OneOfEach.{is_missing}
-use Rattle.rule_uses.specs.Undefined.{params_of}
+use Rattle.rule_laws.specs.rule_shape.OneOfEach.{is_missing}
+use Rattle.rule_laws.specs.rule_uses.Undefined.{params_of}
 use Rattle.pass_proofs.specs.early.renaming.Passes.{named_function, named_module}
 use Rattle.rule_laws.proofs.frames.alike_crossing.Counted.{named_params}
 use Rattle.pass_proofs.proofs.early.frames.Functions.{changed_there}
@@ -16,8 +16,8 @@ use Rattle.rule_laws.proofs.rules.source_rules.Locals.{no_param}
 use Rattle.pass_proofs.proofs.early.source_rules.Makers.{begin_of, to_is}
 use Rattle.rule_laws.proofs.rules.source_rules.Once.{IsCalled, first_call_at, none_missing, there_is}
 use Rattle.rule_laws.proofs.rules.source_rules.Order.{IsUnbroken, unbroken}
-use Rattle.flow_solver.specs.Paths.{IsListed}
-use Rattle.rule_all.specs.Refused.{IsRefused}
+use Rattle.rule_laws.specs.flow_solver.Paths.{IsListed}
+use Rattle.rule_laws.specs.rule_all.Refused.{IsRefused}
 use Rattle.ir_model.specs.Calls.{first_result, result_of_call}
 use Rattle.ir_model.specs.Names.{function_at, no_function}
 use Rattle.ir_model.specs.declared.instr.Instr.{Instr}
@@ -25,12 +25,12 @@ use Rattle.ir_model.specs.declared.module.Function.{Function}
 use Rattle.ir_model.specs.declared.module.Module.{Module}
 use Rattle.ir_model.specs.declared.operand.Callee.{Callee}
 use Rattle.ir_model.specs.declared.operand.Intrinsic.{Intrinsic}
-use Rattle.ir_paths.specs.Windows.{instr_at, is_call_of}
-use Rattle.ir_paths.specs.declared.point.Point.{Point}
-use Rattle.rule_names.specs.declared.stage.Stage.{Stage}
-use Rattle.ir_laws.specs.facts.sound_states.Named.{AreLocalsNamed, HasNamedLocals}
-use Rattle.run_laws.specs.changed.Changed.{result_of}
-use Rattle.ir_laws.proofs.facts.Truth.{second_of_three}
+use Rattle.rule_laws.specs.ir_paths.Windows.{instr_at, is_call_of}
+use Rattle.rule_laws.specs.ir_paths.declared.point.Point.{Point}
+use Rattle.rule_laws.specs.rule_names.declared.stage.Stage.{Stage}
+use Rattle.rule_laws.specs.ir_laws.facts.sound_states.Named.{AreLocalsNamed, HasNamedLocals}
+use Rattle.rule_laws.specs.run_laws.changed.Changed.{result_of}
+use Rattle.rule_laws.proofs.ir_laws.facts.Truth.{second_of_three}
 
 -- a begin that gets a name has that name
 begin_has : (n : ℕ) (i : Instr) → is_call_of Intrinsic.CoroBegin i ≡ true → (result_of (named_instr n i) ≡ Some n) × (result_of_call Intrinsic.CoroBegin (named_instr n i) ≡ Some n)

@@ -1,8 +1,8 @@
 -- Types as deep as they may be in a source are so in what the first pass makes of it (rule L1).
 use Rattle.std.proofs.Common.{Bool, List, None, Option, Some, ap, false, if◌then◌else◌, length, map, refl, sym, true, ℕ, ◌&&◌, ◌++◌, ◌+◌, ◌∙◌, ◌∷◌, ◌≡◌}
 use Rattle.std.specs.Prelude.{option_to_list, slice_get}
-use Rattle.ir_base.specs.declared.outcome.Place.{Place}
-use Rattle.ir_base.specs.declared.rule.Rule.{Rule}
+use Rattle.rule_laws.specs.ir_base.declared.outcome.Place.{Place}
+use Rattle.rule_laws.specs.ir_base.declared.rule.Rule.{Rule}
 use Rattle.rule_laws.proofs.rules.plain_rules.Places.{both_later}
 use Rattle.rule_laws.proofs.rules.local_rules.Accepted.{both_refused}
 use Rattle.pass_proofs.proofs.early.local_rules.Carried.{Carries, StaysOut, carried}
@@ -12,10 +12,10 @@ use Rattle.pass_proofs.proofs.early.local_rules.Turned.{Any, Begins, Saves, Stay
 use Rattle.pass_early.specs.Early.{early_function, early_module, save_call}
 use Rattle.pass_early.specs.Renaming.{renamed_arg, renamed_instr, renamed_phi, renamed_term}
 use Rattle.pass_early.specs.declared.renaming.Renaming.{Renaming}
-use Rattle.ir_parts.specs.Contents.{part_types}
-use Rattle.ir_parts.specs.Parts.{Ending, Head, OfInstr, OfPhi, Part, Signature, first_part, function_place, parts_of}
-use Rattle.rule_all.specs.Order.{items_refusal, refusal}
-use Rattle.rule_all.specs.Refused.{IsRefused}
+use Rattle.rule_laws.specs.ir_parts.Contents.{part_types}
+use Rattle.rule_laws.specs.ir_parts.Parts.{Ending, Head, OfInstr, OfPhi, Part, Signature, first_part, function_place, parts_of}
+use Rattle.rule_laws.specs.rule_all.Order.{items_refusal, refusal}
+use Rattle.rule_laws.specs.rule_all.Refused.{IsRefused}
 use Rattle.ir_model.specs.Ty.{ptr, token}
 use Rattle.ir_model.specs.declared.instr.Instr.{Instr}
 use Rattle.ir_model.specs.declared.module.Function.{Function}
@@ -23,17 +23,17 @@ use Rattle.ir_model.specs.declared.module.Module.{Module}
 use Rattle.ir_model.specs.declared.module.TypeItem.{TypeItem}
 use Rattle.ir_model.specs.declared.operand.Callee.{Callee}
 use Rattle.ir_model.specs.declared.operand.Intrinsic.{Intrinsic}
-use Rattle.rule_modules.specs.Order.{module_refusal, or_refusal}
-use Rattle.rule_modules.specs.declared.order.Refusal.{Refusal}
-use Rattle.rule_names.specs.Definitions.{second_definitions}
-use Rattle.rule_names.specs.Items.{first_place}
-use Rattle.rule_names.specs.Known.{unknown_names}
-use Rattle.rule_names.specs.Reserved.{reserved_names}
-use Rattle.rule_names.specs.declared.stage.Stage.{Stage}
-use Rattle.run_laws.specs.changed.Changed.{Each}
-use Rattle.rule_types.specs.Depth.{is_shallow}
-use Rattle.rule_types.specs.Limits.{all_fit, breaks_limits, first_past, is_past, limits, value_past}
-use Rattle.rule_types.specs.Signatures.{other_types}
+use Rattle.rule_laws.specs.rule_modules.Order.{module_refusal, or_refusal}
+use Rattle.rule_laws.specs.rule_modules.declared.order.Refusal.{Refusal}
+use Rattle.rule_laws.specs.rule_names.Definitions.{second_definitions}
+use Rattle.rule_laws.specs.rule_names.Items.{first_place}
+use Rattle.rule_laws.specs.rule_names.Known.{unknown_names}
+use Rattle.rule_laws.specs.rule_names.Reserved.{reserved_names}
+use Rattle.rule_laws.specs.rule_names.declared.stage.Stage.{Stage}
+use Rattle.rule_laws.specs.run_laws.changed.Changed.{Each}
+use Rattle.rule_laws.specs.rule_types.Depth.{is_shallow}
+use Rattle.rule_laws.specs.rule_types.Limits.{all_fit, breaks_limits, first_past, is_past, limits, value_past}
+use Rattle.rule_laws.specs.rule_types.Signatures.{other_types}
 use Rattle.rule_laws.proofs.rules.function_rules.Depths.{plain_part, types_fit}
 
 -- ---- the limits of a source

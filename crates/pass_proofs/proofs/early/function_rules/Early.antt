@@ -8,20 +8,20 @@ use Rattle.rule_laws.specs.rules.local_rules.Local.{BreaksNoLocalRule}
 use Rattle.pass_early.specs.Early.{early_function, early_module}
 use Rattle.pass_proofs.proofs.early.path_rules.Passes.{early_paths, early_shape}
 use Rattle.rule_laws.specs.rules.source_rules.Named.{AreTabled}
-use Rattle.ir_parts.specs.Locals.{locals_of}
-use Rattle.ir_parts.specs.Parts.{function_place, place_if}
+use Rattle.rule_laws.specs.ir_parts.Locals.{locals_of}
+use Rattle.rule_laws.specs.ir_parts.Parts.{function_place, place_if}
 use Rattle.pass_proofs.proofs.early.function_rules.Depths.{early_depths}
 use Rattle.pass_proofs.proofs.early.function_rules.Tabled.{coroutines_tabled, early_tabled}
 use Rattle.rule_laws.specs.rules.function_rules.Kept.{AllKeepFunctionRules, KeepsFunctionRules}
 use Rattle.rule_laws.specs.rules.function_rules.Tabled.{AreAllTabled}
-use Rattle.rule_all.specs.Refused.{IsRefused}
+use Rattle.rule_laws.specs.rule_all.Refused.{IsRefused}
 use Rattle.ir_model.specs.declared.module.Function.{Function}
 use Rattle.ir_model.specs.declared.module.Module.{Module}
-use Rattle.rule_names.specs.Definitions.{first_twice, is_second_function, second_definitions}
-use Rattle.rule_names.specs.Known.{unknown_names}
-use Rattle.rule_names.specs.declared.stage.Stage.{Stage}
-use Rattle.ir_laws.specs.facts.sound_states.Named.{AreLocalsNamed, AreUsesNamed}
-use Rattle.rule_types.specs.Signatures.{other_types}
+use Rattle.rule_laws.specs.rule_names.Definitions.{first_twice, is_second_function, second_definitions}
+use Rattle.rule_laws.specs.rule_names.Known.{unknown_names}
+use Rattle.rule_laws.specs.rule_names.declared.stage.Stage.{Stage}
+use Rattle.rule_laws.specs.ir_laws.facts.sound_states.Named.{AreLocalsNamed, AreUsesNamed}
+use Rattle.rule_laws.specs.rule_types.Signatures.{other_types}
 
 module _ (m : Module) (accepted : IsRefused Stage.Source m None) (all : AreAllTabled m) (locals : AreLocalsNamed m) (uses : AreUsesNamed m) where
   abbrev m2 : Module

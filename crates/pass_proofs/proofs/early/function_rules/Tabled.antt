@@ -8,13 +8,13 @@ use Rattle.pass_early.specs.BeginName.{with_begin_name}
 use Rattle.pass_early.specs.Early.{after_blocks, early_function, early_named, renaming_of, save_names}
 use Rattle.rule_laws.proofs.rules.source_rules.Order.{unbroken}
 use Rattle.rule_laws.specs.rules.source_rules.Named.{AreTabled, HasTabledLocals}
-use Rattle.flow_solver.specs.Paths.{IsListed}
+use Rattle.rule_laws.specs.flow_solver.Paths.{IsListed}
 use Rattle.rule_laws.specs.rules.function_rules.Tabled.{AreAllTabled}
-use Rattle.rule_all.specs.Refused.{IsRefused}
+use Rattle.rule_laws.specs.rule_all.Refused.{IsRefused}
 use Rattle.ir_model.specs.Names.{function_at, no_function}
 use Rattle.ir_model.specs.declared.module.Function.{Function}
 use Rattle.ir_model.specs.declared.module.Module.{Module}
-use Rattle.rule_names.specs.declared.stage.Stage.{Stage}
+use Rattle.rule_laws.specs.rule_names.declared.stage.Stage.{Stage}
 use Rattle.pass_proofs.proofs.early.save_states.Calls.{names_length}
 use Rattle.rule_laws.proofs.rules.function_rules.Tabled.{tabled_by}
 

@@ -1,23 +1,23 @@
 -- The labels of a function of a module that a text stands for are positions of its table of names, also after the first pass.
 use Rattle.std.proofs.Common.{◌≡◌, ℕ, ◌-◌, ◌<◌, ◌≤◌, List, [], ◌∷◌, ◌++◌, length, sym, subst, length-append, arith}
 use Rattle.std.specs.Prelude.{Some, None, Option, map, slice_get}
-use Rattle.ir_base.specs.declared.name.Name.{Name}
-use Rattle.ir_laws.proofs.facts.Lists.{get_within}
+use Rattle.rule_laws.specs.ir_base.declared.name.Name.{Name}
+use Rattle.rule_laws.proofs.ir_laws.facts.Lists.{get_within}
 use Rattle.pass_proofs.proofs.early.renaming.Parts.{targets_same}
 use Rattle.pass_early.specs.BeginName.{begin_name, begin_named, if_unnamed, named_block}
 use Rattle.pass_early.specs.Early.{after_blocks, after_instrs, early_blocks, early_coroutine, save_names}
 use Rattle.pass_early.specs.declared.renaming.Renaming.{Renaming}
-use Rattle.ir_laws.specs.paths.threads.Labels.{HasLabelsBelow, HasNamedLabels}
-use Rattle.text_grammar.specs.Text.{StandsFor}
+use Rattle.rule_laws.specs.ir_laws.paths.threads.Labels.{HasLabelsBelow, HasNamedLabels}
+use Rattle.rule_laws.specs.text_grammar.Text.{StandsFor}
 use Rattle.ir_model.specs.declared.instr.Case.{Case}
 use Rattle.ir_model.specs.declared.instr.Terminator.{Terminator}
 use Rattle.ir_model.specs.declared.module.Block.{Block}
 use Rattle.ir_model.specs.declared.module.Function.{Function}
 use Rattle.ir_model.specs.declared.module.Module.{Module}
-use Rattle.ir_paths.specs.Paths.{targets}
-use Rattle.text_canonical.proofs.order.Shaped.{text_is_shaped}
-use Rattle.text_canonical.specs.order.Shape.{IsBlock, IsCase, IsFunction, IsPlaced, IsTerminator, Each as EachPart}
-use Rattle.run_laws.specs.changed.Changed.{Each}
+use Rattle.rule_laws.specs.ir_paths.Paths.{targets}
+use Rattle.rule_laws.proofs.text_canonical.order.Shaped.{text_is_shaped}
+use Rattle.rule_laws.specs.text_canonical.order.Shape.{IsBlock, IsCase, IsFunction, IsPlaced, IsTerminator, Each as EachPart}
+use Rattle.rule_laws.specs.run_laws.changed.Changed.{Each}
 use Rattle.rule_laws.proofs.texts.named_texts.Placed.{part_at, some_each}
 
 -- ---- texts

@@ -1,19 +1,19 @@
 -- A rule that no part of a function breaks is broken by no part of what the pass turns the function to.
 use Rattle.std.proofs.Common.{◌≡◌, ℕ, ◌+◌, Bool, false, List, [], ◌∷◌, ◌++◌, length, refl, sym, ap, ◌∙◌, subst}
 use Rattle.std.specs.Prelude.{Some, None, map}
-use Rattle.ir_base.specs.declared.outcome.Place.{Place}
-use Rattle.ir_laws.proofs.facts.Members.{each_left, each_right, each_joined}
+use Rattle.rule_laws.specs.ir_base.declared.outcome.Place.{Place}
+use Rattle.rule_laws.proofs.ir_laws.facts.Members.{each_left, each_right, each_joined}
 use Rattle.pass_proofs.proofs.early.local_rules.Turned.{Further, NoBlock, Nothing, OneMore, Turns, TurnsAll, TurnsBlock, TurnsBlocks}
 use Rattle.pass_early.specs.Renaming.{renamed_phi, renamed_term}
 use Rattle.pass_early.specs.declared.renaming.Renaming.{Renaming}
-use Rattle.ir_parts.specs.Parts.{Ending, Head, OfInstr, OfPhi, Part, Signature, block_parts, blocks_parts, first_part, function_place, instr_parts, instr_place, parts_of, phi_parts}
+use Rattle.rule_laws.specs.ir_parts.Parts.{Ending, Head, OfInstr, OfPhi, Part, Signature, block_parts, blocks_parts, first_part, function_place, instr_parts, instr_place, parts_of, phi_parts}
 use Rattle.ir_model.specs.declared.instr.Instr.{Instr}
 use Rattle.ir_model.specs.declared.instr.Phi.{Phi}
 use Rattle.ir_model.specs.declared.instr.Terminator.{Terminator}
 use Rattle.ir_model.specs.declared.module.Block.{Block}
 use Rattle.ir_model.specs.declared.module.Function.{Function}
-use Rattle.rule_locals.specs.Instrs.{on_instr}
-use Rattle.run_laws.specs.changed.Changed.{Each}
+use Rattle.rule_laws.specs.rule_locals.Instrs.{on_instr}
+use Rattle.rule_laws.specs.run_laws.changed.Changed.{Each}
 use Rattle.rule_laws.proofs.rules.local_rules.Carried.{Passing, none_of, passing}
 
 -- ---- rules that look at a place for its block alone

@@ -5,7 +5,7 @@ use Rattle.pass_proofs.proofs.early.local_rules.Turned.{NoBlock, OneMore, TurnsB
 use Rattle.pass_early.specs.declared.renaming.Renaming.{Renaming}
 use Rattle.ir_model.specs.declared.module.Block.{Block}
 use Rattle.ir_model.specs.declared.module.Function.{Function}
-use Rattle.rule_names.specs.Known.{is_label}
+use Rattle.rule_laws.specs.rule_names.Known.{is_label}
 use Rattle.rule_laws.proofs.rules.local_rules.Defined.{label_defined, labelled}
 
 -- ---- the pass leaves them

@@ -2,15 +2,15 @@
 use Rattle.std.proofs.Common.{◌≡◌, ℕ, Bool, true, false, List, [], ◌∷◌, refl, sym, ap, ◌∙◌}
 use Rattle.std.specs.List.{list_all}
 use Rattle.std.specs.Prelude.{None, Option, Some, map, not, ◌&&◌}
-use Rattle.ir_base.specs.declared.outcome.Place.{Place}
+use Rattle.rule_laws.specs.ir_base.declared.outcome.Place.{Place}
 use Rattle.pass_proofs.proofs.early.local_rules.Carried.{Carries, StaysOut}
 use Rattle.pass_proofs.proofs.early.local_rules.Known.{all_over, out_of}
-use Rattle.ir_laws.proofs.facts.Truth.{and_both, and_first, and_second, holds, both_stay as both_on, first_no, second_no}
+use Rattle.rule_laws.proofs.ir_laws.facts.Truth.{and_both, and_first, and_second, holds, both_stay as both_on, first_no, second_no}
 use Rattle.pass_proofs.proofs.early.local_rules.Turned.{Begins, Saves, Stays, Turns, saved_args}
 use Rattle.pass_early.specs.Early.{early_module}
 use Rattle.pass_early.specs.Renaming.{renamed, renamed_arg, renamed_callee, renamed_incoming, renamed_instr, renamed_return, renamed_term, renamed_value}
 use Rattle.pass_early.specs.declared.renaming.Renaming.{Renaming}
-use Rattle.ir_parts.specs.Parts.{Ending, OfInstr, OfPhi, Part, Signature}
+use Rattle.rule_laws.specs.ir_parts.Parts.{Ending, OfInstr, OfPhi, Part, Signature}
 use Rattle.ir_model.specs.Layout.{same_type, unnamed}
 use Rattle.ir_model.specs.Ty.{Ty, array, int, named, ptr, structure, token}
 use Rattle.ir_model.specs.declared.instr.Case.{Case}
@@ -23,16 +23,16 @@ use Rattle.ir_model.specs.declared.operand.Arg.{Arg}
 use Rattle.ir_model.specs.declared.operand.Callee.{Callee}
 use Rattle.ir_model.specs.declared.operand.Intrinsic.{Intrinsic}
 use Rattle.ir_model.specs.declared.operand.Operand.{Operand}
-use Rattle.run_laws.specs.changed.Changed.{Each}
-use Rattle.rule_types.specs.Signatures.{are_wanted, calls_otherwise, is_result}
-use Rattle.rule_types.specs.Wants.{intrinsic_params, is_int, is_token}
-use Rattle.rule_types.specs.declared.wants.Basic.{Basic}
-use Rattle.rule_values.specs.Fits.{fits, fits_arg, fits_integer, fits_kind, fits_scalar, is_integer, is_scalar, is_tokenless}
-use Rattle.rule_values.specs.Geps.{field_number, field_of, indices_fit, inner_part, leads_in, only_if, part_of}
-use Rattle.rule_values.specs.Instrs.{both_fit, casts, compares, fits_call, fits_called, fits_gep, fits_instr, fits_result, fits_select, is_passed, is_save_or_none, is_saved, passes, suspends_on}
-use Rattle.rule_values.specs.Switches.{any_twice, bits_in, case_word, fits_case, fits_switch, is_constant}
-use Rattle.rule_values.specs.Values.{breaks_values, fits_ending, fits_phi, fits_return, has_scalar, is_scalar_or_void, takes}
-use Rattle.rule_values.specs.declared.kinds.Kind.{Kind}
+use Rattle.rule_laws.specs.run_laws.changed.Changed.{Each}
+use Rattle.rule_laws.specs.rule_types.Signatures.{are_wanted, calls_otherwise, is_result}
+use Rattle.rule_laws.specs.rule_types.Wants.{intrinsic_params, is_int, is_token}
+use Rattle.rule_laws.specs.rule_types.declared.wants.Basic.{Basic}
+use Rattle.rule_laws.specs.rule_values.Fits.{fits, fits_arg, fits_integer, fits_kind, fits_scalar, is_integer, is_scalar, is_tokenless}
+use Rattle.rule_laws.specs.rule_values.Geps.{field_number, field_of, indices_fit, inner_part, leads_in, only_if, part_of}
+use Rattle.rule_laws.specs.rule_values.Instrs.{both_fit, casts, compares, fits_call, fits_called, fits_gep, fits_instr, fits_result, fits_select, is_passed, is_save_or_none, is_saved, passes, suspends_on}
+use Rattle.rule_laws.specs.rule_values.Switches.{any_twice, bits_in, case_word, fits_case, fits_switch, is_constant}
+use Rattle.rule_laws.specs.rule_values.Values.{breaks_values, fits_ending, fits_phi, fits_return, has_scalar, is_scalar_or_void, takes}
+use Rattle.rule_laws.specs.rule_values.declared.kinds.Kind.{Kind}
 use Rattle.rule_laws.proofs.rules.local_rules.Fitting.{either}
 
 -- a test of elements, and one of what they become

@@ -2,9 +2,9 @@
 use Rattle.std.proofs.Common.{◌≡◌, ⊎_elim, ℕ, suc, ◌+◌, ◌<◌, ◌≤◌, Bool, true, false, List, [], ◌∷◌, ◌++◌, length, refl, sym, ap, ◌∙◌, arith}
 use Rattle.std.proofs.lemmas.Bool.{cases_lt}
 use Rattle.std.specs.Prelude.{None, Option, Some, slice_get, ◌==◌, ◌&&◌, if◌then◌else◌}
-use Rattle.ir_base.specs.declared.outcome.Place.{Place}
-use Rattle.ir_laws.proofs.facts.Members.{each_there}
-use Rattle.ir_laws.proofs.facts.Truth.{equal_numbers, itself, and_first, holds}
+use Rattle.rule_laws.specs.ir_base.declared.outcome.Place.{Place}
+use Rattle.rule_laws.proofs.ir_laws.facts.Members.{each_there}
+use Rattle.rule_laws.proofs.ir_laws.facts.Truth.{equal_numbers, itself, and_first, holds}
 use Rattle.rule_laws.proofs.rules.renamed.Outside.{at_point}
 use Rattle.rule_laws.proofs.rules.renamed.Switches.{none_part}
 use Rattle.pass_proofs.proofs.early.local_rules.Carried.{carried}
@@ -13,7 +13,7 @@ use Rattle.pass_proofs.proofs.early.local_rules.Rules.{otherwise_carried}
 use Rattle.pass_proofs.proofs.early.local_rules.Turned.{Any, Begins, Further, NoBlock, Nothing, OneMore, Saves, Stays, Turns, TurnsAll, TurnsBlocks, marked_blocks, name_as, none_renamed, same_blocks, turned_as}
 use Rattle.pass_proofs.proofs.early.local_rules.ValueKinds.{kind_made, named_value_kind, saved_value_kind}
 use Rattle.rule_laws.proofs.rules.local_rules.ValueKinds.{kind_none}
-use Rattle.ir_laws.proofs.facts.local_rules.Woven.{other_number}
+use Rattle.rule_laws.proofs.ir_laws.facts.local_rules.Woven.{other_number}
 use Rattle.pass_early.specs.BeginName.{if_unnamed, with_begin_name}
 use Rattle.pass_early.specs.Early.{early_module, early_named, renaming_of, renaming_to, save_call}
 use Rattle.pass_early.specs.Renaming.{is_renamed, renamed_instr, renamed_value}
@@ -21,7 +21,7 @@ use Rattle.pass_early.specs.declared.renaming.Renaming.{Renaming}
 use Rattle.pass_proofs.proofs.early.source_rules.Makers.{begin_of, not_frame, renamed_frame, to_is}
 use Rattle.rule_laws.proofs.rules.source_rules.Order.{IsUnbroken}
 use Rattle.rule_laws.specs.rules.source_rules.Named.{HasTabledLocals}
-use Rattle.ir_parts.specs.Parts.{OfInstr, instr_place, parts_of}
+use Rattle.rule_laws.specs.ir_parts.Parts.{OfInstr, instr_place, parts_of}
 use Rattle.ir_model.specs.Calls.{first_result}
 use Rattle.ir_model.specs.Layout.{size_of}
 use Rattle.ir_model.specs.declared.instr.Instr.{Instr}
@@ -30,17 +30,17 @@ use Rattle.ir_model.specs.declared.module.Function.{Function}
 use Rattle.ir_model.specs.declared.module.Module.{Module}
 use Rattle.ir_model.specs.declared.operand.Callee.{Callee}
 use Rattle.ir_model.specs.declared.operand.Intrinsic.{Intrinsic}
-use Rattle.ir_paths.specs.Windows.{instr_at, instr_in, is_call_of}
-use Rattle.ir_paths.specs.declared.point.Point.{Point}
-use Rattle.rule_locals.specs.Markers.{block_size, made_size, slot_size}
-use Rattle.ir_locals.specs.Tables.{first_in, or_first}
-use Rattle.run_laws.specs.changed.Changed.{Each, result_of}
-use Rattle.rule_types.specs.Signatures.{are_wanted, calls_otherwise, first_otherwise, is_result}
-use Rattle.rule_types.specs.Wants.{intrinsic_params, is_ptr}
-use Rattle.rule_types.specs.declared.wants.Basic.{Basic}
-use Rattle.rule_values.specs.Kinds.{instr_kind, value_kind}
-use Rattle.rule_values.specs.declared.kinds.Kind.{Kind}
-use Rattle.rule_windows.specs.Points.{phi_count}
+use Rattle.rule_laws.specs.ir_paths.Windows.{instr_at, instr_in, is_call_of}
+use Rattle.rule_laws.specs.ir_paths.declared.point.Point.{Point}
+use Rattle.rule_laws.specs.rule_locals.Markers.{block_size, made_size, slot_size}
+use Rattle.rule_laws.specs.ir_locals.Tables.{first_in, or_first}
+use Rattle.rule_laws.specs.run_laws.changed.Changed.{Each, result_of}
+use Rattle.rule_laws.specs.rule_types.Signatures.{are_wanted, calls_otherwise, first_otherwise, is_result}
+use Rattle.rule_laws.specs.rule_types.Wants.{intrinsic_params, is_ptr}
+use Rattle.rule_laws.specs.rule_types.declared.wants.Basic.{Basic}
+use Rattle.rule_laws.specs.rule_values.Kinds.{instr_kind, value_kind}
+use Rattle.rule_laws.specs.rule_values.declared.kinds.Kind.{Kind}
+use Rattle.rule_laws.specs.rule_windows.Points.{phi_count}
 use Rattle.rule_laws.proofs.rules.local_rules.Followed.{begin_ptr, ptr_kind}
 
 -- what a function is turned to, with the kinds of values

@@ -2,17 +2,17 @@
 use Rattle.std.proofs.Common.{◌≡◌, ℕ, Bool, true, false, List, [], ◌∷◌, ◌++◌, refl, ap, ◌∙◌}
 use Rattle.std.specs.List.{list_all}
 use Rattle.std.specs.Prelude.{None, Option, Some, is_some, map, not, option_to_list, ◌&&◌, ◌||◌, if◌then◌else◌}
-use Rattle.ir_base.specs.declared.name.Name.{Name}
-use Rattle.ir_base.specs.declared.outcome.Place.{Place}
+use Rattle.rule_laws.specs.ir_base.declared.name.Name.{Name}
+use Rattle.rule_laws.specs.ir_base.declared.outcome.Place.{Place}
 use Rattle.pass_proofs.proofs.early.local_rules.Carried.{Carries, StaysOut}
 use Rattle.pass_proofs.proofs.early.local_rules.Rules.{all_in_args, all_in_instr, all_in_phi, all_in_term, named_same}
-use Rattle.ir_laws.proofs.facts.Truth.{and_both, and_first, and_second, holds}
+use Rattle.rule_laws.proofs.ir_laws.facts.Truth.{and_both, and_first, and_second, holds}
 use Rattle.pass_proofs.proofs.early.local_rules.Turned.{Begins, Saves, Stays, Turns, saved_args}
 use Rattle.pass_early.specs.Early.{early_module}
 use Rattle.pass_early.specs.Renaming.{is_renamed, renamed, renamed_arg, renamed_callee, renamed_incoming, renamed_instr, renamed_phi, renamed_return, renamed_term, renamed_value}
 use Rattle.pass_early.specs.declared.renaming.Renaming.{Renaming}
-use Rattle.ir_parts.specs.Contents.{arg_operands, arg_types, ending_labels, ending_types, instr_types, part_labels, part_operands, part_types, return_types}
-use Rattle.ir_parts.specs.Parts.{Ending, Head, OfInstr, OfPhi, Part, Signature}
+use Rattle.rule_laws.specs.ir_parts.Contents.{arg_operands, arg_types, ending_labels, ending_types, instr_types, part_labels, part_operands, part_types, return_types}
+use Rattle.rule_laws.specs.ir_parts.Parts.{Ending, Head, OfInstr, OfPhi, Part, Signature}
 use Rattle.ir_model.specs.Names.{declaration_named, global_named}
 use Rattle.ir_model.specs.Table.{callee_named}
 use Rattle.ir_model.specs.Ty.{Ty, Tys, array, field, int, named, none, ptr, structure, token}
@@ -25,10 +25,10 @@ use Rattle.ir_model.specs.declared.operand.Arg.{Arg}
 use Rattle.ir_model.specs.declared.operand.Callee.{Callee}
 use Rattle.ir_model.specs.declared.operand.Intrinsic.{Intrinsic}
 use Rattle.ir_model.specs.declared.operand.Operand.{Operand}
-use Rattle.rule_locals.specs.Instrs.{on_instr}
-use Rattle.rule_locals.specs.Markers.{is_marker, is_size_or_all, marks, marks_otherwise, marks_size, marks_slot}
-use Rattle.rule_names.specs.Known.{allocator_name, is_intrinsic, knows_address, knows_callee, knows_called, knows_name, knows_operand, knows_type, knows_types, names_unknown}
-use Rattle.run_laws.specs.changed.Changed.{Each}
+use Rattle.rule_laws.specs.rule_locals.Instrs.{on_instr}
+use Rattle.rule_laws.specs.rule_locals.Markers.{is_marker, is_size_or_all, marks, marks_otherwise, marks_size, marks_slot}
+use Rattle.rule_laws.specs.rule_names.Known.{allocator_name, is_intrinsic, knows_address, knows_callee, knows_called, knows_name, knows_operand, knows_type, knows_types, names_unknown}
+use Rattle.rule_laws.specs.run_laws.changed.Changed.{Each}
 
 pub all_over : {A : Type 0} (t u : A → Bool) → ((x : A) → t x ≡ true → u x ≡ true) → (xs : List A) → list_all t xs ≡ true → list_all u xs ≡ true
 all_over t u h [] e = refl

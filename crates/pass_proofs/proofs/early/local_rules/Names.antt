@@ -1,20 +1,20 @@
 -- The locals that the result defines are apart, where those of the source are (rule N1).
 use Rattle.std.proofs.Common.{◌≡◌, ◌⊎◌, inl, inr, ⊎_elim, ℕ, zero, suc, ◌+◌, ◌<◌, ◌≤◌, Bool, true, false, List, [], ◌∷◌, ◌++◌, length, refl, sym, ap, ◌∙◌, subst, arith}
 use Rattle.std.specs.Prelude.{None, Option, Some, map, option_to_list, slice_get, if◌then◌else◌}
-use Rattle.rule_uses.specs.Undefined.{params_of}
+use Rattle.rule_laws.specs.rule_uses.Undefined.{params_of}
 use Rattle.rule_laws.proofs.rules.local_rules.Woven.{New, Old, Woven, apart_names, apart_woven, joined_woven, listed_woven, none_twice, same_woven, woven_as}
 use Rattle.pass_early.specs.BeginName.{begin_name, begin_named, if_unnamed, named_block, named_instr, with_begin_name}
 use Rattle.pass_early.specs.Early.{after_blocks, after_instrs, after_one, early_block, early_blocks, early_coroutine, early_instrs, early_named, is_unsaved, renaming_of, save_call, saved}
 use Rattle.pass_early.specs.Renaming.{renamed_instr, renamed_phi}
 use Rattle.pass_early.specs.declared.renaming.Renaming.{Renaming}
-use Rattle.ir_laws.proofs.paths.source_rules.Locals.{Apart}
+use Rattle.rule_laws.proofs.ir_laws.paths.source_rules.Locals.{Apart}
 use Rattle.rule_laws.proofs.rules.source_rules.Locals.{block_names, made_by, names_are}
-use Rattle.ir_laws.proofs.facts.Lists.{phi_names, row_of}
+use Rattle.rule_laws.proofs.ir_laws.facts.Lists.{phi_names, row_of}
 use Rattle.rule_laws.proofs.rules.source_rules.Once.{one_begin}
 use Rattle.rule_laws.proofs.rules.source_rules.Order.{IsUnbroken}
 use Rattle.rule_laws.specs.rules.source_rules.Named.{HasTabledLocals}
-use Rattle.flow_solver.specs.Paths.{IsListed}
-use Rattle.ir_parts.specs.Locals.{locals_of}
+use Rattle.rule_laws.specs.flow_solver.Paths.{IsListed}
+use Rattle.rule_laws.specs.ir_parts.Locals.{locals_of}
 use Rattle.ir_model.specs.Calls.{first_result, first_result_by, first_result_in, result_of_call}
 use Rattle.ir_model.specs.declared.instr.Instr.{Instr}
 use Rattle.ir_model.specs.declared.instr.Phi.{Phi}
@@ -23,11 +23,11 @@ use Rattle.ir_model.specs.declared.module.Function.{Function}
 use Rattle.ir_model.specs.declared.module.Module.{Module}
 use Rattle.ir_model.specs.declared.operand.Callee.{Callee}
 use Rattle.ir_model.specs.declared.operand.Intrinsic.{Intrinsic}
-use Rattle.ir_paths.specs.Windows.{instr_in, is_call_of}
-use Rattle.ir_paths.specs.declared.point.Point.{Point}
-use Rattle.rule_names.specs.Definitions.{first_twice}
-use Rattle.run_laws.specs.changed.Changed.{Each}
-use Rattle.ir_laws.proofs.facts.Options.{left_none, right_none}
+use Rattle.rule_laws.specs.ir_paths.Windows.{instr_in, is_call_of}
+use Rattle.rule_laws.specs.ir_paths.declared.point.Point.{Point}
+use Rattle.rule_laws.specs.rule_names.Definitions.{first_twice}
+use Rattle.rule_laws.specs.run_laws.changed.Changed.{Each}
+use Rattle.rule_laws.proofs.ir_laws.facts.Options.{left_none, right_none}
 use Rattle.rule_laws.proofs.rules.local_rules.Names.{is_definition, numbers}
 
 -- ---- saves

@@ -3,17 +3,17 @@ use Rattle.std.proofs.Common.{◌≡◌, ℕ, suc, ◌+◌, Bool, true, false, L
 use Rattle.std.proofs.lemmas.Option.{slice_get-map}
 use Rattle.std.specs.List.{list_all}
 use Rattle.std.specs.Prelude.{Some, None, Option, map, not, option_map, slice_get, ◌&&◌, ◌||◌, if◌then◌else◌}
-use Rattle.ir_base.specs.declared.name.Name.{Name}
-use Rattle.ir_base.specs.declared.outcome.Item.{Item}
-use Rattle.ir_base.specs.declared.outcome.Place.{Place}
+use Rattle.rule_laws.specs.ir_base.declared.name.Name.{Name}
+use Rattle.rule_laws.specs.ir_base.declared.outcome.Item.{Item}
+use Rattle.rule_laws.specs.ir_base.declared.outcome.Place.{Place}
 use Rattle.pass_proofs.proofs.early.local_rules.Carried.{Carries, StaysOut, carried, on_instrs}
 use Rattle.pass_proofs.proofs.early.local_rules.Turned.{Any, Begins, Saves, Stays, Turns, TurnsTo, turned_function}
 use Rattle.rule_laws.specs.rules.local_rules.Local.{BreaksNoLocalRule, BreaksNoLocalRuleIn}
 use Rattle.pass_early.specs.Early.{early_function, early_module}
 use Rattle.pass_early.specs.Renaming.{renamed, renamed_arg, renamed_callee, renamed_incoming, renamed_instr, renamed_phi, renamed_return, renamed_term}
 use Rattle.pass_early.specs.declared.renaming.Renaming.{Renaming}
-use Rattle.ir_parts.specs.Contents.{arg_operands, callee_operands, ending_operands, instr_operands, part_operands, return_operands}
-use Rattle.ir_parts.specs.Parts.{OfInstr, OfPhi, first_part, item_place, or_place, parts_of, place_if}
+use Rattle.rule_laws.specs.ir_parts.Contents.{arg_operands, callee_operands, ending_operands, instr_operands, part_operands, return_operands}
+use Rattle.rule_laws.specs.ir_parts.Parts.{OfInstr, OfPhi, first_part, item_place, or_place, parts_of, place_if}
 use Rattle.ir_model.specs.Names.{declaration_named, first_where, function_named, same_name}
 use Rattle.ir_model.specs.Ty.{Ty}
 use Rattle.ir_model.specs.declared.instr.Incoming.{Incoming}
@@ -29,26 +29,26 @@ use Rattle.ir_model.specs.declared.operand.Arg.{Arg}
 use Rattle.ir_model.specs.declared.operand.Callee.{Callee}
 use Rattle.ir_model.specs.declared.operand.Intrinsic.{Intrinsic}
 use Rattle.ir_model.specs.declared.operand.Operand.{Operand}
-use Rattle.rule_locals.specs.Addresses.{calls_indirectly, is_no_function, points_to_functions}
-use Rattle.rule_locals.specs.Calls.{calls_closed, is_closed, is_closed_at, is_closed_declaration}
-use Rattle.rule_locals.specs.Entries.{allocates_late, is_past_entry}
-use Rattle.rule_locals.specs.Extents.{breaks_extents, misaligned_globals}
-use Rattle.rule_locals.specs.Instrs.{on_instr}
-use Rattle.rule_locals.specs.Intrinsics.{calls_inner}
-use Rattle.rule_locals.specs.Markers.{first_other_mark}
-use Rattle.rule_locals.specs.Transfers.{breaks_transfers}
-use Rattle.rule_names.specs.Definitions.{second_definitions}
-use Rattle.rule_names.specs.Items.{Sentence, first_function, first_item, first_place}
-use Rattle.rule_names.specs.Known.{allocator_name, unknown_names}
-use Rattle.rule_names.specs.declared.stage.Stage.{Stage}
-use Rattle.run_laws.specs.changed.Changed.{Each}
-use Rattle.rule_types.specs.Signatures.{are_wanted, calls_otherwise, fits_callee, fits_declaration, fits_function, fits_named, fits_position, is_result, other_types, same_list, same_result}
-use Rattle.rule_types.specs.Wants.{allocator_params, allocator_result, intrinsic_params, intrinsic_result, is_basic, meets}
-use Rattle.rule_types.specs.declared.wants.Demand.{Demand}
-use Rattle.rule_types.specs.declared.wants.Wanted.{Wanted}
-use Rattle.rule_values.specs.Initials.{fits_initial, wrong_initials}
-use Rattle.rule_values.specs.Values.{first_wrong_value}
-use Rattle.ir_laws.proofs.facts.Truth.{and_both, and_first, and_second, first_no as or_first_out, holds, second_no as or_second_out}
+use Rattle.rule_laws.specs.rule_locals.Addresses.{calls_indirectly, is_no_function, points_to_functions}
+use Rattle.rule_laws.specs.rule_locals.Calls.{calls_closed, is_closed, is_closed_at, is_closed_declaration}
+use Rattle.rule_laws.specs.rule_locals.Entries.{allocates_late, is_past_entry}
+use Rattle.rule_laws.specs.rule_locals.Extents.{breaks_extents, misaligned_globals}
+use Rattle.rule_laws.specs.rule_locals.Instrs.{on_instr}
+use Rattle.rule_laws.specs.rule_locals.Intrinsics.{calls_inner}
+use Rattle.rule_laws.specs.rule_locals.Markers.{first_other_mark}
+use Rattle.rule_laws.specs.rule_locals.Transfers.{breaks_transfers}
+use Rattle.rule_laws.specs.rule_names.Definitions.{second_definitions}
+use Rattle.rule_laws.specs.rule_names.Items.{Sentence, first_function, first_item, first_place}
+use Rattle.rule_laws.specs.rule_names.Known.{allocator_name, unknown_names}
+use Rattle.rule_laws.specs.rule_names.declared.stage.Stage.{Stage}
+use Rattle.rule_laws.specs.run_laws.changed.Changed.{Each}
+use Rattle.rule_laws.specs.rule_types.Signatures.{are_wanted, calls_otherwise, fits_callee, fits_declaration, fits_function, fits_named, fits_position, is_result, other_types, same_list, same_result}
+use Rattle.rule_laws.specs.rule_types.Wants.{allocator_params, allocator_result, intrinsic_params, intrinsic_result, is_basic, meets}
+use Rattle.rule_laws.specs.rule_types.declared.wants.Demand.{Demand}
+use Rattle.rule_laws.specs.rule_types.declared.wants.Wanted.{Wanted}
+use Rattle.rule_laws.specs.rule_values.Initials.{fits_initial, wrong_initials}
+use Rattle.rule_laws.specs.rule_values.Values.{first_wrong_value}
+use Rattle.rule_laws.proofs.ir_laws.facts.Truth.{and_both, and_first, and_second, first_no as or_first_out, holds, second_no as or_second_out}
 use Rattle.rule_laws.proofs.rules.local_rules.Rules.{second_out}
 use Rattle.rule_laws.proofs.rules.plain_rules.Places.{first_place_out as first_out, no_place_in as both_out, not_placed}
 

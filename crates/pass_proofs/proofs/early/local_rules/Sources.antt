@@ -2,9 +2,9 @@
 use Rattle.std.proofs.Common.{◌≡◌, ℕ, ◌+◌, Bool, true, false, List, [], ◌∷◌, ◌++◌, refl, sym, ap, ◌∙◌, subst, arith}
 use Rattle.std.specs.List.{list_all}
 use Rattle.std.specs.Prelude.{None, Option, Some, is_some, not, option_to_list, slice_get, unwrap_or, ◌&&◌, ◌||◌, if◌then◌else◌}
-use Rattle.ir_base.specs.declared.name.Name.{Name}
-use Rattle.ir_base.specs.declared.outcome.Item.{Item}
-use Rattle.ir_base.specs.declared.outcome.Place.{Place}
+use Rattle.rule_laws.specs.ir_base.declared.name.Name.{Name}
+use Rattle.rule_laws.specs.ir_base.declared.outcome.Item.{Item}
+use Rattle.rule_laws.specs.ir_base.declared.outcome.Place.{Place}
 use Rattle.rule_laws.proofs.rules.local_rules.Accepted.{accepted_breaks_none}
 use Rattle.pass_proofs.proofs.early.local_rules.Carried.{carried, on_instrs}
 use Rattle.pass_proofs.proofs.early.local_rules.Defined.{label_same}
@@ -24,24 +24,24 @@ use Rattle.pass_early.specs.Early.{early_function, early_module, early_named}
 use Rattle.pass_early.specs.Renaming.{renamed_value}
 use Rattle.rule_laws.proofs.rules.source_rules.Order.{unbroken}
 use Rattle.rule_laws.specs.rules.source_rules.Named.{AreTabled, HasTabledLocals}
-use Rattle.ir_parts.specs.Locals.{locals_of}
-use Rattle.ir_parts.specs.Parts.{first_part, function_place, or_place, parts_of, place_if}
-use Rattle.rule_all.specs.Refused.{IsRefused}
+use Rattle.rule_laws.specs.ir_parts.Locals.{locals_of}
+use Rattle.rule_laws.specs.ir_parts.Parts.{first_part, function_place, or_place, parts_of, place_if}
+use Rattle.rule_laws.specs.rule_all.Refused.{IsRefused}
 use Rattle.ir_model.specs.Names.{declaration_named, function_at, global_named, no_function}
 use Rattle.ir_model.specs.Ty.{Ty}
 use Rattle.ir_model.specs.declared.module.Function.{Function}
 use Rattle.ir_model.specs.declared.module.Module.{Module}
 use Rattle.ir_model.specs.declared.operand.Operand.{Operand}
-use Rattle.rule_locals.specs.Instrs.{on_instr}
-use Rattle.rule_locals.specs.Markers.{marks_otherwise, slot_size}
-use Rattle.rule_names.specs.Definitions.{first_twice, is_position, is_second_function, second_definitions}
-use Rattle.rule_names.specs.Items.{Sentence, first_function, first_item, first_place}
-use Rattle.rule_names.specs.Known.{is_label, is_value, knows_operand, knows_type, names_unknown, unknown_names}
-use Rattle.rule_names.specs.declared.stage.Stage.{Stage}
-use Rattle.rule_types.specs.Signatures.{calls_otherwise, first_otherwise, other_types}
-use Rattle.rule_values.specs.Kinds.{value_kind}
-use Rattle.rule_values.specs.Values.{breaks_values}
-use Rattle.rule_values.specs.declared.kinds.Kind.{Kind}
+use Rattle.rule_laws.specs.rule_locals.Instrs.{on_instr}
+use Rattle.rule_laws.specs.rule_locals.Markers.{marks_otherwise, slot_size}
+use Rattle.rule_laws.specs.rule_names.Definitions.{first_twice, is_position, is_second_function, second_definitions}
+use Rattle.rule_laws.specs.rule_names.Items.{Sentence, first_function, first_item, first_place}
+use Rattle.rule_laws.specs.rule_names.Known.{is_label, is_value, knows_operand, knows_type, names_unknown, unknown_names}
+use Rattle.rule_laws.specs.rule_names.declared.stage.Stage.{Stage}
+use Rattle.rule_laws.specs.rule_types.Signatures.{calls_otherwise, first_otherwise, other_types}
+use Rattle.rule_laws.specs.rule_values.Kinds.{value_kind}
+use Rattle.rule_laws.specs.rule_values.Values.{breaks_values}
+use Rattle.rule_laws.specs.rule_values.declared.kinds.Kind.{Kind}
 use Rattle.rule_laws.proofs.rules.local_rules.Sources.{of_functions}
 
 -- a coroutine of the module has its locals in its table of names

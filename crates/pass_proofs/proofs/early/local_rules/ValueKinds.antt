@@ -1,20 +1,20 @@
 -- What the values of a function are, where each is defined once, and that they stay where the pass adds others.
 use Rattle.std.proofs.Common.{◌≡◌, inl, inr, ℕ, ◌+◌, ◌<◌, Bool, true, false, List, [], ◌∷◌, ◌++◌, length, refl, sym, ap, ◌∙◌, subst, arith}
 use Rattle.std.specs.Prelude.{None, Option, Some, map, option_to_list, ◌==◌, if◌then◌else◌}
-use Rattle.rule_uses.specs.Undefined.{params_of}
+use Rattle.rule_laws.specs.rule_uses.Undefined.{params_of}
 use Rattle.rule_laws.proofs.rules.renamed.Uses.{result_spelt}
-use Rattle.ir_laws.proofs.paths.renamed.Uses.{stands_in}
+use Rattle.rule_laws.proofs.ir_laws.paths.renamed.Uses.{stands_in}
 use Rattle.pass_proofs.proofs.early.local_rules.Names.{Unnamed, unnamed_in}
-use Rattle.ir_laws.proofs.facts.Options.{left_none, right_none}
+use Rattle.rule_laws.proofs.ir_laws.facts.Options.{left_none, right_none}
 use Rattle.rule_laws.proofs.rules.local_rules.Names.{numbers}
 use Rattle.pass_early.specs.BeginName.{begin_named, named_block, named_instr}
 use Rattle.pass_early.specs.Early.{after_instrs, after_one, early_blocks, early_coroutine, early_instrs, is_unsaved, save_call, saved}
 use Rattle.pass_early.specs.Renaming.{renamed_instr, renamed_phi, renamed_value}
 use Rattle.pass_early.specs.declared.renaming.Renaming.{Renaming}
-use Rattle.ir_laws.proofs.paths.source_rules.Locals.{Apart, in_row, listed_right}
+use Rattle.rule_laws.proofs.ir_laws.paths.source_rules.Locals.{Apart, in_row, listed_right}
 use Rattle.rule_laws.proofs.rules.source_rules.Locals.{block_names, made_by}
-use Rattle.ir_laws.proofs.facts.Lists.{phi_names, row_of}
-use Rattle.flow_solver.specs.Paths.{IsListed}
+use Rattle.rule_laws.proofs.ir_laws.facts.Lists.{phi_names, row_of}
+use Rattle.rule_laws.specs.flow_solver.Paths.{IsListed}
 use Rattle.ir_model.specs.Calls.{first_result, first_result_by, first_result_in}
 use Rattle.ir_model.specs.Ty.{Ty}
 use Rattle.ir_model.specs.declared.instr.Instr.{Instr}
@@ -23,12 +23,12 @@ use Rattle.ir_model.specs.declared.module.Block.{Block}
 use Rattle.ir_model.specs.declared.module.Function.{Function}
 use Rattle.ir_model.specs.declared.operand.Callee.{Callee}
 use Rattle.ir_model.specs.declared.operand.Intrinsic.{Intrinsic}
-use Rattle.ir_paths.specs.Windows.{instr_at}
-use Rattle.ir_paths.specs.declared.point.Point.{Point}
-use Rattle.ir_locals.specs.Tables.{first_in, or_first}
-use Rattle.run_laws.specs.changed.Changed.{Each, result_of}
-use Rattle.rule_values.specs.Kinds.{block_kind, call_kind, instr_kind, param_kind, phi_kind, result_kind, value_kind}
-use Rattle.rule_values.specs.declared.kinds.Kind.{Kind}
+use Rattle.rule_laws.specs.ir_paths.Windows.{instr_at}
+use Rattle.rule_laws.specs.ir_paths.declared.point.Point.{Point}
+use Rattle.rule_laws.specs.ir_locals.Tables.{first_in, or_first}
+use Rattle.rule_laws.specs.run_laws.changed.Changed.{Each, result_of}
+use Rattle.rule_laws.specs.rule_values.Kinds.{block_kind, call_kind, instr_kind, param_kind, phi_kind, result_kind, value_kind}
+use Rattle.rule_laws.specs.rule_values.declared.kinds.Kind.{Kind}
 use Rattle.rule_laws.proofs.rules.local_rules.Rows.{apart_at, apart_both, apart_right, one_in_row}
 use Rattle.rule_laws.proofs.rules.local_rules.ValueKinds.{block_none, instr_none, kind_if_none, params_none, phis_none}
 

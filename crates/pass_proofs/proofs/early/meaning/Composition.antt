@@ -1,12 +1,12 @@
 -- The first pass keeps the meaning of sources: its three passes in turn.
 use Rattle.std.proofs.Common.{ℕ, List, sym, subst}
 use Rattle.std.specs.Prelude.{ℤ}
-use Rattle.run_agreement.proofs.Compose.{compose_within}
-use Rattle.run_agreement.specs.Agreements.{AgreesWithin}
-use Rattle.run_agreement.specs.Machines.{Seen}
+use Rattle.rule_laws.proofs.run_agreement.Compose.{compose_within}
+use Rattle.rule_laws.specs.run_agreement.Agreements.{AgreesWithin}
+use Rattle.rule_laws.specs.run_agreement.Machines.{Seen}
 use Rattle.pass_proofs.proofs.early.begin_naming.Simulation.{named_agrees}
-use Rattle.ir_base.specs.declared.outcome.Word.{Word}
-use Rattle.run_source.specs.Source.{SourceAt}
+use Rattle.rule_laws.specs.ir_base.declared.outcome.Word.{Word}
+use Rattle.rule_laws.specs.run_source.Source.{SourceAt}
 use Rattle.pass_proofs.proofs.early.renaming.Composition.{early_in_turn}
 use Rattle.pass_proofs.proofs.early.renaming.Rules.{all_regular}
 use Rattle.pass_proofs.proofs.early.renaming.Simulation.{renamed_agrees}
@@ -18,7 +18,7 @@ use Rattle.ir_model.specs.declared.module.Frame.{Frame}
 use Rattle.ir_model.specs.declared.module.Module.{Module}
 use Rattle.pass_proofs.specs.early.saves.SavesWritten.{saves_written}
 use Rattle.pass_proofs.proofs.early.save_simulation.Simulation.{saves_agree}
-use Rattle.ir_laws.specs.facts.sound_states.Named.{AreLocalsNamed, AreUsesNamed}
+use Rattle.rule_laws.specs.ir_laws.facts.sound_states.Named.{AreLocalsNamed, AreUsesNamed}
 
 module _ (m : Module) (locals : AreLocalsNamed m) (uses : AreUsesNamed m) (rules : AllKeepRules (named_module m)) (sizes : List Frame) (entry : ℕ) (args : List Word) (answers : List ℤ) where
   abbrev runs : Module → ℕ → Seen

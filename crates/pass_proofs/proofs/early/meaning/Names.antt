@@ -25,11 +25,11 @@ use Rattle.ir_model.specs.declared.operand.Arg.{Arg}
 use Rattle.ir_model.specs.declared.operand.Callee.{Callee}
 use Rattle.ir_model.specs.declared.operand.Intrinsic.{Intrinsic}
 use Rattle.ir_model.specs.declared.operand.Operand.{Operand}
-use Rattle.ir_laws.specs.facts.expanded.Tokens.{IsNamed, IsNamedResult}
-use Rattle.run_laws.specs.changed.Changed.{Each as EachOf, Each, operands_of, operands_of_term, result_of, values_of}
-use Rattle.ir_laws.specs.facts.sound_states.Named.{AreLocalsNamed, AreUsesNamed, HasNamedLocals, HasNamedUses}
-use Rattle.ir_laws.proofs.facts.Lists.{each_of_each as each_of_all}
-use Rattle.ir_laws.proofs.facts.Members.{each_turns as each_all}
+use Rattle.rule_laws.specs.ir_laws.facts.expanded.Tokens.{IsNamed, IsNamedResult}
+use Rattle.rule_laws.specs.run_laws.changed.Changed.{Each as EachOf, Each, operands_of, operands_of_term, result_of, values_of}
+use Rattle.rule_laws.specs.ir_laws.facts.sound_states.Named.{AreLocalsNamed, AreUsesNamed, HasNamedLocals, HasNamedUses}
+use Rattle.rule_laws.proofs.ir_laws.facts.Lists.{each_of_each as each_of_all}
+use Rattle.rule_laws.proofs.ir_laws.facts.Members.{each_turns as each_all}
 
 -- ---- lists
 

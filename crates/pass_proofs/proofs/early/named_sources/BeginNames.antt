@@ -1,15 +1,15 @@
 -- In what the first pass makes of a coroutine begin's value has a name.
 use Rattle.std.proofs.Common.{◌≡◌, ℕ, Bool, true, false, List, [], ◌∷◌, ◌++◌, length, refl, sym, ap, ◌∙◌, subst}
 use Rattle.std.specs.Prelude.{None, Option, Some, is_none, map, if◌then◌else◌, ◌||◌}
-use Rattle.ir_calls.specs.Calls.{first_call, first_call_by, first_call_in, or_instr}
-use Rattle.rule_shape.specs.OneOfEach.{breaks_calls, calls_of, wrong_call}
+use Rattle.rule_laws.specs.ir_calls.Calls.{first_call, first_call_by, first_call_in, or_instr}
+use Rattle.rule_laws.specs.rule_shape.OneOfEach.{breaks_calls, calls_of, wrong_call}
 use Rattle.rule_laws.proofs.rules.local_rules.Carried.{passing}
-use Rattle.ir_laws.proofs.facts.Truth.{first_no as or_first_out, second_no as or_second_out}
+use Rattle.rule_laws.proofs.ir_laws.facts.Truth.{first_no as or_first_out, second_no as or_second_out}
 use Rattle.pass_early.specs.BeginName.{if_unnamed, named_block, named_instr, with_begin_name}
 use Rattle.pass_early.specs.Early.{after_instrs, after_one, early_blocks, early_function, early_instrs, early_named, early_one, is_unsaved, save_call, saved, renaming_of}
 use Rattle.pass_early.specs.Renaming.{renamed_instr}
 use Rattle.pass_early.specs.declared.renaming.Renaming.{Renaming}
-use Rattle.ir_parts.specs.Parts.{first_part, parts_of}
+use Rattle.rule_laws.specs.ir_parts.Parts.{first_part, parts_of}
 use Rattle.ir_model.specs.Calls.{first_result, first_result_by, first_result_in, or_else, result_of_call}
 use Rattle.ir_model.specs.Ty.{Ty}
 use Rattle.ir_model.specs.declared.instr.Instr.{Instr}
@@ -18,7 +18,7 @@ use Rattle.ir_model.specs.declared.module.Function.{Function}
 use Rattle.ir_model.specs.declared.operand.Arg.{Arg}
 use Rattle.ir_model.specs.declared.operand.Callee.{Callee}
 use Rattle.ir_model.specs.declared.operand.Intrinsic.{Intrinsic}
-use Rattle.ir_paths.specs.Windows.{is_call_of}
+use Rattle.rule_laws.specs.ir_paths.Windows.{is_call_of}
 
 abbrev begin_of : Instr → Option ℕ
 begin_of i = result_of_call Intrinsic.CoroBegin i

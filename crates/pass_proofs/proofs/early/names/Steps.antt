@@ -1,10 +1,10 @@
 -- Lemmas on steps.
 use Rattle.std.proofs.Common.{◌≡◌, ℕ, zero, suc, ◌+◌, List, [], ◌∷◌, ◌++◌, refl}
 use Rattle.std.specs.Prelude.{codes}
-use Rattle.ir_base.specs.declared.name.Name.{Name}
+use Rattle.rule_laws.specs.ir_base.declared.name.Name.{Name}
 use Rattle.pass_early.specs.BeginName.{begin_name}
 use Rattle.pass_early.specs.Early.{save_names}
-use Rattle.ir_laws.proofs.facts.Lists.{row, rows}
+use Rattle.rule_laws.proofs.ir_laws.facts.Lists.{row, rows}
 use Rattle.rule_laws.proofs.rules.names_apart.Words.{AreNew}
 use Rattle.rule_laws.specs.rules.names_apart.Words.{early_words}
 use Rattle.rule_laws.proofs.rules.names_apart.Steps.{IsStep, append_step, word_new}

@@ -5,12 +5,12 @@ use Rattle.pass_early.specs.Early.{early_module}
 use Rattle.pass_proofs.proofs.early.path_rules.Passes.{early_shape}
 use Rattle.rule_laws.specs.rules.source_rules.Named.{AreTabled}
 use Rattle.rule_laws.proofs.frames.suspend_counts.Counted.{few}
-use Rattle.pass_intrinsics.specs.Shapes.{suspends_of}
-use Rattle.rule_all.specs.Refused.{IsRefused}
+use Rattle.rule_laws.specs.pass_intrinsics.Shapes.{suspends_of}
+use Rattle.rule_laws.specs.rule_all.Refused.{IsRefused}
 use Rattle.ir_model.specs.declared.module.Function.{Function}
 use Rattle.ir_model.specs.declared.module.Module.{Module}
-use Rattle.rule_names.specs.declared.stage.Stage.{Stage}
-use Rattle.ir_laws.specs.facts.sound_states.Named.{AreLocalsNamed, AreUsesNamed}
+use Rattle.rule_laws.specs.rule_names.declared.stage.Stage.{Stage}
+use Rattle.rule_laws.specs.ir_laws.facts.sound_states.Named.{AreLocalsNamed, AreUsesNamed}
 
 pub early_few : (m : Module) → IsRefused Stage.Source m None → AreTabled m → AreLocalsNamed m → AreUsesNamed m → (k : ℕ) (f : Function) → slice_get (early_module m).functions k ≡ Some f → f.coroutine ≡ true → length (suspends_of f) ≤ 65536
 early_few m accepted tabled locals uses k f e coroutine = few k f coroutine (early_shape m accepted tabled locals uses k f e).suspends

@@ -3,13 +3,13 @@ use Rattle.std.proofs.Common.{◌≡◌, inl, inr, ℕ, zero, suc, ◌+◌, Bool
 use Rattle.std.proofs.lemmas.Option.{slice_get-map}
 use Rattle.std.specs.Prelude.{Some, None, Option, map, option_map, option_to_list, slice_get, if◌then◌else◌}
 use Rattle.pass_proofs.proofs.early.begin_naming.NamedParts.{end_same as end_named}
-use Rattle.flow_blocks.specs.Edges.{block_edges, edges_of_blocks}
-use Rattle.ir_base.specs.declared.outcome.Place.{Place}
-use Rattle.rule_uses.specs.Uses.{Use, block_uses, block_values, blocks_uses, incoming_use, incoming_uses, instr_uses, local_of, locals_in, made_by_instrs, made_by_phis, phi_uses, phi_values, use_of, uses_at, values_at, values_in}
-use Rattle.ir_laws.proofs.facts.Members.{each_behind, each_all as each_always, each_turns as each_more}
-use Rattle.ir_laws.proofs.facts.Truth.{not_equal}
+use Rattle.rule_laws.specs.flow_blocks.Edges.{block_edges, edges_of_blocks}
+use Rattle.rule_laws.specs.ir_base.declared.outcome.Place.{Place}
+use Rattle.rule_laws.specs.rule_uses.Uses.{Use, block_uses, block_values, blocks_uses, incoming_use, incoming_uses, instr_uses, local_of, locals_in, made_by_instrs, made_by_phis, phi_uses, phi_values, use_of, uses_at, values_at, values_in}
+use Rattle.rule_laws.proofs.ir_laws.facts.Members.{each_behind, each_all as each_always, each_turns as each_more}
+use Rattle.rule_laws.proofs.ir_laws.facts.Truth.{not_equal}
 use Rattle.rule_laws.proofs.rules.renamed.Outside.{each_left, each_right}
-use Rattle.ir_laws.proofs.paths.renamed.Outside.{where_pass}
+use Rattle.rule_laws.proofs.ir_laws.paths.renamed.Outside.{where_pass}
 use Rattle.pass_proofs.proofs.early.renaming.Parts.{call_of_same, end_same as end_renamed, position_same as position_renamed, points_where_same, resume_same as resume_renamed, destroy_same as destroy_renamed, targets_same as targets_renamed}
 use Rattle.rule_laws.proofs.rules.renamed.Uses.{result_spelt}
 use Rattle.pass_proofs.specs.early.renaming.Passes.{renamed_block, renamed_coroutine}
@@ -23,13 +23,13 @@ use Rattle.pass_proofs.proofs.early.path_rules.Outside.{instr_was}
 use Rattle.pass_proofs.proofs.early.path_rules.RenamedOperands.{operands_renamed, result_stays}
 use Rattle.rule_laws.proofs.rules.path_rules.Windows.{IsAlike, NoWrongWindow}
 use Rattle.pass_proofs.proofs.early.path_rules.Windows.{alike_renamed}
-use Rattle.ir_laws.proofs.paths.path_rules.Windows.{is_save}
-use Rattle.ir_laws.proofs.facts.Options.{passing_is}
+use Rattle.rule_laws.proofs.ir_laws.paths.path_rules.Windows.{is_save}
+use Rattle.rule_laws.proofs.ir_laws.facts.Options.{passing_is}
 use Rattle.pass_proofs.proofs.early.source_rules.Naming.{Stood, call_same, destroy_same as destroy_named, points_same, position_same as position_named, resume_same as resume_named, stood}
 use Rattle.pass_proofs.proofs.early.source_rules.NamedUses.{Unnamed, part_operands_same, unnamed_by}
-use Rattle.flow_solver.specs.Paths.{IsListed}
-use Rattle.ir_parts.specs.Contents.{ending_operands, instr_operands, result_of}
-use Rattle.ir_parts.specs.Parts.{instr_place}
+use Rattle.rule_laws.specs.flow_solver.Paths.{IsListed}
+use Rattle.rule_laws.specs.ir_parts.Contents.{ending_operands, instr_operands, result_of}
+use Rattle.rule_laws.specs.ir_parts.Parts.{instr_place}
 use Rattle.ir_model.specs.Calls.{first_result}
 use Rattle.ir_model.specs.Names.{position_of}
 use Rattle.ir_model.specs.declared.instr.Incoming.{Incoming}
@@ -41,13 +41,13 @@ use Rattle.ir_model.specs.declared.module.Function.{Function}
 use Rattle.ir_model.specs.declared.operand.Callee.{Callee}
 use Rattle.ir_model.specs.declared.operand.Intrinsic.{Intrinsic}
 use Rattle.ir_model.specs.declared.operand.Operand.{Operand}
-use Rattle.ir_paths.specs.Paths.{has_point, targets}
-use Rattle.ir_paths.specs.Windows.{destroy_label, end_block, instr_at, is_call_of, points_where, resume_label, suspend_of}
-use Rattle.ir_paths.specs.declared.point.Point.{Point}
-use Rattle.run_step.specs.Step.{phis_of}
-use Rattle.run_laws.specs.changed.Changed.{Each}
-use Rattle.rule_windows.specs.Windows.{ends_window, passes}
-use Rattle.rule_window_values.specs.Kept.{ByInstr, ByPhi, IsMadeIn, IsUsedBehind, TakesFrom, own_blocks, phi_results, phis_at, phis_in}
+use Rattle.rule_laws.specs.ir_paths.Paths.{has_point, targets}
+use Rattle.rule_laws.specs.ir_paths.Windows.{destroy_label, end_block, instr_at, is_call_of, points_where, resume_label, suspend_of}
+use Rattle.rule_laws.specs.ir_paths.declared.point.Point.{Point}
+use Rattle.rule_laws.specs.run_step.Step.{phis_of}
+use Rattle.rule_laws.specs.run_laws.changed.Changed.{Each}
+use Rattle.rule_laws.specs.rule_windows.Windows.{ends_window, passes}
+use Rattle.rule_laws.specs.rule_window_values.Kept.{ByInstr, ByPhi, IsMadeIn, IsUsedBehind, TakesFrom, own_blocks, phi_results, phis_at, phis_in}
 
 -- ---- lists
 

@@ -2,9 +2,9 @@
 use Rattle.std.proofs.Common.{◌≡◌, inl, inr, ℕ, zero, suc, Bool, true, false, List, [], ◌∷◌, length, refl, sym, ap, ◌∙◌, subst}
 use Rattle.std.specs.List.{cons_option}
 use Rattle.std.specs.Prelude.{Some, None, Option, filter_map, option_and_then, option_map, slice_get, ◌||◌}
-use Rattle.ir_base.specs.declared.outcome.Place.{Place}
+use Rattle.rule_laws.specs.ir_base.declared.outcome.Place.{Place}
 use Rattle.rule_laws.proofs.rules.renamed.Outside.{none_breaks}
-use Rattle.ir_laws.proofs.paths.renamed.Outside.{where_pass}
+use Rattle.rule_laws.proofs.ir_laws.paths.renamed.Outside.{where_pass}
 use Rattle.pass_early.specs.Early.{saved}
 use Rattle.rule_laws.proofs.rules.path_rules.Holding.{HoldsOf, first_none, of_parts, to_parts}
 use Rattle.pass_proofs.proofs.early.path_rules.Moved.{IsOf, front_same}
@@ -14,33 +14,33 @@ use Rattle.rule_laws.proofs.rules.path_rules.Outside.{place_point}
 use Rattle.pass_proofs.proofs.early.path_rules.SavedWindows.{inside_home, lone_token, none_between}
 use Rattle.pass_proofs.proofs.early.saves.Tokens.{bare_is}
 use Rattle.rule_laws.proofs.rules.path_rules.Windows.{IsAlike, inside_back}
-use Rattle.ir_laws.proofs.paths.path_rules.Windows.{got_has, is_save}
-use Rattle.ir_laws.proofs.facts.Options.{passing_is}
-use Rattle.ir_laws.proofs.paths.path_rules.Where.{where_has}
-use Rattle.ir_parts.specs.Parts.{Part, parts_of}
+use Rattle.rule_laws.proofs.ir_laws.paths.path_rules.Windows.{got_has, is_save}
+use Rattle.rule_laws.proofs.ir_laws.facts.Options.{passing_is}
+use Rattle.rule_laws.proofs.ir_laws.paths.path_rules.Where.{where_has}
+use Rattle.rule_laws.specs.ir_parts.Parts.{Part, parts_of}
 use Rattle.ir_model.specs.declared.instr.Instr.{Instr}
 use Rattle.ir_model.specs.declared.module.Block.{Block}
 use Rattle.ir_model.specs.declared.module.Function.{Function}
 use Rattle.ir_model.specs.declared.operand.Operand.{Operand}
-use Rattle.ir_paths.proofs.Right.{facts_of_right}
-use Rattle.ir_paths.proofs.Search.{or_left, or_right, same_point-itself, same_point-same}
-use Rattle.ir_paths.specs.Facts.{facts_of}
-use Rattle.ir_paths.specs.Paths.{IsPath, has_point, same_point}
-use Rattle.ir_paths.specs.Slots.{allocas_of, has_name}
-use Rattle.ir_paths.specs.Windows.{IsInWindow, call_operand, call_result, instr_at, instr_in, is_suspend_of, points_where, suspend_of}
-use Rattle.ir_paths.specs.declared.point.Point.{Point}
+use Rattle.rule_laws.proofs.ir_paths.Right.{facts_of_right}
+use Rattle.rule_laws.proofs.ir_paths.Search.{or_left, or_right, same_point-itself, same_point-same}
+use Rattle.rule_laws.specs.ir_paths.Facts.{facts_of}
+use Rattle.rule_laws.specs.ir_paths.Paths.{IsPath, has_point, same_point}
+use Rattle.rule_laws.specs.ir_paths.Slots.{allocas_of, has_name}
+use Rattle.rule_laws.specs.ir_paths.Windows.{IsInWindow, call_operand, call_result, instr_at, instr_in, is_suspend_of, points_where, suspend_of}
+use Rattle.rule_laws.specs.ir_paths.declared.point.Point.{Point}
 use Rattle.pass_proofs.proofs.early.saves.Slots.{same_allocas, same_ramp_slots}
-use Rattle.ir_laws.proofs.paths.expanded.Windows.{instr_at_is}
+use Rattle.rule_laws.proofs.ir_laws.paths.expanded.Windows.{instr_at_is}
 use Rattle.pass_proofs.proofs.early.saves.Windows.{suspend_bare, suspend_lone}
 use Rattle.pass_proofs.proofs.early.saves.Saves.{each_here}
 use Rattle.pass_proofs.specs.early.saves.SavesWritten.{saved_function}
 use Rattle.pass_proofs.specs.early.saves.Spots.{back_of, front_of}
-use Rattle.ir_laws.specs.facts.expanded.Spots.{instrs_in}
-use Rattle.ir_laws.specs.paths.expanded.Tokens.{HasNamedToken, HasNamedTokens}
-use Rattle.rule_slots.specs.Closed.{IsClosed, IsInOneOf, IsInSomeWindow}
-use Rattle.rule_slots.specs.Marked.{BreaksMarked, IsFirstMarked, is_marker}
-use Rattle.rule_slots.specs.Slots.{NamesSlot}
-use Rattle.rule_windows.specs.Points.{ends}
+use Rattle.rule_laws.specs.ir_laws.facts.expanded.Spots.{instrs_in}
+use Rattle.rule_laws.specs.ir_laws.paths.expanded.Tokens.{HasNamedToken, HasNamedTokens}
+use Rattle.rule_laws.specs.rule_slots.Closed.{IsClosed, IsInOneOf, IsInSomeWindow}
+use Rattle.rule_laws.specs.rule_slots.Marked.{BreaksMarked, IsFirstMarked, is_marker}
+use Rattle.rule_laws.specs.rule_slots.Slots.{NamesSlot}
+use Rattle.rule_laws.specs.rule_windows.Points.{ends}
 
 -- ---- the rule, by points
 

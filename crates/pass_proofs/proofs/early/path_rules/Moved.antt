@@ -1,28 +1,28 @@
 -- The paths of a function whose saves are written out, by where they come from.
 use Rattle.std.proofs.Common.{◌≡◌, ◌⊎◌, inl, inr, ℕ, Bool, true, false, List, [], length, refl, sym, ap, ◌∙◌, subst, arith}
 use Rattle.std.specs.Prelude.{Some, None, Option, slice_get, if◌then◌else◌}
-use Rattle.ir_laws.specs.facts.renamed.Regular.{passes}
+use Rattle.rule_laws.specs.ir_laws.facts.renamed.Regular.{passes}
 use Rattle.pass_early.specs.Early.{save_call, saved}
 use Rattle.pass_proofs.proofs.early.path_rules.SavedCalls.{IsOwn}
-use Rattle.ir_laws.proofs.paths.path_rules.Where.{has_where}
+use Rattle.rule_laws.proofs.ir_laws.paths.path_rules.Where.{has_where}
 use Rattle.ir_model.specs.declared.instr.Instr.{Instr}
 use Rattle.ir_model.specs.declared.module.Function.{Function}
-use Rattle.ir_paths.specs.Paths.{Leads, has_point}
-use Rattle.ir_paths.specs.Windows.{instr_at, points_where}
-use Rattle.ir_paths.specs.declared.point.Point.{Point}
+use Rattle.rule_laws.specs.ir_paths.Paths.{Leads, has_point}
+use Rattle.rule_laws.specs.ir_paths.Windows.{instr_at, points_where}
+use Rattle.rule_laws.specs.ir_paths.declared.point.Point.{Point}
 use Rattle.pass_proofs.proofs.early.saves.Apart.{back_back, front_back, front_front}
 use Rattle.pass_proofs.proofs.early.saves.Instrs.{name_at}
 use Rattle.pass_proofs.proofs.early.saves.Parts.{at_back}
 use Rattle.pass_proofs.proofs.early.saves.Saves.{lone_front}
-use Rattle.ir_laws.specs.paths.expanded.Avoided.{AreAvoided}
-use Rattle.ir_laws.proofs.paths.expanded.Strands.{IsLedTo, IsOnlyNext, ahead_home, leads_home}
+use Rattle.rule_laws.specs.ir_laws.paths.expanded.Avoided.{AreAvoided}
+use Rattle.rule_laws.proofs.ir_laws.paths.expanded.Strands.{IsLedTo, IsOnlyNext, ahead_home, leads_home}
 use Rattle.pass_proofs.proofs.early.saves.Ways.{strands, within}
 use Rattle.pass_proofs.proofs.early.saves.Windows.{front_bare, front_lone}
-use Rattle.ir_laws.proofs.paths.expanded.Windows.{instr_at_is}
+use Rattle.rule_laws.proofs.ir_laws.paths.expanded.Windows.{instr_at_is}
 use Rattle.pass_proofs.specs.early.saves.SavesWritten.{is_bare, saved_function}
 use Rattle.pass_proofs.specs.early.saves.Spots.{back_of, front_of, number_of_block, own_saves}
-use Rattle.ir_laws.specs.facts.expanded.Spots.{instrs_in}
-use Rattle.ir_laws.specs.paths.expanded.Tokens.{HasNamedTokens}
+use Rattle.rule_laws.specs.ir_laws.facts.expanded.Spots.{instrs_in}
+use Rattle.rule_laws.specs.ir_laws.paths.expanded.Tokens.{HasNamedTokens}
 
 -- y is the front or the back of a point
 abbrev pub IsOf : Function → Point → Point → Type 0

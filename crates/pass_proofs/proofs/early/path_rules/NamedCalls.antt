@@ -1,27 +1,27 @@
 -- Where begin gets a name: rules F1, K2, K4, K10 and K11.
 use Rattle.std.proofs.Common.{◌≡◌, ℕ, ◌+◌, Bool, true, false, List, [], ◌∷◌, ◌++◌, length, refl, sym, ap, ◌∙◌, subst}
 use Rattle.std.specs.Prelude.{Some, None, Option, filter, find, flat_map, is_none, is_some, map, not, option_and_then, option_map, position, slice_get, if◌then◌else◌, ◌==◌, ◌&&◌, ◌||◌}
-use Rattle.ir_base.specs.declared.outcome.Place.{Place}
-use Rattle.ir_calls.specs.Calls.{first_call, first_call_by, first_call_in, is_null, is_true, is_value, or_instr, value_of_first}
-use Rattle.rule_shape.specs.OneOfEach.{breaks_calls, calls_of, has_frame_at, has_no_other_frame, has_token, is_first_in_block, is_right, is_right_instr, is_second, wrong_call}
-use Rattle.rule_shape.specs.Places.{is_spot, places_by, places_in, places_where}
-use Rattle.rule_shape.specs.Promise.{is_wrong_promise, slot_named, wrong_promise}
-use Rattle.rule_shape.specs.Suspends.{is_final_suspend, second_final, suspend_too_many}
-use Rattle.rule_shape.specs.declared.one_of_each.Calls.{Calls}
-use Rattle.ir_laws.proofs.facts.Members.{at_each}
+use Rattle.rule_laws.specs.ir_base.declared.outcome.Place.{Place}
+use Rattle.rule_laws.specs.ir_calls.Calls.{first_call, first_call_by, first_call_in, is_null, is_true, is_value, or_instr, value_of_first}
+use Rattle.rule_laws.specs.rule_shape.OneOfEach.{breaks_calls, calls_of, has_frame_at, has_no_other_frame, has_token, is_first_in_block, is_right, is_right_instr, is_second, wrong_call}
+use Rattle.rule_laws.specs.rule_shape.Places.{is_spot, places_by, places_in, places_where}
+use Rattle.rule_laws.specs.rule_shape.Promise.{is_wrong_promise, slot_named, wrong_promise}
+use Rattle.rule_laws.specs.rule_shape.Suspends.{is_final_suspend, second_final, suspend_too_many}
+use Rattle.rule_laws.specs.rule_shape.declared.one_of_each.Calls.{Calls}
+use Rattle.rule_laws.proofs.ir_laws.facts.Members.{at_each}
 use Rattle.pass_proofs.proofs.early.renaming.Simulation.{other_call}
 use Rattle.rule_laws.proofs.rules.renamed.Switches.{none_part}
-use Rattle.ir_laws.proofs.paths.renamed.Uses.{stands_in}
+use Rattle.rule_laws.proofs.ir_laws.paths.renamed.Uses.{stands_in}
 use Rattle.pass_early.specs.BeginName.{begin_named, named_block, named_instr}
 use Rattle.rule_laws.proofs.rules.path_rules.Holding.{HoldsIn, of_parts, part_none, to_parts}
-use Rattle.ir_laws.proofs.facts.Truth.{both_stay, second_false}
+use Rattle.rule_laws.proofs.ir_laws.facts.Truth.{both_stay, second_false}
 use Rattle.pass_proofs.proofs.early.path_rules.RenamedCalls.{call_result_is, either_stays}
 use Rattle.pass_proofs.proofs.early.path_rules.RenamedOperands.{map_was}
 use Rattle.pass_proofs.proofs.early.source_rules.NamedUses.{Unnamed, unnamed_by}
 use Rattle.pass_proofs.proofs.early.source_rules.Naming.{block_there, call_kept, call_same, operand_same}
 use Rattle.rule_laws.proofs.rules.source_rules.Once.{first_call_at}
-use Rattle.rule_phis.specs.Edges.{breaks_edges, first_wrong_edge, fits_edges, into_block, is_empty, is_entry, leads, predecessors}
-use Rattle.ir_parts.specs.Parts.{Part, OfInstr, first_part, instr_place, parts_of, place_if}
+use Rattle.rule_laws.specs.rule_phis.Edges.{breaks_edges, first_wrong_edge, fits_edges, into_block, is_empty, is_entry, leads, predecessors}
+use Rattle.rule_laws.specs.ir_parts.Parts.{Part, OfInstr, first_part, instr_place, parts_of, place_if}
 use Rattle.ir_model.specs.Calls.{first_result}
 use Rattle.ir_model.specs.declared.instr.Instr.{Instr}
 use Rattle.ir_model.specs.declared.module.Block.{Block}
@@ -30,9 +30,9 @@ use Rattle.ir_model.specs.declared.operand.Arg.{Arg}
 use Rattle.ir_model.specs.declared.operand.Callee.{Callee}
 use Rattle.ir_model.specs.declared.operand.Intrinsic.{Intrinsic}
 use Rattle.ir_model.specs.declared.operand.Operand.{Operand}
-use Rattle.ir_paths.specs.Slots.{allocas_in}
-use Rattle.ir_paths.specs.Windows.{call_operand, call_result, is_call_of, operand_at}
-use Rattle.run_laws.specs.changed.Changed.{Each, result_of}
+use Rattle.rule_laws.specs.ir_paths.Slots.{allocas_in}
+use Rattle.rule_laws.specs.ir_paths.Windows.{call_operand, call_result, is_call_of, operand_at}
+use Rattle.rule_laws.specs.run_laws.changed.Changed.{Each, result_of}
 
 -- ---- instructions
 

@@ -8,12 +8,12 @@ use Rattle.pass_early.specs.BeginName.{begin_named, named_block, named_instr}
 use Rattle.pass_proofs.proofs.early.path_rules.Marked.{slot_back}
 use Rattle.pass_proofs.proofs.early.path_rules.NamedCalls.{all_allocas_named}
 use Rattle.pass_proofs.proofs.early.path_rules.NamedWindows.{alike_named}
-use Rattle.ir_laws.proofs.paths.path_rules.Outside.{end_at}
+use Rattle.rule_laws.proofs.ir_laws.paths.path_rules.Outside.{end_at}
 use Rattle.pass_proofs.proofs.early.path_rules.RenamedOperands.{map_was}
 use Rattle.pass_proofs.proofs.early.path_rules.SavedEarly.{NothingEarly, any_map}
 use Rattle.rule_laws.proofs.rules.path_rules.Windows.{leads_back}
 use Rattle.pass_proofs.proofs.early.source_rules.Naming.{block_there, call_same, points_same, position_same, stood}
-use Rattle.ir_parts.specs.Contents.{ending_operands}
+use Rattle.rule_laws.specs.ir_parts.Contents.{ending_operands}
 use Rattle.ir_model.specs.Calls.{first_result}
 use Rattle.ir_model.specs.Names.{position_of}
 use Rattle.ir_model.specs.declared.instr.Incoming.{Incoming}
@@ -23,16 +23,16 @@ use Rattle.ir_model.specs.declared.module.Function.{Function}
 use Rattle.ir_model.specs.declared.operand.Callee.{Callee}
 use Rattle.ir_model.specs.declared.operand.Intrinsic.{Intrinsic}
 use Rattle.ir_model.specs.declared.operand.Operand.{Operand}
-use Rattle.ir_paths.specs.Facts.{facts_of}
-use Rattle.ir_paths.specs.Paths.{has_point}
-use Rattle.ir_paths.specs.Slots.{addresses_of, addresses_within, allocas_of, geps_from, has_name, is_gep}
-use Rattle.ir_paths.specs.Windows.{is_call_of, points_where}
-use Rattle.ir_paths.specs.declared.point.Point.{Point}
-use Rattle.flow_points.specs.Reached.{IsReached}
-use Rattle.rule_slots.specs.Early.{IsBeforeBegin, IsMisused, IsTakenEarly, end_of, instr_count, memory_uses, other_uses, end_at as ends_at}
-use Rattle.rule_slots.specs.Slots.{IsCoroutineSlot, IsSlotAddress, NamesAddress, NamesPart}
-use Rattle.ir_laws.specs.facts.sound_states.Named.{HasNamedOperands}
-use Rattle.rule_windows.specs.Points.{begins, entry}
+use Rattle.rule_laws.specs.ir_paths.Facts.{facts_of}
+use Rattle.rule_laws.specs.ir_paths.Paths.{has_point}
+use Rattle.rule_laws.specs.ir_paths.Slots.{addresses_of, addresses_within, allocas_of, geps_from, has_name, is_gep}
+use Rattle.rule_laws.specs.ir_paths.Windows.{is_call_of, points_where}
+use Rattle.rule_laws.specs.ir_paths.declared.point.Point.{Point}
+use Rattle.rule_laws.specs.flow_points.Reached.{IsReached}
+use Rattle.rule_laws.specs.rule_slots.Early.{IsBeforeBegin, IsMisused, IsTakenEarly, end_of, instr_count, memory_uses, other_uses, end_at as ends_at}
+use Rattle.rule_laws.specs.rule_slots.Slots.{IsCoroutineSlot, IsSlotAddress, NamesAddress, NamesPart}
+use Rattle.rule_laws.specs.ir_laws.facts.sound_states.Named.{HasNamedOperands}
+use Rattle.rule_laws.specs.rule_windows.Points.{begins, entry}
 
 module _ (n : ℕ) where
   geps_named : (is_base : ℕ → Bool) (is : List Instr) → geps_from is_base (map (named_instr n) is) ≡ geps_from is_base is

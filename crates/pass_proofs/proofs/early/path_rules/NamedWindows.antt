@@ -1,20 +1,20 @@
 -- The windows of saves (rule K6), where begin gets a name.
 use Rattle.std.proofs.Common.{◌≡◌, ℕ, Bool, true, [], ◌∷◌, length, refl, sym, ap, ◌∙◌}
 use Rattle.std.specs.Prelude.{Some, None, Option, option_and_then, option_map, ◌||◌, ◌&&◌}
-use Rattle.ir_calls.specs.Calls.{is_final, is_true}
+use Rattle.rule_laws.specs.ir_calls.Calls.{is_final, is_true}
 use Rattle.pass_proofs.proofs.early.renaming.Simulation.{other_call}
 use Rattle.pass_early.specs.BeginName.{begin_named, named_instr}
 use Rattle.rule_laws.proofs.rules.path_rules.Windows.{IsAlike}
-use Rattle.ir_laws.proofs.paths.path_rules.Windows.{is_save}
+use Rattle.rule_laws.proofs.ir_laws.paths.path_rules.Windows.{is_save}
 use Rattle.pass_proofs.proofs.early.source_rules.Naming.{call_kept, call_same, destroy_same, entry_same, instr_there, nexts_same, operand_same, points_same, resume_same, stood}
 use Rattle.ir_model.specs.Names.{is_local}
 use Rattle.ir_model.specs.declared.instr.Instr.{Instr}
 use Rattle.ir_model.specs.declared.module.Function.{Function}
 use Rattle.ir_model.specs.declared.operand.Intrinsic.{Intrinsic}
-use Rattle.ir_paths.specs.Paths.{entry_point}
-use Rattle.ir_paths.specs.Windows.{call_result, destroy_label, instr_at, is_suspend_of, points_where, resume_label}
-use Rattle.ir_paths.specs.declared.point.Point.{Point}
-use Rattle.rule_windows.specs.Windows.{ends_window, passes, suspends_of}
+use Rattle.rule_laws.specs.ir_paths.Paths.{entry_point}
+use Rattle.rule_laws.specs.ir_paths.Windows.{call_result, destroy_label, instr_at, is_suspend_of, points_where, resume_label}
+use Rattle.rule_laws.specs.ir_paths.declared.point.Point.{Point}
+use Rattle.rule_laws.specs.rule_windows.Windows.{ends_window, passes, suspends_of}
 
 module _ (f : Function) where
   abbrev n : ℕ

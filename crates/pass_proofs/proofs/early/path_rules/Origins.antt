@@ -5,12 +5,12 @@ use Rattle.pass_early.specs.Early.{save_call, saved}
 use Rattle.ir_model.specs.declared.instr.Instr.{Instr}
 use Rattle.ir_model.specs.declared.module.Block.{Block}
 use Rattle.ir_model.specs.declared.module.Function.{Function}
-use Rattle.ir_paths.specs.Windows.{instr_at, instr_in}
-use Rattle.ir_paths.specs.declared.point.Point.{Point}
+use Rattle.rule_laws.specs.ir_paths.Windows.{instr_at, instr_in}
+use Rattle.rule_laws.specs.ir_paths.declared.point.Point.{Point}
 use Rattle.pass_proofs.proofs.early.saves.Blocks.{get_block}
 use Rattle.pass_proofs.specs.early.saves.SavesWritten.{behind_save, behind_saves, is_bare, saved_block, saved_function, with_save, with_saves}
 use Rattle.pass_proofs.specs.early.saves.Spots.{back_of, front_of, number_of_block, own_saves, place_in}
-use Rattle.ir_laws.specs.facts.expanded.Spots.{instrs_in}
+use Rattle.rule_laws.specs.ir_laws.facts.expanded.Spots.{instrs_in}
 
 -- an instruction of a block comes from one that stays, from a suspend that gets a save, or is that save
 pub data ComesFrom (c : Bool) (least n : ℕ) (is : List Instr) (j : ℕ) (y : Instr) : Type 0 where

@@ -2,8 +2,8 @@
 use Rattle.std.proofs.Common.{◌≡◌, inl, inr, ℕ, zero, suc, ◌<◌, Bool, true, false, List, [], ◌∷◌, ◌++◌, length, refl, sym, ap, ◌∙◌, subst, arith}
 use Rattle.std.specs.List.{Any}
 use Rattle.std.specs.Prelude.{Some, None, Option, drop, flat_map, map, option_map, slice_get, slice_index_or, if◌then◌else◌, ◌==◌, ◌||◌}
-use Rattle.ir_laws.proofs.facts.Members.{each_behind, each_there}
-use Rattle.ir_laws.proofs.facts.Truth.{equal_numbers, itself}
+use Rattle.rule_laws.proofs.ir_laws.facts.Members.{each_behind, each_there}
+use Rattle.rule_laws.proofs.ir_laws.facts.Truth.{equal_numbers, itself}
 use Rattle.run_states.proofs.renamed.Modules.{length_same}
 use Rattle.pass_proofs.proofs.early.renaming.Parts.{block_same, operand_at_same, points_where_same, position_same}
 use Rattle.pass_proofs.proofs.early.renaming.Slots.{facts_same as renamed_facts, plain_result}
@@ -12,12 +12,12 @@ use Rattle.pass_proofs.specs.early.renaming.Regular.{IsPlain, IsRegular}
 use Rattle.pass_early.specs.Renaming.{is_renamed, renamed, renamed_arg, renamed_callee, renamed_incoming, renamed_instr, renamed_phi, renamed_term, renamed_value}
 use Rattle.pass_early.specs.declared.renaming.Renaming.{Renaming}
 use Rattle.pass_proofs.proofs.early.path_rules.Marked.{slot_back}
-use Rattle.ir_laws.proofs.paths.path_rules.Outside.{end_at}
+use Rattle.rule_laws.proofs.ir_laws.paths.path_rules.Outside.{end_at}
 use Rattle.pass_proofs.proofs.early.path_rules.Outside.{instr_was, without_back}
 use Rattle.pass_proofs.proofs.early.path_rules.RenamedOperands.{args_renamed, map_was, operands_renamed}
 use Rattle.pass_proofs.proofs.early.path_rules.RenamedPromise.{allocas_same}
 use Rattle.pass_proofs.proofs.early.path_rules.SavedEarly.{NothingEarly, any_map}
-use Rattle.ir_parts.specs.Contents.{arg_operands, callee_operands, ending_operands}
+use Rattle.rule_laws.specs.ir_parts.Contents.{arg_operands, callee_operands, ending_operands}
 use Rattle.ir_model.specs.declared.instr.Instr.{Instr}
 use Rattle.ir_model.specs.declared.instr.Terminator.{Terminator}
 use Rattle.ir_model.specs.declared.module.Block.{Block}
@@ -26,16 +26,16 @@ use Rattle.ir_model.specs.declared.operand.Arg.{Arg}
 use Rattle.ir_model.specs.declared.operand.Callee.{Callee}
 use Rattle.ir_model.specs.declared.operand.Intrinsic.{Intrinsic}
 use Rattle.ir_model.specs.declared.operand.Operand.{Operand}
-use Rattle.ir_paths.specs.Facts.{facts_of}
-use Rattle.ir_paths.specs.Slots.{addresses_of, addresses_within, allocas_in, allocas_of, geps_from, has_name, is_gep, is_memcpy, is_no_use}
-use Rattle.ir_paths.specs.Windows.{instr_at, instr_in, is_call_of, operand_at, points_where}
-use Rattle.ir_paths.specs.declared.point.Point.{Point}
-use Rattle.rule_slots.specs.Early.{IsBeforeBegin, IsMisused, IsTakenEarly, call_uses, end_of, instr_count, memory_uses, other_uses, end_at as ends_at}
+use Rattle.rule_laws.specs.ir_paths.Facts.{facts_of}
+use Rattle.rule_laws.specs.ir_paths.Slots.{addresses_of, addresses_within, allocas_in, allocas_of, geps_from, has_name, is_gep, is_memcpy, is_no_use}
+use Rattle.rule_laws.specs.ir_paths.Windows.{instr_at, instr_in, is_call_of, operand_at, points_where}
+use Rattle.rule_laws.specs.ir_paths.declared.point.Point.{Point}
+use Rattle.rule_laws.specs.rule_slots.Early.{IsBeforeBegin, IsMisused, IsTakenEarly, call_uses, end_of, instr_count, memory_uses, other_uses, end_at as ends_at}
 use Rattle.ir_model.specs.Names.{position_of}
 use Rattle.ir_model.specs.declared.instr.Incoming.{Incoming}
 use Rattle.ir_model.specs.declared.instr.Phi.{Phi}
-use Rattle.rule_slots.specs.Slots.{IsCoroutineSlot, IsSlotAddress, NamesAddress, NamesPart}
-use Rattle.run_laws.specs.changed.Changed.{Each, result_of}
+use Rattle.rule_laws.specs.rule_slots.Slots.{IsCoroutineSlot, IsSlotAddress, NamesAddress, NamesPart}
+use Rattle.rule_laws.specs.run_laws.changed.Changed.{Each, result_of}
 
 -- ---- names of addresses are neither renamed nor begin's
 

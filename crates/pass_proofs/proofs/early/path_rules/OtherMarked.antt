@@ -2,7 +2,7 @@
 use Rattle.std.proofs.Common.{◌≡◌, ℕ, Bool, true, false, List, [], ◌∷◌, length, refl, sym, ap, ◌∙◌, subst}
 use Rattle.std.specs.Prelude.{IsTrue, None, if◌then◌else◌, ◌||◌}
 use Rattle.pass_proofs.proofs.early.begin_naming.NamedSlots.{facts_same as named_facts}
-use Rattle.ir_laws.proofs.facts.Truth.{itself}
+use Rattle.rule_laws.proofs.ir_laws.facts.Truth.{itself}
 use Rattle.pass_proofs.proofs.early.renaming.Parts.{call_of_same, call_operand_same, points_where_same}
 use Rattle.pass_proofs.proofs.early.renaming.Slots.{facts_same as renamed_facts}
 use Rattle.pass_proofs.specs.early.renaming.Passes.{renamed_coroutine}
@@ -16,7 +16,7 @@ use Rattle.pass_proofs.proofs.early.path_rules.NamedWindows.{alike_named}
 use Rattle.pass_proofs.proofs.early.path_rules.Outside.{instr_was}
 use Rattle.pass_proofs.proofs.early.path_rules.RenamedPromise.{allocas_same}
 use Rattle.pass_proofs.proofs.early.path_rules.Windows.{alike_renamed}
-use Rattle.ir_laws.proofs.paths.path_rules.Windows.{is_save}
+use Rattle.rule_laws.proofs.ir_laws.paths.path_rules.Windows.{is_save}
 use Rattle.pass_proofs.proofs.early.source_rules.Naming.{call_same, operand_same, points_same, stood}
 use Rattle.ir_model.specs.Calls.{first_result}
 use Rattle.ir_model.specs.declared.instr.Instr.{Instr}
@@ -25,12 +25,12 @@ use Rattle.ir_model.specs.declared.operand.Arg.{Arg}
 use Rattle.ir_model.specs.declared.operand.Callee.{Callee}
 use Rattle.ir_model.specs.declared.operand.Intrinsic.{Intrinsic}
 use Rattle.ir_model.specs.declared.operand.Operand.{Operand}
-use Rattle.ir_paths.proofs.Search.{or_left, or_right}
-use Rattle.ir_paths.specs.Slots.{has_name, is_in_args}
-use Rattle.ir_paths.specs.Windows.{call_operand, is_call_of, operand_at}
-use Rattle.rule_slots.specs.Marked.{is_marker}
-use Rattle.rule_slots.specs.Slots.{NamesSlot}
-use Rattle.ir_laws.specs.facts.sound_states.Named.{HasNamedOperands}
+use Rattle.rule_laws.proofs.ir_paths.Search.{or_left, or_right}
+use Rattle.rule_laws.specs.ir_paths.Slots.{has_name, is_in_args}
+use Rattle.rule_laws.specs.ir_paths.Windows.{call_operand, is_call_of, operand_at}
+use Rattle.rule_laws.specs.rule_slots.Marked.{is_marker}
+use Rattle.rule_laws.specs.rule_slots.Slots.{NamesSlot}
+use Rattle.rule_laws.specs.ir_laws.facts.sound_states.Named.{HasNamedOperands}
 use Rattle.ir_model.specs.Names.{is_local}
 
 -- ---- where uses are renamed

@@ -11,28 +11,28 @@ use Rattle.pass_proofs.proofs.early.path_rules.Origins.{HasOrigin, IsSavedBlock,
 use Rattle.pass_proofs.proofs.early.path_rules.RenamedOperands.{map_was}
 use Rattle.pass_proofs.proofs.early.path_rules.SavedCalls.{IsOwn, own_call}
 use Rattle.pass_proofs.proofs.early.saves.Tokens.{bare_is}
-use Rattle.ir_laws.proofs.paths.path_rules.Where.{has_where}
-use Rattle.ir_laws.specs.facts.renamed.Regular.{passes}
+use Rattle.rule_laws.proofs.ir_laws.paths.path_rules.Where.{has_where}
+use Rattle.rule_laws.specs.ir_laws.facts.renamed.Regular.{passes}
 use Rattle.ir_model.specs.declared.instr.Instr.{Instr}
 use Rattle.ir_model.specs.declared.instr.Terminator.{Terminator}
 use Rattle.ir_model.specs.declared.module.Block.{Block}
 use Rattle.ir_model.specs.declared.module.Function.{Function}
 use Rattle.ir_model.specs.declared.operand.Intrinsic.{Intrinsic}
-use Rattle.ir_paths.proofs.Search.{either, same_point-same}
-use Rattle.ir_paths.specs.Paths.{IsPath, Leads, has_point, same_point}
-use Rattle.ir_paths.specs.Windows.{instr_at, is_call_of, points_where}
-use Rattle.ir_paths.specs.declared.point.Point.{Point}
-use Rattle.flow_points.specs.Reached.{IsReached}
+use Rattle.rule_laws.proofs.ir_paths.Search.{either, same_point-same}
+use Rattle.rule_laws.specs.ir_paths.Paths.{IsPath, Leads, has_point, same_point}
+use Rattle.rule_laws.specs.ir_paths.Windows.{instr_at, is_call_of, points_where}
+use Rattle.rule_laws.specs.ir_paths.declared.point.Point.{Point}
+use Rattle.rule_laws.specs.flow_points.Reached.{IsReached}
 use Rattle.pass_proofs.proofs.early.saves.Instrs.{back_end}
-use Rattle.ir_laws.specs.paths.expanded.Avoided.{AreAvoided}
+use Rattle.rule_laws.specs.ir_laws.paths.expanded.Avoided.{AreAvoided}
 use Rattle.pass_proofs.specs.early.saves.SavesWritten.{is_bare, saved_function}
 use Rattle.pass_proofs.specs.early.saves.Spots.{back_of, front_of, number_of_block, own_saves, place_in}
-use Rattle.ir_laws.specs.facts.expanded.Spots.{instrs_in}
-use Rattle.ir_laws.specs.paths.expanded.Tokens.{HasNamedTokens}
-use Rattle.rule_windows.specs.Outside.{ends_with_it, is_return, needs_begin}
-use Rattle.rule_windows.specs.Points.{begins, ends, entry}
-use Rattle.rule_windows.specs.Sets.{IsAfterEnd, IsWithoutBegin, RunsOut}
-use Rattle.ir_laws.proofs.paths.path_rules.Outside.{end_at}
+use Rattle.rule_laws.specs.ir_laws.facts.expanded.Spots.{instrs_in}
+use Rattle.rule_laws.specs.ir_laws.paths.expanded.Tokens.{HasNamedTokens}
+use Rattle.rule_laws.specs.rule_windows.Outside.{ends_with_it, is_return, needs_begin}
+use Rattle.rule_laws.specs.rule_windows.Points.{begins, ends, entry}
+use Rattle.rule_laws.specs.rule_windows.Sets.{IsAfterEnd, IsWithoutBegin, RunsOut}
+use Rattle.rule_laws.proofs.ir_laws.paths.path_rules.Outside.{end_at}
 use Rattle.rule_laws.proofs.rules.path_rules.Outside.{NothingOutside, Outside}
 
 -- ---- where uses are renamed

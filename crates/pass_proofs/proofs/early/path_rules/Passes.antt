@@ -38,18 +38,18 @@ use Rattle.rule_laws.specs.rules.path_rules.Paths.{KeepsPaths}
 use Rattle.rule_laws.specs.rules.path_rules.Shape.{KeepsShape}
 use Rattle.pass_proofs.proofs.early.source_rules.Accepted.{all_named_keep}
 use Rattle.rule_laws.specs.rules.source_rules.Named.{AreTabled}
-use Rattle.rule_all.specs.Refused.{IsRefused}
+use Rattle.rule_laws.specs.rule_all.Refused.{IsRefused}
 use Rattle.ir_model.specs.Calls.{first_result}
 use Rattle.ir_model.specs.Names.{function_at, no_function}
 use Rattle.ir_model.specs.declared.module.Function.{Function}
 use Rattle.ir_model.specs.declared.module.Module.{Module}
 use Rattle.ir_model.specs.declared.operand.Intrinsic.{Intrinsic}
-use Rattle.rule_names.specs.declared.stage.Stage.{Stage}
+use Rattle.rule_laws.specs.rule_names.declared.stage.Stage.{Stage}
 use Rattle.pass_proofs.proofs.early.saves.Plain.{plain_stays}
 use Rattle.pass_proofs.specs.early.saves.SavesWritten.{saved_function, saves_written}
-use Rattle.ir_laws.specs.paths.expanded.Tokens.{HasNamedTokens}
-use Rattle.ir_laws.proofs.paths.named_locals.Names.{tokens_named}
-use Rattle.ir_laws.specs.facts.sound_states.Named.{AreLocalsNamed, AreUsesNamed, HasNamedOperands}
+use Rattle.rule_laws.specs.ir_laws.paths.expanded.Tokens.{HasNamedTokens}
+use Rattle.rule_laws.proofs.ir_laws.paths.named_locals.Names.{tokens_named}
+use Rattle.rule_laws.specs.ir_laws.facts.sound_states.Named.{AreLocalsNamed, AreUsesNamed, HasNamedOperands}
 use Rattle.rule_laws.proofs.rules.path_rules.Passes.{accepted_paths}
 
 -- ---- one function

@@ -1,12 +1,12 @@
 -- The calls of a renamed function: rules K2, K4 and K11.
 use Rattle.std.proofs.Common.{◌≡◌, ℕ, ◌+◌, Bool, true, false, List, [], ◌∷◌, ◌++◌, length, refl, sym, ap, ◌∙◌, subst}
 use Rattle.std.specs.Prelude.{Some, None, Option, find, is_none, map, not, option_and_then, option_map, slice_get, if◌then◌else◌, ◌&&◌, ◌||◌}
-use Rattle.ir_base.specs.declared.outcome.Place.{Place}
-use Rattle.ir_calls.specs.Calls.{first_call, first_call_by, first_call_in, is_null, is_true, is_value, or_instr, value_of_first}
-use Rattle.rule_shape.specs.OneOfEach.{breaks_calls, calls_of, has_frame_at, has_no_other_frame, has_token, is_first_in_block, is_right, is_right_instr, is_second, wrong_call}
-use Rattle.rule_shape.specs.Places.{places_by, places_in, places_where}
-use Rattle.rule_shape.specs.Suspends.{is_final_suspend, is_suspend, second_final, suspend_too_many}
-use Rattle.rule_shape.specs.declared.one_of_each.Calls.{Calls}
+use Rattle.rule_laws.specs.ir_base.declared.outcome.Place.{Place}
+use Rattle.rule_laws.specs.ir_calls.Calls.{first_call, first_call_by, first_call_in, is_null, is_true, is_value, or_instr, value_of_first}
+use Rattle.rule_laws.specs.rule_shape.OneOfEach.{breaks_calls, calls_of, has_frame_at, has_no_other_frame, has_token, is_first_in_block, is_right, is_right_instr, is_second, wrong_call}
+use Rattle.rule_laws.specs.rule_shape.Places.{places_by, places_in, places_where}
+use Rattle.rule_laws.specs.rule_shape.Suspends.{is_final_suspend, is_suspend, second_final, suspend_too_many}
+use Rattle.rule_laws.specs.rule_shape.declared.one_of_each.Calls.{Calls}
 use Rattle.run_states.proofs.renamed.Modules.{length_same}
 use Rattle.pass_proofs.proofs.early.renaming.Parts.{call_of_same, call_operand_same, operand_at_same, result_same}
 use Rattle.pass_proofs.proofs.early.renaming.Simulation.{other_call}
@@ -18,7 +18,7 @@ use Rattle.pass_early.specs.declared.renaming.Renaming.{Renaming}
 use Rattle.rule_laws.proofs.rules.path_rules.Holding.{HoldsIn, of_parts, part_none, to_parts}
 use Rattle.pass_proofs.proofs.early.path_rules.RenamedOperands.{local_stays, map_was, null_stays, true_stays}
 use Rattle.rule_laws.proofs.rules.source_rules.Once.{first_call_at}
-use Rattle.ir_parts.specs.Parts.{OfInstr, first_part, instr_place, parts_of}
+use Rattle.rule_laws.specs.ir_parts.Parts.{OfInstr, first_part, instr_place, parts_of}
 use Rattle.ir_model.specs.declared.instr.Instr.{Instr}
 use Rattle.ir_model.specs.declared.module.Block.{Block}
 use Rattle.ir_model.specs.declared.module.Function.{Function}
@@ -26,9 +26,9 @@ use Rattle.ir_model.specs.declared.operand.Arg.{Arg}
 use Rattle.ir_model.specs.declared.operand.Callee.{Callee}
 use Rattle.ir_model.specs.declared.operand.Intrinsic.{Intrinsic}
 use Rattle.ir_model.specs.declared.operand.Operand.{Operand}
-use Rattle.ir_paths.specs.Windows.{call_operand, call_result, is_call_of, operand_at}
-use Rattle.run_laws.specs.changed.Changed.{result_of}
-use Rattle.ir_laws.proofs.facts.Truth.{both_stay, second_false}
+use Rattle.rule_laws.specs.ir_paths.Windows.{call_operand, call_result, is_call_of, operand_at}
+use Rattle.rule_laws.specs.run_laws.changed.Changed.{result_of}
+use Rattle.rule_laws.proofs.ir_laws.facts.Truth.{both_stay, second_false}
 
 pub call_result_is : (k : Intrinsic) (i : Instr) → is_call_of k i ≡ true → result_of i ≡ call_result i
 call_result_is k (Instr.Call result must_tail ty callee args) e = refl

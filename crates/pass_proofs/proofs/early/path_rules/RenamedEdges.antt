@@ -3,18 +3,18 @@ use Rattle.std.proofs.Common.{◌≡◌, ℕ, Bool, true, false, List, [], ◌�
 use Rattle.std.proofs.lemmas.Option.{slice_get-map}
 use Rattle.std.specs.List.{list_all, list_any}
 use Rattle.std.specs.Prelude.{Some, None, Option, filter, map, not, option_map, slice_get, if◌then◌else◌, ◌&&◌, ◌==◌, ◌||◌}
-use Rattle.ir_base.specs.declared.outcome.Place.{Place}
-use Rattle.ir_laws.proofs.facts.Truth.{equal_numbers, itself, not_breaks}
+use Rattle.rule_laws.specs.ir_base.declared.outcome.Place.{Place}
+use Rattle.rule_laws.proofs.ir_laws.facts.Truth.{equal_numbers, itself, not_breaks}
 use Rattle.rule_laws.proofs.rules.renamed.Switches.{none_part}
 use Rattle.pass_proofs.specs.early.renaming.Passes.{renamed_block, renamed_coroutine}
 use Rattle.pass_early.specs.Renaming.{renamed, renamed_incoming, renamed_phi, renamed_term, renamed_value}
 use Rattle.pass_early.specs.declared.renaming.Renaming.{Renaming}
 use Rattle.rule_laws.proofs.rules.path_rules.Holding.{HoldsIn, of_parts, part_none, to_parts}
 use Rattle.pass_proofs.proofs.early.path_rules.RenamedOperands.{map_was}
-use Rattle.rule_phis.specs.Edges.{breaks_edges, differs, first_wrong_edge, fits_edges, has, incoming_labels, into_block, is_empty, is_entry, leads, predecessors}
-use Rattle.rule_phis.specs.Operands.{same_operand}
-use Rattle.ir_parts.specs.Contents.{ending_labels}
-use Rattle.ir_parts.specs.Parts.{Part, OfPhi, instr_place, parts_of}
+use Rattle.rule_laws.specs.rule_phis.Edges.{breaks_edges, differs, first_wrong_edge, fits_edges, has, incoming_labels, into_block, is_empty, is_entry, leads, predecessors}
+use Rattle.rule_laws.specs.rule_phis.Operands.{same_operand}
+use Rattle.rule_laws.specs.ir_parts.Contents.{ending_labels}
+use Rattle.rule_laws.specs.ir_parts.Parts.{Part, OfPhi, instr_place, parts_of}
 use Rattle.ir_model.specs.declared.instr.Incoming.{Incoming}
 use Rattle.ir_model.specs.declared.instr.Phi.{Phi}
 use Rattle.ir_model.specs.declared.instr.Terminator.{Terminator}

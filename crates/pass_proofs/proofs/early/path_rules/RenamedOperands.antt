@@ -1,16 +1,16 @@
 -- The operands of a renamed function, and how its parts come from the function's.
 use Rattle.std.proofs.Common.{◌≡◌, ℕ, zero, suc, ◌+◌, Bool, true, false, List, [], ◌∷◌, ◌++◌, refl, sym, ap, ◌∙◌}
 use Rattle.std.specs.Prelude.{Some, None, cond, flat_map, map, slice_get, if◌then◌else◌, ◌==◌}
-use Rattle.ir_calls.specs.Calls.{is_null, is_true}
-use Rattle.rule_shape.specs.Uses.{block_operands, phi_operands, uses_of}
-use Rattle.ir_laws.proofs.facts.Truth.{equal_numbers}
+use Rattle.rule_laws.specs.ir_calls.Calls.{is_null, is_true}
+use Rattle.rule_laws.specs.rule_shape.Uses.{block_operands, phi_operands, uses_of}
+use Rattle.rule_laws.proofs.ir_laws.facts.Truth.{equal_numbers}
 use Rattle.pass_proofs.proofs.early.renaming.Parts.{local_same}
 use Rattle.pass_proofs.specs.early.renaming.Passes.{renamed_block, renamed_coroutine}
 use Rattle.pass_proofs.specs.early.renaming.Regular.{IsPlain}
 use Rattle.pass_early.specs.Renaming.{is_renamed, renamed, renamed_arg, renamed_incoming, renamed_instr, renamed_phi, renamed_term, renamed_value}
 use Rattle.pass_early.specs.declared.renaming.Renaming.{Renaming}
 use Rattle.pass_proofs.proofs.early.path_rules.SavedSwitches.{times_append, times_in, times_more}
-use Rattle.ir_parts.specs.Contents.{arg_operands, ending_operands, instr_operands, result_of}
+use Rattle.rule_laws.specs.ir_parts.Contents.{arg_operands, ending_operands, instr_operands, result_of}
 use Rattle.ir_model.specs.Names.{is_local}
 use Rattle.ir_model.specs.declared.instr.Incoming.{Incoming}
 use Rattle.ir_model.specs.declared.instr.Instr.{Instr}

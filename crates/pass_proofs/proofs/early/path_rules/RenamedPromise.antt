@@ -3,12 +3,12 @@ use Rattle.std.proofs.Common.{◌≡◌, ◌⊎◌, inl, inr, ℕ, suc, ◌+◌,
 use Rattle.std.proofs.lemmas.Bool.{le-ltb}
 use Rattle.std.specs.Prelude.{Some, None, Option, cond, flat_map, is_some, map, nat_lt, not, option_and_then, option_map, position, slice_get, if◌then◌else◌, ◌==◌}
 use Rattle.std.specs.List.{position_or_len}
-use Rattle.ir_base.specs.declared.outcome.Place.{Place}
-use Rattle.ir_calls.specs.Calls.{first_call, is_null}
-use Rattle.rule_shape.specs.Places.{places_where}
-use Rattle.rule_shape.specs.Promise.{is_promise, is_wrong_promise, promise_operand, slot_named, slot_of, wrong_promise}
-use Rattle.ir_laws.proofs.facts.Members.{each_behind}
-use Rattle.ir_laws.proofs.facts.Truth.{equal_numbers}
+use Rattle.rule_laws.specs.ir_base.declared.outcome.Place.{Place}
+use Rattle.rule_laws.specs.ir_calls.Calls.{first_call, is_null}
+use Rattle.rule_laws.specs.rule_shape.Places.{places_where}
+use Rattle.rule_laws.specs.rule_shape.Promise.{is_promise, is_wrong_promise, promise_operand, slot_named, slot_of, wrong_promise}
+use Rattle.rule_laws.proofs.ir_laws.facts.Members.{each_behind}
+use Rattle.rule_laws.proofs.ir_laws.facts.Truth.{equal_numbers}
 use Rattle.pass_proofs.proofs.early.renaming.Parts.{call_of_same, call_operand_same}
 use Rattle.pass_proofs.specs.early.renaming.Passes.{renamed_block, renamed_coroutine}
 use Rattle.pass_proofs.specs.early.renaming.Regular.{IsRegular}
@@ -16,15 +16,15 @@ use Rattle.pass_early.specs.Renaming.{is_renamed, renamed, renamed_instr}
 use Rattle.pass_early.specs.declared.renaming.Renaming.{Renaming}
 use Rattle.pass_proofs.proofs.early.path_rules.RenamedOperands.{null_stays}
 use Rattle.pass_proofs.proofs.early.path_rules.SavedCalls.{by_promise, if_own, promise_by}
-use Rattle.ir_parts.specs.Parts.{place_if}
+use Rattle.rule_laws.specs.ir_parts.Parts.{place_if}
 use Rattle.ir_model.specs.declared.instr.Instr.{Instr}
 use Rattle.ir_model.specs.declared.module.Block.{Block}
 use Rattle.ir_model.specs.declared.module.Function.{Function}
 use Rattle.ir_model.specs.declared.operand.Intrinsic.{Intrinsic}
 use Rattle.ir_model.specs.declared.operand.Operand.{Operand}
-use Rattle.ir_paths.specs.Slots.{allocas_in, allocas_of}
-use Rattle.ir_paths.specs.Windows.{call_operand, instr_at, instr_in, is_call_of}
-use Rattle.run_laws.specs.changed.Changed.{Each, result_of}
+use Rattle.rule_laws.specs.ir_paths.Slots.{allocas_in, allocas_of}
+use Rattle.rule_laws.specs.ir_paths.Windows.{call_operand, instr_at, instr_in, is_call_of}
+use Rattle.rule_laws.specs.run_laws.changed.Changed.{Each, result_of}
 use Rattle.pass_proofs.proofs.early.path_rules.RenamedCalls.{either_stays, first_call_renamed, places_same}
 
 -- no alloca is a value of coro.frame

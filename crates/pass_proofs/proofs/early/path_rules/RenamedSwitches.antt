@@ -1,10 +1,10 @@
 -- The switches of suspends of a renamed function: rule K3.
 use Rattle.std.proofs.Common.{◌≡◌, ℕ, ◌+◌, Bool, true, false, length, refl, sym, ap, ◌∙◌, subst}
 use Rattle.std.specs.Prelude.{Some, None, Option, nat_le, not, option_map, slice_get, if◌then◌else◌, ◌==◌, ◌&&◌}
-use Rattle.ir_base.specs.declared.outcome.Place.{Place}
-use Rattle.rule_shape.specs.Places.{is_the}
-use Rattle.rule_shape.specs.Switches.{are_both, breaks_switch, end_label, is_last, is_switch_on, is_switched, is_switched_in, wrong_switch}
-use Rattle.rule_shape.specs.Uses.{uses_of}
+use Rattle.rule_laws.specs.ir_base.declared.outcome.Place.{Place}
+use Rattle.rule_laws.specs.rule_shape.Places.{is_the}
+use Rattle.rule_laws.specs.rule_shape.Switches.{are_both, breaks_switch, end_label, is_last, is_switch_on, is_switched, is_switched_in, wrong_switch}
+use Rattle.rule_laws.specs.rule_shape.Uses.{uses_of}
 use Rattle.run_states.proofs.renamed.Modules.{length_same}
 use Rattle.pass_proofs.proofs.early.renaming.Parts.{block_same, call_of_same, end_same, result_same}
 use Rattle.pass_proofs.proofs.early.renaming.Simulation.{other_call}
@@ -16,17 +16,17 @@ use Rattle.pass_early.specs.Renaming.{is_renamed, renamed, renamed_instr, rename
 use Rattle.pass_early.specs.declared.renaming.Renaming.{Renaming}
 use Rattle.rule_laws.proofs.rules.path_rules.Holding.{HoldsIn, of_parts, part_none, to_parts}
 use Rattle.pass_proofs.proofs.early.path_rules.RenamedOperands.{local_stays, map_was, uses_renamed}
-use Rattle.ir_laws.proofs.facts.Truth.{both_true, both_stay}
+use Rattle.rule_laws.proofs.ir_laws.facts.Truth.{both_true, both_stay}
 use Rattle.pass_proofs.proofs.early.path_rules.SavedSwitches.{no_switch_breaks}
-use Rattle.ir_parts.specs.Parts.{Part, OfInstr, first_part, instr_place, parts_of}
+use Rattle.rule_laws.specs.ir_parts.Parts.{Part, OfInstr, first_part, instr_place, parts_of}
 use Rattle.ir_model.specs.Names.{is_local}
 use Rattle.ir_model.specs.declared.instr.Instr.{Instr}
 use Rattle.ir_model.specs.declared.instr.Terminator.{Terminator}
 use Rattle.ir_model.specs.declared.module.Block.{Block}
 use Rattle.ir_model.specs.declared.module.Function.{Function}
 use Rattle.ir_model.specs.declared.operand.Intrinsic.{Intrinsic}
-use Rattle.ir_paths.specs.Windows.{call_result, end_block, instr_in, is_call_of}
-use Rattle.run_laws.specs.changed.Changed.{result_of}
+use Rattle.rule_laws.specs.ir_paths.Windows.{call_result, end_block, instr_in, is_call_of}
+use Rattle.rule_laws.specs.run_laws.changed.Changed.{result_of}
 use Rattle.pass_proofs.proofs.early.path_rules.RenamedCalls.{call_result_is}
 
 module _ (r : Renaming) (func : ℕ) (f : Function) (coroutine : f.coroutine ≡ true) (ok : IsRegular f r) where

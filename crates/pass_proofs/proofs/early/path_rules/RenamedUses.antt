@@ -2,28 +2,28 @@
 use Rattle.std.proofs.Common.{◌≡◌, ◌⊎◌, inl, inr, ℕ, suc, ◌+◌, Bool, true, false, List, [], ◌∷◌, ◌++◌, length, refl, sym, ap, ◌∙◌, subst, arith}
 use Rattle.std.proofs.lemmas.Option.{slice_get-map, slice_get_past}
 use Rattle.std.specs.Prelude.{Some, None, Option, map, option_map, option_to_list, slice_get, if◌then◌else◌}
-use Rattle.flow_blocks.specs.Edges.{block_edges, edges_of_blocks}
-use Rattle.ir_base.specs.declared.outcome.Place.{Place}
-use Rattle.rule_uses.specs.Undefined.{Entry, IsFirstUndefined, IsUndefined, Next, ReachesWithout, params_of}
-use Rattle.rule_uses.specs.Uses.{Use, block_uses, block_values, blocks_uses, incoming_use, incoming_uses, instr_uses, local_of, locals_in, made_by_instrs, made_by_phis, phi_uses, phi_values, use_of, uses_at, uses_of, values_at, values_in}
-use Rattle.ir_laws.proofs.facts.Members.{each_behind}
-use Rattle.ir_laws.proofs.facts.Lists.{get_within}
+use Rattle.rule_laws.specs.flow_blocks.Edges.{block_edges, edges_of_blocks}
+use Rattle.rule_laws.specs.ir_base.declared.outcome.Place.{Place}
+use Rattle.rule_laws.specs.rule_uses.Undefined.{Entry, IsFirstUndefined, IsUndefined, Next, ReachesWithout, params_of}
+use Rattle.rule_laws.specs.rule_uses.Uses.{Use, block_uses, block_values, blocks_uses, incoming_use, incoming_uses, instr_uses, local_of, locals_in, made_by_instrs, made_by_phis, phi_uses, phi_values, use_of, uses_at, uses_of, values_at, values_in}
+use Rattle.rule_laws.proofs.ir_laws.facts.Members.{each_behind}
+use Rattle.rule_laws.proofs.ir_laws.facts.Lists.{get_within}
 use Rattle.rule_laws.proofs.rules.renamed.Outside.{each_left, each_right}
 use Rattle.pass_proofs.proofs.early.renaming.Parts.{position_same, targets_same}
 use Rattle.pass_proofs.proofs.early.renaming.Simulation.{other_call}
 use Rattle.rule_laws.proofs.rules.renamed.Uses.{none_undefined, result_spelt}
 use Rattle.pass_proofs.specs.early.renaming.Passes.{renamed_block, renamed_coroutine}
 use Rattle.pass_proofs.specs.early.renaming.Regular.{IsPlain, IsRegular}
-use Rattle.ir_laws.specs.facts.renamed.Regular.{passes}
+use Rattle.rule_laws.specs.ir_laws.facts.renamed.Regular.{passes}
 use Rattle.pass_early.specs.Renaming.{is_renamed, renamed, renamed_incoming, renamed_instr, renamed_phi, renamed_term, renamed_value}
 use Rattle.pass_early.specs.declared.renaming.Renaming.{Renaming}
 use Rattle.rule_laws.proofs.rules.path_rules.Outside.{NothingOutside}
 use Rattle.pass_proofs.proofs.early.path_rules.RenamedOperands.{operands_renamed, result_stays}
 use Rattle.rule_laws.proofs.rules.path_rules.SavedUses.{all_defined}
-use Rattle.ir_laws.proofs.paths.path_rules.Where.{has_where}
-use Rattle.flow_solver.specs.Paths.{IsListed}
-use Rattle.ir_parts.specs.Contents.{ending_operands, instr_operands, result_of}
-use Rattle.ir_parts.specs.Parts.{instr_place}
+use Rattle.rule_laws.proofs.ir_laws.paths.path_rules.Where.{has_where}
+use Rattle.rule_laws.specs.flow_solver.Paths.{IsListed}
+use Rattle.rule_laws.specs.ir_parts.Contents.{ending_operands, instr_operands, result_of}
+use Rattle.rule_laws.specs.ir_parts.Parts.{instr_place}
 use Rattle.ir_model.specs.Names.{position_of}
 use Rattle.ir_model.specs.declared.instr.Incoming.{Incoming}
 use Rattle.ir_model.specs.declared.instr.Instr.{Instr}
@@ -34,17 +34,17 @@ use Rattle.ir_model.specs.declared.module.Function.{Function}
 use Rattle.ir_model.specs.declared.operand.Callee.{Callee}
 use Rattle.ir_model.specs.declared.operand.Intrinsic.{Intrinsic}
 use Rattle.ir_model.specs.declared.operand.Operand.{Operand}
-use Rattle.ir_paths.proofs.Search.{Has, leads-more, or_left, same_point-itself}
-use Rattle.ir_paths.specs.Paths.{Leads, has_point, nexts, same_point, targets}
-use Rattle.ir_paths.specs.Windows.{instr_at, instr_in, is_call_of}
-use Rattle.ir_paths.specs.declared.point.Point.{Point}
-use Rattle.run_step.specs.Step.{phis_of}
-use Rattle.flow_points.proofs.Neighbours.{next-inner}
-use Rattle.flow_reach.proofs.Ways.{edge_leaves}
-use Rattle.run_laws.specs.changed.Changed.{Each}
-use Rattle.rule_windows.specs.Outside.{needs_begin}
-use Rattle.rule_windows.specs.Points.{begins, entry}
-use Rattle.rule_windows.specs.Sets.{IsWithoutBegin}
+use Rattle.rule_laws.proofs.ir_paths.Search.{Has, leads-more, or_left, same_point-itself}
+use Rattle.rule_laws.specs.ir_paths.Paths.{Leads, has_point, nexts, same_point, targets}
+use Rattle.rule_laws.specs.ir_paths.Windows.{instr_at, instr_in, is_call_of}
+use Rattle.rule_laws.specs.ir_paths.declared.point.Point.{Point}
+use Rattle.rule_laws.specs.run_step.Step.{phis_of}
+use Rattle.rule_laws.proofs.flow_points.Neighbours.{next-inner}
+use Rattle.rule_laws.proofs.flow_reach.Ways.{edge_leaves}
+use Rattle.rule_laws.specs.run_laws.changed.Changed.{Each}
+use Rattle.rule_laws.specs.rule_windows.Outside.{needs_begin}
+use Rattle.rule_laws.specs.rule_windows.Points.{begins, entry}
+use Rattle.rule_laws.specs.rule_windows.Sets.{IsWithoutBegin}
 
 frame_needs : (i : Instr) → is_call_of Intrinsic.CoroFrame i ≡ true → needs_begin i ≡ true
 frame_needs (Instr.Call result must_tail ty (Callee.Intrinsic Intrinsic.CoroFrame) args) e = refl

@@ -2,20 +2,20 @@
 use Rattle.std.proofs.Common.{◌≡◌, ◌⊎◌, inl, inr, ℕ, ◌+◌, Bool, true, false, List, [], ◌∷◌, ◌++◌, length, refl, sym, ap, ◌∙◌, subst, arith, length-append}
 use Rattle.std.proofs.lemmas.Option.{slice_get_past}
 use Rattle.std.specs.Prelude.{Some, None, Option, find, is_none, is_some, not, option_and_then, option_map, position, slice_get, if◌then◌else◌, ◌==◌, ◌&&◌, ◌||◌}
-use Rattle.ir_base.specs.declared.outcome.Place.{Place}
-use Rattle.ir_calls.specs.Calls.{first_call, first_call_by, first_call_in, is_null, or_instr}
-use Rattle.rule_shape.specs.OneOfEach.{breaks_calls, calls_of, has_no_other_frame, is_first_in_block, is_right, is_right_instr, is_second, second_call, wrong_call}
-use Rattle.rule_shape.specs.Places.{is_spot, is_the, place_of_passing, places_by, places_in, places_where}
-use Rattle.rule_shape.specs.Promise.{is_wrong_promise, promise_operand, slot_named, wrong_promise}
-use Rattle.rule_shape.specs.Suspends.{is_final_suspend, is_suspend, second_final, suspend_too_many}
-use Rattle.rule_shape.specs.declared.one_of_each.Calls.{Calls}
-use Rattle.ir_laws.proofs.facts.Truth.{equal_numbers, second_false as no_call_breaks}
+use Rattle.rule_laws.specs.ir_base.declared.outcome.Place.{Place}
+use Rattle.rule_laws.specs.ir_calls.Calls.{first_call, first_call_by, first_call_in, is_null, or_instr}
+use Rattle.rule_laws.specs.rule_shape.OneOfEach.{breaks_calls, calls_of, has_no_other_frame, is_first_in_block, is_right, is_right_instr, is_second, second_call, wrong_call}
+use Rattle.rule_laws.specs.rule_shape.Places.{is_spot, is_the, place_of_passing, places_by, places_in, places_where}
+use Rattle.rule_laws.specs.rule_shape.Promise.{is_wrong_promise, promise_operand, slot_named, wrong_promise}
+use Rattle.rule_laws.specs.rule_shape.Suspends.{is_final_suspend, is_suspend, second_final, suspend_too_many}
+use Rattle.rule_laws.specs.rule_shape.declared.one_of_each.Calls.{Calls}
+use Rattle.rule_laws.proofs.ir_laws.facts.Truth.{equal_numbers, second_false as no_call_breaks}
 use Rattle.rule_laws.proofs.rules.renamed.Switches.{none_part}
 use Rattle.pass_early.specs.Early.{save_call, saved}
 use Rattle.rule_laws.proofs.rules.path_rules.Holding.{HoldsIn, HoldsOf, of_parts, part_none, to_parts}
 use Rattle.pass_proofs.proofs.early.path_rules.Origins.{ComesFrom, IsSavedBlock, Saves, Stays, Suspends, block_from, comes_from, number_least}
 use Rattle.rule_laws.proofs.rules.source_rules.Once.{no_second_begin, no_second_end, no_second_id}
-use Rattle.ir_parts.specs.Parts.{OfInstr, first_part, instr_place, parts_of, place_if}
+use Rattle.rule_laws.specs.ir_parts.Parts.{OfInstr, first_part, instr_place, parts_of, place_if}
 use Rattle.ir_model.specs.declared.instr.Instr.{Instr}
 use Rattle.ir_model.specs.declared.module.Block.{Block}
 use Rattle.ir_model.specs.declared.module.Function.{Function}
@@ -23,13 +23,13 @@ use Rattle.ir_model.specs.declared.operand.Arg.{Arg}
 use Rattle.ir_model.specs.declared.operand.Callee.{Callee}
 use Rattle.ir_model.specs.declared.operand.Intrinsic.{Intrinsic}
 use Rattle.ir_model.specs.declared.operand.Operand.{Operand}
-use Rattle.ir_paths.specs.Windows.{call_operand, call_result, is_call_of}
-use Rattle.ir_laws.proofs.facts.Lists.{none_past}
+use Rattle.rule_laws.specs.ir_paths.Windows.{call_operand, call_result, is_call_of}
+use Rattle.rule_laws.proofs.ir_laws.facts.Lists.{none_past}
 use Rattle.pass_proofs.proofs.early.saves.Slots.{same_allocas}
 use Rattle.pass_proofs.proofs.early.saves.Tokens.{bare_is}
 use Rattle.pass_proofs.specs.early.saves.SavesWritten.{behind_save, behind_saves, is_bare, saved_blocks, saved_function, with_save, with_saves}
 use Rattle.pass_proofs.specs.early.saves.Spots.{number_of_block, place_in}
-use Rattle.ir_laws.specs.paths.expanded.Tokens.{HasNamedTokens}
+use Rattle.rule_laws.specs.ir_laws.paths.expanded.Tokens.{HasNamedTokens}
 
 -- ---- how many instructions pass a test
 

@@ -2,20 +2,20 @@
 use Rattle.std.proofs.Common.{◌≡◌, inl, inr, ℕ, ◌+◌, true, List, length, refl, sym, ap, ◌∙◌, subst}
 use Rattle.std.specs.List.{Any}
 use Rattle.std.specs.Prelude.{Some, None, Option, option_map, slice_get}
-use Rattle.ir_base.specs.declared.outcome.Place.{Place}
+use Rattle.rule_laws.specs.ir_base.declared.outcome.Place.{Place}
 use Rattle.rule_laws.proofs.rules.renamed.Outside.{none_breaks}
-use Rattle.ir_laws.specs.facts.renamed.Regular.{passes}
+use Rattle.rule_laws.specs.ir_laws.facts.renamed.Regular.{passes}
 use Rattle.rule_laws.proofs.rules.path_rules.Holding.{HoldsOf, first_none, of_parts, to_parts}
 use Rattle.pass_proofs.proofs.early.path_rules.Marked.{slot_back}
 use Rattle.pass_proofs.proofs.early.path_rules.Moved.{IsOf, same_source}
 use Rattle.pass_proofs.proofs.early.path_rules.Origins.{HasOrigin, Kept, Suspended, Written, block_from, origin}
 use Rattle.rule_laws.proofs.rules.path_rules.Outside.{NothingOutside, of_outside, place_point}
-use Rattle.ir_laws.proofs.paths.path_rules.Outside.{end_at}
+use Rattle.rule_laws.proofs.ir_laws.paths.path_rules.Outside.{end_at}
 use Rattle.pass_proofs.proofs.early.path_rules.Outside.{end_back, without_home}
 use Rattle.pass_proofs.proofs.early.saves.Tokens.{IsUnsaved, bare_is}
-use Rattle.ir_laws.proofs.paths.path_rules.Where.{has_where}
-use Rattle.ir_parts.specs.Contents.{ending_operands}
-use Rattle.ir_parts.specs.Parts.{Part, parts_of}
+use Rattle.rule_laws.proofs.ir_laws.paths.path_rules.Where.{has_where}
+use Rattle.rule_laws.specs.ir_parts.Contents.{ending_operands}
+use Rattle.rule_laws.specs.ir_parts.Parts.{Part, parts_of}
 use Rattle.ir_model.specs.Names.{position_of}
 use Rattle.ir_model.specs.declared.instr.Incoming.{Incoming}
 use Rattle.ir_model.specs.declared.instr.Instr.{Instr}
@@ -24,21 +24,21 @@ use Rattle.ir_model.specs.declared.module.Block.{Block}
 use Rattle.ir_model.specs.declared.module.Function.{Function}
 use Rattle.ir_model.specs.declared.operand.Intrinsic.{Intrinsic}
 use Rattle.ir_model.specs.declared.operand.Operand.{Operand}
-use Rattle.ir_paths.specs.Paths.{has_point}
-use Rattle.ir_paths.specs.Slots.{has_name}
-use Rattle.ir_paths.specs.Windows.{instr_at, instr_in, is_call_of}
-use Rattle.ir_paths.specs.declared.point.Point.{Point}
+use Rattle.rule_laws.specs.ir_paths.Paths.{has_point}
+use Rattle.rule_laws.specs.ir_paths.Slots.{has_name}
+use Rattle.rule_laws.specs.ir_paths.Windows.{instr_at, instr_in, is_call_of}
+use Rattle.rule_laws.specs.ir_paths.declared.point.Point.{Point}
 use Rattle.pass_proofs.proofs.early.saves.Blocks.{get_block, position_saved}
 use Rattle.pass_proofs.proofs.early.saves.Slots.{same_addresses, same_allocas, same_ramp_slots}
 use Rattle.pass_proofs.specs.early.saves.SavesWritten.{is_bare, saved_block, saved_function}
 use Rattle.pass_proofs.specs.early.saves.Spots.{back_of, number_of_block, own_saves, place_in}
-use Rattle.ir_laws.specs.facts.expanded.Spots.{instrs_in}
-use Rattle.ir_laws.specs.paths.expanded.Tokens.{HasNamedTokens}
-use Rattle.rule_slots.specs.Early.{BreaksEarly, IsBeforeBegin, IsFirstEarly, IsMisused, IsTakenEarly, end_of, instr_count, memory_uses, other_uses, end_at as ends_at}
-use Rattle.rule_slots.specs.Slots.{IsCoroutineSlot, IsSlotAddress, NamesAddress, NamesPart}
-use Rattle.rule_windows.specs.Outside.{IsFirstOutside, needs_begin}
-use Rattle.rule_windows.specs.Points.{begins, entry}
-use Rattle.rule_windows.specs.Sets.{IsWithoutBegin}
+use Rattle.rule_laws.specs.ir_laws.facts.expanded.Spots.{instrs_in}
+use Rattle.rule_laws.specs.ir_laws.paths.expanded.Tokens.{HasNamedTokens}
+use Rattle.rule_laws.specs.rule_slots.Early.{BreaksEarly, IsBeforeBegin, IsFirstEarly, IsMisused, IsTakenEarly, end_of, instr_count, memory_uses, other_uses, end_at as ends_at}
+use Rattle.rule_laws.specs.rule_slots.Slots.{IsCoroutineSlot, IsSlotAddress, NamesAddress, NamesPart}
+use Rattle.rule_laws.specs.rule_windows.Outside.{IsFirstOutside, needs_begin}
+use Rattle.rule_laws.specs.rule_windows.Points.{begins, entry}
+use Rattle.rule_laws.specs.rule_windows.Sets.{IsWithoutBegin}
 
 -- ---- the rule, by points
 

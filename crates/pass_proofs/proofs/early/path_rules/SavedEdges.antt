@@ -1,12 +1,12 @@
 -- The edges of a function whose saves are written out: rules F1 and K3.
 use Rattle.std.proofs.Common.{◌≡◌, ℕ, Bool, true, false, List, [], ◌∷◌, length, refl, sym, ap, ◌∙◌, subst}
 use Rattle.std.specs.Prelude.{Some, None, Option, filter, map, not, option_map, slice_get, if◌then◌else◌, ◌&&◌}
-use Rattle.ir_base.specs.declared.outcome.Place.{Place}
+use Rattle.rule_laws.specs.ir_base.declared.outcome.Place.{Place}
 use Rattle.rule_laws.proofs.rules.renamed.Switches.{none_part}
 use Rattle.rule_laws.proofs.rules.path_rules.Holding.{HoldsIn, of_parts, part_none, to_parts}
 use Rattle.pass_proofs.proofs.early.path_rules.Origins.{block_from}
-use Rattle.rule_phis.specs.Edges.{breaks_edges, first_wrong_edge, fits_edges, into_block, is_empty, is_entry, leads, predecessors}
-use Rattle.ir_parts.specs.Parts.{Part, parts_of}
+use Rattle.rule_laws.specs.rule_phis.Edges.{breaks_edges, first_wrong_edge, fits_edges, into_block, is_empty, is_entry, leads, predecessors}
+use Rattle.rule_laws.specs.ir_parts.Parts.{Part, parts_of}
 use Rattle.ir_model.specs.declared.module.Block.{Block}
 use Rattle.ir_model.specs.declared.module.Function.{Function}
 use Rattle.pass_proofs.proofs.early.saves.Blocks.{get_block}

@@ -1,7 +1,7 @@
 -- Values made in windows and used behind them (rule K7), where saves are written.
 use Rattle.std.proofs.Common.{◌≡◌, inl, inr, ℕ, true, false, [], ◌∷◌, length, refl, sym, ap, ◌∙◌, subst}
 use Rattle.std.specs.Prelude.{Some, None, Option, map, option_and_then, option_map, slice_get}
-use Rattle.ir_laws.proofs.paths.renamed.Outside.{where_pass}
+use Rattle.rule_laws.proofs.ir_laws.paths.renamed.Outside.{where_pass}
 use Rattle.pass_early.specs.Early.{saved}
 use Rattle.rule_laws.proofs.rules.path_rules.KeptValues.{IsSameBehind, NoneKept, NotBehind, no_call_inside, none_used, one_home}
 use Rattle.pass_proofs.proofs.early.path_rules.Moved.{front_same, led_home, same_source}
@@ -9,32 +9,32 @@ use Rattle.pass_proofs.proofs.early.path_rules.Origins.{HasOrigin, Kept, Suspend
 use Rattle.pass_proofs.proofs.early.path_rules.SavedUses.{block_edges_saved, uses_move, values_within}
 use Rattle.pass_proofs.proofs.early.path_rules.SavedWindows.{inside_home, label_saved, lone_token, none_between, not_same}
 use Rattle.pass_proofs.proofs.early.saves.Tokens.{bare_is}
-use Rattle.ir_laws.proofs.paths.path_rules.Where.{where_has}
+use Rattle.rule_laws.proofs.ir_laws.paths.path_rules.Where.{where_has}
 use Rattle.rule_laws.proofs.rules.path_rules.Windows.{NoWrongWindow}
-use Rattle.ir_laws.proofs.paths.path_rules.Windows.{got_has, is_save}
-use Rattle.ir_laws.proofs.facts.Options.{passing_is}
-use Rattle.flow_solver.specs.Paths.{IsListed}
+use Rattle.rule_laws.proofs.ir_laws.paths.path_rules.Windows.{got_has, is_save}
+use Rattle.rule_laws.proofs.ir_laws.facts.Options.{passing_is}
+use Rattle.rule_laws.specs.flow_solver.Paths.{IsListed}
 use Rattle.ir_model.specs.Names.{position_of}
 use Rattle.ir_model.specs.declared.instr.Instr.{Instr}
 use Rattle.ir_model.specs.declared.instr.Phi.{Phi}
 use Rattle.ir_model.specs.declared.module.Block.{Block}
 use Rattle.ir_model.specs.declared.module.Function.{Function}
-use Rattle.ir_paths.specs.Paths.{Leads, has_point}
-use Rattle.ir_paths.specs.Windows.{IsInWindow, call_result, destroy_label, instr_at, is_suspend_of, points_where, resume_label, suspend_of}
-use Rattle.ir_paths.specs.declared.point.Point.{Point}
+use Rattle.rule_laws.specs.ir_paths.Paths.{Leads, has_point}
+use Rattle.rule_laws.specs.ir_paths.Windows.{IsInWindow, call_result, destroy_label, instr_at, is_suspend_of, points_where, resume_label, suspend_of}
+use Rattle.rule_laws.specs.ir_paths.declared.point.Point.{Point}
 use Rattle.pass_proofs.proofs.early.saves.Apart.{front_back}
 use Rattle.pass_proofs.proofs.early.saves.Behind.{end_saved}
 use Rattle.pass_proofs.proofs.early.saves.Blocks.{get_block, position_saved}
 use Rattle.pass_proofs.proofs.early.saves.Saves.{each_here}
-use Rattle.ir_laws.specs.paths.expanded.Avoided.{AreAvoided}
+use Rattle.rule_laws.specs.ir_laws.paths.expanded.Avoided.{AreAvoided}
 use Rattle.pass_proofs.proofs.early.saves.Windows.{are_avoided as window_avoided, suspend_bare, suspend_lone}
-use Rattle.ir_laws.proofs.paths.expanded.Windows.{instr_at_is}
+use Rattle.rule_laws.proofs.ir_laws.paths.expanded.Windows.{instr_at_is}
 use Rattle.pass_proofs.specs.early.saves.SavesWritten.{is_bare, saved_block, saved_function}
 use Rattle.pass_proofs.specs.early.saves.Spots.{back_of, front_of, number_of_block}
-use Rattle.ir_laws.specs.facts.expanded.Spots.{instrs_in}
-use Rattle.ir_laws.specs.paths.expanded.Tokens.{HasNamedToken, HasNamedTokens}
-use Rattle.rule_windows.specs.Windows.{ends_window, ends_window_at, passes}
-use Rattle.rule_window_values.specs.Kept.{AtSuspend, ByInstr, ByPhi, Inside, IsFrontIn, IsMadeIn, IsUsedBehind, TakesFrom, front, own_blocks, phi_results, phis_at, phis_in}
+use Rattle.rule_laws.specs.ir_laws.facts.expanded.Spots.{instrs_in}
+use Rattle.rule_laws.specs.ir_laws.paths.expanded.Tokens.{HasNamedToken, HasNamedTokens}
+use Rattle.rule_laws.specs.rule_windows.Windows.{ends_window, ends_window_at, passes}
+use Rattle.rule_laws.specs.rule_window_values.Kept.{AtSuspend, ByInstr, ByPhi, Inside, IsFrontIn, IsMadeIn, IsUsedBehind, TakesFrom, front, own_blocks, phi_results, phis_at, phis_in}
 
 module _ (f : Function) (named : HasNamedTokens f) where
   abbrev late : Function

@@ -2,35 +2,35 @@
 use Rattle.std.proofs.Common.{◌≡◌, ℕ, suc, ◌+◌, ◌<◌, Bool, true, false, List, [], ◌∷◌, ◌++◌, length, refl, sym, ap, ◌∙◌, subst, arith}
 use Rattle.std.proofs.lemmas.List.Sums.{sum_by-append, sum_by-cons}
 use Rattle.std.specs.Prelude.{Some, None, Option, cond, count_by, flat_map, nat_le, not, option_map, slice_get, if◌then◌else◌, ◌&&◌, ◌==◌}
-use Rattle.ir_base.specs.declared.outcome.Place.{Place}
-use Rattle.rule_shape.specs.Switches.{breaks_switch, end_label, is_last, is_switch_on, is_switched, is_switched_in, wrong_switch}
-use Rattle.rule_shape.specs.Uses.{block_operands, phi_operands, uses_of}
+use Rattle.rule_laws.specs.ir_base.declared.outcome.Place.{Place}
+use Rattle.rule_laws.specs.rule_shape.Switches.{breaks_switch, end_label, is_last, is_switch_on, is_switched, is_switched_in, wrong_switch}
+use Rattle.rule_laws.specs.rule_shape.Uses.{block_operands, phi_operands, uses_of}
 use Rattle.rule_laws.proofs.rules.renamed.Switches.{none_part}
 use Rattle.pass_early.specs.Early.{save_call, saved}
 use Rattle.rule_laws.proofs.rules.path_rules.Holding.{HoldsIn, of_parts, part_none, to_parts}
 use Rattle.pass_proofs.proofs.early.path_rules.Origins.{ComesFrom, Saves, Stays, Suspends, block_from, comes_from, number_least}
 use Rattle.pass_proofs.proofs.early.saves.Tokens.{bare_is}
-use Rattle.ir_parts.specs.Contents.{arg_operands, ending_operands, instr_operands}
-use Rattle.ir_parts.specs.Parts.{Part, OfInstr, first_part, instr_place, parts_of}
+use Rattle.rule_laws.specs.ir_parts.Contents.{arg_operands, ending_operands, instr_operands}
+use Rattle.rule_laws.specs.ir_parts.Parts.{Part, OfInstr, first_part, instr_place, parts_of}
 use Rattle.ir_model.specs.Names.{is_local}
 use Rattle.ir_model.specs.declared.instr.Instr.{Instr}
 use Rattle.ir_model.specs.declared.module.Block.{Block}
 use Rattle.ir_model.specs.declared.module.Function.{Function}
 use Rattle.ir_model.specs.declared.operand.Intrinsic.{Intrinsic}
 use Rattle.ir_model.specs.declared.operand.Operand.{Operand}
-use Rattle.ir_paths.proofs.Search.{eq_from, eq_itself}
-use Rattle.ir_paths.specs.Windows.{call_result, end_block, is_call_of}
+use Rattle.rule_laws.proofs.ir_paths.Search.{eq_from, eq_itself}
+use Rattle.rule_laws.specs.ir_paths.Windows.{call_result, end_block, is_call_of}
 use Rattle.pass_proofs.proofs.early.saves.Behind.{end_saved}
 use Rattle.pass_proofs.proofs.early.saves.Blocks.{get_block}
-use Rattle.ir_laws.proofs.facts.Lists.{place_end}
+use Rattle.rule_laws.proofs.ir_laws.facts.Lists.{place_end}
 use Rattle.pass_proofs.proofs.early.saves.Instrs.{next_place}
-use Rattle.ir_laws.proofs.facts.Members.{at_each as each_at}
+use Rattle.rule_laws.proofs.ir_laws.facts.Members.{at_each as each_at}
 use Rattle.pass_proofs.specs.early.saves.SavesWritten.{behind_save, behind_saves, is_bare, saved_block, saved_blocks, saved_function, with_save, with_saves}
 use Rattle.pass_proofs.specs.early.saves.Spots.{number_of_block, own_saves, place_in}
-use Rattle.run_laws.specs.changed.Changed.{Each}
-use Rattle.ir_laws.specs.paths.expanded.Tokens.{HasNamedToken, HasNamedTokens}
-use Rattle.ir_laws.specs.facts.expanded.Tokens.{IsNamedResult}
-use Rattle.ir_laws.proofs.facts.Truth.{both_true, other_number as less_than}
+use Rattle.rule_laws.specs.run_laws.changed.Changed.{Each}
+use Rattle.rule_laws.specs.ir_laws.paths.expanded.Tokens.{HasNamedToken, HasNamedTokens}
+use Rattle.rule_laws.specs.ir_laws.facts.expanded.Tokens.{IsNamedResult}
+use Rattle.rule_laws.proofs.ir_laws.facts.Truth.{both_true, other_number as less_than}
 
 -- ---- how often a local is an operand
 

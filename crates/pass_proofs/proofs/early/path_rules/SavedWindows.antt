@@ -1,45 +1,45 @@
 -- The windows of saves (rule K6), where saves are written.
 use Rattle.std.proofs.Common.{◌≡◌, ◌⊎◌, inl, inr, ℕ, suc, ◌+◌, ◌<◌, ◌≤◌, Bool, true, false, List, [], ◌∷◌, ◌++◌, length, refl, sym, ap, ◌∙◌, subst, arith}
 use Rattle.std.specs.Prelude.{IsTrue, Some, None, Option, map, option_and_then, option_map, slice_get, if◌then◌else◌, ◌&&◌, ◌==◌}
-use Rattle.ir_calls.specs.Calls.{is_final}
-use Rattle.ir_laws.proofs.paths.renamed.Outside.{where_pass}
+use Rattle.rule_laws.specs.ir_calls.Calls.{is_final}
+use Rattle.rule_laws.proofs.ir_laws.paths.renamed.Outside.{where_pass}
 use Rattle.pass_early.specs.Early.{save_call, saved}
 use Rattle.pass_proofs.proofs.early.path_rules.Moved.{IsOf, back_saved, back_stays, front_home, front_same, led_home, none_front}
 use Rattle.pass_proofs.proofs.early.path_rules.Origins.{HasOrigin, Kept, Suspended, Written, origin}
 use Rattle.pass_proofs.proofs.early.saves.Tokens.{bare_is}
 use Rattle.rule_laws.proofs.rules.path_rules.Windows.{NoWrongWindow}
-use Rattle.ir_laws.proofs.paths.path_rules.Windows.{got_has, is_save}
-use Rattle.ir_laws.proofs.facts.Options.{passing_is}
+use Rattle.rule_laws.proofs.ir_laws.paths.path_rules.Windows.{got_has, is_save}
+use Rattle.rule_laws.proofs.ir_laws.facts.Options.{passing_is}
 use Rattle.ir_model.specs.Names.{is_local}
 use Rattle.ir_model.specs.declared.instr.Instr.{Instr}
 use Rattle.ir_model.specs.declared.module.Block.{Block}
 use Rattle.ir_model.specs.declared.module.Function.{Function}
 use Rattle.ir_model.specs.declared.operand.Intrinsic.{Intrinsic}
 use Rattle.ir_model.specs.declared.operand.Operand.{Operand}
-use Rattle.ir_paths.proofs.Search.{Has, either, eq_from, or_left, or_right, same_point-itself, same_point-same}
-use Rattle.ir_paths.specs.Paths.{IsPath, Leads, has_point, nexts, same_point}
-use Rattle.ir_paths.specs.Windows.{IsInWindow, call_operand, call_result, destroy_label, instr_at, is_call_of, is_suspend_of, label_at, points_from, points_in, points_where, resume_label}
-use Rattle.ir_paths.specs.declared.point.Point.{Point}
+use Rattle.rule_laws.proofs.ir_paths.Search.{Has, either, eq_from, or_left, or_right, same_point-itself, same_point-same}
+use Rattle.rule_laws.specs.ir_paths.Paths.{IsPath, Leads, has_point, nexts, same_point}
+use Rattle.rule_laws.specs.ir_paths.Windows.{IsInWindow, call_operand, call_result, destroy_label, instr_at, is_call_of, is_suspend_of, label_at, points_from, points_in, points_where, resume_label}
+use Rattle.rule_laws.specs.ir_paths.declared.point.Point.{Point}
 use Rattle.pass_proofs.proofs.early.saves.Apart.{back_back, front_back, front_front}
 use Rattle.pass_proofs.proofs.early.saves.Behind.{entry_saved}
 use Rattle.pass_proofs.proofs.early.saves.Blocks.{get_block}
 use Rattle.pass_proofs.proofs.early.saves.Instrs.{name_at}
 use Rattle.pass_proofs.proofs.early.saves.Saves.{each_here}
-use Rattle.ir_laws.specs.paths.expanded.Avoided.{AreAvoided}
-use Rattle.ir_laws.proofs.paths.expanded.Strands.{IsLedTo, IsOnlyNext, from_front, leads_forth, leads_home}
-use Rattle.ir_laws.proofs.paths.expanded.Ways.{IsMovedFrom, map_has}
+use Rattle.rule_laws.specs.ir_laws.paths.expanded.Avoided.{AreAvoided}
+use Rattle.rule_laws.proofs.ir_laws.paths.expanded.Strands.{IsLedTo, IsOnlyNext, from_front, leads_forth, leads_home}
+use Rattle.rule_laws.proofs.ir_laws.paths.expanded.Ways.{IsMovedFrom, map_has}
 use Rattle.pass_proofs.proofs.early.saves.Ways.{save_leads, strands, within}
-use Rattle.ir_laws.proofs.paths.expanded.Windows.{instr_at_is}
+use Rattle.rule_laws.proofs.ir_laws.paths.expanded.Windows.{instr_at_is}
 use Rattle.pass_proofs.proofs.early.saves.Windows.{suspend_bare, suspends_saved, are_avoided as window_avoided}
 use Rattle.pass_proofs.specs.early.saves.SavesWritten.{behind_save, behind_saves, is_bare, saved_block, saved_blocks, saved_function, with_saves}
 use Rattle.pass_proofs.specs.early.saves.Spots.{back_of, front_of, number_of_block, own_saves}
-use Rattle.ir_laws.specs.facts.expanded.Spots.{instrs_in}
-use Rattle.run_laws.specs.changed.Changed.{Each}
-use Rattle.ir_laws.specs.paths.expanded.Tokens.{HasNamedToken, HasNamedTokens}
-use Rattle.ir_laws.specs.facts.expanded.Tokens.{IsNamed}
-use Rattle.rule_windows.specs.Windows.{Back, Between, BreaksWindow, Call, ComesBack, HasCall, HasWayBack, IsWrong, Left, NoPath, NotOne, ends_window, ends_window_at, is_final_at, own_edges, passes, suspends_of}
-use Rattle.ir_laws.proofs.facts.Truth.{other_name as other_number}
-use Rattle.ir_laws.proofs.paths.path_rules.SavedWindows.{neither}
+use Rattle.rule_laws.specs.ir_laws.facts.expanded.Spots.{instrs_in}
+use Rattle.rule_laws.specs.run_laws.changed.Changed.{Each}
+use Rattle.rule_laws.specs.ir_laws.paths.expanded.Tokens.{HasNamedToken, HasNamedTokens}
+use Rattle.rule_laws.specs.ir_laws.facts.expanded.Tokens.{IsNamed}
+use Rattle.rule_laws.specs.rule_windows.Windows.{Back, Between, BreaksWindow, Call, ComesBack, HasCall, HasWayBack, IsWrong, Left, NoPath, NotOne, ends_window, ends_window_at, is_final_at, own_edges, passes, suspends_of}
+use Rattle.rule_laws.proofs.ir_laws.facts.Truth.{other_name as other_number}
+use Rattle.rule_laws.proofs.ir_laws.paths.path_rules.SavedWindows.{neither}
 
 not_itself : (p q : Point) → same_point p q ≡ false → p ≡ q → ⊥
 not_itself p q h e = let t : false ≡ true = sym h ∙ ap (λ (x : Point). same_point x q) e ∙ same_point-itself q in cc

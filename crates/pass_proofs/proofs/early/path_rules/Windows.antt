@@ -1,7 +1,7 @@
 -- Lemmas on windows.
 use Rattle.std.proofs.Common.{◌≡◌, ℕ, Bool, true, [], ◌∷◌, refl, sym, ap, ◌∙◌}
 use Rattle.std.specs.Prelude.{Some, None, Option, option_and_then, option_map, ◌||◌, ◌&&◌}
-use Rattle.ir_calls.specs.Calls.{is_final, is_true}
+use Rattle.rule_laws.specs.ir_calls.Calls.{is_final, is_true}
 use Rattle.pass_proofs.proofs.early.renaming.Parts.{call_of_same, call_operand_same, destroy_same as renamed_destroy, entry_same as renamed_entry, instr_same, local_same, nexts_same as renamed_nexts, points_where_same, resume_same as renamed_resume, result_same}
 use Rattle.pass_proofs.proofs.early.renaming.Simulation.{other_call}
 use Rattle.pass_proofs.proofs.early.renaming.Slots.{plain_result}
@@ -16,11 +16,11 @@ use Rattle.ir_model.specs.Names.{is_local}
 use Rattle.ir_model.specs.declared.instr.Instr.{Instr}
 use Rattle.ir_model.specs.declared.module.Function.{Function}
 use Rattle.ir_model.specs.declared.operand.Intrinsic.{Intrinsic}
-use Rattle.ir_paths.specs.Paths.{entry_point, nexts}
-use Rattle.ir_paths.specs.Windows.{call_operand, call_result, destroy_label, instr_at, is_suspend_of, points_where, resume_label}
-use Rattle.ir_paths.specs.declared.point.Point.{Point}
-use Rattle.rule_windows.specs.Windows.{ends_window, passes, suspends_of}
-use Rattle.ir_laws.proofs.paths.path_rules.Windows.{is_save}
+use Rattle.rule_laws.specs.ir_paths.Paths.{entry_point, nexts}
+use Rattle.rule_laws.specs.ir_paths.Windows.{call_operand, call_result, destroy_label, instr_at, is_suspend_of, points_where, resume_label}
+use Rattle.rule_laws.specs.ir_paths.declared.point.Point.{Point}
+use Rattle.rule_laws.specs.rule_windows.Windows.{ends_window, passes, suspends_of}
+use Rattle.rule_laws.proofs.ir_laws.paths.path_rules.Windows.{is_save}
 use Rattle.rule_laws.proofs.rules.path_rules.Windows.{IsAlike}
 
 abbrev token_of : Function → Point → Option ℕ

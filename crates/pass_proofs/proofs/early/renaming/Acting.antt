@@ -3,25 +3,25 @@ use Rattle.std.proofs.Common.{◌≡◌, ℕ, Bool, true, false, List, [], ◌�
 use Rattle.std.specs.List.{list_all}
 use Rattle.std.specs.Option.{option_map_or}
 use Rattle.std.specs.Prelude.{ℤ, negsuc, IsTrue, None, Ok, Err, Option, Result, filter, find, map, not, option_and_then, if◌then◌else◌, ◌==◌}
-use Rattle.run_memory.specs.Memory.{owner_rights}
-use Rattle.run_memory.specs.declared.pointer.Pointer.{Pointer}
-use Rattle.run_memory.specs.declared.pointer.Value.{Value}
-use Rattle.ir_base.specs.declared.cause.Cause.{Cause}
-use Rattle.ir_base.specs.declared.outcome.Outcome.{Outcome}
-use Rattle.run_source.specs.Source.{Sleeper, act, advance_by, block_of_slot, branch_leaving, called, continue, coro, done_at, frame_of_promise, given, go_to, is_live_at, is_over, may_leave, mode_of, promise_block, promise_of_frame, push, destroy, resume, resumed, save, save_before, save_for, sleeper_at, step}
-use Rattle.run_source.specs.State.{frame_address_of, gives, instance_at, next, or_undefined, own_instance, point_of, with_left, with_status, work_of}
-use Rattle.run_source.specs.declared.state.Instance.{Instance}
-use Rattle.run_source.specs.declared.state.State.{State}
-use Rattle.run_source.specs.declared.state.Status.{Status}
+use Rattle.rule_laws.specs.run_memory.Memory.{owner_rights}
+use Rattle.rule_laws.specs.run_memory.declared.pointer.Pointer.{Pointer}
+use Rattle.rule_laws.specs.run_memory.declared.pointer.Value.{Value}
+use Rattle.rule_laws.specs.ir_base.declared.cause.Cause.{Cause}
+use Rattle.rule_laws.specs.ir_base.declared.outcome.Outcome.{Outcome}
+use Rattle.rule_laws.specs.run_source.Source.{Sleeper, act, advance_by, block_of_slot, branch_leaving, called, continue, coro, done_at, frame_of_promise, given, go_to, is_live_at, is_over, may_leave, mode_of, promise_block, promise_of_frame, push, destroy, resume, resumed, save, save_before, save_for, sleeper_at, step}
+use Rattle.rule_laws.specs.run_source.State.{frame_address_of, gives, instance_at, next, or_undefined, own_instance, point_of, with_left, with_status, work_of}
+use Rattle.rule_laws.specs.run_source.declared.state.Instance.{Instance}
+use Rattle.rule_laws.specs.run_source.declared.state.State.{State}
+use Rattle.rule_laws.specs.run_source.declared.state.Status.{Status}
 use Rattle.pass_proofs.proofs.early.renaming.Actions.{IsSame, renamed_fetched, same_action, same_args}
 use Rattle.run_states.proofs.renamed.Modules.{action_there, operand_there}
-use Rattle.ir_laws.proofs.facts.Lists.{map_same}
+use Rattle.rule_laws.proofs.ir_laws.facts.Lists.{map_same}
 use Rattle.pass_proofs.proofs.early.renaming.Parts.{destroy_same, entry_same, fetch_same, operand_at_same, resume_same}
 use Rattle.pass_proofs.proofs.early.renaming.Sameness.{Agree, AgreeOn, by_function, enter_same, final_same, has_final_same, mild, place_same, same_all, save_same, true_same}
 use Rattle.pass_proofs.proofs.early.renaming.Slots.{markers_same, promise_same, suspend_same}
 use Rattle.pass_proofs.specs.early.renaming.Passes.{renamed_function, renamed_module}
 use Rattle.pass_proofs.specs.early.renaming.Regular.{AreRegular}
-use Rattle.ir_laws.specs.paths.renamed.Regular.{is_call_at, operands_read}
+use Rattle.rule_laws.specs.ir_laws.paths.renamed.Regular.{is_call_at, operands_read}
 use Rattle.pass_early.specs.Early.{renaming_of}
 use Rattle.pass_early.specs.Renaming.{renamed_arg, renamed_instr}
 use Rattle.ir_model.specs.Names.{function_at}
@@ -32,17 +32,17 @@ use Rattle.ir_model.specs.declared.module.Module.{Module}
 use Rattle.ir_model.specs.declared.operand.Arg.{Arg}
 use Rattle.ir_model.specs.declared.operand.Callee.{Callee}
 use Rattle.ir_model.specs.declared.operand.Intrinsic.{Intrinsic}
-use Rattle.ir_paths.specs.Facts.{all_facts}
-use Rattle.ir_paths.specs.Paths.{entry_point}
-use Rattle.ir_paths.specs.Slots.{promise_of}
-use Rattle.ir_paths.specs.Windows.{destroy_label, is_call_of, leaves, operand_at, resume_label, suspend_of}
-use Rattle.ir_paths.specs.declared.point.Point.{Point}
-use Rattle.ir_paths.specs.declared.point.Window.{Window}
-use Rattle.run_step.specs.Results.{and_then, found, ok_if}
-use Rattle.run_step.specs.Step.{Action, AtInstr, AtTerm, Context, Coro, Deallocate, Done, Enter, Fetched, GoTo, NewSlot, Nowhere, Return, Stuck, action_of, entry_values, fetch, has_markers, place_at}
-use Rattle.run_step.specs.Values.{arg_value, arg_values, integer, nth, pointer_to, truth_value}
-use Rattle.run_source_tables.specs.Given.{Given, facts_at, has_final, is_final, is_true}
-use Rattle.run_laws.specs.changed.Changed.{Each, operands_of, operands_of_term, values_of}
+use Rattle.rule_laws.specs.ir_paths.Facts.{all_facts}
+use Rattle.rule_laws.specs.ir_paths.Paths.{entry_point}
+use Rattle.rule_laws.specs.ir_paths.Slots.{promise_of}
+use Rattle.rule_laws.specs.ir_paths.Windows.{destroy_label, is_call_of, leaves, operand_at, resume_label, suspend_of}
+use Rattle.rule_laws.specs.ir_paths.declared.point.Point.{Point}
+use Rattle.rule_laws.specs.ir_paths.declared.point.Window.{Window}
+use Rattle.rule_laws.specs.run_step.Results.{and_then, found, ok_if}
+use Rattle.rule_laws.specs.run_step.Step.{Action, AtInstr, AtTerm, Context, Coro, Deallocate, Done, Enter, Fetched, GoTo, NewSlot, Nowhere, Return, Stuck, action_of, entry_values, fetch, has_markers, place_at}
+use Rattle.rule_laws.specs.run_step.Values.{arg_value, arg_values, integer, nth, pointer_to, truth_value}
+use Rattle.rule_laws.specs.run_source_tables.Given.{Given, facts_at, has_final, is_final, is_true}
+use Rattle.rule_laws.specs.run_laws.changed.Changed.{Each, operands_of, operands_of_term, values_of}
 
 module _ (m : Module) (ok : AreRegular m) (sizes : List Frame) (answers : List ℤ) where
   abbrev the : ℕ → Function

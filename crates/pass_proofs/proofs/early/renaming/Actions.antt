@@ -1,13 +1,13 @@
 -- An instruction with its uses renamed does the same where renamed values are the same.
 use Rattle.std.proofs.Common.{◌≡◌, ℕ, Bool, List, [], ◌∷◌, refl, ap, ◌∙◌}
 use Rattle.std.specs.Prelude.{map, Some, None, Option, slice_get, if◌then◌else◌, ◌&&◌}
-use Rattle.run_memory.specs.Memory.{load, store}
-use Rattle.run_memory.specs.declared.pointer.Pointer.{Pointer}
-use Rattle.run_memory.specs.declared.pointer.Value.{Value}
-use Rattle.ir_base.specs.declared.cause.Cause.{Cause}
+use Rattle.rule_laws.specs.run_memory.Memory.{load, store}
+use Rattle.rule_laws.specs.run_memory.declared.pointer.Pointer.{Pointer}
+use Rattle.rule_laws.specs.run_memory.declared.pointer.Value.{Value}
+use Rattle.rule_laws.specs.ir_base.declared.cause.Cause.{Cause}
 use Rattle.pass_early.specs.Renaming.{renamed, renamed_arg, renamed_instr, renamed_term, renamed_value}
 use Rattle.pass_early.specs.declared.renaming.Renaming.{Renaming}
-use Rattle.run_ints.specs.Numbers.{binary}
+use Rattle.rule_laws.specs.run_ints.Numbers.{binary}
 use Rattle.ir_model.specs.Ty.{Ty, int, ptr}
 use Rattle.ir_model.specs.declared.instr.Instr.{Instr}
 use Rattle.ir_model.specs.declared.instr.Terminator.{Terminator}
@@ -17,9 +17,9 @@ use Rattle.ir_model.specs.declared.operand.Arg.{Arg}
 use Rattle.ir_model.specs.declared.operand.Callee.{Callee}
 use Rattle.ir_model.specs.declared.operand.Intrinsic.{Intrinsic}
 use Rattle.ir_model.specs.declared.operand.Operand.{Operand}
-use Rattle.run_step.specs.Step.{Action, AtInstr, AtTerm, Context, Coro, Done, Enter, Fetched, Nowhere, Return, Stuck, Work, action_of, branch, call, cast_to, chosen, compared, done, fits_function, fits_params, if_alignment, indirect_call, instr_action, intrinsic_call, same_result, set_memory, set_value, switch, term_action}
-use Rattle.run_step.specs.Values.{Env, access_of, address, arg_values, distance, element, index_of, indices_of, number_at, operand_value, stored, value_in, value_of}
-use Rattle.run_laws.specs.changed.Changed.{Each, operands_of, operands_of_term, operands_at, values_of}
+use Rattle.rule_laws.specs.run_step.Step.{Action, AtInstr, AtTerm, Context, Coro, Done, Enter, Fetched, Nowhere, Return, Stuck, Work, action_of, branch, call, cast_to, chosen, compared, done, fits_function, fits_params, if_alignment, indirect_call, instr_action, intrinsic_call, same_result, set_memory, set_value, switch, term_action}
+use Rattle.rule_laws.specs.run_step.Values.{Env, access_of, address, arg_values, distance, element, index_of, indices_of, number_at, operand_value, stored, value_in, value_of}
+use Rattle.rule_laws.specs.run_laws.changed.Changed.{Each, operands_of, operands_of_term, operands_at, values_of}
 
 abbrev pub renamed_fetched : Renaming → Fetched → Fetched
 renamed_fetched r Nowhere = Nowhere

@@ -1,24 +1,24 @@
 -- Coro intrinsics keep what holds of the values of coro.frame, and so does a step.
 use Rattle.std.proofs.Common.{◌≡◌, ◌⊎◌, inl, inr, ⊎_elim, ℕ, zero, suc, Bool, true, false, List, [], ◌∷◌, ◌++◌, length, refl, sym, ap, ◌∙◌, subst}
 use Rattle.std.specs.Prelude.{ℤ, Some, None, Ok, Option, filter, is_none, not, option_map, slice_get, slice_set, if◌then◌else◌, ◌==◌, ◌&&◌}
-use Rattle.run_memory.specs.Memory.{check, may_be_owned, owned_to, with_block}
-use Rattle.run_memory.specs.declared.block.Kind.{Kind}
-use Rattle.run_memory.specs.declared.block.MemoryBlock.{MemoryBlock}
-use Rattle.run_memory.specs.declared.pointer.Offset.{Offset}
-use Rattle.run_memory.specs.declared.pointer.Pointer.{Pointer}
-use Rattle.run_memory.specs.declared.pointer.Value.{Value}
-use Rattle.ir_base.specs.declared.cause.Cause.{Cause}
-use Rattle.run_source.specs.Source.{Sleeper, after_end, begin, begin_at, begun, change_own, continue, deallocate, destroy, done_at, end_of, finish, frame_address, given, if_let_go, is_among, let_go, may_be_freed, new_instance, resume, sleeper_at, sleeper_of, slots_of}
-use Rattle.run_source.specs.State.{address_in, began_at, frame_address_of, gives, instance_at, last_from, next, own_facts, own_frame, own_instance, point_of, with_instance, with_memory}
-use Rattle.run_source.specs.declared.state.Instance.{Instance}
-use Rattle.run_source.specs.declared.state.Mode.{Mode}
-use Rattle.run_source.specs.declared.state.State.{State}
-use Rattle.run_source.specs.declared.state.Status.{Status}
+use Rattle.rule_laws.specs.run_memory.Memory.{check, may_be_owned, owned_to, with_block}
+use Rattle.rule_laws.specs.run_memory.declared.block.Kind.{Kind}
+use Rattle.rule_laws.specs.run_memory.declared.block.MemoryBlock.{MemoryBlock}
+use Rattle.rule_laws.specs.run_memory.declared.pointer.Offset.{Offset}
+use Rattle.rule_laws.specs.run_memory.declared.pointer.Pointer.{Pointer}
+use Rattle.rule_laws.specs.run_memory.declared.pointer.Value.{Value}
+use Rattle.rule_laws.specs.ir_base.declared.cause.Cause.{Cause}
+use Rattle.rule_laws.specs.run_source.Source.{Sleeper, after_end, begin, begin_at, begun, change_own, continue, deallocate, destroy, done_at, end_of, finish, frame_address, given, if_let_go, is_among, let_go, may_be_freed, new_instance, resume, sleeper_at, sleeper_of, slots_of}
+use Rattle.rule_laws.specs.run_source.State.{address_in, began_at, frame_address_of, gives, instance_at, last_from, next, own_facts, own_frame, own_instance, point_of, with_instance, with_memory}
+use Rattle.rule_laws.specs.run_source.declared.state.Instance.{Instance}
+use Rattle.rule_laws.specs.run_source.declared.state.Mode.{Mode}
+use Rattle.rule_laws.specs.run_source.declared.state.State.{State}
+use Rattle.rule_laws.specs.run_source.declared.state.Status.{Status}
 use Rattle.run_states.proofs.renamed.Fits.{IsOrdinary, ordinary_in}
 use Rattle.pass_proofs.proofs.early.renaming.Invariant.{IsAsleep, IsGrown, IsSteady, grown_more, grown_set, is_resumed, next_point, origin_at, origin_of, steady_kept}
 use Rattle.pass_proofs.proofs.early.renaming.Kept.{Good, all_kept, begin_steady, frame_steady, gives_good, gives_here, next_good, on_result, on_test, phis_plain, return_good, same_here}
-use Rattle.ir_laws.proofs.facts.Truth.{equal_numbers}
-use Rattle.ir_laws.proofs.facts.Lists.{get_last, get_within, set_here}
+use Rattle.rule_laws.proofs.ir_laws.facts.Truth.{equal_numbers}
+use Rattle.rule_laws.proofs.ir_laws.facts.Lists.{get_last, get_within, set_here}
 use Rattle.pass_proofs.proofs.early.renaming.Preserved.{AllSleep, Holds, Sleeps, all_set, below_grown, goes_on, holds_instance, holds_like, holds_memory, own_there, sleeps_grown, stands_grown}
 use Rattle.pass_proofs.specs.early.renaming.Regular.{AreRegular, IsDeadAt, IsDeadBehind}
 use Rattle.pass_early.specs.Early.{renaming_of}
@@ -29,14 +29,14 @@ use Rattle.ir_model.specs.declared.module.Frame.{Frame}
 use Rattle.ir_model.specs.declared.module.Function.{Function}
 use Rattle.ir_model.specs.declared.module.Module.{Module}
 use Rattle.ir_model.specs.declared.operand.Intrinsic.{Intrinsic}
-use Rattle.ir_paths.specs.Paths.{entry_point}
-use Rattle.ir_paths.specs.Windows.{destroy_label, instr_at, is_call_of, resume_label}
-use Rattle.run_step.specs.Results.{and_then, found, ok_if}
-use Rattle.run_step.specs.Step.{block_of, deallocated, label_of, phi_values, phis_of, with_all, without_slots}
-use Rattle.run_step.specs.Values.{truth_value, value_in, with_result}
-use Rattle.run_source_tables.specs.Given.{Given, has_final, is_final}
-use Rattle.run_laws.specs.changed.Changed.{result_of}
-use Rattle.ir_laws.proofs.facts.Numbers.{ok_same}
+use Rattle.rule_laws.specs.ir_paths.Paths.{entry_point}
+use Rattle.rule_laws.specs.ir_paths.Windows.{destroy_label, instr_at, is_call_of, resume_label}
+use Rattle.rule_laws.specs.run_step.Results.{and_then, found, ok_if}
+use Rattle.rule_laws.specs.run_step.Step.{block_of, deallocated, label_of, phi_values, phis_of, with_all, without_slots}
+use Rattle.rule_laws.specs.run_step.Values.{truth_value, value_in, with_result}
+use Rattle.rule_laws.specs.run_source_tables.Given.{Given, has_final, is_final}
+use Rattle.rule_laws.specs.run_laws.changed.Changed.{result_of}
+use Rattle.rule_laws.proofs.ir_laws.facts.Numbers.{ok_same}
 
 -- ---- instances that are found
 

@@ -2,27 +2,27 @@
 use Rattle.std.proofs.Common.{◌≡◌, ◌⊎◌, inl, inr, ⊎_elim, ℕ, ◌+◌, Bool, true, false, List, [], ◌∷◌, ◌++◌, length, refl, sym, ap, ◌∙◌, subst}
 use Rattle.std.proofs.lemmas.Bool.{lt-ltb}
 use Rattle.std.specs.Prelude.{IsTrue, Some, None, Option, option_map, map, nat_lt, slice_get, slice_set, ◌==◌, ◌||◌, ◌&&◌, if◌then◌else◌}
-use Rattle.run_memory.specs.declared.pointer.Value.{Value}
-use Rattle.run_source.specs.State.{frame_address_of}
-use Rattle.run_source.specs.declared.state.Instance.{Instance}
-use Rattle.run_source.specs.declared.state.Mode.{Mode}
-use Rattle.ir_laws.proofs.facts.Truth.{equal_numbers, not_equal}
-use Rattle.ir_laws.proofs.facts.Lists.{get_before, get_within, set_here, set_length, set_other}
-use Rattle.ir_laws.specs.paths.renamed.Regular.{Ahead, Here, Next, HasNoFrame, IsDead, is_call_at, makes, stops}
+use Rattle.rule_laws.specs.run_memory.declared.pointer.Value.{Value}
+use Rattle.rule_laws.specs.run_source.State.{frame_address_of}
+use Rattle.rule_laws.specs.run_source.declared.state.Instance.{Instance}
+use Rattle.rule_laws.specs.run_source.declared.state.Mode.{Mode}
+use Rattle.rule_laws.proofs.ir_laws.facts.Truth.{equal_numbers, not_equal}
+use Rattle.rule_laws.proofs.ir_laws.facts.Lists.{get_before, get_within, set_here, set_length, set_other}
+use Rattle.rule_laws.specs.ir_laws.paths.renamed.Regular.{Ahead, Here, Next, HasNoFrame, IsDead, is_call_at, makes, stops}
 use Rattle.pass_proofs.specs.early.renaming.Regular.{IsDeadBehind, IsPlain}
-use Rattle.ir_laws.specs.facts.renamed.Regular.{is_result, passes}
+use Rattle.rule_laws.specs.ir_laws.facts.renamed.Regular.{is_result, passes}
 use Rattle.pass_early.specs.Renaming.{is_renamed}
 use Rattle.pass_early.specs.declared.renaming.Renaming.{Renaming}
 use Rattle.ir_model.specs.declared.instr.Instr.{Instr}
 use Rattle.ir_model.specs.declared.module.Block.{Block}
 use Rattle.ir_model.specs.declared.module.Function.{Function}
 use Rattle.ir_model.specs.declared.operand.Intrinsic.{Intrinsic}
-use Rattle.ir_paths.proofs.Search.{same_point-itself}
-use Rattle.ir_paths.specs.Paths.{entry_point, has_point, nexts, nexts_in, targets}
-use Rattle.ir_paths.specs.Windows.{instr_at, instr_in, is_call_of}
-use Rattle.ir_paths.specs.declared.point.Point.{Point}
-use Rattle.run_step.specs.Values.{Env, value_in, value_or_poison, with_result, with_value}
-use Rattle.run_laws.specs.changed.Changed.{result_of}
+use Rattle.rule_laws.proofs.ir_paths.Search.{same_point-itself}
+use Rattle.rule_laws.specs.ir_paths.Paths.{entry_point, has_point, nexts, nexts_in, targets}
+use Rattle.rule_laws.specs.ir_paths.Windows.{instr_at, instr_in, is_call_of}
+use Rattle.rule_laws.specs.ir_paths.declared.point.Point.{Point}
+use Rattle.rule_laws.specs.run_step.Values.{Env, value_in, value_or_poison, with_result, with_value}
+use Rattle.rule_laws.specs.run_laws.changed.Changed.{result_of}
 
 -- ---- instances, by their coroutines and frame addresses
 

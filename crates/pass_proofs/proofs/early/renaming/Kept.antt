@@ -2,24 +2,24 @@
 use Rattle.std.proofs.Common.{◌≡◌, ◌⊎◌, inl, inr, ⊎_elim, ℕ, zero, suc, ◌+◌, ◌<◌, Bool, true, false, List, [], ◌∷◌, ◌++◌, length, refl, sym, ap, ◌∙◌, subst}
 use Rattle.std.specs.List.{list_all, list_any}
 use Rattle.std.specs.Prelude.{ℤ, negsuc, IsTrue, Some, None, Ok, Err, Option, Result, filter, map, nat_lt, not, option_and_then, option_map, replicate, slice_get, unwrap_or, if◌then◌else◌, ◌==◌, ◌&&◌, ◌||◌}
-use Rattle.run_memory.specs.Memory.{killed, own}
-use Rattle.run_memory.specs.declared.pointer.Value.{Value}
-use Rattle.ir_base.specs.declared.cause.Cause.{Cause}
-use Rattle.run_source.specs.Source.{begin, branch_leaving, enter, enter_block, frame_address, given, go_to, is_over, kill_late, may_leave, new_slot, pop, return, returned, save, save_for, suspend, is_among, with_new_slots}
-use Rattle.run_source.specs.State.{gives, next, numbered, own_facts, own_instance, point_of, with_instance, with_left, with_memory, with_status, work_of}
-use Rattle.run_source.specs.declared.state.Activation.{Activation}
-use Rattle.run_source.specs.declared.state.Instance.{Instance}
-use Rattle.run_source.specs.declared.state.Mode.{Mode}
-use Rattle.run_source.specs.declared.state.State.{State}
-use Rattle.run_source.specs.declared.state.Status.{Status}
+use Rattle.rule_laws.specs.run_memory.Memory.{killed, own}
+use Rattle.rule_laws.specs.run_memory.declared.pointer.Value.{Value}
+use Rattle.rule_laws.specs.ir_base.declared.cause.Cause.{Cause}
+use Rattle.rule_laws.specs.run_source.Source.{begin, branch_leaving, enter, enter_block, frame_address, given, go_to, is_over, kill_late, may_leave, new_slot, pop, return, returned, save, save_for, suspend, is_among, with_new_slots}
+use Rattle.rule_laws.specs.run_source.State.{gives, next, numbered, own_facts, own_instance, point_of, with_instance, with_left, with_memory, with_status, work_of}
+use Rattle.rule_laws.specs.run_source.declared.state.Activation.{Activation}
+use Rattle.rule_laws.specs.run_source.declared.state.Instance.{Instance}
+use Rattle.rule_laws.specs.run_source.declared.state.Mode.{Mode}
+use Rattle.rule_laws.specs.run_source.declared.state.State.{State}
+use Rattle.rule_laws.specs.run_source.declared.state.Status.{Status}
 use Rattle.run_states.proofs.renamed.Fits.{IsOrdinary, ordinary_in}
 use Rattle.pass_proofs.proofs.early.renaming.Invariant.{AreKept, IsAsleep, IsKnown, IsSteady, PlainName, dead_next, dead_resumed, is_resumed, kept_on, kept_result, kept_same, kept_set, next_edge, next_point, origin_at, origin_of, steady_kept, steady_next, unstopped_at}
-use Rattle.ir_laws.proofs.facts.Truth.{equal_numbers, itself, not_equal, not_below}
-use Rattle.ir_laws.proofs.facts.Lists.{set_here, set_length, set_other}
+use Rattle.rule_laws.proofs.ir_laws.facts.Truth.{equal_numbers, itself, not_equal, not_below}
+use Rattle.rule_laws.proofs.ir_laws.facts.Lists.{set_here, set_length, set_other}
 use Rattle.pass_proofs.proofs.early.renaming.Preserved.{Below, Holds, Owns, Sleeps, StandsWell, goes_on, holds_instance, holds_left, holds_like, holds_memory, holds_slots, own_there, plain_name, settled_holds}
 use Rattle.pass_proofs.specs.early.renaming.Regular.{AreRegular, IsDeadBehind, IsPlain, IsRegular}
-use Rattle.ir_laws.specs.paths.renamed.Regular.{Here, IsDead, stops}
-use Rattle.ir_laws.specs.facts.renamed.Regular.{is_result, passes}
+use Rattle.rule_laws.specs.ir_laws.paths.renamed.Regular.{Here, IsDead, stops}
+use Rattle.rule_laws.specs.ir_laws.facts.renamed.Regular.{is_result, passes}
 use Rattle.pass_early.specs.Early.{renaming_of}
 use Rattle.pass_early.specs.Renaming.{is_renamed}
 use Rattle.pass_early.specs.declared.renaming.Renaming.{Renaming}
@@ -34,18 +34,18 @@ use Rattle.ir_model.specs.declared.module.Param.{Param}
 use Rattle.ir_model.specs.declared.operand.Callee.{Callee}
 use Rattle.ir_model.specs.declared.operand.Intrinsic.{Intrinsic}
 use Rattle.ir_model.specs.declared.operand.Operand.{Operand}
-use Rattle.ir_paths.proofs.Search.{same_point-itself}
-use Rattle.ir_paths.specs.Paths.{entry_point, has_point, nexts, nexts_in, same_point, targets}
-use Rattle.ir_paths.specs.Windows.{instr_at, is_call_of, suspend_of}
-use Rattle.ir_paths.specs.declared.point.Point.{Point}
-use Rattle.ir_paths.specs.declared.point.Window.{Window}
-use Rattle.run_step.specs.Results.{and_then, found, ok_if}
-use Rattle.run_step.specs.Step.{entry_values, label_of, outcome_of, phi_values, phis_of, with_all, with_params}
-use Rattle.run_step.specs.Values.{Env, integer, value_in, value_or_poison, with_result, with_value}
-use Rattle.run_step.specs.declared.world.Slot.{Slot}
-use Rattle.run_source_tables.specs.Given.{Given}
-use Rattle.run_laws.specs.changed.Changed.{Each, result_of}
-use Rattle.ir_laws.proofs.paths.renamed.Kept.{frame_no_begin}
+use Rattle.rule_laws.proofs.ir_paths.Search.{same_point-itself}
+use Rattle.rule_laws.specs.ir_paths.Paths.{entry_point, has_point, nexts, nexts_in, same_point, targets}
+use Rattle.rule_laws.specs.ir_paths.Windows.{instr_at, is_call_of, suspend_of}
+use Rattle.rule_laws.specs.ir_paths.declared.point.Point.{Point}
+use Rattle.rule_laws.specs.ir_paths.declared.point.Window.{Window}
+use Rattle.rule_laws.specs.run_step.Results.{and_then, found, ok_if}
+use Rattle.rule_laws.specs.run_step.Step.{entry_values, label_of, outcome_of, phi_values, phis_of, with_all, with_params}
+use Rattle.rule_laws.specs.run_step.Values.{Env, integer, value_in, value_or_poison, with_result, with_value}
+use Rattle.rule_laws.specs.run_step.declared.world.Slot.{Slot}
+use Rattle.rule_laws.specs.run_source_tables.Given.{Given}
+use Rattle.rule_laws.specs.run_laws.changed.Changed.{Each, result_of}
+use Rattle.rule_laws.proofs.ir_laws.paths.renamed.Kept.{frame_no_begin}
 
 frame_no_end : (i : Instr) → is_call_of Intrinsic.CoroFrame i ≡ true → is_call_of Intrinsic.CoroEnd i ≡ false
 frame_no_end (Instr.Call result must_tail ty (Callee.Intrinsic Intrinsic.CoroFrame) args) e = refl

@@ -4,8 +4,8 @@ use Rattle.std.proofs.lemmas.Option.{slice_get-map}
 use Rattle.std.specs.List.{list_any}
 use Rattle.std.specs.Prelude.{Some, None, Option, option_map, map, nat_lt, slice_get, unwrap_or, if◌then◌else◌, ◌==◌, ◌||◌}
 use Rattle.pass_proofs.proofs.early.renaming.Actions.{renamed_fetched}
-use Rattle.ir_laws.proofs.facts.Lists.{any_same, first_same}
-use Rattle.ir_laws.proofs.facts.Truth.{equal_numbers}
+use Rattle.rule_laws.proofs.ir_laws.facts.Lists.{any_same, first_same}
+use Rattle.rule_laws.proofs.ir_laws.facts.Truth.{equal_numbers}
 use Rattle.run_states.proofs.renamed.Modules.{length_same}
 use Rattle.pass_proofs.specs.early.renaming.Passes.{renamed_block, renamed_coroutine}
 use Rattle.pass_proofs.specs.early.renaming.Regular.{IsPlain}
@@ -20,10 +20,10 @@ use Rattle.ir_model.specs.declared.operand.Arg.{Arg}
 use Rattle.ir_model.specs.declared.operand.Callee.{Callee}
 use Rattle.ir_model.specs.declared.operand.Intrinsic.{Intrinsic}
 use Rattle.ir_model.specs.declared.operand.Operand.{Operand}
-use Rattle.ir_paths.specs.Paths.{block_points, edge_count, edges_from, entry_point, found_from, found_within, has_point, led_to, nexts, nexts_in, opened, points_of_blocks, targets}
-use Rattle.ir_paths.specs.Windows.{call_operand, call_result, destroy_label, end_block, instr_at, instr_in, is_call_of, label_at, label_of_term, resume_label, operand_at, points_from, points_in, points_where}
-use Rattle.ir_paths.specs.declared.point.Point.{Point}
-use Rattle.run_step.specs.Step.{fetch, fetch_in, fetch_or, label_of}
+use Rattle.rule_laws.specs.ir_paths.Paths.{block_points, edge_count, edges_from, entry_point, found_from, found_within, has_point, led_to, nexts, nexts_in, opened, points_of_blocks, targets}
+use Rattle.rule_laws.specs.ir_paths.Windows.{call_operand, call_result, destroy_label, end_block, instr_at, instr_in, is_call_of, label_at, label_of_term, resume_label, operand_at, points_from, points_in, points_where}
+use Rattle.rule_laws.specs.ir_paths.declared.point.Point.{Point}
+use Rattle.rule_laws.specs.run_step.Step.{fetch, fetch_in, fetch_or, label_of}
 
 -- ---- operands of names that aren't concerned
 

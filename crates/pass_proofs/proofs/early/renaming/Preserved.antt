@@ -1,21 +1,21 @@
 -- A step keeps what holds of the values of coro.frame.
 use Rattle.std.proofs.Common.{◌≡◌, inl, inr, ℕ, Bool, true, false, List, [], ◌∷◌, refl, sym, ap, ◌∙◌, subst}
 use Rattle.std.specs.Prelude.{Some, None, Option, option_and_then, option_map, slice_get, slice_set, ◌==◌, ◌&&◌}
-use Rattle.run_memory.specs.declared.block.MemoryBlock.{MemoryBlock}
-use Rattle.run_memory.specs.declared.pointer.Value.{Value}
-use Rattle.run_source.specs.State.{numbered, point_of, settled, with_instance, with_left, with_memory, with_slots}
-use Rattle.run_source.specs.declared.state.Activation.{Activation}
-use Rattle.run_source.specs.declared.state.Instance.{Instance}
-use Rattle.run_source.specs.declared.state.State.{State}
-use Rattle.run_source.specs.declared.state.Status.{Status}
+use Rattle.rule_laws.specs.run_memory.declared.block.MemoryBlock.{MemoryBlock}
+use Rattle.rule_laws.specs.run_memory.declared.pointer.Value.{Value}
+use Rattle.rule_laws.specs.run_source.State.{numbered, point_of, settled, with_instance, with_left, with_memory, with_slots}
+use Rattle.rule_laws.specs.run_source.declared.state.Activation.{Activation}
+use Rattle.rule_laws.specs.run_source.declared.state.Instance.{Instance}
+use Rattle.rule_laws.specs.run_source.declared.state.State.{State}
+use Rattle.rule_laws.specs.run_source.declared.state.Status.{Status}
 use Rattle.run_states.proofs.renamed.Fits.{IsOrdinary, IsSet}
 use Rattle.pass_proofs.proofs.early.renaming.Invariant.{AreKept, IsAsleep, IsGrown, IsSteady, PlainName, grown_set, is_resumed, kept_result, kept_same, next_edge, next_point, not_made, origin_at, origin_of, steady_grown, steady_kept, steady_next, unstopped}
-use Rattle.ir_laws.proofs.facts.Truth.{equal_numbers, not_equal}
-use Rattle.ir_laws.proofs.facts.Lists.{get_within, set_here, set_other}
+use Rattle.rule_laws.proofs.ir_laws.facts.Truth.{equal_numbers, not_equal}
+use Rattle.rule_laws.proofs.ir_laws.facts.Lists.{get_within, set_here, set_other}
 use Rattle.pass_proofs.proofs.early.renaming.Slots.{plain_result}
 use Rattle.pass_proofs.specs.early.renaming.Regular.{AreRegular}
-use Rattle.ir_laws.specs.paths.renamed.Regular.{is_call_at, makes, stops}
-use Rattle.ir_laws.specs.facts.renamed.Regular.{is_result, passes}
+use Rattle.rule_laws.specs.ir_laws.paths.renamed.Regular.{is_call_at, makes, stops}
+use Rattle.rule_laws.specs.ir_laws.facts.renamed.Regular.{is_result, passes}
 use Rattle.pass_early.specs.Early.{renaming_of}
 use Rattle.pass_early.specs.Renaming.{is_renamed}
 use Rattle.pass_early.specs.declared.renaming.Renaming.{Renaming}
@@ -24,12 +24,12 @@ use Rattle.ir_model.specs.declared.instr.Instr.{Instr}
 use Rattle.ir_model.specs.declared.module.Function.{Function}
 use Rattle.ir_model.specs.declared.module.Module.{Module}
 use Rattle.ir_model.specs.declared.operand.Intrinsic.{Intrinsic}
-use Rattle.ir_paths.specs.Windows.{instr_at, is_call_of}
-use Rattle.ir_paths.specs.declared.point.Point.{Point}
-use Rattle.run_step.specs.Step.{Work}
-use Rattle.run_step.specs.Values.{Env, value_in}
-use Rattle.run_step.specs.declared.world.Slot.{Slot}
-use Rattle.run_laws.specs.changed.Changed.{result_of}
+use Rattle.rule_laws.specs.ir_paths.Windows.{instr_at, is_call_of}
+use Rattle.rule_laws.specs.ir_paths.declared.point.Point.{Point}
+use Rattle.rule_laws.specs.run_step.Step.{Work}
+use Rattle.rule_laws.specs.run_step.Values.{Env, value_in}
+use Rattle.rule_laws.specs.run_step.declared.world.Slot.{Slot}
+use Rattle.rule_laws.specs.run_laws.changed.Changed.{result_of}
 
 module _ (m : Module) (ok : AreRegular m) where
   abbrev the : ℕ → Function

@@ -1,15 +1,15 @@
 -- A coroutine that keeps the rules is regular.
 use Rattle.std.proofs.Common.{◌≡◌, ◌<◌, ℕ, suc, Bool, true, false, List, [], ◌∷◌, length, refl, sym, ap, ◌∙◌, subst}
 use Rattle.std.specs.Prelude.{IsTrue, Some, None, Option, replicate, slice_get, ◌==◌, if◌then◌else◌}
-use Rattle.ir_laws.proofs.facts.Truth.{equal_numbers}
-use Rattle.ir_laws.proofs.facts.Lists.{get_within, flags_length as blank_length}
+use Rattle.rule_laws.proofs.ir_laws.facts.Truth.{equal_numbers}
+use Rattle.rule_laws.proofs.ir_laws.facts.Lists.{get_within, flags_length as blank_length}
 use Rattle.rule_laws.proofs.rules.renamed.Outside.{no_frame_before_begin}
 use Rattle.pass_proofs.proofs.early.renaming.Simulation.{other_call}
 use Rattle.pass_proofs.proofs.early.renaming.Switches.{dead_behind_suspend}
 use Rattle.rule_laws.proofs.rules.renamed.Uses.{dead_at_entry}
 use Rattle.pass_proofs.specs.early.renaming.Regular.{AllKeepRules, AreRegular, IsDeadBehind, IsPlain, IsRegular, KeepsRules}
-use Rattle.ir_laws.specs.paths.renamed.Regular.{IsDead}
-use Rattle.ir_laws.specs.facts.renamed.Regular.{is_result, passes}
+use Rattle.rule_laws.specs.ir_laws.paths.renamed.Regular.{IsDead}
+use Rattle.rule_laws.specs.ir_laws.facts.renamed.Regular.{is_result, passes}
 use Rattle.pass_early.specs.Early.{flagged, flagged_by, flagged_in, frame_flags, renaming_of, renaming_to}
 use Rattle.pass_early.specs.Renaming.{flag_or_false, is_renamed}
 use Rattle.ir_model.specs.Calls.{first_result, first_result_by, first_result_in, or_else, result_of_call}
@@ -21,9 +21,9 @@ use Rattle.ir_model.specs.declared.module.Function.{Function}
 use Rattle.ir_model.specs.declared.module.Module.{Module}
 use Rattle.ir_model.specs.declared.operand.Callee.{Callee}
 use Rattle.ir_model.specs.declared.operand.Intrinsic.{Intrinsic}
-use Rattle.ir_paths.specs.Windows.{instr_at, instr_in, is_call_of}
-use Rattle.ir_paths.specs.declared.point.Point.{Point}
-use Rattle.run_laws.specs.changed.Changed.{Each, result_of}
+use Rattle.rule_laws.specs.ir_paths.Windows.{instr_at, instr_in, is_call_of}
+use Rattle.rule_laws.specs.ir_paths.declared.point.Point.{Point}
+use Rattle.rule_laws.specs.run_laws.changed.Changed.{Each, result_of}
 use Rattle.pass_proofs.proofs.early.unused_frames.Flags.{same_length as flagged_length}
 
 flags_in : (flags : List Bool) (is : List Instr) → length (flagged_in flags is) ≡ length flags

@@ -2,18 +2,18 @@
 use Rattle.std.proofs.Common.{◌≡◌, ℕ, ◌+◌, Bool, true, false, List, [], ◌∷◌, length, refl, ap, ◌∙◌, subst}
 use Rattle.std.specs.List.{list_any}
 use Rattle.std.specs.Prelude.{ℤ, IsTrue, Some, None, Option, option_map, map, slice_get, unwrap_or, if◌then◌else◌, ◌==◌, ◌||◌}
-use Rattle.ir_base.specs.declared.outcome.Place.{Place}
-use Rattle.run_source.specs.Source.{enter_block, given, save_before}
-use Rattle.run_source.specs.declared.state.State.{State}
+use Rattle.rule_laws.specs.ir_base.declared.outcome.Place.{Place}
+use Rattle.rule_laws.specs.run_source.Source.{enter_block, given, save_before}
+use Rattle.rule_laws.specs.run_source.declared.state.State.{State}
 use Rattle.pass_proofs.proofs.early.renaming.Actions.{IsSame, same_operand}
-use Rattle.ir_laws.proofs.facts.Members.{each_there}
-use Rattle.ir_laws.proofs.facts.Truth.{itself, or_right}
+use Rattle.rule_laws.proofs.ir_laws.facts.Members.{each_there}
+use Rattle.rule_laws.proofs.ir_laws.facts.Truth.{itself, or_right}
 use Rattle.run_states.proofs.renamed.Modules.{IsMild, function_there, length_same, operand_there}
 use Rattle.pass_proofs.proofs.early.renaming.Parts.{block_same, call_of_same, call_operand_same, instr_same, label_same, points_where_same, position_same}
 use Rattle.pass_proofs.proofs.early.renaming.Slots.{facts_same}
 use Rattle.pass_proofs.specs.early.renaming.Passes.{renamed_block, renamed_by_its_own, renamed_coroutine, renamed_function, renamed_module}
 use Rattle.pass_proofs.specs.early.renaming.Regular.{AreRegular, IsRegular}
-use Rattle.ir_laws.specs.paths.renamed.Regular.{IsTaken}
+use Rattle.rule_laws.specs.ir_laws.paths.renamed.Regular.{IsTaken}
 use Rattle.pass_early.specs.Early.{renaming_of}
 use Rattle.pass_early.specs.Renaming.{is_renamed, renamed, renamed_incoming, renamed_instr, renamed_phi}
 use Rattle.pass_early.specs.declared.renaming.Renaming.{Renaming}
@@ -27,13 +27,13 @@ use Rattle.ir_model.specs.declared.module.Function.{Function}
 use Rattle.ir_model.specs.declared.module.Module.{Module}
 use Rattle.ir_model.specs.declared.operand.Intrinsic.{Intrinsic}
 use Rattle.ir_model.specs.declared.operand.Operand.{Operand}
-use Rattle.ir_paths.specs.Facts.{all_facts, facts_of}
-use Rattle.ir_paths.specs.Windows.{call_operand, instr_at, is_call_of}
-use Rattle.ir_paths.specs.declared.point.Point.{Point}
-use Rattle.run_step.specs.Step.{incoming_from, label_of, phi_values, phis_of, place_at, values_in, with_all}
-use Rattle.run_step.specs.Values.{Env, operand_value, value_in}
-use Rattle.run_source_tables.specs.Given.{Given, has_final, is_final, is_final_call, is_true}
-use Rattle.run_laws.specs.changed.Changed.{Each}
+use Rattle.rule_laws.specs.ir_paths.Facts.{all_facts, facts_of}
+use Rattle.rule_laws.specs.ir_paths.Windows.{call_operand, instr_at, is_call_of}
+use Rattle.rule_laws.specs.ir_paths.declared.point.Point.{Point}
+use Rattle.rule_laws.specs.run_step.Step.{incoming_from, label_of, phi_values, phis_of, place_at, values_in, with_all}
+use Rattle.rule_laws.specs.run_step.Values.{Env, operand_value, value_in}
+use Rattle.rule_laws.specs.run_source_tables.Given.{Given, has_final, is_final, is_final_call, is_true}
+use Rattle.rule_laws.specs.run_laws.changed.Changed.{Each}
 
 -- ---- operands that are used
 

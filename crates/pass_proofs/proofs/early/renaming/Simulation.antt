@@ -1,35 +1,35 @@
 -- The renamed module's runs are those of the module.
 use Rattle.std.proofs.Common.{◌≡◌, inl, ⊎_elim, ℕ, Bool, true, false, List, [], length, refl, sym, ap, ◌∙◌, subst, arith}
 use Rattle.std.specs.Prelude.{ℤ, IsTrue, Some, None, Ok, Err, Option, Result, map, slice_get}
-use Rattle.run_agreement.proofs.Lockstep.{Advance, ShowsSame, Simulates, lockstep_one, lockstep_within}
-use Rattle.run_agreement.specs.Agreements.{AgreesWithin}
-use Rattle.run_agreement.proofs.Costs.{weaken_by}
-use Rattle.run_agreement.specs.Costs.{AgreesBy}
-use Rattle.run_agreement.specs.Machines.{IsFine, IsRunning, Machine}
-use Rattle.run_memory.specs.Memory.{owner_rights}
-use Rattle.run_memory.specs.declared.pointer.Value.{Value}
-use Rattle.ir_base.specs.declared.cause.Cause.{Cause}
-use Rattle.ir_base.specs.declared.outcome.Outcome.{Outcome}
-use Rattle.ir_base.specs.declared.outcome.Word.{Word}
-use Rattle.run_source.specs.Source.{SeenOf, Sleeper, SourceAt, act, advance_by, called, continue, coro, first_state, frame_address, given, promise, sleeper_at, step}
-use Rattle.run_source.specs.State.{gives, or_undefined, own_instance, point_of, settled, work_of}
-use Rattle.run_source.specs.declared.state.Mode.{Mode}
-use Rattle.run_source.specs.declared.state.State.{State}
-use Rattle.run_source.specs.declared.state.Status.{Status}
+use Rattle.rule_laws.proofs.run_agreement.Lockstep.{Advance, ShowsSame, Simulates, lockstep_one, lockstep_within}
+use Rattle.rule_laws.specs.run_agreement.Agreements.{AgreesWithin}
+use Rattle.rule_laws.proofs.run_agreement.Costs.{weaken_by}
+use Rattle.rule_laws.specs.run_agreement.Costs.{AgreesBy}
+use Rattle.rule_laws.specs.run_agreement.Machines.{IsFine, IsRunning, Machine}
+use Rattle.rule_laws.specs.run_memory.Memory.{owner_rights}
+use Rattle.rule_laws.specs.run_memory.declared.pointer.Value.{Value}
+use Rattle.rule_laws.specs.ir_base.declared.cause.Cause.{Cause}
+use Rattle.rule_laws.specs.ir_base.declared.outcome.Outcome.{Outcome}
+use Rattle.rule_laws.specs.ir_base.declared.outcome.Word.{Word}
+use Rattle.rule_laws.specs.run_source.Source.{SeenOf, Sleeper, SourceAt, act, advance_by, called, continue, coro, first_state, frame_address, given, promise, sleeper_at, step}
+use Rattle.rule_laws.specs.run_source.State.{gives, or_undefined, own_instance, point_of, settled, work_of}
+use Rattle.rule_laws.specs.run_source.declared.state.Mode.{Mode}
+use Rattle.rule_laws.specs.run_source.declared.state.State.{State}
+use Rattle.rule_laws.specs.run_source.declared.state.Status.{Status}
 use Rattle.pass_proofs.proofs.early.renaming.Acting.{step_there}
 use Rattle.pass_proofs.proofs.early.renaming.Acts.{asleep_there, begin_good, deallocate_good, destroy_good, done_good, end_good, frame_good, freed_good, resume_good}
-use Rattle.ir_laws.proofs.paths.renamed.Fits.{AnInstr, ATerm, Nothing, Stands, stands}
+use Rattle.rule_laws.proofs.ir_laws.paths.renamed.Fits.{AnInstr, ATerm, Nothing, Stands, stands}
 use Rattle.run_states.proofs.renamed.Fits.{Ends, Fits, ends, fits, ordinary_in}
 use Rattle.pass_proofs.proofs.early.renaming.Invariant.{IsAsleep, IsKnown, is_resumed}
 use Rattle.pass_proofs.proofs.early.renaming.Kept.{Good, enter_good, first_stands, gives_good, go_good, new_slot_good, next_good, on_result, return_good, saved_good, suspended_good}
-use Rattle.ir_laws.proofs.facts.Truth.{equal_numbers, not_equal}
+use Rattle.rule_laws.proofs.ir_laws.facts.Truth.{equal_numbers, not_equal}
 use Rattle.run_states.proofs.renamed.Modules.{world_there}
 use Rattle.pass_proofs.proofs.early.renaming.Preserved.{Holds, Sleeps, settled_holds}
 use Rattle.pass_proofs.proofs.early.renaming.Sameness.{Agree, AgreeOn, by_function, facts_all, mild}
 use Rattle.pass_proofs.specs.early.renaming.Passes.{renamed_function, renamed_module}
 use Rattle.pass_proofs.specs.early.renaming.Regular.{AreRegular}
-use Rattle.ir_laws.specs.paths.renamed.Regular.{AsOperand, Here, OnEdge, is_call_at, operands_read}
-use Rattle.ir_laws.specs.facts.renamed.Regular.{passes}
+use Rattle.rule_laws.specs.ir_laws.paths.renamed.Regular.{AsOperand, Here, OnEdge, is_call_at, operands_read}
+use Rattle.rule_laws.specs.ir_laws.facts.renamed.Regular.{passes}
 use Rattle.pass_early.specs.Early.{renaming_of}
 use Rattle.pass_early.specs.declared.renaming.Renaming.{Renaming}
 use Rattle.pass_proofs.specs.early.early_states.Beside.{IsSameState, source_machine}
@@ -42,15 +42,15 @@ use Rattle.ir_model.specs.declared.module.Module.{Module}
 use Rattle.ir_model.specs.declared.operand.Arg.{Arg}
 use Rattle.ir_model.specs.declared.operand.Callee.{Callee}
 use Rattle.ir_model.specs.declared.operand.Intrinsic.{Intrinsic}
-use Rattle.ir_paths.specs.Facts.{all_facts}
-use Rattle.ir_paths.specs.Windows.{destroy_label, instr_at, is_call_of, operand_at, resume_label}
-use Rattle.ir_paths.specs.declared.point.Facts.{Facts}
-use Rattle.run_step.specs.Runs.{seen_of}
-use Rattle.run_step.specs.Step.{Action, Context, Coro, Deallocate, Done, Enter, Fetched, GoTo, NewSlot, Return, Stuck, action_of, entry_values, fetch}
-use Rattle.run_step.specs.Values.{Env, nth, truth_value, value_in}
-use Rattle.run_step.specs.declared.world.World.{World}
-use Rattle.run_source_tables.specs.Given.{Given}
-use Rattle.run_laws.specs.changed.Changed.{result_of}
+use Rattle.rule_laws.specs.ir_paths.Facts.{all_facts}
+use Rattle.rule_laws.specs.ir_paths.Windows.{destroy_label, instr_at, is_call_of, operand_at, resume_label}
+use Rattle.rule_laws.specs.ir_paths.declared.point.Facts.{Facts}
+use Rattle.rule_laws.specs.run_step.Runs.{seen_of}
+use Rattle.rule_laws.specs.run_step.Step.{Action, Context, Coro, Deallocate, Done, Enter, Fetched, GoTo, NewSlot, Return, Stuck, action_of, entry_values, fetch}
+use Rattle.rule_laws.specs.run_step.Values.{Env, nth, truth_value, value_in}
+use Rattle.rule_laws.specs.run_step.declared.world.World.{World}
+use Rattle.rule_laws.specs.run_source_tables.Given.{Given}
+use Rattle.rule_laws.specs.run_laws.changed.Changed.{result_of}
 use Rattle.run_states.proofs.named.Simulation.{running_is}
 
 -- a call of one intrinsic is none of another

@@ -2,15 +2,15 @@
 use Rattle.std.proofs.Common.{◌≡◌, ℕ, zero, suc, ◌+◌, Bool, true, false, List, [], ◌∷◌, ◌++◌, length, refl, sym, ap, ◌∙◌, subst, arith}
 use Rattle.std.specs.List.{cons_option, list_any}
 use Rattle.std.specs.Prelude.{IsTrue, Some, None, Option, option_map, option_and_then, option_to_list, filter, filter_map, flat_map, map, not, slice_get, if◌then◌else◌, ◌==◌, ◌&&◌, ◌||◌}
-use Rattle.ir_laws.proofs.facts.Lists.{any_same, map_same}
-use Rattle.ir_laws.proofs.facts.Members.{each_behind, each_there}
-use Rattle.ir_laws.proofs.facts.Truth.{equal_numbers, itself}
+use Rattle.rule_laws.proofs.ir_laws.facts.Lists.{any_same, map_same}
+use Rattle.rule_laws.proofs.ir_laws.facts.Members.{each_behind, each_there}
+use Rattle.rule_laws.proofs.ir_laws.facts.Truth.{equal_numbers, itself}
 use Rattle.run_states.proofs.renamed.Modules.{length_same}
 use Rattle.pass_proofs.proofs.early.renaming.Parts.{block_same, call_of_same, call_operand_same, destroy_same, end_same, entry_same, found_same, instr_same, led_same, local_same, points_where_same, result_same, resume_same}
 use Rattle.pass_proofs.specs.early.renaming.Passes.{renamed_block, renamed_coroutine}
 use Rattle.pass_proofs.specs.early.renaming.Regular.{IsMark, IsPlain, IsRegular}
-use Rattle.ir_laws.specs.paths.renamed.Regular.{is_call_at}
-use Rattle.ir_laws.specs.facts.renamed.Regular.{passes}
+use Rattle.rule_laws.specs.ir_laws.paths.renamed.Regular.{is_call_at}
+use Rattle.rule_laws.specs.ir_laws.facts.renamed.Regular.{passes}
 use Rattle.pass_early.specs.Renaming.{is_renamed, renamed, renamed_arg, renamed_callee, renamed_incoming, renamed_instr, renamed_phi, renamed_term, renamed_value}
 use Rattle.pass_early.specs.declared.renaming.Renaming.{Renaming}
 use Rattle.ir_model.specs.Names.{is_local}
@@ -23,13 +23,13 @@ use Rattle.ir_model.specs.declared.operand.Arg.{Arg}
 use Rattle.ir_model.specs.declared.operand.Callee.{Callee}
 use Rattle.ir_model.specs.declared.operand.Intrinsic.{Intrinsic}
 use Rattle.ir_model.specs.declared.operand.Operand.{Operand}
-use Rattle.ir_paths.specs.Facts.{facts_of}
-use Rattle.ir_paths.specs.Paths.{block_points, entry_point, found_from, has_point, same_point}
-use Rattle.ir_paths.specs.Slots.{addresses_of, addresses_within, allocas_in, allocas_of, behind_suspends, end_points, exposed_in_block, exposes, geps_from, has_name, have_common, is_escaped, is_gep, is_in_args, is_memcpy, is_no_use, is_ramp_slot, local_of, occurs, occurs_in_phi, occurs_in_term, points_at, points_behind, promise_of, touches, touching_points}
-use Rattle.ir_paths.specs.Windows.{call_operand, call_result, destroy_label, end_block, instr_at, instr_in, is_call_of, is_suspend_of, points_from, points_in, points_where, resume_label, saves_of, suspend_of, window_of, windows_of}
-use Rattle.ir_paths.specs.declared.point.Point.{Point}
-use Rattle.run_step.specs.Step.{has_markers, is_lifetime, is_marker_of}
-use Rattle.run_laws.specs.changed.Changed.{Each, result_of}
+use Rattle.rule_laws.specs.ir_paths.Facts.{facts_of}
+use Rattle.rule_laws.specs.ir_paths.Paths.{block_points, entry_point, found_from, has_point, same_point}
+use Rattle.rule_laws.specs.ir_paths.Slots.{addresses_of, addresses_within, allocas_in, allocas_of, behind_suspends, end_points, exposed_in_block, exposes, geps_from, has_name, have_common, is_escaped, is_gep, is_in_args, is_memcpy, is_no_use, is_ramp_slot, local_of, occurs, occurs_in_phi, occurs_in_term, points_at, points_behind, promise_of, touches, touching_points}
+use Rattle.rule_laws.specs.ir_paths.Windows.{call_operand, call_result, destroy_label, end_block, instr_at, instr_in, is_call_of, is_suspend_of, points_from, points_in, points_where, resume_label, saves_of, suspend_of, window_of, windows_of}
+use Rattle.rule_laws.specs.ir_paths.declared.point.Point.{Point}
+use Rattle.rule_laws.specs.run_step.Step.{has_markers, is_lifetime, is_marker_of}
+use Rattle.rule_laws.specs.run_laws.changed.Changed.{Each, result_of}
 
 module _ (r : Renaming) where
   -- a result of an instruction isn't concerned

@@ -2,28 +2,28 @@
 use Rattle.std.proofs.Common.{◌≡◌, ℕ, ◌+◌, Bool, true, false, List, [], ◌∷◌, length, refl, sym, ap, ◌∙◌, subst, arith}
 use Rattle.std.specs.List.{list_any}
 use Rattle.std.specs.Prelude.{IsTrue, Some, None, Option, map, not, slice_get, ◌==◌, ◌||◌, ◌&&◌, if◌then◌else◌}
-use Rattle.rule_shape.specs.Switches.{breaks_switch, end_label, is_last, is_switch_on, is_switched, is_switched_in, wrong_switch}
+use Rattle.rule_laws.specs.rule_shape.Switches.{breaks_switch, end_label, is_last, is_switch_on, is_switched, is_switched_in, wrong_switch}
 use Rattle.pass_proofs.proofs.early.renaming.Invariant.{dead_next, next_edge, unstopped_at}
 use Rattle.pass_proofs.proofs.early.renaming.Kept.{target_edge}
-use Rattle.ir_laws.proofs.facts.Truth.{equal_numbers, itself, both_true, or_right as later_is}
+use Rattle.rule_laws.proofs.ir_laws.facts.Truth.{equal_numbers, itself, both_true, or_right as later_is}
 use Rattle.rule_laws.proofs.rules.renamed.Outside.{at_point}
-use Rattle.ir_laws.specs.paths.renamed.Regular.{Here, IsDead, OnEdge}
+use Rattle.rule_laws.specs.ir_laws.paths.renamed.Regular.{Here, IsDead, OnEdge}
 use Rattle.pass_proofs.specs.early.renaming.Regular.{IsDeadAt, IsDeadBehind}
-use Rattle.ir_laws.specs.facts.renamed.Regular.{is_result}
+use Rattle.rule_laws.specs.ir_laws.facts.renamed.Regular.{is_result}
 use Rattle.pass_early.specs.declared.renaming.Renaming.{Renaming}
-use Rattle.ir_parts.specs.Parts.{first_part, instr_place, parts_of}
+use Rattle.rule_laws.specs.ir_parts.Parts.{first_part, instr_place, parts_of}
 use Rattle.ir_model.specs.declared.instr.Case.{Case}
 use Rattle.ir_model.specs.declared.instr.Instr.{Instr}
 use Rattle.ir_model.specs.declared.instr.Terminator.{Terminator}
 use Rattle.ir_model.specs.declared.module.Block.{Block}
 use Rattle.ir_model.specs.declared.module.Function.{Function}
 use Rattle.ir_model.specs.declared.operand.Intrinsic.{Intrinsic}
-use Rattle.ir_paths.specs.Paths.{entry_point, targets}
-use Rattle.ir_paths.specs.Windows.{call_result, destroy_label, instr_at, instr_in, is_call_of, is_number, label_at, label_in, label_of_term, resume_label}
-use Rattle.ir_paths.specs.declared.point.Point.{Point}
-use Rattle.run_laws.specs.changed.Changed.{result_of}
-use Rattle.rule_windows.specs.Points.{phi_count, phis_in}
-use Rattle.ir_laws.proofs.paths.renamed.Switches.{suspend_no_end}
+use Rattle.rule_laws.specs.ir_paths.Paths.{entry_point, targets}
+use Rattle.rule_laws.specs.ir_paths.Windows.{call_result, destroy_label, instr_at, instr_in, is_call_of, is_number, label_at, label_in, label_of_term, resume_label}
+use Rattle.rule_laws.specs.ir_paths.declared.point.Point.{Point}
+use Rattle.rule_laws.specs.run_laws.changed.Changed.{result_of}
+use Rattle.rule_laws.specs.rule_windows.Points.{phi_count, phis_in}
+use Rattle.rule_laws.proofs.ir_laws.paths.renamed.Switches.{suspend_no_end}
 use Rattle.rule_laws.proofs.rules.renamed.Switches.{none_part}
 
 -- the suspend is the last instruction of its block, behind which a switch stands

@@ -1,46 +1,46 @@
 -- The runs of the module whose saves are written out are those of the module.
 use Rattle.std.proofs.Common.{◌≡◌, inl, ℕ, ◌<◌, Bool, true, false, List, [], ◌∷◌, refl, sym, ap, ◌∙◌, subst, arith}
 use Rattle.std.specs.Prelude.{ℤ, negsuc, Some, None, Ok, Err, Option, Result, map, slice_get, if◌then◌else◌}
-use Rattle.run_agreement.proofs.Lockstep.{Advance, IsBetween, ShowsSame, Simulates, lockstep_near, lockstep_within}
-use Rattle.run_agreement.specs.Agreements.{AgreesWithin}
-use Rattle.run_agreement.specs.Costs.{AgreesBy, IsNear}
-use Rattle.run_agreement.specs.Machines.{IsFine, IsRunning, Machine, iterate}
-use Rattle.run_memory.specs.Memory.{access_bytes, encode}
-use Rattle.run_memory.specs.declared.block.MemoryBlock.{MemoryBlock}
-use Rattle.run_memory.specs.declared.pointer.Value.{Value}
-use Rattle.ir_base.specs.declared.cause.Cause.{Cause}
-use Rattle.ir_base.specs.declared.outcome.Outcome.{Outcome}
-use Rattle.ir_base.specs.declared.outcome.Word.{Word}
-use Rattle.run_source.specs.Source.{SourceAt, act, advance_by, context_of, continue, first_state, given, save_for, step}
-use Rattle.run_source.specs.State.{gives, next, or_undefined, point_of, with_instance, with_left, work_of}
-use Rattle.run_source.specs.declared.state.Activation.{Activation}
-use Rattle.run_source.specs.declared.state.Mode.{Mode}
-use Rattle.run_source.specs.declared.state.State.{State}
+use Rattle.rule_laws.proofs.run_agreement.Lockstep.{Advance, IsBetween, ShowsSame, Simulates, lockstep_near, lockstep_within}
+use Rattle.rule_laws.specs.run_agreement.Agreements.{AgreesWithin}
+use Rattle.rule_laws.specs.run_agreement.Costs.{AgreesBy, IsNear}
+use Rattle.rule_laws.specs.run_agreement.Machines.{IsFine, IsRunning, Machine, iterate}
+use Rattle.rule_laws.specs.run_memory.Memory.{access_bytes, encode}
+use Rattle.rule_laws.specs.run_memory.declared.block.MemoryBlock.{MemoryBlock}
+use Rattle.rule_laws.specs.run_memory.declared.pointer.Value.{Value}
+use Rattle.rule_laws.specs.ir_base.declared.cause.Cause.{Cause}
+use Rattle.rule_laws.specs.ir_base.declared.outcome.Outcome.{Outcome}
+use Rattle.rule_laws.specs.ir_base.declared.outcome.Word.{Word}
+use Rattle.rule_laws.specs.run_source.Source.{SourceAt, act, advance_by, context_of, continue, first_state, given, save_for, step}
+use Rattle.rule_laws.specs.run_source.State.{gives, next, or_undefined, point_of, with_instance, with_left, work_of}
+use Rattle.rule_laws.specs.run_source.declared.state.Activation.{Activation}
+use Rattle.rule_laws.specs.run_source.declared.state.Mode.{Mode}
+use Rattle.rule_laws.specs.run_source.declared.state.State.{State}
 use Rattle.ir_model.specs.Names.{function_at}
 use Rattle.ir_model.specs.declared.instr.Instr.{Instr}
 use Rattle.ir_model.specs.declared.module.Frame.{Frame}
 use Rattle.ir_model.specs.declared.module.GlobalItem.{GlobalItem}
 use Rattle.ir_model.specs.declared.module.Module.{Module}
-use Rattle.run_step.specs.Results.{and_then}
-use Rattle.run_step.specs.Runs.{seen_of}
-use Rattle.run_step.specs.Step.{action_of, fetch, first_world, global_block}
-use Rattle.run_step.specs.Values.{access_of, integer, stored}
-use Rattle.run_step.specs.declared.world.World.{World}
+use Rattle.rule_laws.specs.run_step.Results.{and_then}
+use Rattle.rule_laws.specs.run_step.Runs.{seen_of}
+use Rattle.rule_laws.specs.run_step.Step.{action_of, fetch, first_world, global_block}
+use Rattle.rule_laws.specs.run_step.Values.{access_of, integer, stored}
+use Rattle.rule_laws.specs.run_step.declared.world.World.{World}
 use Rattle.pass_proofs.specs.early.early_states.Beside.{IsSavedOf, source_machine}
 use Rattle.pass_proofs.specs.early.saves.SavesWritten.{is_bare, saves_written}
-use Rattle.ir_laws.specs.facts.expanded.Spots.{instrs_in}
+use Rattle.rule_laws.specs.ir_laws.facts.expanded.Spots.{instrs_in}
 use Rattle.pass_proofs.specs.early.saves.Spots.{own_saves}
-use Rattle.ir_laws.proofs.paths.named_locals.Names.{tokens_named}
+use Rattle.rule_laws.proofs.ir_laws.paths.named_locals.Names.{tokens_named}
 use Rattle.pass_proofs.proofs.early.save_simulation.Suspending.{Made, Refused, Saving, comes_behind, first_step, result, saving, second_step, source_step}
 use Rattle.pass_proofs.proofs.early.save_states.Calls.{called_saved}
 use Rattle.pass_proofs.proofs.early.save_states.Performs.{step_kept}
 use Rattle.pass_proofs.proofs.early.save_states.States.{operand_saved}
-use Rattle.ir_laws.specs.paths.saved.SavedState.{AreTokensNamed}
+use Rattle.rule_laws.specs.ir_laws.paths.saved.SavedState.{AreTokensNamed}
 use Rattle.pass_proofs.specs.early.save_states.SavedState.{StandsAlone, saved_result, saved_state}
 use Rattle.run_states.proofs.sound_states.Steps.{first_sound, source_step_sound}
-use Rattle.ir_laws.specs.facts.sound_states.Named.{AreLocalsNamed, AreUsesNamed}
+use Rattle.rule_laws.specs.ir_laws.facts.sound_states.Named.{AreLocalsNamed, AreUsesNamed}
 use Rattle.run_states.specs.sound_states.Sound.{IsSound}
-use Rattle.run_source_tables.specs.Given.{Given}
+use Rattle.rule_laws.specs.run_source_tables.Given.{Given}
 use Rattle.run_states.proofs.named.Simulation.{running_is}
 
 map_same : {A B : Type 0} (f g : A → B) → ((x : A) → f x ≡ g x) → (xs : List A) → map f xs ≡ map g xs

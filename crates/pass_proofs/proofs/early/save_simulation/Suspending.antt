@@ -1,14 +1,14 @@
 -- A suspend without a save, and the two instructions that it becomes.
 use Rattle.std.proofs.Common.{◌≡◌, ℕ, ◌+◌, Bool, true, false, List, [], ◌∷◌, length, sym, ap, ◌∙◌, subst}
 use Rattle.std.specs.Prelude.{ℤ, negsuc, Some, None, Ok, Err, Option, Result, not, slice_get, if◌then◌else◌, ◌==◌}
-use Rattle.run_memory.specs.declared.pointer.Value.{Value}
-use Rattle.ir_base.specs.declared.cause.Cause.{Cause}
-use Rattle.ir_base.specs.declared.outcome.Outcome.{Outcome}
-use Rattle.run_source.specs.Source.{act, advance_by, context_of, continue, given, save, save_for, step}
-use Rattle.run_source.specs.State.{function_of, gives, next, or_undefined, own_instance, point_of, with_instance, with_left, work_of}
-use Rattle.run_source.specs.declared.state.Instance.{Instance}
-use Rattle.run_source.specs.declared.state.State.{State}
-use Rattle.run_source.specs.declared.state.Status.{Status}
+use Rattle.rule_laws.specs.run_memory.declared.pointer.Value.{Value}
+use Rattle.rule_laws.specs.ir_base.declared.cause.Cause.{Cause}
+use Rattle.rule_laws.specs.ir_base.declared.outcome.Outcome.{Outcome}
+use Rattle.rule_laws.specs.run_source.Source.{act, advance_by, context_of, continue, given, save, save_for, step}
+use Rattle.rule_laws.specs.run_source.State.{function_of, gives, next, or_undefined, own_instance, point_of, with_instance, with_left, work_of}
+use Rattle.rule_laws.specs.run_source.declared.state.Instance.{Instance}
+use Rattle.rule_laws.specs.run_source.declared.state.State.{State}
+use Rattle.rule_laws.specs.run_source.declared.state.Status.{Status}
 use Rattle.pass_early.specs.Early.{is_unsaved, saved}
 use Rattle.ir_model.specs.Names.{function_at}
 use Rattle.ir_model.specs.Ty.{Ty}
@@ -21,27 +21,27 @@ use Rattle.ir_model.specs.declared.operand.Arg.{Arg}
 use Rattle.ir_model.specs.declared.operand.Callee.{Callee}
 use Rattle.ir_model.specs.declared.operand.Intrinsic.{Intrinsic}
 use Rattle.ir_model.specs.declared.operand.Operand.{Operand}
-use Rattle.ir_paths.specs.Windows.{call_result, instr_at, instr_in}
-use Rattle.ir_paths.specs.declared.point.Point.{Point}
-use Rattle.run_step.specs.Results.{and_then, found, ok_if}
-use Rattle.run_step.specs.Step.{AtInstr, Fetched, action_of, fetch, fetch_in, fetch_or}
-use Rattle.run_step.specs.Values.{integer}
+use Rattle.rule_laws.specs.ir_paths.Windows.{call_result, instr_at, instr_in}
+use Rattle.rule_laws.specs.ir_paths.declared.point.Point.{Point}
+use Rattle.rule_laws.specs.run_step.Results.{and_then, found, ok_if}
+use Rattle.rule_laws.specs.run_step.Step.{AtInstr, Fetched, action_of, fetch, fetch_in, fetch_or}
+use Rattle.rule_laws.specs.run_step.Values.{integer}
 use Rattle.pass_proofs.proofs.early.saves.Instrs.{instr_then, name_at}
 use Rattle.pass_proofs.proofs.early.saves.Parts.{at_back, function_saved}
 use Rattle.pass_proofs.proofs.early.saves.Saves.{each_here}
 use Rattle.pass_proofs.proofs.early.saves.Windows.{front_bare}
-use Rattle.ir_laws.proofs.paths.expanded.Windows.{instr_at_is}
+use Rattle.rule_laws.proofs.ir_laws.paths.expanded.Windows.{instr_at_is}
 use Rattle.pass_proofs.specs.early.saves.SavesWritten.{is_bare, saved_function, saves_written}
 use Rattle.pass_proofs.specs.early.saves.Spots.{back_of, front_of, number_of_block, own_saves}
-use Rattle.ir_laws.specs.facts.expanded.Spots.{instrs_in}
-use Rattle.ir_laws.specs.paths.expanded.Tokens.{HasNamedToken}
-use Rattle.ir_laws.specs.facts.expanded.Tokens.{IsNamedResult}
+use Rattle.rule_laws.specs.ir_laws.facts.expanded.Spots.{instrs_in}
+use Rattle.rule_laws.specs.ir_laws.paths.expanded.Tokens.{HasNamedToken}
+use Rattle.rule_laws.specs.ir_laws.facts.expanded.Tokens.{IsNamedResult}
 use Rattle.pass_proofs.proofs.early.save_states.Performs.{own_of}
 use Rattle.pass_proofs.proofs.early.save_states.Suspends.{gives_behind, written_save_saved}
-use Rattle.ir_laws.specs.paths.saved.SavedState.{AreTokensNamed}
+use Rattle.rule_laws.specs.ir_laws.paths.saved.SavedState.{AreTokensNamed}
 use Rattle.pass_proofs.specs.early.save_states.SavedState.{saved_result, saved_state}
 use Rattle.run_states.specs.sound_states.Sound.{IsSound}
-use Rattle.run_source_tables.specs.Given.{Given}
+use Rattle.rule_laws.specs.run_source_tables.Given.{Given}
 use Rattle.pass_proofs.proofs.early.saves.Tokens.{none_is}
 
 pub record IsUnsaved (i : Instr) : Type 0 where

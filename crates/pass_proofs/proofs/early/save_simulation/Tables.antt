@@ -13,12 +13,12 @@ use Rattle.ir_model.specs.declared.module.Param.{Param}
 use Rattle.ir_model.specs.declared.operand.Operand.{Operand}
 use Rattle.pass_proofs.proofs.early.saves.Parts.{function_saved}
 use Rattle.pass_proofs.specs.early.saves.SavesWritten.{behind_blocks, behind_save, behind_saves, is_bare, save_count, saved_block, saved_blocks, saved_function, saves_written, with_save, with_saves}
-use Rattle.run_laws.specs.changed.Changed.{Each, operands_of, operands_of_term, result_of, Each as EachOperand}
-use Rattle.ir_laws.specs.facts.expanded.Tokens.{IsNamed, IsNamedResult}
+use Rattle.rule_laws.specs.run_laws.changed.Changed.{Each, operands_of, operands_of_term, result_of, Each as EachOperand}
+use Rattle.rule_laws.specs.ir_laws.facts.expanded.Tokens.{IsNamed, IsNamedResult}
 use Rattle.pass_proofs.proofs.early.save_simulation.Suspending.{bare_is}
 use Rattle.pass_proofs.proofs.early.save_states.Calls.{names_length}
-use Rattle.ir_laws.specs.facts.sound_states.Named.{AreLocalsNamed, AreUsesNamed, HasNamedLocals, HasNamedUses}
-use Rattle.ir_laws.proofs.facts.Members.{each_joined as joined, each_turns as each_then}
+use Rattle.rule_laws.specs.ir_laws.facts.sound_states.Named.{AreLocalsNamed, AreUsesNamed, HasNamedLocals, HasNamedUses}
+use Rattle.rule_laws.proofs.ir_laws.facts.Members.{each_joined as joined, each_turns as each_then}
 
 -- ---- numbers of saves rise
 

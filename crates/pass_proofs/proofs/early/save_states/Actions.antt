@@ -1,11 +1,11 @@
 -- What an instruction does in a module, and in the module whose saves are written out.
 use Rattle.std.proofs.Common.{◌≡◌, ℕ, ◌+◌, Bool, true, false, List, [], ◌∷◌, length, refl, sym, ap, ◌∙◌, subst, add-zero, arith}
 use Rattle.std.specs.Prelude.{ℤ, Some, None, Option, map, option_map, slice_get, ◌==◌, if◌then◌else◌}
-use Rattle.ir_base.specs.declared.name.Name.{Name}
-use Rattle.ir_base.specs.declared.outcome.Event.{Event}
-use Rattle.run_source.specs.Source.{context_of, given}
-use Rattle.run_source.specs.State.{function_of, work_of}
-use Rattle.run_source.specs.declared.state.State.{State}
+use Rattle.rule_laws.specs.ir_base.declared.name.Name.{Name}
+use Rattle.rule_laws.specs.ir_base.declared.outcome.Event.{Event}
+use Rattle.rule_laws.specs.run_source.Source.{context_of, given}
+use Rattle.rule_laws.specs.run_source.State.{function_of, work_of}
+use Rattle.rule_laws.specs.run_source.declared.state.State.{State}
 use Rattle.ir_model.specs.Names.{declaration_named, function_at}
 use Rattle.ir_model.specs.declared.instr.Instr.{Instr}
 use Rattle.ir_model.specs.declared.module.Block.{Block}
@@ -13,8 +13,8 @@ use Rattle.ir_model.specs.declared.module.Frame.{Frame}
 use Rattle.ir_model.specs.declared.module.Function.{Function}
 use Rattle.ir_model.specs.declared.module.Module.{Module}
 use Rattle.ir_model.specs.declared.operand.Operand.{Operand}
-use Rattle.ir_paths.specs.declared.point.Point.{Point}
-use Rattle.run_step.specs.Step.{Action, Context, Coro, Deallocate, Done, Enter, Fetched, GoTo, NewSlot, Return, Stuck, Work, action_of, fetch, fetch_in, fetch_or, has_markers}
+use Rattle.rule_laws.specs.ir_paths.declared.point.Point.{Point}
+use Rattle.rule_laws.specs.run_step.Step.{Action, Context, Coro, Deallocate, Done, Enter, Fetched, GoTo, NewSlot, Return, Stuck, Work, action_of, fetch, fetch_in, fetch_or, has_markers}
 use Rattle.run_states.proofs.expanded.Environments.{grown, result_grown}
 use Rattle.pass_early.specs.Early.{saved}
 use Rattle.pass_proofs.proofs.early.saves.Blocks.{get_block}
@@ -22,14 +22,14 @@ use Rattle.pass_proofs.proofs.early.saves.Instrs.{instr_then, name_at}
 use Rattle.pass_proofs.proofs.early.saves.Parts.{fetch_back, fits_saved, function_saved, markers_saved, named_saved}
 use Rattle.pass_proofs.specs.early.saves.SavesWritten.{is_bare, save_count, saved_block, saved_function, saves_written}
 use Rattle.pass_proofs.specs.early.saves.Spots.{back_of, front_of, number_of_block, own_saves}
-use Rattle.ir_laws.specs.facts.expanded.Spots.{instrs_in}
-use Rattle.ir_laws.specs.facts.expanded.Tokens.{IsNamedResult}
+use Rattle.rule_laws.specs.ir_laws.facts.expanded.Spots.{instrs_in}
+use Rattle.rule_laws.specs.ir_laws.facts.expanded.Tokens.{IsNamedResult}
 use Rattle.pass_proofs.proofs.early.save_states.States.{operand_saved}
 use Rattle.pass_proofs.specs.early.save_states.SavedState.{HasRoom, StandsAlone, saved_action, saved_state, saved_work}
 use Rattle.run_states.proofs.sound_states.Fits.{result_named}
-use Rattle.ir_laws.specs.facts.sound_states.Named.{HasNamedResults}
-use Rattle.run_laws.proofs.changed.Kept.{action_kept}
-use Rattle.run_laws.specs.changed.Changed.{Change, IsDeclaredAlike, IsKeptAt, IsLike, IsSameOperand, callee_at, changed_action, changed_event, changed_work, operands_at, result_at, Each as EachOperand}
+use Rattle.rule_laws.specs.ir_laws.facts.sound_states.Named.{HasNamedResults}
+use Rattle.rule_laws.proofs.run_laws.changed.Kept.{action_kept}
+use Rattle.rule_laws.specs.run_laws.changed.Changed.{Change, IsDeclaredAlike, IsKeptAt, IsLike, IsSameOperand, callee_at, changed_action, changed_event, changed_work, operands_at, result_at, Each as EachOperand}
 
 abbrev growing : Function → Change
 growing f = record { values = grown (save_count f); declaration = λ d. d }

@@ -2,29 +2,29 @@
 use Rattle.std.proofs.Common.{◌≡◌, ℕ, zero, suc, ◌+◌, ◌<◌, false, List, [], ◌∷◌, ◌++◌, length, refl, sym, ap, ◌∙◌, subst, arith, length-append}
 use Rattle.std.proofs.lemmas.List.{replicate-append-replicate}
 use Rattle.std.specs.Prelude.{ℤ, None, Ok, Err, Option, Result, map, replicate, unwrap_or}
-use Rattle.run_memory.specs.declared.pointer.Value.{Value}
-use Rattle.ir_base.specs.declared.cause.Cause.{Cause}
-use Rattle.ir_base.specs.declared.outcome.Outcome.{Outcome}
-use Rattle.run_source.specs.Source.{called, enter, given, mode_of, pop, return, returned}
-use Rattle.run_source.specs.declared.state.Activation.{Activation}
-use Rattle.run_source.specs.declared.state.Mode.{Mode}
-use Rattle.run_source.specs.declared.state.State.{State}
+use Rattle.rule_laws.specs.run_memory.declared.pointer.Value.{Value}
+use Rattle.rule_laws.specs.ir_base.declared.cause.Cause.{Cause}
+use Rattle.rule_laws.specs.ir_base.declared.outcome.Outcome.{Outcome}
+use Rattle.rule_laws.specs.run_source.Source.{called, enter, given, mode_of, pop, return, returned}
+use Rattle.rule_laws.specs.run_source.declared.state.Activation.{Activation}
+use Rattle.rule_laws.specs.run_source.declared.state.Mode.{Mode}
+use Rattle.rule_laws.specs.run_source.declared.state.State.{State}
 use Rattle.pass_early.specs.Early.{save_name, save_names}
 use Rattle.ir_model.specs.Names.{function_at}
 use Rattle.ir_model.specs.declared.module.Frame.{Frame}
 use Rattle.ir_model.specs.declared.module.Function.{Function}
 use Rattle.ir_model.specs.declared.module.Module.{Module}
 use Rattle.ir_model.specs.declared.module.Param.{Param}
-use Rattle.run_step.specs.Results.{and_then}
-use Rattle.run_step.specs.Step.{entry_values, outcome_of, with_params}
-use Rattle.run_step.specs.Values.{Env}
+use Rattle.rule_laws.specs.run_step.Results.{and_then}
+use Rattle.rule_laws.specs.run_step.Step.{entry_values, outcome_of, with_params}
+use Rattle.rule_laws.specs.run_step.Values.{Env}
 use Rattle.run_states.proofs.expanded.Environments.{grown, params_grown, result_grown}
 use Rattle.pass_proofs.proofs.early.saves.Parts.{function_saved}
 use Rattle.pass_proofs.specs.early.saves.SavesWritten.{save_count, saved_function, saves_written}
-use Rattle.run_laws.specs.changed.Changed.{Each}
+use Rattle.rule_laws.specs.run_laws.changed.Changed.{Each}
 use Rattle.pass_proofs.proofs.early.save_states.Acts.{front_next}
 use Rattle.pass_proofs.specs.early.save_states.SavedState.{IsNamedBelow, StandsAlone, saved_activation, saved_result, saved_state}
-use Rattle.ir_laws.specs.facts.sound_states.Named.{HasNamedParams}
+use Rattle.rule_laws.specs.ir_laws.facts.sound_states.Named.{HasNamedParams}
 use Rattle.run_states.proofs.branches.Calls.{length_none}
 
 -- ---- the values at the entry

@@ -4,18 +4,18 @@ use Rattle.std.proofs.lemmas.List.{length-map, map-append}
 use Rattle.std.specs.List.{find}
 use Rattle.std.specs.Option.{option_map_or}
 use Rattle.std.specs.Prelude.{ℤ, negsuc, Some, None, Ok, Err, Option, Result, is_none, map, not, option_and_then, option_map, slice_get, if◌then◌else◌, ◌==◌}
-use Rattle.run_memory.specs.Memory.{own}
-use Rattle.run_memory.specs.declared.block.Kind.{Kind}
-use Rattle.run_memory.specs.declared.block.MemoryBlock.{MemoryBlock}
-use Rattle.run_memory.specs.declared.pointer.Pointer.{Pointer}
-use Rattle.run_memory.specs.declared.pointer.Value.{Value}
-use Rattle.ir_base.specs.declared.cause.Cause.{Cause}
-use Rattle.run_source.specs.Source.{Sleeper, after_end, begin, begin_at, begun, block_of_slot, change_own, continue, destroy, done_at, end_of, finish, frame_address, frame_of_promise, given, has_promise_at, is_live_at, is_over, new_instance, promise, promise_block, promise_of_frame, release, resume, save, save_for, sleeper_at, slots_of, suspend, with_new_slots}
-use Rattle.run_source.specs.State.{frame_address_of, gives, instance_at, next, own_facts, own_frame, own_instance, point_of, with_instance, with_left, with_memory, work_of}
-use Rattle.run_source.specs.declared.state.Instance.{Instance}
-use Rattle.run_source.specs.declared.state.Mode.{Mode}
-use Rattle.run_source.specs.declared.state.State.{State}
-use Rattle.run_source.specs.declared.state.Status.{Status}
+use Rattle.rule_laws.specs.run_memory.Memory.{own}
+use Rattle.rule_laws.specs.run_memory.declared.block.Kind.{Kind}
+use Rattle.rule_laws.specs.run_memory.declared.block.MemoryBlock.{MemoryBlock}
+use Rattle.rule_laws.specs.run_memory.declared.pointer.Pointer.{Pointer}
+use Rattle.rule_laws.specs.run_memory.declared.pointer.Value.{Value}
+use Rattle.rule_laws.specs.ir_base.declared.cause.Cause.{Cause}
+use Rattle.rule_laws.specs.run_source.Source.{Sleeper, after_end, begin, begin_at, begun, block_of_slot, change_own, continue, destroy, done_at, end_of, finish, frame_address, frame_of_promise, given, has_promise_at, is_live_at, is_over, new_instance, promise, promise_block, promise_of_frame, release, resume, save, save_for, sleeper_at, slots_of, suspend, with_new_slots}
+use Rattle.rule_laws.specs.run_source.State.{frame_address_of, gives, instance_at, next, own_facts, own_frame, own_instance, point_of, with_instance, with_left, with_memory, work_of}
+use Rattle.rule_laws.specs.run_source.declared.state.Instance.{Instance}
+use Rattle.rule_laws.specs.run_source.declared.state.Mode.{Mode}
+use Rattle.rule_laws.specs.run_source.declared.state.State.{State}
+use Rattle.rule_laws.specs.run_source.declared.state.Status.{Status}
 use Rattle.ir_model.specs.Names.{function_at}
 use Rattle.ir_model.specs.declared.instr.Instr.{Instr}
 use Rattle.ir_model.specs.declared.module.Block.{Block}
@@ -23,15 +23,15 @@ use Rattle.ir_model.specs.declared.module.Frame.{Frame}
 use Rattle.ir_model.specs.declared.module.Function.{Function}
 use Rattle.ir_model.specs.declared.module.Module.{Module}
 use Rattle.ir_model.specs.declared.operand.Operand.{Operand}
-use Rattle.ir_paths.specs.Facts.{facts_of}
-use Rattle.ir_paths.specs.Slots.{promise_of}
-use Rattle.ir_paths.specs.Windows.{call_result, destroy_label, label_at, resume_label, suspend_of}
-use Rattle.ir_paths.specs.declared.point.Facts.{Facts}
-use Rattle.ir_paths.specs.declared.point.Point.{Point}
-use Rattle.run_step.specs.Results.{and_then, found, ok_if}
-use Rattle.run_step.specs.Step.{block_of, without_slots}
-use Rattle.run_step.specs.Values.{Env, integer, pointer_to, truth_value, with_result}
-use Rattle.run_step.specs.declared.world.Slot.{Slot}
+use Rattle.rule_laws.specs.ir_paths.Facts.{facts_of}
+use Rattle.rule_laws.specs.ir_paths.Slots.{promise_of}
+use Rattle.rule_laws.specs.ir_paths.Windows.{call_result, destroy_label, label_at, resume_label, suspend_of}
+use Rattle.rule_laws.specs.ir_paths.declared.point.Facts.{Facts}
+use Rattle.rule_laws.specs.ir_paths.declared.point.Point.{Point}
+use Rattle.rule_laws.specs.run_step.Results.{and_then, found, ok_if}
+use Rattle.rule_laws.specs.run_step.Step.{block_of, without_slots}
+use Rattle.rule_laws.specs.run_step.Values.{Env, integer, pointer_to, truth_value, with_result}
+use Rattle.rule_laws.specs.run_step.declared.world.Slot.{Slot}
 use Rattle.pass_proofs.proofs.early.saves.Blocks.{get_block}
 use Rattle.run_states.proofs.expanded.Environments.{result_grown}
 use Rattle.pass_proofs.proofs.early.saves.Parts.{final_saved, function_saved, has_final_saved}
@@ -39,19 +39,19 @@ use Rattle.pass_proofs.proofs.early.saves.Slots.{same_promise, same_ramp_slots}
 use Rattle.pass_proofs.proofs.early.saves.Windows.{suspend_lone}
 use Rattle.pass_proofs.specs.early.saves.SavesWritten.{is_bare, save_count, saved_block, saved_function, saves_written}
 use Rattle.pass_proofs.specs.early.saves.Spots.{back_of, front_of, number_of_block}
-use Rattle.ir_laws.specs.facts.expanded.Spots.{instrs_in}
-use Rattle.ir_laws.specs.paths.expanded.Tokens.{HasNamedTokens}
-use Rattle.ir_laws.specs.facts.expanded.Tokens.{IsNamedResult}
+use Rattle.rule_laws.specs.ir_laws.facts.expanded.Spots.{instrs_in}
+use Rattle.rule_laws.specs.ir_laws.paths.expanded.Tokens.{HasNamedTokens}
+use Rattle.rule_laws.specs.ir_laws.facts.expanded.Tokens.{IsNamedResult}
 use Rattle.pass_proofs.proofs.early.save_states.Acts.{new_slots_same, over_saved, settled_saved, slots_saved}
 use Rattle.pass_proofs.proofs.early.save_states.Calls.{return_saved}
 use Rattle.pass_proofs.proofs.early.save_states.Resumes.{continue_saved, sleeper_saved, sleeping}
 use Rattle.run_states.proofs.saved.States.{facts_are}
 use Rattle.pass_proofs.proofs.early.save_states.States.{facts_saved, found_saved, own_saved, with_instance_saved, with_number}
 use Rattle.pass_proofs.proofs.early.save_states.Suspends.{save_for_saved}
-use Rattle.ir_laws.specs.paths.saved.SavedState.{AreTokensNamed}
+use Rattle.rule_laws.specs.ir_laws.paths.saved.SavedState.{AreTokensNamed}
 use Rattle.pass_proofs.specs.early.save_states.SavedState.{IsNamedBelow, IsOwnedBy, StandsAlone, saved_activation, saved_instance, saved_result, saved_state, saved_values}
-use Rattle.ir_laws.specs.facts.sound_states.Named.{AreLocalsNamed}
-use Rattle.run_source_tables.specs.Given.{Given, has_final, is_final, is_true}
+use Rattle.rule_laws.specs.ir_laws.facts.sound_states.Named.{AreLocalsNamed}
+use Rattle.rule_laws.specs.run_source_tables.Given.{Given, has_final, is_final, is_true}
 
 -- ---- labels behind a suspend
 

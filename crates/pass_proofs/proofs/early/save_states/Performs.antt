@@ -1,12 +1,12 @@
 -- What stands alone does the same to a state, and to that of the module whose saves are written out.
 use Rattle.std.proofs.Common.{◌≡◌, ℕ, Bool, true, false, List, [], ◌∷◌, ◌++◌, length, refl, sym, ap, ◌∙◌, subst, arith}
 use Rattle.std.specs.Prelude.{ℤ, pos, Some, None, Ok, Option, replicate, slice_get, if◌then◌else◌, ◌==◌}
-use Rattle.run_memory.specs.declared.pointer.Value.{Value}
-use Rattle.run_source.specs.Source.{Sleeper, act, context_of, continue, coro, given, new_slot, sleeper_at}
-use Rattle.run_source.specs.State.{function_of, own_frame, own_instance, point_of, settled, work_of}
-use Rattle.run_source.specs.declared.state.Activation.{Activation}
-use Rattle.run_source.specs.declared.state.Instance.{Instance}
-use Rattle.run_source.specs.declared.state.State.{State}
+use Rattle.rule_laws.specs.run_memory.declared.pointer.Value.{Value}
+use Rattle.rule_laws.specs.run_source.Source.{Sleeper, act, context_of, continue, coro, given, new_slot, sleeper_at}
+use Rattle.rule_laws.specs.run_source.State.{function_of, own_frame, own_instance, point_of, settled, work_of}
+use Rattle.rule_laws.specs.run_source.declared.state.Activation.{Activation}
+use Rattle.rule_laws.specs.run_source.declared.state.Instance.{Instance}
+use Rattle.rule_laws.specs.run_source.declared.state.State.{State}
 use Rattle.ir_model.specs.Names.{function_at}
 use Rattle.ir_model.specs.declared.instr.Instr.{Instr}
 use Rattle.ir_model.specs.declared.module.Block.{Block}
@@ -15,30 +15,30 @@ use Rattle.ir_model.specs.declared.module.Function.{Function}
 use Rattle.ir_model.specs.declared.module.Module.{Module}
 use Rattle.ir_model.specs.declared.operand.Arg.{Arg}
 use Rattle.ir_model.specs.declared.operand.Intrinsic.{Intrinsic}
-use Rattle.ir_paths.specs.Windows.{is_call_of, operand_at}
-use Rattle.ir_paths.specs.declared.point.Point.{Point}
-use Rattle.run_step.specs.Step.{Action, Coro, Deallocate, Done, Enter, Fetched, GoTo, NewSlot, Return, Stuck, action_of, fetch, fetch_in, fetch_or}
-use Rattle.run_step.specs.Values.{Env, arg_values, integer, nth, truth_value}
+use Rattle.rule_laws.specs.ir_paths.Windows.{is_call_of, operand_at}
+use Rattle.rule_laws.specs.ir_paths.declared.point.Point.{Point}
+use Rattle.rule_laws.specs.run_step.Step.{Action, Coro, Deallocate, Done, Enter, Fetched, GoTo, NewSlot, Return, Stuck, action_of, fetch, fetch_in, fetch_or}
+use Rattle.rule_laws.specs.run_step.Values.{Env, arg_values, integer, nth, truth_value}
 use Rattle.pass_proofs.proofs.early.saves.Saves.{each_here}
 use Rattle.pass_proofs.specs.early.saves.SavesWritten.{is_bare, save_count, saves_written}
-use Rattle.ir_laws.specs.facts.expanded.Spots.{instrs_in}
+use Rattle.rule_laws.specs.ir_laws.facts.expanded.Spots.{instrs_in}
 use Rattle.pass_proofs.specs.early.saves.Spots.{own_saves}
-use Rattle.ir_laws.specs.paths.expanded.Tokens.{HasNamedToken}
-use Rattle.ir_laws.specs.facts.expanded.Tokens.{IsNamedResult}
+use Rattle.rule_laws.specs.ir_laws.paths.expanded.Tokens.{HasNamedToken}
+use Rattle.rule_laws.specs.ir_laws.facts.expanded.Tokens.{IsNamedResult}
 use Rattle.pass_proofs.proofs.early.save_states.Actions.{action_saved}
 use Rattle.pass_proofs.proofs.early.save_states.Acts.{deallocate_saved, new_slot_saved, settled_saved}
 use Rattle.pass_proofs.proofs.early.save_states.Calls.{enter_saved, return_saved}
 use Rattle.pass_proofs.proofs.early.save_states.Intrinsics.{begin_saved, destroy_saved, done_saved, end_saved, frame_saved, free_saved, gives_saved, next_saved, promise_saved, resume_saved, save_saved, suspend_saved}
 use Rattle.pass_proofs.proofs.early.save_states.States.{branches_same, operand_saved}
-use Rattle.ir_laws.specs.paths.saved.SavedState.{AreTokensNamed}
+use Rattle.rule_laws.specs.ir_laws.paths.saved.SavedState.{AreTokensNamed}
 use Rattle.pass_proofs.specs.early.save_states.SavedState.{IsNamedBelow, IsOwnedBy, StandsAlone, saved_action, saved_result, saved_state}
 use Rattle.run_states.proofs.sound_states.Acts.{asleep_there}
 use Rattle.run_states.proofs.sound_states.Fits.{Fits, calls_at, fits, result_named}
 use Rattle.run_states.proofs.sound_states.Kept.{own_is, own_there}
-use Rattle.ir_laws.specs.facts.sound_states.Named.{AreLocalsNamed}
+use Rattle.rule_laws.specs.ir_laws.facts.sound_states.Named.{AreLocalsNamed}
 use Rattle.run_states.specs.sound_states.Sound.{AreSoundBelow, IsSound, IsSoundStatus}
-use Rattle.run_source_tables.specs.Given.{Given}
-use Rattle.run_laws.specs.changed.Changed.{result_at}
+use Rattle.rule_laws.specs.run_source_tables.Given.{Given}
+use Rattle.rule_laws.specs.run_laws.changed.Changed.{result_at}
 
 -- ---- what stands at a place
 

@@ -4,16 +4,16 @@ use Rattle.std.proofs.lemmas.List.{length-map}
 use Rattle.std.proofs.lemmas.Option.{slice_get-map}
 use Rattle.std.specs.List.{list_all}
 use Rattle.std.specs.Prelude.{ℤ, Some, None, Ok, Option, filter, map, option_and_then, option_map, slice_get, ◌&&◌, ◌==◌, if◌then◌else◌}
-use Rattle.run_memory.specs.declared.pointer.Pointer.{Pointer}
-use Rattle.run_memory.specs.declared.pointer.Value.{Value}
-use Rattle.ir_base.specs.declared.cause.Cause.{Cause}
-use Rattle.run_source.specs.Indexes.{last_from, or_else}
-use Rattle.run_source.specs.Source.{branch_leaving, enter_block, given, go_to, is_save, left_windows, may_leave}
-use Rattle.run_source.specs.State.{began_at, instance_at, is_suspended, numbered, own_instance, point_of, with_instance, with_left, with_status}
-use Rattle.run_source.specs.declared.state.Instance.{Instance}
-use Rattle.run_source.specs.declared.state.Saved.{Saved}
-use Rattle.run_source.specs.declared.state.State.{State}
-use Rattle.run_source.specs.declared.state.Status.{Status}
+use Rattle.rule_laws.specs.run_memory.declared.pointer.Pointer.{Pointer}
+use Rattle.rule_laws.specs.run_memory.declared.pointer.Value.{Value}
+use Rattle.rule_laws.specs.ir_base.declared.cause.Cause.{Cause}
+use Rattle.rule_laws.specs.run_source.Indexes.{last_from, or_else}
+use Rattle.rule_laws.specs.run_source.Source.{branch_leaving, enter_block, given, go_to, is_save, left_windows, may_leave}
+use Rattle.rule_laws.specs.run_source.State.{began_at, instance_at, is_suspended, numbered, own_instance, point_of, with_instance, with_left, with_status}
+use Rattle.rule_laws.specs.run_source.declared.state.Instance.{Instance}
+use Rattle.rule_laws.specs.run_source.declared.state.Saved.{Saved}
+use Rattle.rule_laws.specs.run_source.declared.state.State.{State}
+use Rattle.rule_laws.specs.run_source.declared.state.Status.{Status}
 use Rattle.ir_model.specs.Names.{declaration_named, function_at, function_named, global_named, position_of}
 use Rattle.ir_model.specs.Ty.{Ty}
 use Rattle.ir_model.specs.declared.instr.Phi.{Phi}
@@ -22,31 +22,31 @@ use Rattle.ir_model.specs.declared.module.Frame.{Frame}
 use Rattle.ir_model.specs.declared.module.Function.{Function}
 use Rattle.ir_model.specs.declared.module.Module.{Module}
 use Rattle.ir_model.specs.declared.operand.Operand.{Operand}
-use Rattle.ir_paths.specs.Facts.{all_facts, facts_of}
-use Rattle.ir_paths.specs.Paths.{entry_point, same_point}
-use Rattle.ir_paths.specs.Windows.{leaves, windows_of}
-use Rattle.ir_paths.specs.declared.point.Facts.{Facts}
-use Rattle.ir_paths.specs.declared.point.Point.{Point}
-use Rattle.ir_paths.specs.declared.point.Window.{Window}
-use Rattle.run_step.specs.Results.{and_then, found, ok_if}
-use Rattle.run_step.specs.Step.{incoming_from, label_of, phi_values, phis_of, values_in, with_all}
-use Rattle.run_step.specs.Values.{Env, address_from, operand_value}
-use Rattle.run_source_tables.specs.Given.{Given, facts_at}
+use Rattle.rule_laws.specs.ir_paths.Facts.{all_facts, facts_of}
+use Rattle.rule_laws.specs.ir_paths.Paths.{entry_point, same_point}
+use Rattle.rule_laws.specs.ir_paths.Windows.{leaves, windows_of}
+use Rattle.rule_laws.specs.ir_paths.declared.point.Facts.{Facts}
+use Rattle.rule_laws.specs.ir_paths.declared.point.Point.{Point}
+use Rattle.rule_laws.specs.ir_paths.declared.point.Window.{Window}
+use Rattle.rule_laws.specs.run_step.Results.{and_then, found, ok_if}
+use Rattle.rule_laws.specs.run_step.Step.{incoming_from, label_of, phi_values, phis_of, values_in, with_all}
+use Rattle.rule_laws.specs.run_step.Values.{Env, address_from, operand_value}
+use Rattle.rule_laws.specs.run_source_tables.Given.{Given, facts_at}
 use Rattle.pass_proofs.proofs.early.saves.Apart.{same_fronts}
 use Rattle.pass_proofs.proofs.early.saves.Behind.{entry_saved}
 use Rattle.pass_proofs.proofs.early.saves.Blocks.{get_block, position_saved}
 use Rattle.run_states.proofs.expanded.Environments.{all_grown, grown, value_grown}
 use Rattle.pass_proofs.proofs.early.saves.Laws.{left_kept}
 use Rattle.pass_proofs.proofs.early.saves.Parts.{function_saved, named_saved}
-use Rattle.ir_laws.proofs.facts.Members.{at_each as each_at}
+use Rattle.rule_laws.proofs.ir_laws.facts.Members.{at_each as each_at}
 use Rattle.pass_proofs.specs.early.saves.Moved.{AreAllMoved}
 use Rattle.pass_proofs.specs.early.save_states.SavedState.{HasRoom, IsOwnedBy, saved_activation, saved_instance, saved_result, saved_save, saved_state, saved_status}
-use Rattle.ir_laws.specs.facts.sound_states.Named.{HasNamedPhis}
+use Rattle.rule_laws.specs.ir_laws.facts.sound_states.Named.{HasNamedPhis}
 use Rattle.pass_proofs.specs.early.saves.SavesWritten.{save_count, saved_block, saved_function, saves_written}
 use Rattle.pass_proofs.specs.early.saves.Spots.{front_of, number_of_block}
-use Rattle.run_laws.specs.changed.Changed.{Each}
-use Rattle.ir_laws.specs.paths.expanded.Tokens.{HasNamedTokens}
-use Rattle.ir_laws.proofs.facts.Lists.{map_set}
+use Rattle.rule_laws.specs.run_laws.changed.Changed.{Each}
+use Rattle.rule_laws.specs.ir_laws.paths.expanded.Tokens.{HasNamedTokens}
+use Rattle.rule_laws.proofs.ir_laws.facts.Lists.{map_set}
 use Rattle.run_states.proofs.saved.States.{facts_are}
 
 pub facts_saved : (m : Module) (func : ℕ) → facts_at (all_facts (saves_written m)) func ≡ facts_of (saved_function (function_at m func))

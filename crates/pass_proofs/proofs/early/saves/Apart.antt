@@ -2,14 +2,14 @@
 use Rattle.std.proofs.Common.{◌≡◌, ℕ, suc, ◌<◌, ◌≤◌, length, refl, sym, ◌∙◌, subst, arith}
 use Rattle.std.specs.Prelude.{slice_get}
 use Rattle.ir_model.specs.declared.module.Function.{Function}
-use Rattle.ir_paths.specs.Paths.{same_point}
-use Rattle.ir_paths.specs.declared.point.Point.{Point}
-use Rattle.ir_laws.proofs.facts.Lists.{place_unique}
+use Rattle.rule_laws.specs.ir_paths.Paths.{same_point}
+use Rattle.rule_laws.specs.ir_paths.declared.point.Point.{Point}
+use Rattle.rule_laws.proofs.ir_laws.facts.Lists.{place_unique}
 use Rattle.pass_proofs.proofs.early.saves.Instrs.{next_place}
 use Rattle.pass_proofs.specs.early.saves.SavesWritten.{behind_save, with_save}
 use Rattle.pass_proofs.specs.early.saves.Spots.{back_of, front_of, number_of_block, place_in}
-use Rattle.ir_laws.specs.facts.expanded.Spots.{instrs_in}
-use Rattle.ir_laws.proofs.paths.expanded.Apart.{same_moved}
+use Rattle.rule_laws.specs.ir_laws.facts.expanded.Spots.{instrs_in}
+use Rattle.rule_laws.proofs.ir_laws.paths.expanded.Apart.{same_moved}
 
 module _ (f : Function) where
   abbrev place : ℕ → ℕ → ℕ

@@ -9,28 +9,28 @@ use Rattle.ir_model.specs.declared.instr.Instr.{Instr}
 use Rattle.ir_model.specs.declared.module.Block.{Block}
 use Rattle.ir_model.specs.declared.module.Function.{Function}
 use Rattle.ir_model.specs.declared.operand.Intrinsic.{Intrinsic}
-use Rattle.ir_paths.proofs.Search.{Has, either, leads-more, or_left, or_right, same_point-itself, same_point-same}
-use Rattle.ir_paths.specs.Paths.{Leads, block_points, entry_point, has_point, nexts, same_point}
-use Rattle.ir_paths.specs.Slots.{IsBehindSuspend, behind_suspends, end_points, points_at}
-use Rattle.ir_paths.specs.Windows.{destroy_label, end_block, is_call_of, label_at, points_where, resume_label}
-use Rattle.ir_paths.specs.declared.point.Point.{Point}
+use Rattle.rule_laws.proofs.ir_paths.Search.{Has, either, leads-more, or_left, or_right, same_point-itself, same_point-same}
+use Rattle.rule_laws.specs.ir_paths.Paths.{Leads, block_points, entry_point, has_point, nexts, same_point}
+use Rattle.rule_laws.specs.ir_paths.Slots.{IsBehindSuspend, behind_suspends, end_points, points_at}
+use Rattle.rule_laws.specs.ir_paths.Windows.{destroy_label, end_block, is_call_of, label_at, points_where, resume_label}
+use Rattle.rule_laws.specs.ir_paths.declared.point.Point.{Point}
 use Rattle.pass_proofs.proofs.early.saves.Apart.{back_back, front_back}
-use Rattle.ir_laws.proofs.facts.Truth.{same_truth}
+use Rattle.rule_laws.proofs.ir_laws.facts.Truth.{same_truth}
 use Rattle.pass_proofs.proofs.early.saves.Blocks.{first_block, get_block, length_blocks, position_saved}
-use Rattle.ir_laws.proofs.facts.Lists.{place_far}
+use Rattle.rule_laws.proofs.ir_laws.facts.Lists.{place_far}
 use Rattle.pass_proofs.proofs.early.saves.Instrs.{back_end, back_inside}
-use Rattle.run_laws.specs.changed.Changed.{Each}
+use Rattle.rule_laws.specs.run_laws.changed.Changed.{Each}
 use Rattle.pass_proofs.proofs.early.saves.Points.{own_group, points_moved}
 use Rattle.pass_proofs.proofs.early.saves.Saves.{each_trivial}
-use Rattle.ir_laws.specs.paths.expanded.Avoided.{AreAvoided}
-use Rattle.ir_laws.proofs.paths.expanded.Strands.{IsLedTo, IsOnlyNext, ahead_home, from_front, leads_forth, leads_home}
+use Rattle.rule_laws.specs.ir_laws.paths.expanded.Avoided.{AreAvoided}
+use Rattle.rule_laws.proofs.ir_laws.paths.expanded.Strands.{IsLedTo, IsOnlyNext, ahead_home, from_front, leads_forth, leads_home}
 use Rattle.pass_proofs.proofs.early.saves.Tokens.{bare_is}
-use Rattle.ir_laws.proofs.paths.expanded.Ways.{IsMovedFrom, has_map, map_has}
+use Rattle.rule_laws.proofs.ir_laws.paths.expanded.Ways.{IsMovedFrom, has_map, map_has}
 use Rattle.pass_proofs.proofs.early.saves.Ways.{strands, within}
 use Rattle.pass_proofs.specs.early.saves.SavesWritten.{behind_save, is_bare, saved_block, saved_blocks, saved_function, with_save, with_saves}
 use Rattle.pass_proofs.specs.early.saves.Spots.{back_of, front_of, number_of_block, own_saves, place_in}
-use Rattle.ir_laws.specs.facts.expanded.Spots.{instrs_in}
-use Rattle.ir_laws.proofs.facts.Members.{each_unit}
+use Rattle.rule_laws.specs.ir_laws.facts.expanded.Spots.{instrs_in}
+use Rattle.rule_laws.proofs.ir_laws.facts.Members.{each_unit}
 
 -- ---- tests of a whole block
 

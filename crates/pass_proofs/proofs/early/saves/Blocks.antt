@@ -5,7 +5,7 @@ use Rattle.ir_model.specs.Names.{first_where, position_of}
 use Rattle.ir_model.specs.declared.module.Block.{Block}
 use Rattle.ir_model.specs.declared.module.Function.{Function}
 use Rattle.pass_proofs.specs.early.saves.SavesWritten.{behind_saves, saved_block, saved_blocks, saved_function, with_saves}
-use Rattle.ir_laws.specs.facts.expanded.Spots.{instrs_in}
+use Rattle.rule_laws.specs.ir_laws.facts.expanded.Spots.{instrs_in}
 use Rattle.pass_proofs.specs.early.saves.Spots.{number_of_block}
 
 pub get_block : (c : Bool) (k n : ℕ) (bs : List Block) → slice_get (saved_blocks c n bs) k ≡ option_map (saved_block c (number_of_block c k n bs)) (slice_get bs k)

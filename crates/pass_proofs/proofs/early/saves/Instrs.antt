@@ -4,8 +4,8 @@ use Rattle.std.specs.Prelude.{Some, None, Option, slice_get, if◌then◌else◌
 use Rattle.std.proofs.lemmas.Option.{slice_get_past, slice_get_within}
 use Rattle.pass_early.specs.Early.{save_call, saved}
 use Rattle.ir_model.specs.declared.instr.Instr.{Instr}
-use Rattle.ir_laws.proofs.facts.Lists.{get_expanded, none_past, place_beyond, place_end, place_far, place_next, place_past}
-use Rattle.ir_laws.specs.facts.expanded.Expansion.{number_at}
+use Rattle.rule_laws.proofs.ir_laws.facts.Lists.{get_expanded, none_past, place_beyond, place_end, place_far, place_next, place_past}
+use Rattle.rule_laws.specs.ir_laws.facts.expanded.Expansion.{number_at}
 use Rattle.pass_proofs.specs.early.saves.SavesWritten.{behind_save, is_bare, with_save, with_saves}
 use Rattle.pass_proofs.specs.early.saves.Spots.{own_saves, place_in}
 

@@ -2,19 +2,19 @@
 use Rattle.std.proofs.Common.{◌≡◌, ◌⊎◌, inl, inr, List, sym, subst, ◌↔◌}
 use Rattle.std.specs.Prelude.{filter}
 use Rattle.ir_model.specs.declared.module.Function.{Function}
-use Rattle.ir_paths.specs.Paths.{Leads}
-use Rattle.ir_paths.specs.Windows.{leaves, windows_of}
-use Rattle.ir_paths.specs.declared.point.Point.{Point}
+use Rattle.rule_laws.specs.ir_paths.Paths.{Leads}
+use Rattle.rule_laws.specs.ir_paths.Windows.{leaves, windows_of}
+use Rattle.rule_laws.specs.ir_paths.declared.point.Point.{Point}
 use Rattle.pass_proofs.proofs.early.saves.Apart.{front_back, front_front}
 use Rattle.pass_proofs.proofs.early.saves.Left.{left_moved}
 use Rattle.pass_proofs.proofs.early.saves.Saves.{are_moved}
-use Rattle.ir_laws.proofs.paths.expanded.Strands.{IsLedTo, leads_forth, leads_home}
+use Rattle.rule_laws.proofs.ir_laws.paths.expanded.Strands.{IsLedTo, leads_forth, leads_home}
 use Rattle.pass_proofs.proofs.early.saves.Ways.{strands}
-use Rattle.ir_laws.specs.paths.expanded.Avoided.{AreAvoided}
+use Rattle.rule_laws.specs.ir_laws.paths.expanded.Avoided.{AreAvoided}
 use Rattle.pass_proofs.specs.early.saves.Moved.{AreAllMoved}
 use Rattle.pass_proofs.specs.early.saves.SavesWritten.{saved_function}
 use Rattle.pass_proofs.specs.early.saves.Spots.{back_of, front_of}
-use Rattle.ir_laws.specs.paths.expanded.Tokens.{HasNamedTokens}
+use Rattle.rule_laws.specs.ir_laws.paths.expanded.Tokens.{HasNamedTokens}
 
 pub paths_kept : (f : Function) (avoided besides : List Point) (p q : Point) → AreAvoided (front_of f) (back_of f) avoided besides → Leads f avoided p q ↔ Leads (saved_function f) besides (back_of f p) (front_of f q)
 paths_kept f avoided besides p q both = (

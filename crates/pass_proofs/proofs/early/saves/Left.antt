@@ -2,10 +2,10 @@
 use Rattle.std.proofs.Common.{◌≡◌, inl, inr, Bool, true, false, List, [], ◌∷◌, sym, ap, ◌∙◌, subst}
 use Rattle.std.specs.Prelude.{filter, not, ◌&&◌, if◌then◌else◌}
 use Rattle.ir_model.specs.declared.module.Function.{Function}
-use Rattle.ir_paths.specs.Paths.{has_point, same_point}
-use Rattle.ir_paths.specs.Windows.{leaves}
-use Rattle.ir_paths.specs.declared.point.Point.{Point}
-use Rattle.ir_paths.specs.declared.point.Window.{Window}
+use Rattle.rule_laws.specs.ir_paths.Paths.{has_point, same_point}
+use Rattle.rule_laws.specs.ir_paths.Windows.{leaves}
+use Rattle.rule_laws.specs.ir_paths.declared.point.Point.{Point}
+use Rattle.rule_laws.specs.ir_paths.declared.point.Window.{Window}
 use Rattle.pass_proofs.proofs.early.saves.Apart.{same_fronts}
 use Rattle.pass_proofs.specs.early.saves.Moved.{AreAllMoved, AreMoved, IsMoved}
 use Rattle.pass_proofs.specs.early.saves.Spots.{front_of}

@@ -4,7 +4,7 @@ use Rattle.std.proofs.lemmas.Bool.{cases_lt}
 use Rattle.std.proofs.lemmas.Option.{slice_get-map}
 use Rattle.std.specs.List.{list_any}
 use Rattle.std.specs.Prelude.{Some, None, Option, map, option_map, slice_get, unwrap_or, if◌then◌else◌, ◌==◌, ◌||◌}
-use Rattle.ir_base.specs.declared.name.Name.{Name}
+use Rattle.rule_laws.specs.ir_base.declared.name.Name.{Name}
 use Rattle.pass_early.specs.Early.{save_call, saved}
 use Rattle.ir_model.specs.Names.{first_where, function_at, function_named, no_function, same_name}
 use Rattle.ir_model.specs.Ty.{Ty}
@@ -13,21 +13,21 @@ use Rattle.ir_model.specs.declared.module.Block.{Block}
 use Rattle.ir_model.specs.declared.module.Function.{Function}
 use Rattle.ir_model.specs.declared.module.Module.{Module}
 use Rattle.ir_model.specs.declared.operand.Arg.{Arg}
-use Rattle.ir_paths.proofs.Search.{eq_from, eq_itself}
-use Rattle.ir_paths.specs.Windows.{call_operand, instr_at, points_where}
-use Rattle.ir_paths.specs.declared.point.Point.{Point}
-use Rattle.run_step.specs.Step.{fetch, fetch_in, fetch_or, fits_function, has_markers, is_marker_of}
-use Rattle.run_source_tables.specs.Given.{has_final, is_final, is_final_call, is_true}
-use Rattle.ir_laws.proofs.facts.Truth.{same_truth}
+use Rattle.rule_laws.proofs.ir_paths.Search.{eq_from, eq_itself}
+use Rattle.rule_laws.specs.ir_paths.Windows.{call_operand, instr_at, points_where}
+use Rattle.rule_laws.specs.ir_paths.declared.point.Point.{Point}
+use Rattle.rule_laws.specs.run_step.Step.{fetch, fetch_in, fetch_or, fits_function, has_markers, is_marker_of}
+use Rattle.rule_laws.specs.run_source_tables.Given.{has_final, is_final, is_final_call, is_true}
+use Rattle.rule_laws.proofs.ir_laws.facts.Truth.{same_truth}
 use Rattle.pass_proofs.proofs.early.saves.Behind.{any_saved, suspends_moved}
 use Rattle.pass_proofs.proofs.early.saves.Blocks.{get_block, instrs_saved}
 use Rattle.pass_proofs.proofs.early.saves.Instrs.{back_end, back_inside, back_past, get_then, instr_then, name_at}
 use Rattle.pass_proofs.proofs.early.saves.Tokens.{bare_is}
-use Rattle.ir_laws.proofs.paths.expanded.Windows.{instr_at_is}
+use Rattle.rule_laws.proofs.ir_laws.paths.expanded.Windows.{instr_at_is}
 use Rattle.pass_proofs.specs.early.saves.SavesWritten.{behind_saves, is_bare, saved_block, saved_blocks, saved_function, saves_written, with_save, with_saves}
 use Rattle.pass_proofs.specs.early.saves.Spots.{back_of, number_of_block, own_saves, place_in}
-use Rattle.ir_laws.specs.facts.expanded.Spots.{instrs_in}
-use Rattle.ir_laws.proofs.facts.Members.{each_unit as unit}
+use Rattle.rule_laws.specs.ir_laws.facts.expanded.Spots.{instrs_in}
+use Rattle.rule_laws.proofs.ir_laws.facts.Members.{each_unit as unit}
 
 -- ---- functions
 

@@ -1,6 +1,6 @@
 -- Functions that are no coroutines.
 use Rattle.std.proofs.Common.{◌≡◌, ℕ, ◌-◌, false, List, [], ◌∷◌, ◌++◌, length, refl, ap, ◌∙◌, arith}
-use Rattle.ir_base.specs.declared.name.Name.{Name}
+use Rattle.rule_laws.specs.ir_base.declared.name.Name.{Name}
 use Rattle.pass_early.specs.Early.{save_names}
 use Rattle.ir_model.specs.declared.instr.Instr.{Instr}
 use Rattle.ir_model.specs.declared.module.Block.{Block}

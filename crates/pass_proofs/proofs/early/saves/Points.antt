@@ -5,14 +5,14 @@ use Rattle.std.specs.Prelude.{Some, Option, map, slice_get, if◌then◌else◌}
 use Rattle.pass_early.specs.Early.{save_call, saved}
 use Rattle.ir_model.specs.declared.instr.Instr.{Instr}
 use Rattle.ir_model.specs.declared.module.Block.{Block}
-use Rattle.ir_paths.specs.Windows.{points_from, points_in}
-use Rattle.ir_paths.specs.declared.point.Point.{Point}
+use Rattle.rule_laws.specs.ir_paths.Windows.{points_from, points_in}
+use Rattle.rule_laws.specs.ir_paths.declared.point.Point.{Point}
 use Rattle.pass_proofs.specs.early.saves.SavesWritten.{behind_save, behind_saves, is_bare, saved_blocks, with_save, with_saves}
-pub use Rattle.run_laws.specs.changed.Changed.{Each}
-use Rattle.ir_laws.specs.facts.expanded.Spots.{instrs_in}
+pub use Rattle.rule_laws.specs.run_laws.changed.Changed.{Each}
+use Rattle.rule_laws.specs.ir_laws.facts.expanded.Spots.{instrs_in}
 use Rattle.pass_proofs.specs.early.saves.Spots.{number_of_block, own_saves, place_in}
-use Rattle.ir_laws.proofs.facts.Lists.{map_map, map_same, places}
-use Rattle.ir_laws.proofs.paths.expanded.Points.{point, points_are, shift_in, shifted}
+use Rattle.rule_laws.proofs.ir_laws.facts.Lists.{map_map, map_same, places}
+use Rattle.rule_laws.proofs.ir_laws.paths.expanded.Points.{point, points_are, shift_in, shifted}
 
 pub points_append : (test : Instr → Bool) (block at : ℕ) (is js : List Instr) → points_from test block at (is ++ js) ≡ points_from test block at is ++ points_from test block (at + length is) js
 points_append test block at [] js = let z : at ≡ at + 0 = omega arith in ap (λ (k : ℕ). points_from test block k js) z

@@ -8,26 +8,26 @@ use Rattle.ir_model.specs.declared.instr.Instr.{Instr}
 use Rattle.ir_model.specs.declared.module.Block.{Block}
 use Rattle.ir_model.specs.declared.module.Function.{Function}
 use Rattle.ir_model.specs.declared.operand.Intrinsic.{Intrinsic}
-use Rattle.ir_paths.proofs.Right.{facts_of_right}
-use Rattle.ir_paths.specs.Facts.{IsWindow}
-use Rattle.ir_paths.specs.Windows.{call_result, instr_at, is_call_of, is_suspend_of, points_from, points_in, points_where, suspend_of, window_of, windows_of}
-use Rattle.ir_paths.specs.declared.point.Point.{Point}
-use Rattle.ir_paths.specs.declared.point.Window.{Window}
-use Rattle.run_laws.specs.changed.Changed.{Each}
-use Rattle.ir_laws.proofs.facts.Lists.{map_same, places}
+use Rattle.rule_laws.proofs.ir_paths.Right.{facts_of_right}
+use Rattle.rule_laws.specs.ir_paths.Facts.{IsWindow}
+use Rattle.rule_laws.specs.ir_paths.Windows.{call_result, instr_at, is_call_of, is_suspend_of, points_from, points_in, points_where, suspend_of, window_of, windows_of}
+use Rattle.rule_laws.specs.ir_paths.declared.point.Point.{Point}
+use Rattle.rule_laws.specs.ir_paths.declared.point.Window.{Window}
+use Rattle.rule_laws.specs.run_laws.changed.Changed.{Each}
+use Rattle.rule_laws.proofs.ir_laws.facts.Lists.{map_same, places}
 use Rattle.pass_proofs.proofs.early.saves.Points.{points_moved}
-use Rattle.ir_laws.proofs.paths.expanded.Points.{shift_in, shifted}
+use Rattle.rule_laws.proofs.ir_laws.paths.expanded.Points.{shift_in, shifted}
 use Rattle.pass_proofs.proofs.early.saves.Tokens.{bare_is}
 use Rattle.pass_proofs.proofs.early.saves.Windows.{none_inside, same_inside, suspend_bare, suspend_lone}
 use Rattle.pass_proofs.specs.early.saves.Moved.{AreMoved, IsMoved}
 use Rattle.pass_proofs.specs.early.saves.SavesWritten.{is_bare, saved_function, with_save}
 use Rattle.pass_proofs.specs.early.saves.Spots.{back_of, front_of, own_saves}
-use Rattle.ir_laws.specs.facts.expanded.Spots.{instrs_in}
-use Rattle.ir_laws.specs.paths.expanded.Tokens.{HasNamedToken, HasNamedTokens}
-use Rattle.ir_laws.specs.facts.expanded.Tokens.{IsNamedResult}
-use Rattle.ir_laws.proofs.facts.Members.{at_each as each_at}
-use Rattle.ir_laws.proofs.facts.Options.{IsPassing}
-use Rattle.ir_laws.proofs.paths.expanded.Saves.{at_zero, here_in, passing_in, points_at_zero}
+use Rattle.rule_laws.specs.ir_laws.facts.expanded.Spots.{instrs_in}
+use Rattle.rule_laws.specs.ir_laws.paths.expanded.Tokens.{HasNamedToken, HasNamedTokens}
+use Rattle.rule_laws.specs.ir_laws.facts.expanded.Tokens.{IsNamedResult}
+use Rattle.rule_laws.proofs.ir_laws.facts.Members.{at_each as each_at}
+use Rattle.rule_laws.proofs.ir_laws.facts.Options.{IsPassing}
+use Rattle.rule_laws.proofs.ir_laws.paths.expanded.Saves.{at_zero, here_in, passing_in, points_at_zero}
 
 -- ---- a list of elements of two kinds, and those of the first kind
 

@@ -11,29 +11,29 @@ use Rattle.ir_model.specs.declared.module.Block.{Block}
 use Rattle.ir_model.specs.declared.module.Function.{Function}
 use Rattle.ir_model.specs.declared.operand.Intrinsic.{Intrinsic}
 use Rattle.ir_model.specs.declared.operand.Operand.{Operand}
-use Rattle.ir_paths.proofs.Right.{facts_of_right}
-use Rattle.ir_paths.specs.Facts.{facts_of}
-use Rattle.ir_paths.specs.Paths.{has_point}
-use Rattle.ir_paths.specs.Slots.{IsBehindSuspend, IsRampSlot, addresses_of, addresses_within, allocas_in, allocas_of, exposed_in_block, exposes, geps_from, has_name, is_escaped, is_gep, local_of, occurs, occurs_in_phi, occurs_in_term, promise_of, touches, touching_points}
-use Rattle.ir_paths.specs.Windows.{call_operand, instr_at, is_call_of, points_where}
-use Rattle.ir_paths.specs.declared.point.Point.{Point}
-use Rattle.ir_laws.proofs.facts.Truth.{same_truth}
+use Rattle.rule_laws.proofs.ir_paths.Right.{facts_of_right}
+use Rattle.rule_laws.specs.ir_paths.Facts.{facts_of}
+use Rattle.rule_laws.specs.ir_paths.Paths.{has_point}
+use Rattle.rule_laws.specs.ir_paths.Slots.{IsBehindSuspend, IsRampSlot, addresses_of, addresses_within, allocas_in, allocas_of, exposed_in_block, exposes, geps_from, has_name, is_escaped, is_gep, local_of, occurs, occurs_in_phi, occurs_in_term, promise_of, touches, touching_points}
+use Rattle.rule_laws.specs.ir_paths.Windows.{call_operand, instr_at, is_call_of, points_where}
+use Rattle.rule_laws.specs.ir_paths.declared.point.Point.{Point}
+use Rattle.rule_laws.proofs.ir_laws.facts.Truth.{same_truth}
 use Rattle.pass_proofs.proofs.early.saves.Behind.{any_saved, behind_forth, behind_home}
-use Rattle.run_laws.specs.changed.Changed.{Each}
+use Rattle.rule_laws.specs.run_laws.changed.Changed.{Each}
 use Rattle.pass_proofs.proofs.early.saves.Points.{IsOfOwn, own_group, points_moved}
-use Rattle.ir_laws.proofs.facts.Options.{IsPassing}
-use Rattle.ir_laws.proofs.facts.Members.{each_joined as each_append, at_each as each_at, any_same}
+use Rattle.rule_laws.proofs.ir_laws.facts.Options.{IsPassing}
+use Rattle.rule_laws.proofs.ir_laws.facts.Members.{each_joined as each_append, at_each as each_at, any_same}
 use Rattle.pass_proofs.proofs.early.saves.Saves.{each_trivial, lone_front}
-use Rattle.ir_laws.proofs.paths.expanded.Saves.{passing_in}
+use Rattle.rule_laws.proofs.ir_laws.paths.expanded.Saves.{passing_in}
 use Rattle.pass_proofs.proofs.early.saves.Tokens.{bare_is, behind_more, smaller_name}
-use Rattle.ir_laws.proofs.paths.expanded.Ways.{has_map, map_has}
+use Rattle.rule_laws.proofs.ir_laws.paths.expanded.Ways.{has_map, map_has}
 use Rattle.pass_proofs.proofs.early.saves.Windows.{front_lone}
-use Rattle.ir_laws.proofs.paths.expanded.Windows.{instr_at_is}
+use Rattle.rule_laws.proofs.ir_laws.paths.expanded.Windows.{instr_at_is}
 use Rattle.pass_proofs.specs.early.saves.SavesWritten.{behind_save, behind_saves, is_bare, saved_block, saved_blocks, saved_function, with_save, with_saves}
 use Rattle.pass_proofs.specs.early.saves.Spots.{back_of, own_saves}
-use Rattle.ir_laws.specs.facts.expanded.Spots.{instrs_in}
-use Rattle.ir_laws.specs.paths.expanded.Tokens.{HasNamedToken, HasNamedTokens}
-use Rattle.ir_laws.proofs.paths.expanded.Slots.{each_has}
+use Rattle.rule_laws.specs.ir_laws.facts.expanded.Spots.{instrs_in}
+use Rattle.rule_laws.specs.ir_laws.paths.expanded.Tokens.{HasNamedToken, HasNamedTokens}
+use Rattle.rule_laws.proofs.ir_laws.paths.expanded.Slots.{each_has}
 
 -- ---- allocas and getelementptrs
 

@@ -11,19 +11,19 @@ use Rattle.ir_model.specs.declared.operand.Arg.{Arg}
 use Rattle.ir_model.specs.declared.operand.Callee.{Callee}
 use Rattle.ir_model.specs.declared.operand.Intrinsic.{Intrinsic}
 use Rattle.ir_model.specs.declared.operand.Operand.{Operand}
-use Rattle.ir_paths.proofs.Search.{both, eq_from, eq_itself}
-use Rattle.ir_paths.specs.Windows.{call_operand, is_call_of, is_suspend_of, points_from, points_in}
-use Rattle.ir_paths.specs.declared.point.Point.{Point}
+use Rattle.rule_laws.proofs.ir_paths.Search.{both, eq_from, eq_itself}
+use Rattle.rule_laws.specs.ir_paths.Windows.{call_operand, is_call_of, is_suspend_of, points_from, points_in}
+use Rattle.rule_laws.specs.ir_paths.declared.point.Point.{Point}
 use Rattle.pass_proofs.proofs.early.saves.Instrs.{name_at}
-use Rattle.run_laws.specs.changed.Changed.{Each}
+use Rattle.rule_laws.specs.run_laws.changed.Changed.{Each}
 use Rattle.pass_proofs.proofs.early.saves.Points.{IsOfOwn, points_append}
-use Rattle.ir_laws.proofs.paths.expanded.Points.{shift_in, shifted}
+use Rattle.rule_laws.proofs.ir_laws.paths.expanded.Points.{shift_in, shifted}
 use Rattle.pass_proofs.specs.early.saves.SavesWritten.{behind_save, behind_saves, is_bare, saved_blocks, with_save, with_saves}
-use Rattle.ir_laws.specs.facts.expanded.Spots.{instrs_in}
+use Rattle.rule_laws.specs.ir_laws.facts.expanded.Spots.{instrs_in}
 use Rattle.pass_proofs.specs.early.saves.Spots.{number_of_block, place_in}
-use Rattle.ir_laws.specs.paths.expanded.Tokens.{HasNamedToken}
-use Rattle.ir_laws.specs.facts.expanded.Tokens.{IsNamed, IsNamedResult}
-use Rattle.ir_laws.proofs.facts.Truth.{other_name}
+use Rattle.rule_laws.specs.ir_laws.paths.expanded.Tokens.{HasNamedToken}
+use Rattle.rule_laws.specs.ir_laws.facts.expanded.Tokens.{IsNamed, IsNamedResult}
+use Rattle.rule_laws.proofs.ir_laws.facts.Truth.{other_name}
 
 -- ---- a suspend whose save isn't written
 

@@ -6,16 +6,16 @@ use Rattle.std.specs.Prelude.{Some, None, Option, map, nat_lt, option_map, slice
 use Rattle.ir_model.specs.declared.instr.Instr.{Instr}
 use Rattle.ir_model.specs.declared.module.Block.{Block}
 use Rattle.ir_model.specs.declared.module.Function.{Function}
-use Rattle.ir_paths.proofs.Search.{either, eq_from, eq_itself, or_left, same_point-itself, same_point-same}
-use Rattle.ir_paths.specs.Paths.{entry_point, has_point, nexts, nexts_in, same_point, targets}
-use Rattle.ir_paths.specs.declared.point.Point.{Point}
+use Rattle.rule_laws.proofs.ir_paths.Search.{either, eq_from, eq_itself, or_left, same_point-itself, same_point-same}
+use Rattle.rule_laws.specs.ir_paths.Paths.{entry_point, has_point, nexts, nexts_in, same_point, targets}
+use Rattle.rule_laws.specs.ir_paths.declared.point.Point.{Point}
 use Rattle.pass_proofs.proofs.early.saves.Blocks.{get_block, position_saved}
 use Rattle.pass_proofs.proofs.early.saves.Instrs.{back_end, back_inside, back_past, get_save, next_place}
-use Rattle.ir_laws.proofs.paths.expanded.Strands.{AreStrands, IsOnlyNext}
+use Rattle.rule_laws.proofs.ir_laws.paths.expanded.Strands.{AreStrands, IsOnlyNext}
 use Rattle.pass_proofs.specs.early.saves.SavesWritten.{is_bare, saved_block, saved_function, with_saves}
 use Rattle.pass_proofs.specs.early.saves.Spots.{back_of, front_of, number_of_block, own_saves, place_in}
-use Rattle.ir_laws.specs.facts.expanded.Spots.{instrs_in}
-use Rattle.ir_laws.proofs.paths.expanded.Ways.{has_map, map_has}
+use Rattle.rule_laws.specs.ir_laws.facts.expanded.Spots.{instrs_in}
+use Rattle.rule_laws.proofs.ir_laws.paths.expanded.Ways.{has_map, map_has}
 
 -- ---- a number inside, at the end, or behind it
 

@@ -5,27 +5,27 @@ use Rattle.std.specs.Prelude.{Some, Option, map, option_and_then, option_map, sl
 use Rattle.pass_early.specs.Early.{save_call}
 use Rattle.ir_model.specs.declared.instr.Instr.{Instr}
 use Rattle.ir_model.specs.declared.module.Function.{Function}
-use Rattle.ir_paths.proofs.Search.{either, or_left, or_right, same_point-itself, same_point-same}
-use Rattle.ir_paths.specs.Facts.{IsWindow}
-use Rattle.ir_paths.specs.Paths.{IsPath, Leads, has_point, same_point}
-use Rattle.ir_paths.specs.Windows.{IsInWindow, call_result, instr_at, is_suspend_of, points_where, suspend_of}
-use Rattle.ir_paths.specs.declared.point.Point.{Point}
-use Rattle.ir_paths.specs.declared.point.Window.{Window}
+use Rattle.rule_laws.proofs.ir_paths.Search.{either, or_left, or_right, same_point-itself, same_point-same}
+use Rattle.rule_laws.specs.ir_paths.Facts.{IsWindow}
+use Rattle.rule_laws.specs.ir_paths.Paths.{IsPath, Leads, has_point, same_point}
+use Rattle.rule_laws.specs.ir_paths.Windows.{IsInWindow, call_result, instr_at, is_suspend_of, points_where, suspend_of}
+use Rattle.rule_laws.specs.ir_paths.declared.point.Point.{Point}
+use Rattle.rule_laws.specs.ir_paths.declared.point.Window.{Window}
 use Rattle.pass_proofs.proofs.early.saves.Apart.{back_back, front_back, front_front}
-use Rattle.ir_laws.proofs.facts.Truth.{same_truth}
+use Rattle.rule_laws.proofs.ir_laws.facts.Truth.{same_truth}
 use Rattle.pass_proofs.proofs.early.saves.Blocks.{instrs_saved}
 use Rattle.pass_proofs.proofs.early.saves.Instrs.{get_lone, get_save, name_at}
 use Rattle.pass_proofs.proofs.early.saves.Points.{own_group, points_moved}
-use Rattle.ir_laws.specs.paths.expanded.Avoided.{AreAvoided}
-use Rattle.ir_laws.proofs.paths.expanded.Strands.{IsLedTo, IsOnlyNext, ahead_home, from_front, leads_forth, leads_home}
+use Rattle.rule_laws.specs.ir_laws.paths.expanded.Avoided.{AreAvoided}
+use Rattle.rule_laws.proofs.ir_laws.paths.expanded.Strands.{IsLedTo, IsOnlyNext, ahead_home, from_front, leads_forth, leads_home}
 use Rattle.pass_proofs.proofs.early.saves.Tokens.{own_token, written_suspend}
 use Rattle.pass_proofs.proofs.early.saves.Ways.{save_leads, strands, within}
 use Rattle.pass_proofs.specs.early.saves.SavesWritten.{is_bare, saved_function, with_saves}
 use Rattle.pass_proofs.specs.early.saves.Spots.{back_of, front_of, number_of_block, own_saves}
-use Rattle.ir_laws.specs.facts.expanded.Spots.{instrs_in}
-use Rattle.ir_laws.specs.paths.expanded.Tokens.{HasNamedTokens, HasNamedToken}
-use Rattle.ir_laws.specs.facts.expanded.Tokens.{IsNamedResult}
-use Rattle.ir_laws.proofs.paths.expanded.Windows.{instr_at_is}
+use Rattle.rule_laws.specs.ir_laws.facts.expanded.Spots.{instrs_in}
+use Rattle.rule_laws.specs.ir_laws.paths.expanded.Tokens.{HasNamedTokens, HasNamedToken}
+use Rattle.rule_laws.specs.ir_laws.facts.expanded.Tokens.{IsNamedResult}
+use Rattle.rule_laws.proofs.ir_laws.paths.expanded.Windows.{instr_at_is}
 
 module _ (f : Function) (named : HasNamedTokens f) where
   abbrev g : Function

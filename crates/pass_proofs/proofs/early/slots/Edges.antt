@@ -1,5 +1,5 @@
 -- The edges of a function whose saves are written out.
-use Rattle.ir_laws.proofs.paths.alike_slots.Strands.{AreStrands}
+use Rattle.rule_laws.proofs.ir_laws.paths.alike_slots.Strands.{AreStrands}
 use Rattle.ir_model.specs.declared.module.Function.{Function}
 use Rattle.pass_proofs.proofs.early.saves.Apart.{back_back, front_back, front_front}
 use Rattle.pass_proofs.proofs.early.saves.Ways.{strands as ways}

@@ -8,7 +8,7 @@ use Rattle.rule_laws.proofs.frames.alike_slots.Conflicts.{alive_same, conflicts_
 use Rattle.pass_proofs.proofs.early.slots.NamedSlots.{IsAny, named_slots_alike}
 use Rattle.pass_proofs.proofs.early.slots.RenamedSlots.{renamed_slots_alike}
 use Rattle.pass_proofs.proofs.early.slots.SavedSlots.{IsName, saved_slots_alike}
-use Rattle.ir_laws.proofs.paths.alike_slots.Still.{stay}
+use Rattle.rule_laws.proofs.ir_laws.paths.alike_slots.Still.{stay}
 use Rattle.pass_early.specs.BeginName.{if_unnamed, with_begin_name}
 use Rattle.pass_early.specs.declared.renaming.Renaming.{Renaming}
 use Rattle.ir_model.specs.Calls.{first_result}
@@ -16,11 +16,11 @@ use Rattle.ir_model.specs.declared.module.Function.{Function}
 use Rattle.ir_model.specs.declared.operand.Intrinsic.{Intrinsic}
 use Rattle.pass_proofs.specs.early.saves.SavesWritten.{saved_function}
 use Rattle.pass_proofs.specs.early.saves.Spots.{back_of, front_of}
-use Rattle.ir_laws.specs.paths.expanded.Tokens.{HasNamedTokens}
-use Rattle.frame_conflicts.specs.Conflicts.{AreAliveAt, AreConflicts}
-use Rattle.frame_classes.specs.Classes.{AreClasses}
-use Rattle.frame_classes.specs.declared.class.SlotClass.{SlotClass}
-use Rattle.ir_laws.specs.facts.sound_states.Named.{HasNamedOperands}
+use Rattle.rule_laws.specs.ir_laws.paths.expanded.Tokens.{HasNamedTokens}
+use Rattle.rule_laws.specs.frame_conflicts.Conflicts.{AreAliveAt, AreConflicts}
+use Rattle.rule_laws.specs.frame_classes.Classes.{AreClasses}
+use Rattle.rule_laws.specs.frame_classes.declared.class.SlotClass.{SlotClass}
+use Rattle.rule_laws.specs.ir_laws.facts.sound_states.Named.{HasNamedOperands}
 
 pub classes_saved : (f : Function) → HasNamedTokens f → (classes : List SlotClass) → AreClasses f classes ↔ AreClasses (saved_function f) classes
 classes_saved f named classes = classes_same f (saved_function f) (front_of f) (back_of f) (IsName f named) (saved_slots_alike f named) classes

@@ -3,17 +3,17 @@ use Rattle.std.proofs.Common.{◌≡◌, ℕ, zero, suc, Bool, List, [], ◌∷�
 use Rattle.std.specs.List.{list_any}
 use Rattle.std.specs.Prelude.{Some, None, Option, option_map, flat_map, map, slice_get, if◌then◌else◌, ◌||◌}
 use Rattle.pass_proofs.proofs.early.begin_naming.NamedParts.{block_same, end_same, points_where_same, same_but_begin, with_begin}
-use Rattle.ir_laws.proofs.facts.Lists.{any_same}
+use Rattle.rule_laws.proofs.ir_laws.facts.Lists.{any_same}
 use Rattle.run_states.proofs.renamed.Modules.{length_same}
 use Rattle.pass_early.specs.BeginName.{named_block, named_instr}
 use Rattle.ir_model.specs.declared.instr.Instr.{Instr}
 use Rattle.ir_model.specs.declared.module.Block.{Block}
 use Rattle.ir_model.specs.declared.module.Function.{Function}
 use Rattle.ir_model.specs.declared.operand.Operand.{Operand}
-use Rattle.ir_paths.specs.Paths.{block_points}
-use Rattle.ir_paths.specs.Slots.{addresses_of, addresses_within, allocas_in, end_points, exposed_in_block, exposes, geps_from, has_name, is_escaped, is_gep, occurs_in_phi, occurs_in_term, points_at}
-use Rattle.ir_paths.specs.Windows.{end_block, points_where}
-use Rattle.ir_paths.specs.declared.point.Point.{Point}
+use Rattle.rule_laws.specs.ir_paths.Paths.{block_points}
+use Rattle.rule_laws.specs.ir_paths.Slots.{addresses_of, addresses_within, allocas_in, end_points, exposed_in_block, exposes, geps_from, has_name, is_escaped, is_gep, occurs_in_phi, occurs_in_term, points_at}
+use Rattle.rule_laws.specs.ir_paths.Windows.{end_block, points_where}
+use Rattle.rule_laws.specs.ir_paths.declared.point.Point.{Point}
 
 module _ (n : ℕ) (f : Function) where
   abbrev g : Function

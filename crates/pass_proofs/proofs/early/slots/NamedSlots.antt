@@ -7,33 +7,33 @@ use Rattle.run_states.proofs.renamed.Modules.{length_same}
 use Rattle.pass_proofs.proofs.early.crossing.Renamed.{map_itself}
 use Rattle.pass_proofs.proofs.early.slots.NamedPlaces.{addresses_same, allocas_same, blocks_same, end_points_same, escaped_same}
 use Rattle.rule_laws.proofs.frames.alike_slots.SlotsAlike.{AreSlotsAlike}
-use Rattle.ir_laws.proofs.paths.alike_slots.Still.{stay, still_carried, still_lone, still_strands}
+use Rattle.rule_laws.proofs.ir_laws.paths.alike_slots.Still.{stay, still_carried, still_lone, still_strands}
 use Rattle.rule_laws.proofs.frames.alike_slots.Strands.{IsOf}
 use Rattle.rule_laws.proofs.frames.alike_slots.Windows.{in_some, some_in, window_forth, window_home}
 use Rattle.pass_early.specs.BeginName.{named_block, named_instr}
-use Rattle.flow_solver.specs.Paths.{IsListed}
+use Rattle.rule_laws.specs.flow_solver.Paths.{IsListed}
 use Rattle.ir_model.specs.Calls.{first_result}
 use Rattle.ir_model.specs.declared.instr.Instr.{Instr}
 use Rattle.ir_model.specs.declared.module.Block.{Block}
 use Rattle.ir_model.specs.declared.module.Function.{Function}
 use Rattle.ir_model.specs.declared.operand.Intrinsic.{Intrinsic}
-use Rattle.ir_paths.proofs.Right.{facts_of_right}
-use Rattle.ir_paths.proofs.Search.{Has}
-use Rattle.ir_paths.specs.Facts.{facts_of}
-use Rattle.ir_paths.specs.Paths.{has_point}
-use Rattle.ir_paths.specs.Slots.{IsRampSlot, allocas_in, allocas_of, end_points, has_name, occurs, occurs_in_term}
-use Rattle.ir_paths.specs.Windows.{instr_at, is_call_of, points_where}
-use Rattle.ir_paths.specs.declared.point.Point.{Point}
-use Rattle.flow_reach.specs.Reached.{IsPointOf}
-use Rattle.frame_classes.specs.Classes.{suspends}
-use Rattle.rule_slots.specs.Closed.{IsInSomeWindow}
-use Rattle.rule_slots.specs.Early.{end_at, instr_count}
-use Rattle.frame_slots.specs.Uses.{UsesAt, ends_of, is_marker_of, is_no_use_in, starts_of}
-use Rattle.frame_slots.specs.Uses.UsesAt.{ByInstr, ByTerm}
-use Rattle.ir_laws.specs.facts.sound_states.Named.{HasNamedOperands}
-use Rattle.frame_crossing.proofs.Numbering.{name_at as name_there}
-use Rattle.rule_windows.specs.Points.{begins, ends}
-use Rattle.rule_window_values.specs.Kept.{TakesFrom, phis_at, phis_in}
+use Rattle.rule_laws.proofs.ir_paths.Right.{facts_of_right}
+use Rattle.rule_laws.proofs.ir_paths.Search.{Has}
+use Rattle.rule_laws.specs.ir_paths.Facts.{facts_of}
+use Rattle.rule_laws.specs.ir_paths.Paths.{has_point}
+use Rattle.rule_laws.specs.ir_paths.Slots.{IsRampSlot, allocas_in, allocas_of, end_points, has_name, occurs, occurs_in_term}
+use Rattle.rule_laws.specs.ir_paths.Windows.{instr_at, is_call_of, points_where}
+use Rattle.rule_laws.specs.ir_paths.declared.point.Point.{Point}
+use Rattle.rule_laws.specs.flow_reach.Reached.{IsPointOf}
+use Rattle.rule_laws.specs.frame_classes.Classes.{suspends}
+use Rattle.rule_laws.specs.rule_slots.Closed.{IsInSomeWindow}
+use Rattle.rule_laws.specs.rule_slots.Early.{end_at, instr_count}
+use Rattle.rule_laws.specs.frame_slots.Uses.{UsesAt, ends_of, is_marker_of, is_no_use_in, starts_of}
+use Rattle.rule_laws.specs.frame_slots.Uses.UsesAt.{ByInstr, ByTerm}
+use Rattle.rule_laws.specs.ir_laws.facts.sound_states.Named.{HasNamedOperands}
+use Rattle.rule_laws.proofs.frame_crossing.Numbering.{name_at as name_there}
+use Rattle.rule_laws.specs.rule_windows.Points.{begins, ends}
+use Rattle.rule_laws.specs.rule_window_values.Kept.{TakesFrom, phis_at, phis_in}
 
 module _ (f : Function) (named : HasNamedOperands f) (none : first_result Intrinsic.CoroBegin f ≡ None) where
   abbrev n : ℕ

@@ -2,8 +2,8 @@
 use Rattle.std.proofs.Common.{◌≡◌, ℕ, zero, suc, Bool, true, false, List, [], ◌∷◌, ◌++◌, length, refl, ap, ◌∙◌}
 use Rattle.std.specs.List.{list_any}
 use Rattle.std.specs.Prelude.{Some, None, Option, option_map, flat_map, map, not, slice_get, if◌then◌else◌, ◌==◌, ◌&&◌, ◌||◌}
-use Rattle.ir_laws.proofs.facts.Lists.{any_same}
-use Rattle.ir_laws.proofs.facts.Members.{each_behind, each_there}
+use Rattle.rule_laws.proofs.ir_laws.facts.Lists.{any_same}
+use Rattle.rule_laws.proofs.ir_laws.facts.Members.{each_behind, each_there}
 use Rattle.run_states.proofs.renamed.Modules.{length_same}
 use Rattle.pass_proofs.proofs.early.renaming.Parts.{block_same, end_same, local_same, points_where_same}
 use Rattle.pass_proofs.specs.early.renaming.Passes.{renamed_block, renamed_coroutine}
@@ -19,11 +19,11 @@ use Rattle.ir_model.specs.declared.module.Function.{Function}
 use Rattle.ir_model.specs.declared.operand.Arg.{Arg}
 use Rattle.ir_model.specs.declared.operand.Callee.{Callee}
 use Rattle.ir_model.specs.declared.operand.Operand.{Operand}
-use Rattle.ir_paths.specs.Paths.{block_points}
-use Rattle.ir_paths.specs.Slots.{addresses_of, addresses_within, allocas_in, end_points, exposed_in_block, exposes, geps_from, has_name, is_escaped, is_gep, is_in_args, is_memcpy, is_no_use, occurs, occurs_in_phi, occurs_in_term, points_at}
-use Rattle.ir_paths.specs.Windows.{end_block, instr_at, instr_in, points_where}
-use Rattle.ir_paths.specs.declared.point.Point.{Point}
-use Rattle.run_laws.specs.changed.Changed.{Each}
+use Rattle.rule_laws.specs.ir_paths.Paths.{block_points}
+use Rattle.rule_laws.specs.ir_paths.Slots.{addresses_of, addresses_within, allocas_in, end_points, exposed_in_block, exposes, geps_from, has_name, is_escaped, is_gep, is_in_args, is_memcpy, is_no_use, occurs, occurs_in_phi, occurs_in_term, points_at}
+use Rattle.rule_laws.specs.ir_paths.Windows.{end_block, instr_at, instr_in, points_where}
+use Rattle.rule_laws.specs.ir_paths.declared.point.Point.{Point}
+use Rattle.rule_laws.specs.run_laws.changed.Changed.{Each}
 use Rattle.pass_proofs.proofs.early.renaming.Slots.{plain_result}
 
 module _ (r : Renaming) where

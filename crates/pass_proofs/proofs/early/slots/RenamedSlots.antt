@@ -1,9 +1,9 @@
 -- A function and the same with uses of coro.frame renamed are alike, so far as slots go.
 use Rattle.std.proofs.Common.{◌≡◌, ℕ, ◌≤◌, inl, inr, List, length, map, refl, sym, ap, ◌∙◌, subst, ◌↔◌}
 use Rattle.std.specs.Prelude.{Some, None, Option, option_map, option_to_list, slice_get, ◌&&◌}
-use Rattle.flow_blocks.proofs.Elements.{listed_map, map_listed}
-use Rattle.rule_uses.specs.Uses.{local_of}
-use Rattle.ir_laws.proofs.facts.Members.{at_each}
+use Rattle.rule_laws.proofs.flow_blocks.Elements.{listed_map, map_listed}
+use Rattle.rule_laws.specs.rule_uses.Uses.{local_of}
+use Rattle.rule_laws.proofs.ir_laws.facts.Members.{at_each}
 use Rattle.run_states.proofs.renamed.Modules.{length_same}
 use Rattle.pass_proofs.proofs.early.renaming.Parts.{block_same, call_of_same, call_operand_same, destroy_same, end_same, instr_same, local_same, nexts_same, points_where_same, position_same, resume_same}
 use Rattle.pass_proofs.proofs.early.renaming.Slots.{promise_same, ramp_slots_same, suspend_same}
@@ -12,13 +12,13 @@ use Rattle.pass_proofs.specs.early.renaming.Regular.{IsPlain, IsRegular}
 use Rattle.pass_proofs.proofs.early.crossing.Renamed.{map_itself, value_is}
 use Rattle.pass_proofs.proofs.early.slots.RenamedParts.{addresses_same, allocas_plain, allocas_same, blocks_plain, blocks_same, end_points_same, escaped_same, no_use_same, occurs_same, of_addresses_plain, slots_plain, term_same}
 use Rattle.rule_laws.proofs.frames.alike_slots.SlotsAlike.{AreSlotsAlike}
-use Rattle.ir_laws.proofs.paths.alike_slots.Still.{stay, still_carried, still_lone, still_strands}
+use Rattle.rule_laws.proofs.ir_laws.paths.alike_slots.Still.{stay, still_carried, still_lone, still_strands}
 use Rattle.rule_laws.proofs.frames.alike_slots.Strands.{IsOf}
 use Rattle.rule_laws.proofs.frames.alike_slots.Tests.{where_is}
 use Rattle.rule_laws.proofs.frames.alike_slots.Windows.{in_some, some_in, window_forth, window_home}
 use Rattle.pass_early.specs.Renaming.{renamed, renamed_incoming, renamed_instr, renamed_phi, renamed_value}
 use Rattle.pass_early.specs.declared.renaming.Renaming.{Renaming}
-use Rattle.flow_solver.specs.Paths.{IsListed}
+use Rattle.rule_laws.specs.flow_solver.Paths.{IsListed}
 use Rattle.ir_model.specs.Names.{is_local}
 use Rattle.ir_model.specs.declared.instr.Incoming.{Incoming}
 use Rattle.ir_model.specs.declared.instr.Instr.{Instr}
@@ -27,22 +27,22 @@ use Rattle.ir_model.specs.declared.module.Block.{Block}
 use Rattle.ir_model.specs.declared.module.Function.{Function}
 use Rattle.ir_model.specs.declared.operand.Intrinsic.{Intrinsic}
 use Rattle.ir_model.specs.declared.operand.Operand.{Operand}
-use Rattle.ir_paths.proofs.Right.{facts_of_right}
-use Rattle.ir_paths.proofs.Search.{Has}
-use Rattle.ir_paths.specs.Paths.{has_point}
-use Rattle.ir_paths.specs.Slots.{IsRampSlot, addresses_of, allocas_in, allocas_of, end_points, has_name, occurs, occurs_in_term}
-use Rattle.ir_paths.specs.Windows.{call_operand, instr_at, is_call_of, points_where, suspend_of}
-use Rattle.ir_paths.specs.declared.point.Point.{Point}
-use Rattle.flow_reach.specs.Reached.{IsPointOf}
-use Rattle.frame_classes.specs.Classes.{suspends}
-use Rattle.rule_slots.specs.Closed.{IsInSomeWindow}
-use Rattle.rule_slots.specs.Early.{end_at, instr_count}
-use Rattle.frame_slots.specs.Uses.{UsesAt, ends_of, is_marker_of, is_no_use_in, starts_of}
-use Rattle.frame_slots.specs.Uses.UsesAt.{ByInstr, ByTerm}
-use Rattle.frame_crossing.proofs.Numbering.{name_at as name_there}
-use Rattle.rule_windows.specs.Points.{begins, ends}
-use Rattle.rule_window_values.specs.Kept.{TakesFrom, phis_at, phis_in}
-use Rattle.ir_laws.proofs.paths.expanded.Slots.{each_has}
+use Rattle.rule_laws.proofs.ir_paths.Right.{facts_of_right}
+use Rattle.rule_laws.proofs.ir_paths.Search.{Has}
+use Rattle.rule_laws.specs.ir_paths.Paths.{has_point}
+use Rattle.rule_laws.specs.ir_paths.Slots.{IsRampSlot, addresses_of, allocas_in, allocas_of, end_points, has_name, occurs, occurs_in_term}
+use Rattle.rule_laws.specs.ir_paths.Windows.{call_operand, instr_at, is_call_of, points_where, suspend_of}
+use Rattle.rule_laws.specs.ir_paths.declared.point.Point.{Point}
+use Rattle.rule_laws.specs.flow_reach.Reached.{IsPointOf}
+use Rattle.rule_laws.specs.frame_classes.Classes.{suspends}
+use Rattle.rule_laws.specs.rule_slots.Closed.{IsInSomeWindow}
+use Rattle.rule_laws.specs.rule_slots.Early.{end_at, instr_count}
+use Rattle.rule_laws.specs.frame_slots.Uses.{UsesAt, ends_of, is_marker_of, is_no_use_in, starts_of}
+use Rattle.rule_laws.specs.frame_slots.Uses.UsesAt.{ByInstr, ByTerm}
+use Rattle.rule_laws.proofs.frame_crossing.Numbering.{name_at as name_there}
+use Rattle.rule_laws.specs.rule_windows.Points.{begins, ends}
+use Rattle.rule_laws.specs.rule_window_values.Kept.{TakesFrom, phis_at, phis_in}
+use Rattle.rule_laws.proofs.ir_laws.paths.expanded.Slots.{each_has}
 
 no_use_in_same : (r : Renaming) (i : Instr) → is_no_use_in (renamed_instr r i) ≡ is_no_use_in i
 no_use_in_same r (Instr.Call result must_tail ty callee args) = no_use_same r callee

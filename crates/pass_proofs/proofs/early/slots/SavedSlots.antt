@@ -3,52 +3,52 @@ use Rattle.std.proofs.Common.{◌≡◌, ℕ, ◌+◌, ◌<◌, ◌≤◌, ◌�
 use Rattle.std.proofs.lemmas.Bool.{cases_lt}
 use Rattle.std.specs.List.{list_any}
 use Rattle.std.specs.Prelude.{Some, None, Option, option_and_then, option_map, option_to_list, slice_get, if◌then◌else◌, ◌||◌}
-use Rattle.ir_laws.specs.facts.renamed.Regular.{passes}
+use Rattle.rule_laws.specs.ir_laws.facts.renamed.Regular.{passes}
 use Rattle.pass_proofs.proofs.early.crossing.Unsaved.{each_from, more_block, more_name}
 use Rattle.pass_proofs.proofs.early.saves.Tokens.{bare_is}
 use Rattle.pass_proofs.proofs.early.slots.Edges.{strands}
 use Rattle.pass_proofs.proofs.early.saves.Ways.{save_leads}
-use Rattle.ir_laws.proofs.paths.alike_slots.Names.{HoldsSlot, address_holds, addresses_hold, alloca_holds}
-use Rattle.ir_laws.proofs.facts.Members.{any_same}
-use Rattle.ir_laws.proofs.paths.alike_slots.SlotsAlike.{AreLone}
+use Rattle.rule_laws.proofs.ir_laws.paths.alike_slots.Names.{HoldsSlot, address_holds, addresses_hold, alloca_holds}
+use Rattle.rule_laws.proofs.ir_laws.facts.Members.{any_same}
+use Rattle.rule_laws.proofs.ir_laws.paths.alike_slots.SlotsAlike.{AreLone}
 use Rattle.rule_laws.proofs.frames.alike_slots.SlotsAlike.{AreSlotsAlike}
 use Rattle.rule_laws.proofs.frames.alike_slots.Strands.{IsOf}
 use Rattle.rule_laws.proofs.frames.alike_slots.Tests.{IsPassed, passed, where_is}
 use Rattle.rule_laws.proofs.frames.alike_slots.Windows.{IsIn, in_some, some_in, window_forth, window_home}
 use Rattle.pass_early.specs.Early.{save_call, saved}
-use Rattle.flow_solver.specs.Paths.{IsListed}
+use Rattle.rule_laws.specs.flow_solver.Paths.{IsListed}
 use Rattle.ir_model.specs.Names.{is_local}
 use Rattle.ir_model.specs.declared.instr.Instr.{Instr}
 use Rattle.ir_model.specs.declared.module.Block.{Block}
 use Rattle.ir_model.specs.declared.module.Function.{Function}
 use Rattle.ir_model.specs.declared.operand.Intrinsic.{Intrinsic}
-use Rattle.ir_paths.proofs.Right.{facts_of_right}
-use Rattle.ir_paths.proofs.Search.{Has, or_left, or_right, same_point-itself}
-use Rattle.ir_paths.specs.Paths.{IsPath, has_point, same_point}
-use Rattle.ir_paths.specs.Slots.{IsRampSlot, addresses_of, allocas_of, exposed_in_block, exposes, has_name, is_escaped, occurs, occurs_in_phi, occurs_in_term}
-use Rattle.ir_paths.specs.Windows.{IsInWindow, call_result, instr_at, is_call_of, is_suspend_of, label_at, points_where, suspend_of}
-use Rattle.ir_paths.specs.declared.point.Point.{Point}
-use Rattle.flow_reach.specs.Reached.{IsPointOf}
+use Rattle.rule_laws.proofs.ir_paths.Right.{facts_of_right}
+use Rattle.rule_laws.proofs.ir_paths.Search.{Has, or_left, or_right, same_point-itself}
+use Rattle.rule_laws.specs.ir_paths.Paths.{IsPath, has_point, same_point}
+use Rattle.rule_laws.specs.ir_paths.Slots.{IsRampSlot, addresses_of, allocas_of, exposed_in_block, exposes, has_name, is_escaped, occurs, occurs_in_phi, occurs_in_term}
+use Rattle.rule_laws.specs.ir_paths.Windows.{IsInWindow, call_result, instr_at, is_call_of, is_suspend_of, label_at, points_where, suspend_of}
+use Rattle.rule_laws.specs.ir_paths.declared.point.Point.{Point}
+use Rattle.rule_laws.specs.flow_reach.Reached.{IsPointOf}
 use Rattle.pass_proofs.proofs.early.saves.Behind.{any_saved, back_ending, end_saved, front_ending, suspends_moved}
 use Rattle.pass_proofs.proofs.early.saves.Blocks.{get_block, instrs_saved, length_blocks, position_saved}
-use Rattle.ir_laws.proofs.facts.Lists.{place_far}
+use Rattle.rule_laws.proofs.ir_laws.facts.Lists.{place_far}
 use Rattle.pass_proofs.proofs.early.saves.Instrs.{back_end, back_inside, back_past, instr_then, name_at}
 use Rattle.pass_proofs.proofs.early.saves.Parts.{at_back}
 use Rattle.pass_proofs.proofs.early.saves.Saves.{each_here}
 use Rattle.pass_proofs.proofs.early.saves.Slots.{same_addresses, same_allocas, same_promise, same_ramp_slots}
 use Rattle.pass_proofs.proofs.early.saves.Windows.{front_bare, suspend_bare, suspend_lone}
-use Rattle.ir_laws.proofs.paths.expanded.Windows.{instr_at_is}
+use Rattle.rule_laws.proofs.ir_laws.paths.expanded.Windows.{instr_at_is}
 use Rattle.pass_proofs.specs.early.saves.SavesWritten.{behind_save, behind_saves, is_bare, saved_block, saved_blocks, saved_function, with_save, with_saves}
 use Rattle.pass_proofs.specs.early.saves.Spots.{back_of, front_of, number_of_block, own_saves, place_in}
-use Rattle.ir_laws.specs.facts.expanded.Spots.{instrs_in}
-use Rattle.run_laws.specs.changed.Changed.{Each}
-use Rattle.ir_laws.specs.paths.expanded.Tokens.{HasNamedToken, HasNamedTokens}
-use Rattle.rule_slots.specs.Closed.{IsInSomeWindow}
-use Rattle.rule_slots.specs.Early.{end_at, instr_count}
-use Rattle.frame_slots.specs.Uses.{UsesAt, is_marker_of, is_no_use_in}
-use Rattle.frame_slots.specs.Uses.UsesAt.{ByInstr, ByTerm}
-use Rattle.frame_crossing.proofs.Numbering.{name_at as name_there}
-use Rattle.rule_window_values.specs.Kept.{TakesFrom, phis_at, phis_in}
+use Rattle.rule_laws.specs.ir_laws.facts.expanded.Spots.{instrs_in}
+use Rattle.rule_laws.specs.run_laws.changed.Changed.{Each}
+use Rattle.rule_laws.specs.ir_laws.paths.expanded.Tokens.{HasNamedToken, HasNamedTokens}
+use Rattle.rule_laws.specs.rule_slots.Closed.{IsInSomeWindow}
+use Rattle.rule_laws.specs.rule_slots.Early.{end_at, instr_count}
+use Rattle.rule_laws.specs.frame_slots.Uses.{UsesAt, is_marker_of, is_no_use_in}
+use Rattle.rule_laws.specs.frame_slots.Uses.UsesAt.{ByInstr, ByTerm}
+use Rattle.rule_laws.proofs.frame_crossing.Numbering.{name_at as name_there}
+use Rattle.rule_laws.specs.rule_window_values.Kept.{TakesFrom, phis_at, phis_in}
 
 -- what stands at a list's first position is in it
 first_has : (ps : List Point) (s : Point) → slice_get ps 0 ≡ Some s → Has ps s
@@ -61,7 +61,7 @@ not_equal : (v n : ℕ) → v < n → Rattle.std.specs.Prelude.nat_eq v n ≡ fa
 not_equal v n lt = on (Rattle.std.specs.Prelude.nat_eq v n) refl
   where
     on : (b : Bool) → Rattle.std.specs.Prelude.nat_eq v n ≡ b → Rattle.std.specs.Prelude.nat_eq v n ≡ false
-    on true e = let same = Rattle.ir_paths.proofs.Search.eq_from v n e in absurd (omega arith)
+    on true e = let same = Rattle.rule_laws.proofs.ir_paths.Search.eq_from v n e in absurd (omega arith)
     on false e = e
 
 module _ (c : Bool) (i : Instr) (bare : is_bare c i ≡ true) where
@@ -520,13 +520,13 @@ module _ (f : Function) (named : HasNamedTokens f) where
   none_between p y b w = on w.from_save.between w.from_save.is_path
     where
       alone : (z : Point) → Has (back p ∷ []) z → z ≡ back p
-      alone z h = by (Rattle.ir_paths.proofs.Search.either (same_point z (back p)) false h)
+      alone z h = by (Rattle.rule_laws.proofs.ir_paths.Search.either (same_point z (back p)) false h)
         where
           by : (same_point z (back p) ≡ true) ⊎ (false ≡ true) → z ≡ back p
-          by (inl e) = Rattle.ir_paths.proofs.Search.same_point-same z (back p) e
+          by (inl e) = Rattle.rule_laws.proofs.ir_paths.Search.same_point-same z (back p) e
           by (inr e) = absurd (cc)
 
-      only : (z : Point) → Has (Rattle.ir_paths.specs.Paths.nexts g (front p)) z → z ≡ back p
+      only : (z : Point) → Has (Rattle.rule_laws.specs.ir_paths.Paths.nexts g (front p)) z → z ≡ back p
       only z h = alone z (ap (λ (ps : List Point). has_point ps z) (sym (save_leads f p b.instr b.is b.bare)) ∙ h)
 
       on : (between : List Point) → IsPath g (front p ∷ back p ∷ []) (front p) between y → ⊥

@@ -14,17 +14,17 @@ use Rattle.rule_laws.proofs.rules.source_rules.Order.{IsUnbroken, unbroken}
 use Rattle.pass_proofs.proofs.early.source_rules.Slots.{marked, promise}
 use Rattle.pass_proofs.proofs.early.source_rules.Windows.{dead_behind_save}
 use Rattle.rule_laws.specs.rules.source_rules.Named.{AreTabled, HasTabledLocals, HaveNamedBegins}
-use Rattle.rule_all.specs.Refused.{IsRefused}
+use Rattle.rule_laws.specs.rule_all.Refused.{IsRefused}
 use Rattle.ir_model.specs.Calls.{first_result}
 use Rattle.ir_model.specs.Names.{function_at, no_function}
 use Rattle.ir_model.specs.declared.instr.Instr.{Instr}
 use Rattle.ir_model.specs.declared.module.Function.{Function}
 use Rattle.ir_model.specs.declared.module.Module.{Module}
 use Rattle.ir_model.specs.declared.operand.Intrinsic.{Intrinsic}
-use Rattle.ir_paths.specs.Windows.{instr_at, is_call_of}
-use Rattle.ir_paths.specs.declared.point.Point.{Point}
-use Rattle.rule_names.specs.declared.stage.Stage.{Stage}
-use Rattle.run_laws.specs.changed.Changed.{result_of}
+use Rattle.rule_laws.specs.ir_paths.Windows.{instr_at, is_call_of}
+use Rattle.rule_laws.specs.ir_paths.declared.point.Point.{Point}
+use Rattle.rule_laws.specs.rule_names.declared.stage.Stage.{Stage}
+use Rattle.rule_laws.specs.run_laws.changed.Changed.{result_of}
 use Rattle.pass_proofs.proofs.early.frames.Modules.{named_stays as coroutine_same}
 
 module _ (m : Module) (func : ℕ) (f : Function) (coroutine : f.coroutine ≡ true) (h : IsUnbroken m func f) (begin : ℕ) (named : first_result Intrinsic.CoroBegin f ≡ Some begin) where

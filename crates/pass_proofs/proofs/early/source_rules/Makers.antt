@@ -1,16 +1,16 @@
 -- Which instructions make the values of coro.frame and begin's value.
 use Rattle.std.proofs.Common.{◌≡◌, ◌⊎◌, inl, inr, ⊎_elim, ℕ, zero, suc, Bool, true, false, List, [], ◌∷◌, length, refl, sym, ap, ◌∙◌, subst}
 use Rattle.std.specs.Prelude.{Some, None, Option, replicate, slice_get, slice_set, ◌==◌}
-use Rattle.ir_laws.proofs.facts.Truth.{equal_numbers, not_equal}
-use Rattle.ir_laws.proofs.facts.Lists.{set_other, phi_names}
+use Rattle.rule_laws.proofs.ir_laws.facts.Truth.{equal_numbers, not_equal}
+use Rattle.rule_laws.proofs.ir_laws.facts.Lists.{set_other, phi_names}
 use Rattle.pass_proofs.proofs.early.renaming.Rules.{begin_by}
 use Rattle.pass_proofs.specs.early.renaming.Regular.{IsPlain}
 use Rattle.pass_early.specs.Early.{flagged, flagged_by, flagged_in, frame_flags, renaming_of, renaming_to}
 use Rattle.pass_early.specs.Renaming.{flag_or_false, is_renamed}
-use Rattle.flow_solver.specs.Paths.{IsListed}
-use Rattle.rule_uses.specs.Undefined.{params_of}
+use Rattle.rule_laws.specs.flow_solver.Paths.{IsListed}
+use Rattle.rule_laws.specs.rule_uses.Undefined.{params_of}
 use Rattle.rule_laws.proofs.rules.source_rules.Locals.{no_param, no_phi, same_instr}
-use Rattle.ir_parts.specs.Locals.{locals_of}
+use Rattle.rule_laws.specs.ir_parts.Locals.{locals_of}
 use Rattle.ir_model.specs.Calls.{first_result}
 use Rattle.ir_model.specs.declared.instr.Instr.{Instr}
 use Rattle.ir_model.specs.declared.instr.Phi.{Phi}
@@ -18,12 +18,12 @@ use Rattle.ir_model.specs.declared.module.Block.{Block}
 use Rattle.ir_model.specs.declared.module.Function.{Function}
 use Rattle.ir_model.specs.declared.operand.Callee.{Callee}
 use Rattle.ir_model.specs.declared.operand.Intrinsic.{Intrinsic}
-use Rattle.ir_paths.specs.Windows.{instr_at, instr_in, is_call_of}
-use Rattle.ir_paths.specs.declared.point.Point.{Point}
-use Rattle.rule_names.specs.Definitions.{first_twice}
-use Rattle.run_step.specs.Step.{phis_of}
-use Rattle.run_laws.specs.changed.Changed.{Each, result_of}
-use Rattle.ir_laws.proofs.paths.source_rules.Makers.{HasFrame}
+use Rattle.rule_laws.specs.ir_paths.Windows.{instr_at, instr_in, is_call_of}
+use Rattle.rule_laws.specs.ir_paths.declared.point.Point.{Point}
+use Rattle.rule_laws.specs.rule_names.Definitions.{first_twice}
+use Rattle.rule_laws.specs.run_step.Step.{phis_of}
+use Rattle.rule_laws.specs.run_laws.changed.Changed.{Each, result_of}
+use Rattle.rule_laws.proofs.ir_laws.paths.source_rules.Makers.{HasFrame}
 
 -- ---- flags
 

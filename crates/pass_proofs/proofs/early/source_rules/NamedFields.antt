@@ -1,19 +1,19 @@
 -- A coroutine of a module that breaks no rule, whose begin had no name, keeps what the theorem on the renaming asks once it has one.
 use Rattle.std.proofs.Common.{◌≡◌, ◌⊎◌, inl, inr, ℕ, zero, suc, ◌<◌, Bool, true, false, List, [], ◌∷◌, ◌++◌, length, refl, sym, ap, ◌∙◌, subst, arith}
 use Rattle.std.specs.Prelude.{IsTrue, Some, None, Option, map, slice_get, ◌==◌}
-use Rattle.rule_shape.specs.OneOfEach.{is_missing}
-use Rattle.ir_laws.proofs.facts.Members.{at_each}
-use Rattle.ir_laws.proofs.facts.Truth.{equal_numbers, second_of_three as missing_begin}
+use Rattle.rule_laws.specs.rule_shape.OneOfEach.{is_missing}
+use Rattle.rule_laws.proofs.ir_laws.facts.Members.{at_each}
+use Rattle.rule_laws.proofs.ir_laws.facts.Truth.{equal_numbers, second_of_three as missing_begin}
 use Rattle.pass_proofs.proofs.early.renaming.Simulation.{other_call}
-use Rattle.ir_laws.proofs.paths.renamed.Uses.{stands_in}
-use Rattle.ir_laws.specs.paths.renamed.Regular.{IsDead, is_call_at}
+use Rattle.rule_laws.proofs.ir_laws.paths.renamed.Uses.{stands_in}
+use Rattle.rule_laws.specs.ir_laws.paths.renamed.Regular.{IsDead, is_call_at}
 use Rattle.pass_proofs.specs.early.renaming.Regular.{IsDeadBehind, IsMark, IsPlain, KeepsRules}
 use Rattle.pass_early.specs.BeginName.{begin_name, begin_named, named_block, named_instr}
 use Rattle.pass_early.specs.Early.{renaming_of}
 use Rattle.pass_early.specs.Renaming.{is_renamed}
 use Rattle.rule_laws.proofs.rules.source_rules.Locals.{no_param, no_phi, own_label, phi_below, result_below, same_instr}
-use Rattle.ir_laws.proofs.facts.Lists.{phi_names}
-use Rattle.ir_laws.proofs.paths.source_rules.Makers.{HasFrame}
+use Rattle.rule_laws.proofs.ir_laws.facts.Lists.{phi_names}
+use Rattle.rule_laws.proofs.ir_laws.paths.source_rules.Makers.{HasFrame}
 use Rattle.pass_proofs.proofs.early.source_rules.Makers.{renamed_frame, stays, to_is}
 use Rattle.pass_proofs.proofs.early.source_rules.NamedRules.{no_wrong_switch_now, none_outside_now}
 use Rattle.pass_proofs.proofs.early.source_rules.NamedUses.{Unnamed, none_undefined_now, unnamed_by}
@@ -24,7 +24,7 @@ use Rattle.rule_laws.proofs.rules.source_rules.Slots.{MarksNone}
 use Rattle.pass_proofs.proofs.early.source_rules.Slots.{marked, promise}
 use Rattle.pass_proofs.proofs.early.source_rules.Windows.{dead_behind_save, there}
 use Rattle.rule_laws.specs.rules.source_rules.Named.{HasTabledLocals}
-use Rattle.flow_solver.specs.Paths.{IsListed}
+use Rattle.rule_laws.specs.flow_solver.Paths.{IsListed}
 use Rattle.ir_model.specs.Calls.{first_result, first_result_by, first_result_in, or_else, result_of_call}
 use Rattle.ir_model.specs.Names.{position_of}
 use Rattle.ir_model.specs.declared.instr.Instr.{Instr}
@@ -34,10 +34,10 @@ use Rattle.ir_model.specs.declared.module.Function.{Function}
 use Rattle.ir_model.specs.declared.module.Module.{Module}
 use Rattle.ir_model.specs.declared.operand.Callee.{Callee}
 use Rattle.ir_model.specs.declared.operand.Intrinsic.{Intrinsic}
-use Rattle.ir_paths.specs.Windows.{instr_at, is_call_of, suspend_of}
-use Rattle.ir_paths.specs.declared.point.Point.{Point}
-use Rattle.run_step.specs.Step.{phis_of}
-use Rattle.run_laws.specs.changed.Changed.{Each, result_of}
+use Rattle.rule_laws.specs.ir_paths.Windows.{instr_at, is_call_of, suspend_of}
+use Rattle.rule_laws.specs.ir_paths.declared.point.Point.{Point}
+use Rattle.rule_laws.specs.run_step.Step.{phis_of}
+use Rattle.rule_laws.specs.run_laws.changed.Changed.{Each, result_of}
 
 -- ---- the first begin with a name
 

@@ -2,11 +2,11 @@
 use Rattle.std.proofs.Common.{◌≡◌, ◌⊎◌, inl, inr, ℕ, ◌+◌, ◌-◌, Bool, true, false, List, [], ◌∷◌, ◌++◌, length, refl, sym, ap, ◌∙◌, subst}
 use Rattle.std.specs.List.{list_any}
 use Rattle.std.specs.Prelude.{Some, None, Option, count_by, flat_map, map, nat_le, not, option_and_then, option_map, slice_get, unwrap_or, ◌==◌, ◌||◌, ◌&&◌, if◌then◌else◌}
-use Rattle.ir_base.specs.declared.outcome.Place.{Place}
-use Rattle.rule_shape.specs.Switches.{breaks_switch, end_label, is_last, is_switch_on, is_switched, is_switched_in, wrong_switch}
-use Rattle.rule_shape.specs.Uses.{block_operands, phi_operands, uses_of}
-use Rattle.ir_laws.proofs.facts.Lists.{any_same, first_same}
-use Rattle.ir_laws.proofs.facts.Members.{each_behind}
+use Rattle.rule_laws.specs.ir_base.declared.outcome.Place.{Place}
+use Rattle.rule_laws.specs.rule_shape.Switches.{breaks_switch, end_label, is_last, is_switch_on, is_switched, is_switched_in, wrong_switch}
+use Rattle.rule_laws.specs.rule_shape.Uses.{block_operands, phi_operands, uses_of}
+use Rattle.rule_laws.proofs.ir_laws.facts.Lists.{any_same, first_same}
+use Rattle.rule_laws.proofs.ir_laws.facts.Members.{each_behind}
 use Rattle.run_states.proofs.renamed.Modules.{length_same}
 use Rattle.rule_laws.proofs.rules.renamed.Outside.{each_left, each_right, none_breaks}
 use Rattle.pass_proofs.proofs.early.renaming.Simulation.{other_call}
@@ -14,8 +14,8 @@ use Rattle.rule_laws.proofs.rules.renamed.Switches.{none_part}
 use Rattle.pass_early.specs.BeginName.{begin_named, named_block, named_instr}
 use Rattle.pass_proofs.proofs.early.source_rules.NamedUses.{part_operands_same}
 use Rattle.pass_proofs.proofs.early.source_rules.Naming.{block_there, call_kept, call_same, nexts_same, points_same}
-use Rattle.ir_parts.specs.Contents.{ending_operands, instr_operands}
-use Rattle.ir_parts.specs.Parts.{Part, Head, OfPhi, OfInstr, Ending, block_parts, block_place, blocks_parts, first_part, instr_parts, instr_place, parts_of, phi_parts}
+use Rattle.rule_laws.specs.ir_parts.Contents.{ending_operands, instr_operands}
+use Rattle.rule_laws.specs.ir_parts.Parts.{Part, Head, OfPhi, OfInstr, Ending, block_parts, block_place, blocks_parts, first_part, instr_parts, instr_place, parts_of, phi_parts}
 use Rattle.ir_model.specs.Names.{is_local}
 use Rattle.ir_model.specs.declared.instr.Instr.{Instr}
 use Rattle.ir_model.specs.declared.instr.Phi.{Phi}
@@ -23,14 +23,14 @@ use Rattle.ir_model.specs.declared.instr.Terminator.{Terminator}
 use Rattle.ir_model.specs.declared.module.Block.{Block}
 use Rattle.ir_model.specs.declared.module.Function.{Function}
 use Rattle.ir_model.specs.declared.operand.Intrinsic.{Intrinsic}
-use Rattle.ir_paths.specs.Paths.{IsPath, has_point}
-use Rattle.ir_paths.specs.Windows.{call_result, end_block, is_call_of}
-use Rattle.ir_paths.specs.declared.point.Point.{Point}
-use Rattle.flow_points.specs.Reached.{IsReached}
-use Rattle.run_laws.specs.changed.Changed.{Each}
-use Rattle.rule_windows.specs.Outside.{BreaksOutside, IsFirstOutside, StandsOutside, ends_with_it, needs_begin}
-use Rattle.rule_windows.specs.Points.{begins, ends, entry, phi_count, phis_in, point_in, point_of}
-use Rattle.rule_windows.specs.Sets.{IsAfterEnd, IsWithoutBegin, RunsOut}
+use Rattle.rule_laws.specs.ir_paths.Paths.{IsPath, has_point}
+use Rattle.rule_laws.specs.ir_paths.Windows.{call_result, end_block, is_call_of}
+use Rattle.rule_laws.specs.ir_paths.declared.point.Point.{Point}
+use Rattle.rule_laws.specs.flow_points.Reached.{IsReached}
+use Rattle.rule_laws.specs.run_laws.changed.Changed.{Each}
+use Rattle.rule_laws.specs.rule_windows.Outside.{BreaksOutside, IsFirstOutside, StandsOutside, ends_with_it, needs_begin}
+use Rattle.rule_laws.specs.rule_windows.Points.{begins, ends, entry, phi_count, phis_in, point_in, point_of}
+use Rattle.rule_laws.specs.rule_windows.Sets.{IsAfterEnd, IsWithoutBegin, RunsOut}
 use Rattle.rule_laws.proofs.rules.path_rules.Holding.{first_none, part_none}
 
 -- ---- parts

@@ -1,17 +1,17 @@
 -- Where begin gets a name, no use gets undefined (rule F2).
 use Rattle.std.proofs.Common.{◌≡◌, ⊎_elim, ℕ, zero, suc, ◌+◌, true, List, [], ◌∷◌, ◌++◌, length, refl, sym, ap, ◌∙◌, subst}
 use Rattle.std.specs.Prelude.{Some, None, Option, map, option_map, option_to_list, slice_get}
-use Rattle.flow_blocks.specs.Edges.{block_edges, edges_of_blocks}
-use Rattle.ir_base.specs.declared.outcome.Place.{Place}
-use Rattle.rule_uses.specs.Undefined.{Entry, IsFirstUndefined, IsUndefined, Later, Next, Nowhere, ReachesWithout}
-use Rattle.rule_uses.specs.Uses.{Use, block_uses, block_values, blocks_uses, incoming_use, incoming_uses, instr_uses, local_of, locals_in, made_by_instrs, phi_uses, phi_values, use_of, uses_at, uses_of, values_at, values_in}
+use Rattle.rule_laws.specs.flow_blocks.Edges.{block_edges, edges_of_blocks}
+use Rattle.rule_laws.specs.ir_base.declared.outcome.Place.{Place}
+use Rattle.rule_laws.specs.rule_uses.Undefined.{Entry, IsFirstUndefined, IsUndefined, Later, Next, Nowhere, ReachesWithout}
+use Rattle.rule_laws.specs.rule_uses.Uses.{Use, block_uses, block_values, blocks_uses, incoming_use, incoming_uses, instr_uses, local_of, locals_in, made_by_instrs, phi_uses, phi_values, use_of, uses_at, uses_of, values_at, values_in}
 use Rattle.rule_laws.proofs.rules.renamed.Uses.{none_undefined}
 use Rattle.pass_early.specs.BeginName.{begin_named, named_block, named_instr}
-use Rattle.ir_laws.proofs.paths.source_rules.Locals.{listed_either, listed_left, listed_right}
+use Rattle.rule_laws.proofs.ir_laws.paths.source_rules.Locals.{listed_either, listed_left, listed_right}
 use Rattle.pass_proofs.proofs.early.source_rules.Naming.{block_there, position_same}
-use Rattle.flow_solver.specs.Paths.{IsListed}
-use Rattle.ir_parts.specs.Contents.{ending_operands, instr_operands, result_of as part_result}
-use Rattle.ir_parts.specs.Parts.{instr_place}
+use Rattle.rule_laws.specs.flow_solver.Paths.{IsListed}
+use Rattle.rule_laws.specs.ir_parts.Contents.{ending_operands, instr_operands, result_of as part_result}
+use Rattle.rule_laws.specs.ir_parts.Parts.{instr_place}
 use Rattle.ir_model.specs.Calls.{first_result, first_result_by, first_result_in, result_of_call}
 use Rattle.ir_model.specs.Names.{position_of}
 use Rattle.ir_model.specs.declared.instr.Incoming.{Incoming}
@@ -21,10 +21,10 @@ use Rattle.ir_model.specs.declared.module.Block.{Block}
 use Rattle.ir_model.specs.declared.module.Function.{Function}
 use Rattle.ir_model.specs.declared.operand.Callee.{Callee}
 use Rattle.ir_model.specs.declared.operand.Intrinsic.{Intrinsic}
-use Rattle.ir_paths.specs.Paths.{targets}
-use Rattle.ir_paths.specs.Windows.{is_call_of}
-use Rattle.run_laws.specs.changed.Changed.{Each, result_of}
-use Rattle.ir_laws.proofs.facts.Options.{left_none as none_first, right_none as none_second}
+use Rattle.rule_laws.specs.ir_paths.Paths.{targets}
+use Rattle.rule_laws.specs.ir_paths.Windows.{is_call_of}
+use Rattle.rule_laws.specs.run_laws.changed.Changed.{Each, result_of}
+use Rattle.rule_laws.proofs.ir_laws.facts.Options.{left_none as none_first, right_none as none_second}
 
 -- ---- begins without names
 

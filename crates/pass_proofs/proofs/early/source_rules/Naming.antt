@@ -3,11 +3,11 @@ use Rattle.std.proofs.Common.{◌≡◌, ℕ, suc, ◌+◌, Bool, true, false, L
 use Rattle.std.proofs.lemmas.Option.{slice_get-map}
 use Rattle.std.specs.List.{list_any}
 use Rattle.std.specs.Prelude.{IsTrue, Some, None, Option, map, nat_lt, option_and_then, option_map, slice_get, unwrap_or, ◌==◌, ◌||◌, ◌&&◌, if◌then◌else◌}
-use Rattle.ir_laws.proofs.facts.Lists.{first_same}
+use Rattle.rule_laws.proofs.ir_laws.facts.Lists.{first_same}
 use Rattle.run_states.proofs.renamed.Modules.{length_same}
-use Rattle.ir_laws.specs.paths.renamed.Regular.{Ahead, AsOperand, Here, IsDead, IsTaken, IsUsed, Next, OnEdge, is_call_at, makes, operands_read, stops}
+use Rattle.rule_laws.specs.ir_laws.paths.renamed.Regular.{Ahead, AsOperand, Here, IsDead, IsTaken, IsUsed, Next, OnEdge, is_call_at, makes, operands_read, stops}
 use Rattle.pass_proofs.specs.early.renaming.Regular.{IsDeadAt, IsDeadBehind}
-use Rattle.ir_laws.specs.facts.renamed.Regular.{is_result, passes}
+use Rattle.rule_laws.specs.ir_laws.facts.renamed.Regular.{is_result, passes}
 use Rattle.pass_early.specs.BeginName.{begin_named, named_block, named_instr}
 use Rattle.ir_model.specs.Names.{is_local, position_of}
 use Rattle.ir_model.specs.declared.instr.Instr.{Instr}
@@ -16,12 +16,12 @@ use Rattle.ir_model.specs.declared.module.Block.{Block}
 use Rattle.ir_model.specs.declared.module.Function.{Function}
 use Rattle.ir_model.specs.declared.operand.Callee.{Callee}
 use Rattle.ir_model.specs.declared.operand.Intrinsic.{Intrinsic}
-use Rattle.ir_paths.specs.Paths.{entry_point, has_point, nexts, nexts_in, targets}
-use Rattle.ir_paths.specs.Slots.{local_of, promise_of}
-use Rattle.ir_paths.specs.Windows.{call_operand, call_result, destroy_label, instr_at, instr_in, is_call_of, is_suspend_of, label_at, points_from, points_in, points_where, resume_label, suspend_of}
-use Rattle.ir_paths.specs.declared.point.Point.{Point}
-use Rattle.run_step.specs.Step.{fetch, fetch_in, fetch_or, incoming_from, label_of, phis_of}
-use Rattle.run_laws.specs.changed.Changed.{operands_of, result_of}
+use Rattle.rule_laws.specs.ir_paths.Paths.{entry_point, has_point, nexts, nexts_in, targets}
+use Rattle.rule_laws.specs.ir_paths.Slots.{local_of, promise_of}
+use Rattle.rule_laws.specs.ir_paths.Windows.{call_operand, call_result, destroy_label, instr_at, instr_in, is_call_of, is_suspend_of, label_at, points_from, points_in, points_where, resume_label, suspend_of}
+use Rattle.rule_laws.specs.ir_paths.declared.point.Point.{Point}
+use Rattle.rule_laws.specs.run_step.Step.{fetch, fetch_in, fetch_or, incoming_from, label_of, phis_of}
+use Rattle.rule_laws.specs.run_laws.changed.Changed.{operands_of, result_of}
 
 -- ---- instructions
 

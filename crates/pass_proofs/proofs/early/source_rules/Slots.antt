@@ -1,32 +1,32 @@
 -- Lemmas on slots.
 use Rattle.std.proofs.Common.{◌≡◌, ℕ, ◌+◌, Bool, true, false, List, [], refl, sym, ap, ◌∙◌, subst}
 use Rattle.std.specs.Prelude.{IsTrue, Some, None, is_some, not, option_and_then, option_map, slice_get, ◌||◌, if◌then◌else◌}
-use Rattle.ir_base.specs.declared.outcome.Place.{Place}
-use Rattle.rule_shape.specs.OneOfEach.{is_missing, wrong_call}
-use Rattle.rule_shape.specs.Places.{places_where}
-use Rattle.rule_shape.specs.Promise.{is_wrong_promise, promise_operand, slot_of, wrong_promise}
+use Rattle.rule_laws.specs.ir_base.declared.outcome.Place.{Place}
+use Rattle.rule_laws.specs.rule_shape.OneOfEach.{is_missing, wrong_call}
+use Rattle.rule_laws.specs.rule_shape.Places.{places_where}
+use Rattle.rule_laws.specs.rule_shape.Promise.{is_wrong_promise, promise_operand, slot_of, wrong_promise}
 use Rattle.rule_laws.proofs.rules.renamed.Outside.{at_point}
 use Rattle.rule_laws.proofs.rules.renamed.Switches.{none_part}
-use Rattle.ir_laws.proofs.paths.source_rules.Makers.{HasFrame}
+use Rattle.rule_laws.proofs.ir_laws.paths.source_rules.Makers.{HasFrame}
 use Rattle.pass_proofs.proofs.early.source_rules.Makers.{not_frame}
 use Rattle.rule_laws.proofs.rules.source_rules.Once.{first_call_at, none_missing, one_id, place_listed, there_is}
-use Rattle.flow_solver.specs.Paths.{IsListed}
-use Rattle.ir_parts.specs.Locals.{locals_of}
-use Rattle.ir_parts.specs.Parts.{instr_place, parts_of, place_if}
+use Rattle.rule_laws.specs.flow_solver.Paths.{IsListed}
+use Rattle.rule_laws.specs.ir_parts.Locals.{locals_of}
+use Rattle.rule_laws.specs.ir_parts.Parts.{instr_place, parts_of, place_if}
 use Rattle.ir_model.specs.declared.instr.Instr.{Instr}
 use Rattle.ir_model.specs.declared.module.Function.{Function}
 use Rattle.ir_model.specs.declared.module.Module.{Module}
 use Rattle.ir_model.specs.declared.operand.Arg.{Arg}
 use Rattle.ir_model.specs.declared.operand.Intrinsic.{Intrinsic}
 use Rattle.ir_model.specs.declared.operand.Operand.{Operand}
-use Rattle.ir_paths.specs.Slots.{allocas_of, is_in_args, promise_of}
-use Rattle.ir_paths.specs.Windows.{call_operand, instr_at, is_call_of}
-use Rattle.ir_paths.specs.declared.point.Point.{Point}
-use Rattle.rule_locals.specs.Instrs.{on_instr}
-use Rattle.rule_locals.specs.Markers.{first_other_mark, is_marker, marks, marks_otherwise, slot_size}
-use Rattle.rule_names.specs.Definitions.{first_twice}
-use Rattle.rule_windows.specs.Points.{phi_count}
-use Rattle.ir_laws.proofs.facts.Truth.{first_no as first_or_false, holds as not_false}
+use Rattle.rule_laws.specs.ir_paths.Slots.{allocas_of, is_in_args, promise_of}
+use Rattle.rule_laws.specs.ir_paths.Windows.{call_operand, instr_at, is_call_of}
+use Rattle.rule_laws.specs.ir_paths.declared.point.Point.{Point}
+use Rattle.rule_laws.specs.rule_locals.Instrs.{on_instr}
+use Rattle.rule_laws.specs.rule_locals.Markers.{first_other_mark, is_marker, marks, marks_otherwise, slot_size}
+use Rattle.rule_laws.specs.rule_names.Definitions.{first_twice}
+use Rattle.rule_laws.specs.rule_windows.Points.{phi_count}
+use Rattle.rule_laws.proofs.ir_laws.facts.Truth.{first_no as first_or_false, holds as not_false}
 use Rattle.rule_laws.proofs.rules.plain_rules.Places.{not_placed as none_if}
 use Rattle.rule_laws.proofs.rules.source_rules.Slots.{HasAlloca, HasId, MarksNone, alloca_of, found_listed, id_of, lifetime_marker, listed_first, marks_right, of_args, sized_alloca}
 

@@ -2,49 +2,49 @@
 use Rattle.std.proofs.Common.{◌≡◌, ◌⊎◌, inl, inr, ℕ, zero, suc, ◌+◌, Bool, true, false, List, [], ◌∷◌, refl, sym, ap, ◌∙◌, subst, arith}
 use Rattle.std.specs.List.{cons_option, filter_map}
 use Rattle.std.specs.Prelude.{IsTrue, IsFalse, Some, None, Option, option_and_then, option_map, slice_get, ◌||◌, ◌&&◌, if◌then◌else◌}
-use Rattle.rule_shape.specs.OneOfEach.{wrong_call}
-use Rattle.rule_shape.specs.Switches.{wrong_switch}
+use Rattle.rule_laws.specs.rule_shape.OneOfEach.{wrong_call}
+use Rattle.rule_laws.specs.rule_shape.Switches.{wrong_switch}
 use Rattle.pass_proofs.proofs.early.renaming.Invariant.{dead_next, unstopped_at}
-use Rattle.ir_laws.proofs.facts.Truth.{equal_numbers}
+use Rattle.rule_laws.proofs.ir_laws.facts.Truth.{equal_numbers}
 use Rattle.rule_laws.proofs.rules.renamed.Outside.{at_point, none_breaks}
-use Rattle.ir_laws.proofs.paths.renamed.Outside.{where_pass}
+use Rattle.rule_laws.proofs.ir_laws.paths.renamed.Outside.{where_pass}
 use Rattle.pass_proofs.proofs.early.renaming.Simulation.{other_call}
 use Rattle.pass_proofs.proofs.early.renaming.Switches.{dead_behind_suspend}
 use Rattle.rule_laws.proofs.rules.renamed.Uses.{result_spelt}
-use Rattle.ir_laws.proofs.paths.renamed.Uses.{stands_in}
-use Rattle.ir_laws.specs.paths.renamed.Regular.{IsDead, is_call_at, makes, stops}
+use Rattle.rule_laws.proofs.ir_laws.paths.renamed.Uses.{stands_in}
+use Rattle.rule_laws.specs.ir_laws.paths.renamed.Regular.{IsDead, is_call_at, makes, stops}
 use Rattle.pass_proofs.specs.early.renaming.Regular.{IsDeadAt, IsDeadBehind}
-use Rattle.ir_laws.specs.facts.renamed.Regular.{is_result, passes}
+use Rattle.rule_laws.specs.ir_laws.facts.renamed.Regular.{is_result, passes}
 use Rattle.pass_early.specs.Early.{renaming_of}
 use Rattle.rule_laws.proofs.rules.source_rules.Behind.{used_ahead, used_on_edge}
 use Rattle.rule_laws.proofs.rules.source_rules.Ends.{end_first}
-use Rattle.ir_laws.proofs.paths.source_rules.Locals.{listed_left, listed_right}
+use Rattle.rule_laws.proofs.ir_laws.paths.source_rules.Locals.{listed_left, listed_right}
 use Rattle.rule_laws.proofs.rules.source_rules.Locals.{no_phi, own_label}
-use Rattle.ir_laws.proofs.facts.Lists.{phi_names}
-use Rattle.ir_laws.proofs.paths.source_rules.Makers.{HasFrame}
+use Rattle.rule_laws.proofs.ir_laws.facts.Lists.{phi_names}
+use Rattle.rule_laws.proofs.ir_laws.paths.source_rules.Makers.{HasFrame}
 use Rattle.pass_proofs.proofs.early.source_rules.Makers.{not_frame}
 use Rattle.rule_laws.proofs.rules.source_rules.Slots.{first_has}
-use Rattle.flow_solver.specs.Paths.{IsListed}
-use Rattle.ir_parts.specs.Locals.{locals_of}
-use Rattle.ir_parts.specs.Parts.{parts_of}
+use Rattle.rule_laws.specs.flow_solver.Paths.{IsListed}
+use Rattle.rule_laws.specs.ir_parts.Locals.{locals_of}
+use Rattle.rule_laws.specs.ir_parts.Parts.{parts_of}
 use Rattle.ir_model.specs.Names.{position_of}
 use Rattle.ir_model.specs.declared.instr.Instr.{Instr}
 use Rattle.ir_model.specs.declared.instr.Phi.{Phi}
 use Rattle.ir_model.specs.declared.module.Block.{Block}
 use Rattle.ir_model.specs.declared.module.Function.{Function}
 use Rattle.ir_model.specs.declared.operand.Intrinsic.{Intrinsic}
-use Rattle.ir_paths.proofs.Search.{leads-more}
-use Rattle.ir_paths.specs.Paths.{IsPath, Leads, has_point, same_point}
-use Rattle.ir_paths.specs.Windows.{IsInWindow, call_result, destroy_label, instr_at, is_call_of, is_suspend_of, points_from, points_in, points_where, resume_label, suspend_of}
-use Rattle.ir_paths.specs.declared.point.Point.{Point}
-use Rattle.rule_names.specs.Definitions.{first_twice}
-use Rattle.run_step.specs.Step.{phis_of}
-use Rattle.run_laws.specs.changed.Changed.{Each, result_of}
-use Rattle.rule_windows.specs.Points.{place_of}
-use Rattle.rule_windows.specs.Windows.{Between, BreaksSave, BreaksWindow, Call, IsFirstWindow, IsWrong, NoPath, NotOne, ends_window, passes as window_passes, suspends_of}
-use Rattle.rule_window_values.specs.Kept.{BreaksValue, ByInstr, IsFirstKept, IsMadeIn, IsUsedBehind, own_blocks}
-use Rattle.ir_laws.proofs.paths.replaced.Known.{of_listed as each_at}
-use Rattle.ir_laws.proofs.paths.source_rules.Windows.{listed_more, only_one}
+use Rattle.rule_laws.proofs.ir_paths.Search.{leads-more}
+use Rattle.rule_laws.specs.ir_paths.Paths.{IsPath, Leads, has_point, same_point}
+use Rattle.rule_laws.specs.ir_paths.Windows.{IsInWindow, call_result, destroy_label, instr_at, is_call_of, is_suspend_of, points_from, points_in, points_where, resume_label, suspend_of}
+use Rattle.rule_laws.specs.ir_paths.declared.point.Point.{Point}
+use Rattle.rule_laws.specs.rule_names.Definitions.{first_twice}
+use Rattle.rule_laws.specs.run_step.Step.{phis_of}
+use Rattle.rule_laws.specs.run_laws.changed.Changed.{Each, result_of}
+use Rattle.rule_laws.specs.rule_windows.Points.{place_of}
+use Rattle.rule_laws.specs.rule_windows.Windows.{Between, BreaksSave, BreaksWindow, Call, IsFirstWindow, IsWrong, NoPath, NotOne, ends_window, passes as window_passes, suspends_of}
+use Rattle.rule_laws.specs.rule_window_values.Kept.{BreaksValue, ByInstr, IsFirstKept, IsMadeIn, IsUsedBehind, own_blocks}
+use Rattle.rule_laws.proofs.ir_laws.paths.replaced.Known.{of_listed as each_at}
+use Rattle.rule_laws.proofs.ir_laws.paths.source_rules.Windows.{listed_more, only_one}
 use Rattle.rule_laws.proofs.rules.source_rules.Windows.{end_ends}
 
 -- ---- the points of the instructions that pass a test

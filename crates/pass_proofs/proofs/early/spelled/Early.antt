@@ -1,15 +1,15 @@
 -- Where saves are written out, a function can still be written.
 use Rattle.std.proofs.Common.{◌≡◌, ℕ, ◌-◌, Bool, true, false, List, [], ◌∷◌, length, sym, subst}
 use Rattle.std.specs.Prelude.{None, Option, Some, if◌then◌else◌, map, option_to_list}
-use Rattle.text_names.specs.Spelling.{IsName}
+use Rattle.rule_laws.specs.text_names.Spelling.{IsName}
 use Rattle.pass_early.specs.BeginName.{begin_name, if_unnamed, with_begin_name}
 use Rattle.pass_early.specs.Early.{after_blocks, early_function, early_named, renaming_of, save_names}
 use Rattle.pass_early.specs.Renaming.{renamed_instr, renamed_phi}
 use Rattle.pass_early.specs.declared.renaming.Renaming.{Renaming}
-use Rattle.ir_laws.proofs.facts.Members.{each_joined, joined_names}
+use Rattle.rule_laws.proofs.ir_laws.facts.Members.{each_joined, joined_names}
 use Rattle.pass_proofs.proofs.early.local_rules.Known.{ending_types_same, instr_types_same}
 use Rattle.pass_proofs.proofs.early.local_rules.Turned.{Any, Begins, Further, NoBlock, Nothing, OneMore, Saves, Stays, Turns, TurnsAll, TurnsBlock, TurnsBlocks, turned_function}
-use Rattle.ir_parts.specs.Contents.{ending_types, instr_types}
+use Rattle.rule_laws.specs.ir_parts.Contents.{ending_types, instr_types}
 use Rattle.ir_model.specs.Calls.{first_result}
 use Rattle.ir_model.specs.Ty.{Ty}
 use Rattle.ir_model.specs.declared.instr.Instr.{Instr}
@@ -24,7 +24,7 @@ use Rattle.pass_proofs.proofs.early.spelled.Names.{begin_named, saves_named}
 use Rattle.rule_laws.proofs.texts.spelled.Types.{ptr_spelled, token_spelled}
 use Rattle.rule_laws.specs.texts.spelled.Spelled.{IsSpelled}
 use Rattle.rule_laws.specs.rules.spelled.Spelled.{IsSpelledBlock, IsSpelledFunction, IsSpelledInstr, MayStand}
-use Rattle.run_laws.specs.changed.Changed.{Each}
+use Rattle.rule_laws.specs.run_laws.changed.Changed.{Each}
 
 -- the instruction with other operands
 pub with_types : (i j : Instr) → instr_types j ≡ instr_types i → (MayStand i → MayStand j) → IsSpelledInstr i → IsSpelledInstr j

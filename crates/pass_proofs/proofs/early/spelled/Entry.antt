@@ -9,8 +9,8 @@ use Rattle.ir_model.specs.declared.instr.Incoming.{Incoming}
 use Rattle.ir_model.specs.declared.instr.Phi.{Phi}
 use Rattle.ir_model.specs.declared.module.Block.{Block}
 use Rattle.ir_model.specs.declared.module.Function.{Function}
-use Rattle.ir_laws.specs.facts.spelled.Filled.{HasFilledPhis, IsFilled}
-use Rattle.run_laws.specs.changed.Changed.{Each}
+use Rattle.rule_laws.specs.ir_laws.facts.spelled.Filled.{HasFilledPhis, IsFilled}
+use Rattle.rule_laws.specs.run_laws.changed.Changed.{Each}
 
 -- ---- the passes
 

@@ -2,20 +2,20 @@
 use Rattle.std.proofs.Common.{◌≡◌, inl, inr, ⊎_elim, ℕ, ◌<◌, Bool, true, false, List, [], ◌∷◌, length, refl, sym, ap, ◌∙◌, subst}
 use Rattle.std.specs.List.{list_all}
 use Rattle.std.specs.Prelude.{None, Option, Some, map, not, slice_get, if◌then◌else◌, ◌&&◌, ◌==◌}
-use Rattle.ir_base.specs.declared.outcome.Place.{Place}
+use Rattle.rule_laws.specs.ir_base.declared.outcome.Place.{Place}
 use Rattle.pass_early.specs.BeginName.{if_unnamed}
 use Rattle.pass_early.specs.Early.{early_named, renaming_of, renaming_to, save_call}
 use Rattle.pass_early.specs.Renaming.{is_renamed, renamed, renamed_arg, renamed_instr, renamed_term, renamed_value}
 use Rattle.pass_early.specs.declared.renaming.Renaming.{Renaming}
-use Rattle.ir_laws.proofs.facts.Truth.{equal_numbers, and_both, and_first, and_second, holds}
+use Rattle.rule_laws.proofs.ir_laws.facts.Truth.{equal_numbers, and_both, and_first, and_second, holds}
 use Rattle.pass_proofs.proofs.early.local_rules.Rules.{all_in_args, all_in_instr, all_in_phi}
 use Rattle.pass_proofs.proofs.early.local_rules.Turned.{Any, Begins, Further, NoBlock, Nothing, OneMore, Saves, Stays, Turns, TurnsAll, TurnsBlocks, marked_blocks, turned_as}
-use Rattle.ir_laws.proofs.paths.source_rules.Locals.{listed_either}
+use Rattle.rule_laws.proofs.ir_laws.paths.source_rules.Locals.{listed_either}
 use Rattle.rule_laws.proofs.rules.source_rules.Locals.{same_instr}
-use Rattle.flow_solver.specs.Paths.{IsListed}
+use Rattle.rule_laws.specs.flow_solver.Paths.{IsListed}
 use Rattle.rule_laws.specs.rules.function_rules.Kept.{KeepsFunctionRules}
-use Rattle.ir_parts.specs.Contents.{arg_operands, ending_operands, instr_operands, part_operands, result_of}
-use Rattle.ir_parts.specs.Parts.{OfPhi, first_part, parts_of}
+use Rattle.rule_laws.specs.ir_parts.Contents.{arg_operands, ending_operands, instr_operands, part_operands, result_of}
+use Rattle.rule_laws.specs.ir_parts.Parts.{OfPhi, first_part, parts_of}
 use Rattle.ir_model.specs.Calls.{first_result}
 use Rattle.ir_model.specs.Layout.{same_type}
 use Rattle.ir_model.specs.Ty.{Ty}
@@ -29,21 +29,21 @@ use Rattle.ir_model.specs.declared.operand.Arg.{Arg}
 use Rattle.ir_model.specs.declared.operand.Callee.{Callee}
 use Rattle.ir_model.specs.declared.operand.Intrinsic.{Intrinsic}
 use Rattle.ir_model.specs.declared.operand.Operand.{Operand}
-use Rattle.ir_paths.specs.Windows.{instr_at, instr_in, is_call_of}
-use Rattle.ir_paths.specs.declared.point.Point.{Point}
+use Rattle.rule_laws.specs.ir_paths.Windows.{instr_at, instr_in, is_call_of}
+use Rattle.rule_laws.specs.ir_paths.declared.point.Point.{Point}
 use Rattle.rule_laws.proofs.rules.shape.Begin.{begin_result}
 use Rattle.rule_laws.proofs.rules.shape.Stands.{begin_stands}
 use Rattle.pass_proofs.proofs.early.unused_frames.Flags.{IsFrame, frame_renamed}
-use Rattle.ir_laws.proofs.paths.unused.Standing.{IsAt, stands_at}
+use Rattle.rule_laws.proofs.ir_laws.paths.unused.Standing.{IsAt, stands_at}
 use Rattle.rule_laws.specs.rules.unused.Unused.{is_other, names_value}
-use Rattle.run_laws.specs.changed.Changed.{Each}
-use Rattle.rule_values.specs.Fits.{fits_arg, fits_integer}
-use Rattle.rule_values.specs.Kinds.{value_kind}
-use Rattle.rule_values.specs.Switches.{any_twice, bits_in, case_word, fits_case, is_constant}
-use Rattle.rule_values.specs.Values.{breaks_values, fits_ending, first_wrong_value}
-use Rattle.rule_values.specs.declared.kinds.Kind.{Kind}
-use Rattle.ir_laws.proofs.facts.Members.{each_by as each_got}
-use Rattle.ir_laws.proofs.paths.edges.Lists.{listed_at as got_listed}
+use Rattle.rule_laws.specs.run_laws.changed.Changed.{Each}
+use Rattle.rule_laws.specs.rule_values.Fits.{fits_arg, fits_integer}
+use Rattle.rule_laws.specs.rule_values.Kinds.{value_kind}
+use Rattle.rule_laws.specs.rule_values.Switches.{any_twice, bits_in, case_word, fits_case, is_constant}
+use Rattle.rule_laws.specs.rule_values.Values.{breaks_values, fits_ending, first_wrong_value}
+use Rattle.rule_laws.specs.rule_values.declared.kinds.Kind.{Kind}
+use Rattle.rule_laws.proofs.ir_laws.facts.Members.{each_by as each_got}
+use Rattle.rule_laws.proofs.ir_laws.paths.edges.Lists.{listed_at as got_listed}
 use Rattle.pass_proofs.proofs.early.local_rules.Carried as early
 
 -- ---- renamed operands are others than a value that is renamed

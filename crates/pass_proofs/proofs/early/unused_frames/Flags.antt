@@ -4,16 +4,16 @@ use Rattle.std.specs.Prelude.{None, Option, Some, map, replicate, slice_get, sli
 use Rattle.pass_early.specs.BeginName.{begin_name, if_unnamed, named_block, named_instr}
 use Rattle.pass_early.specs.Early.{flagged, flagged_by, flagged_in, frame_flags, renaming_of, renaming_to}
 use Rattle.pass_early.specs.Renaming.{flag_or_false, is_renamed}
-use Rattle.flow_solver.specs.Paths.{IsListed}
-use Rattle.ir_parts.specs.Contents.{result_of}
+use Rattle.rule_laws.specs.flow_solver.Paths.{IsListed}
+use Rattle.rule_laws.specs.ir_parts.Contents.{result_of}
 use Rattle.ir_model.specs.Calls.{first_result}
 use Rattle.ir_model.specs.declared.instr.Instr.{Instr}
 use Rattle.ir_model.specs.declared.module.Block.{Block}
 use Rattle.ir_model.specs.declared.module.Function.{Function}
 use Rattle.ir_model.specs.declared.operand.Callee.{Callee}
 use Rattle.ir_model.specs.declared.operand.Intrinsic.{Intrinsic}
-use Rattle.ir_paths.specs.Windows.{is_call_of}
-use Rattle.ir_laws.proofs.facts.Lists.{flags_length as as_many, one_longer}
+use Rattle.rule_laws.specs.ir_paths.Windows.{is_call_of}
+use Rattle.rule_laws.proofs.ir_laws.facts.Lists.{flags_length as as_many, one_longer}
 
 -- a call of coro.frame that makes the value
 pub record IsFrame (v : ℕ) (i : Instr) : Type 0 where

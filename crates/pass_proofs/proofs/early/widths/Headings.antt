@@ -3,11 +3,11 @@ use Rattle.std.proofs.Common.{◌≡◌, List, [], ◌∷◌, refl, ap, ◌∙�
 use Rattle.std.specs.Prelude.{map}
 use Rattle.pass_proofs.proofs.early.local_rules.Turned.{turned_function}
 use Rattle.pass_early.specs.Early.{early_function, early_module}
-use Rattle.ir_laws.specs.facts.function_rules.Signatures.{HaveSameSignatures, heading}
+use Rattle.rule_laws.specs.ir_laws.facts.function_rules.Signatures.{HaveSameSignatures, heading}
 use Rattle.ir_model.specs.declared.module.Function.{Function}
 use Rattle.ir_model.specs.declared.module.Module.{Module}
-use Rattle.ir_laws.specs.facts.same_names.Same.{HaveSameNames, naming}
-use Rattle.ir_laws.proofs.facts.Numbers.{IsHeadedAs, heading_stays, naming_stays}
+use Rattle.rule_laws.specs.ir_laws.facts.same_names.Same.{HaveSameNames, naming}
+use Rattle.rule_laws.proofs.ir_laws.facts.Numbers.{IsHeadedAs, heading_stays, naming_stays}
 
 -- ---- the first pass
 

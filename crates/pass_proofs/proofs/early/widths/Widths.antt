@@ -2,22 +2,22 @@
 use Rattle.std.proofs.Common.{◌≡◌, ℕ, ◌∙◌, false, List, ◌∷◌, refl, ap}
 use Rattle.std.specs.Prelude.{None, Option, map, option_to_list, ◌++◌}
 use Rattle.rule_laws.specs.rules.counted.Widths.{first_other_width, is_of_other_width}
-use Rattle.ir_base.specs.declared.outcome.Place.{Place}
+use Rattle.rule_laws.specs.ir_base.declared.outcome.Place.{Place}
 use Rattle.pass_proofs.proofs.early.local_rules.Known.{ending_types_same, instr_types_same}
 use Rattle.pass_proofs.proofs.early.local_rules.Turned.{Any, Begins, Saves, Stays, Turns, turned_function}
 use Rattle.pass_early.specs.Early.{early_function}
 use Rattle.pass_early.specs.Renaming.{renamed_instr, renamed_term}
 use Rattle.pass_early.specs.declared.renaming.Renaming.{Renaming}
-use Rattle.ir_parts.specs.Contents.{ending_types, instr_types, part_types}
-use Rattle.ir_parts.specs.Parts.{OfInstr, Signature}
+use Rattle.rule_laws.specs.ir_parts.Contents.{ending_types, instr_types, part_types}
+use Rattle.rule_laws.specs.ir_parts.Parts.{OfInstr, Signature}
 use Rattle.ir_model.specs.Ty.{Ty}
 use Rattle.ir_model.specs.declared.instr.Instr.{Instr}
 use Rattle.ir_model.specs.declared.module.Function.{Function}
 use Rattle.ir_model.specs.declared.module.Param.{Param}
 use Rattle.ir_model.specs.declared.operand.Callee.{Callee}
 use Rattle.ir_model.specs.declared.operand.Intrinsic.{Intrinsic}
-use Rattle.run_laws.specs.changed.Changed.{Each}
-use Rattle.ir_laws.proofs.facts.Lists.{same_widths}
+use Rattle.rule_laws.specs.run_laws.changed.Changed.{Each}
+use Rattle.rule_laws.proofs.ir_laws.facts.Lists.{same_widths}
 use Rattle.pass_proofs.proofs.early.local_rules.Carried as early
 
 -- ---- where saves are written out

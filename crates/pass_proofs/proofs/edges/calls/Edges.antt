@@ -2,20 +2,20 @@
 use Rattle.std.proofs.Common.{◌≡◌, inl, inr, ℕ, zero, suc, Bool, true, false, List, [], ◌∷◌, refl, sym, ap, ◌∙◌, subst, arith}
 use Rattle.std.specs.Prelude.{Some, None, Option, filter, map, slice_get, if◌then◌else◌, ◌||◌, ◌==◌}
 use Rattle.rule_laws.proofs.frames.crossing.Defined.{switch_leads}
-use Rattle.ir_laws.specs.facts.crossing.Crossed.{is_switch}
-use Rattle.rule_shape.specs.OneOfEach.{wrong_call}
-use Rattle.rule_shape.specs.Switches.{wrong_switch}
-use Rattle.ir_laws.proofs.facts.Truth.{equal_numbers, itself}
+use Rattle.rule_laws.specs.ir_laws.facts.crossing.Crossed.{is_switch}
+use Rattle.rule_laws.specs.rule_shape.OneOfEach.{wrong_call}
+use Rattle.rule_laws.specs.rule_shape.Switches.{wrong_switch}
+use Rattle.rule_laws.proofs.ir_laws.facts.Truth.{equal_numbers, itself}
 use Rattle.rule_laws.proofs.rules.source_rules.Locals.{own_label}
 use Rattle.pass_proofs.proofs.edges.rules.Kept.{rules_kept, suspend_blocks}
 use Rattle.pass_proofs.proofs.edges.rules.Switched.{switched}
 use Rattle.rule_laws.specs.frames.rows.Returns.{HaveOwnReturns, return_labels}
-use Rattle.ir_laws.specs.paths.rows.Returns.{IsOwnBlock, LeadsFrom}
+use Rattle.rule_laws.specs.ir_laws.paths.rows.Returns.{IsOwnBlock, LeadsFrom}
 use Rattle.pass_proofs.proofs.edges.shape.Kept.{begin_kept, calls_kept, same_calls, switches_kept}
 use Rattle.rule_laws.proofs.frames.spared.Tokens.{same_tokens}
 use Rattle.pass_edges.specs.EdgeBlocks.{with_edge_blocks}
-use Rattle.rule_phis.specs.Edges.{has, leads}
-use Rattle.flow_solver.specs.Paths.{IsListed}
+use Rattle.rule_laws.specs.rule_phis.Edges.{has, leads}
+use Rattle.rule_laws.specs.flow_solver.Paths.{IsListed}
 use Rattle.rule_laws.proofs.rules.known_labels.Known.{labels_known}
 use Rattle.rule_laws.proofs.rules.shape.Begin.{begin_result}
 use Rattle.rule_laws.proofs.rules.shape.Beginning.{begins_made, begun_where, none_without}
@@ -24,25 +24,25 @@ use Rattle.pass_proofs.proofs.edges.calls.Moved.{without_stays}
 use Rattle.rule_laws.proofs.frames.shape.Points.{destroy_listed, point_from, resume_listed}
 use Rattle.rule_laws.proofs.rules.shape.Stands.{begin_stands}
 use Rattle.rule_laws.proofs.frames.shape.Tokens.{tokens_different}
-use Rattle.ir_parts.specs.Contents.{ending_labels}
+use Rattle.rule_laws.specs.ir_parts.Contents.{ending_labels}
 use Rattle.rule_laws.specs.rules.function_rules.Kept.{KeepsFunctionRules}
-use Rattle.pass_intrinsics.specs.Shapes.{suspends_of}
-use Rattle.pass_intrinsics.specs.declared.shape.SuspendPoint.{SuspendPoint}
+use Rattle.rule_laws.specs.pass_intrinsics.Shapes.{suspends_of}
+use Rattle.rule_laws.specs.pass_intrinsics.declared.shape.SuspendPoint.{SuspendPoint}
 use Rattle.ir_model.specs.Calls.{first_result}
 use Rattle.ir_model.specs.Names.{position_of}
 use Rattle.ir_model.specs.declared.module.Block.{Block}
 use Rattle.ir_model.specs.declared.module.Function.{Function}
 use Rattle.ir_model.specs.declared.module.Module.{Module}
 use Rattle.ir_model.specs.declared.operand.Intrinsic.{Intrinsic}
-use Rattle.ir_paths.specs.Windows.{instr_at, instr_in, label_of_term}
-use Rattle.ir_paths.specs.declared.point.Point.{Point}
+use Rattle.rule_laws.specs.ir_paths.Windows.{instr_at, instr_in, label_of_term}
+use Rattle.rule_laws.specs.ir_paths.declared.point.Point.{Point}
 use Rattle.rule_laws.specs.rules.replaced.Splittable.{AreBlocksBegun}
 use Rattle.rule_laws.specs.frames.replaced.Splittable.{HasOwnEdges, IsLedToBy}
-use Rattle.run_laws.specs.changed.Changed.{Each}
-use Rattle.rule_windows.specs.Outside.{IsFirstOutside}
-use Rattle.rule_windows.specs.Windows.{IsFirstWindow}
-use Rattle.ir_laws.proofs.paths.woven_rules.Unbroken.{each_listed}
-use Rattle.ir_laws.specs.paths.woven_rules.Pairs.{AreDifferent}
+use Rattle.rule_laws.specs.run_laws.changed.Changed.{Each}
+use Rattle.rule_laws.specs.rule_windows.Outside.{IsFirstOutside}
+use Rattle.rule_laws.specs.rule_windows.Windows.{IsFirstWindow}
+use Rattle.rule_laws.proofs.ir_laws.paths.woven_rules.Unbroken.{each_listed}
+use Rattle.rule_laws.specs.ir_laws.paths.woven_rules.Pairs.{AreDifferent}
 use Rattle.rule_laws.specs.frames.woven_shape.Shaped.{IsShaped}
 use Rattle.rule_laws.proofs.rules.shape.Edges.{targets_are}
 

@@ -1,7 +1,7 @@
 -- Lemmas on fetched.
 use Rattle.std.proofs.Common.{◌≡◌, true, refl}
 use Rattle.pass_edges.specs.Edges.{is_suspend as suspends}
-use Rattle.ir_laws.proofs.paths.shape.Steady.{is_suspend}
+use Rattle.rule_laws.proofs.ir_laws.paths.shape.Steady.{is_suspend}
 use Rattle.ir_model.specs.declared.instr.Instr.{Instr}
 use Rattle.ir_model.specs.declared.operand.Callee.{Callee}
 use Rattle.ir_model.specs.declared.operand.Intrinsic.{Intrinsic}

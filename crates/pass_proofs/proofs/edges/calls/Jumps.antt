@@ -1,10 +1,10 @@
 -- Blocks with phis are still entered by jumps where instructions are woven in.
 use Rattle.std.proofs.Common.{◌≡◌, ℕ, zero, suc, ◌+◌, true, List, refl, sym, ap, ◌∙◌}
 use Rattle.std.specs.Prelude.{Some, slice_get}
-use Rattle.rule_uses.specs.Uses.{block_values, values_at}
+use Rattle.rule_laws.specs.rule_uses.Uses.{block_values, values_at}
 use Rattle.pass_proofs.specs.edges.rules.Phis.{ArePhisEnteredByJumps}
 use Rattle.pass_edges.specs.Edges.{has_phis}
-use Rattle.rule_phis.specs.Edges.{has, leads}
+use Rattle.rule_laws.specs.rule_phis.Edges.{has, leads}
 use Rattle.ir_model.specs.Names.{position_of}
 use Rattle.ir_model.specs.declared.instr.Phi.{Phi}
 use Rattle.ir_model.specs.declared.instr.Terminator.{Terminator}
@@ -14,8 +14,8 @@ use Rattle.ir_model.specs.declared.module.Module.{Module}
 use Rattle.ir_model.specs.declared.operand.Operand.{Operand}
 use Rattle.rule_laws.proofs.rules.woven_rules.Operands.{same_labels}
 use Rattle.rule_laws.specs.rules.woven_rules.Blocks.{AreWovenBlocks, IsWoven, NoBlock, OneBlock}
-use Rattle.ir_laws.specs.facts.woven_rules.Pairs.{Empty, Pair, Pairwise}
-use Rattle.ir_laws.specs.facts.woven_rules.Parts.{Branch, Jump, Return, ReturnVoid, Switch, TermStays, Unreachable}
+use Rattle.rule_laws.specs.ir_laws.facts.woven_rules.Pairs.{Empty, Pair, Pairwise}
+use Rattle.rule_laws.specs.ir_laws.facts.woven_rules.Parts.{Branch, Jump, Return, ReturnVoid, Switch, TermStays, Unreachable}
 use Rattle.rule_laws.specs.rules.woven_rules.Parts.{PhiStays}
 use Rattle.rule_laws.specs.rules.woven_rules.Weaving.{IsInPlace, Weaving}
 

@@ -2,26 +2,26 @@
 use Rattle.std.proofs.Common.{◌≡◌, ◌⊎◌, inl, inr, ⊎_elim, Bool, true, false, List, [], ◌∷◌, refl, sym, ap, ◌∙◌, subst}
 use Rattle.std.specs.Prelude.{Some, None, Option, map, slice_get, ◌||◌}
 use Rattle.pass_proofs.proofs.edges.paths.Edges.{threads}
-use Rattle.ir_laws.proofs.paths.expanded.Ways.{has_map}
+use Rattle.rule_laws.proofs.ir_laws.paths.expanded.Ways.{has_map}
 use Rattle.pass_proofs.proofs.edges.paths.Points.{map_has, points_moved}
-use Rattle.ir_laws.proofs.paths.threads.Threads.{leads_home}
-use Rattle.ir_laws.specs.paths.threads.Labels.{HasNamedLabels}
+use Rattle.rule_laws.proofs.ir_laws.paths.threads.Threads.{leads_home}
+use Rattle.rule_laws.specs.ir_laws.paths.threads.Labels.{HasNamedLabels}
 use Rattle.pass_proofs.specs.edges.paths.Spots.{moved}
-use Rattle.ir_laws.specs.paths.threads.Threads.{AreAvoidedToo, AreThreads}
+use Rattle.rule_laws.specs.ir_laws.paths.threads.Threads.{AreAvoidedToo, AreThreads}
 use Rattle.pass_proofs.proofs.edges.rules.Homes.{IsEdge, IsOwn, home}
 use Rattle.pass_edges.specs.EdgeBlocks.{edge_block, with_edge_blocks}
 use Rattle.rule_laws.proofs.rules.shape.Beginning.{NoneWithout}
 use Rattle.ir_model.specs.declared.module.Block.{Block}
 use Rattle.ir_model.specs.declared.module.Function.{Function}
 use Rattle.ir_model.specs.declared.operand.Intrinsic.{Intrinsic}
-use Rattle.ir_paths.proofs.Search.{same_point-same}
-use Rattle.ir_paths.specs.Paths.{Leads, has_point, same_point}
-use Rattle.ir_paths.specs.Windows.{instr_at, instr_in, is_call_of}
-use Rattle.ir_paths.specs.declared.point.Point.{Point}
-use Rattle.flow_points.specs.Reached.{IsReached}
-use Rattle.rule_windows.specs.Points.{begins, entry}
-use Rattle.rule_windows.specs.Sets.{IsWithoutBegin}
-use Rattle.ir_laws.proofs.facts.Truth.{same_truth}
+use Rattle.rule_laws.proofs.ir_paths.Search.{same_point-same}
+use Rattle.rule_laws.specs.ir_paths.Paths.{Leads, has_point, same_point}
+use Rattle.rule_laws.specs.ir_paths.Windows.{instr_at, instr_in, is_call_of}
+use Rattle.rule_laws.specs.ir_paths.declared.point.Point.{Point}
+use Rattle.rule_laws.specs.flow_points.Reached.{IsReached}
+use Rattle.rule_laws.specs.rule_windows.Points.{begins, entry}
+use Rattle.rule_laws.specs.rule_windows.Sets.{IsWithoutBegin}
+use Rattle.rule_laws.proofs.ir_laws.facts.Truth.{same_truth}
 
 module _ (f : Function) (named : HasNamedLabels f) where
   abbrev g : Function

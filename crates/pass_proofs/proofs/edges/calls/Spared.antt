@@ -1,13 +1,13 @@
 -- The results of suspends, which their switches alone use, are used no more often.
 use Rattle.std.proofs.Common.{◌≡◌, ℕ, ◌+◌, ◌≤◌, Bool, true, false, List, [], ◌∷◌, ◌++◌, refl, ◌∙◌, subst, arith}
 use Rattle.std.specs.Prelude.{Some, None, Option, cond, flat_map, map, nat_le, not, ◌||◌}
-use Rattle.rule_shape.specs.Switches.{end_label, wrong_switch}
-use Rattle.rule_shape.specs.Uses.{block_operands, phi_operands, uses_of}
-use Rattle.ir_laws.proofs.facts.Truth.{and_second}
+use Rattle.rule_laws.specs.rule_shape.Switches.{end_label, wrong_switch}
+use Rattle.rule_laws.specs.rule_shape.Uses.{block_operands, phi_operands, uses_of}
+use Rattle.rule_laws.proofs.ir_laws.facts.Truth.{and_second}
 use Rattle.pass_proofs.proofs.early.path_rules.SavedSwitches.{times_append, times_in, times_more}
 use Rattle.pass_proofs.proofs.edges.shape.Uses.{IsNamed, all_named, ends_total}
 use Rattle.rule_laws.proofs.rules.shape.Ordered.{IsSuspendValue}
-use Rattle.ir_parts.specs.Contents.{ending_operands, instr_operands}
+use Rattle.rule_laws.specs.ir_parts.Contents.{ending_operands, instr_operands}
 use Rattle.ir_model.specs.Names.{is_local}
 use Rattle.ir_model.specs.declared.instr.Incoming.{Incoming}
 use Rattle.ir_model.specs.declared.instr.Instr.{Instr}
@@ -15,8 +15,8 @@ use Rattle.ir_model.specs.declared.instr.Phi.{Phi}
 use Rattle.ir_model.specs.declared.module.Block.{Block}
 use Rattle.ir_model.specs.declared.module.Function.{Function}
 use Rattle.ir_model.specs.declared.operand.Operand.{Operand}
-use Rattle.run_laws.specs.changed.Changed.{Each}
-use Rattle.ir_laws.proofs.paths.woven_rules.Unbroken.{of_listed}
+use Rattle.rule_laws.specs.run_laws.changed.Changed.{Each}
+use Rattle.rule_laws.proofs.ir_laws.paths.woven_rules.Unbroken.{of_listed}
 use Rattle.rule_laws.proofs.rules.woven_shape.Switches.{IsFine, all_fine, is_fine, leads_to}
 use Rattle.rule_laws.specs.rules.woven_shape.Calls.{is_suspend_call, shaping_calls}
 

@@ -1,8 +1,8 @@
 -- What a pass leaves of a coroutine's calls, block by block, and one pass behind another.
 use Rattle.std.proofs.Common.{◌≡◌, subst, ℕ, zero, suc, ◌≤◌, true, false, List, [], ◌∷◌, refl, ap, sym, ◌∙◌, arith}
 use Rattle.std.specs.Prelude.{Some, None, map, slice_get}
-use Rattle.rule_shape.specs.OneOfEach.{wrong_call}
-use Rattle.rule_shape.specs.Switches.{wrong_switch}
+use Rattle.rule_laws.specs.rule_shape.OneOfEach.{wrong_call}
+use Rattle.rule_laws.specs.rule_shape.Switches.{wrong_switch}
 use Rattle.pass_proofs.proofs.edges.shape.Uses.{ends_total}
 use Rattle.rule_laws.proofs.rules.shape.Ordered.{HasNoFirstEnd, IsNoEnd, IsPlaced, IsSuspendValue, all_ordered, block_no_end, none_in_entry, placed_calls}
 use Rattle.pass_proofs.proofs.edges.calls.Spared.{IsSpared, spared, uses_fewer}
@@ -12,7 +12,7 @@ use Rattle.ir_model.specs.declared.module.Block.{Block}
 use Rattle.ir_model.specs.declared.module.Function.{Function}
 use Rattle.ir_model.specs.declared.operand.Intrinsic.{Intrinsic}
 use Rattle.rule_laws.specs.rules.replaced.Splittable.{AreBlocksBegun}
-use Rattle.run_laws.specs.changed.Changed.{Each}
+use Rattle.rule_laws.specs.run_laws.changed.Changed.{Each}
 use Rattle.rule_laws.specs.rules.woven_rules.Weaving.{Weaving}
 use Rattle.rule_laws.specs.rules.woven_shape.Calls.{ShapingCall, calls_of_block, joined}
 use Rattle.rule_laws.specs.frames.woven_shape.Shaped.{KeepsCalls}

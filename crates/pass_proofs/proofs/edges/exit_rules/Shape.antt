@@ -4,7 +4,7 @@ use Rattle.pass_edges.specs.Edges.{is_suspend}
 use Rattle.ir_model.specs.declared.instr.Instr.{Instr}
 use Rattle.ir_model.specs.declared.operand.Callee.{Callee}
 use Rattle.ir_model.specs.declared.operand.Intrinsic.{Intrinsic}
-use Rattle.ir_paths.specs.Windows.{is_call_of}
+use Rattle.rule_laws.specs.ir_paths.Windows.{is_call_of}
 
 -- ---- the calls
 

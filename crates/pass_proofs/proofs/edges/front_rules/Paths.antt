@@ -4,21 +4,21 @@ use Rattle.std.specs.List.{flat_map, list_any}
 use Rattle.std.specs.Prelude.{filter, option_map, slice_get, unwrap_or, ◌==◌, ◌||◌, if◌then◌else◌}
 use Rattle.std.proofs.lemmas.Bool.{cases_Bool}
 use Rattle.std.proofs.lemmas.Option.{slice_get_within}
-use Rattle.flow_blocks.specs.Reach.{Edge, IsReached, Start}
-use Rattle.rule_shape.specs.Switches.{wrong_switch}
-use Rattle.rule_phis.specs.Edges.{breaks_edges, first_wrong_edge, is_empty, leads, predecessors}
-use Rattle.ir_laws.proofs.facts.Truth.{equal_numbers, holds}
-use Rattle.ir_laws.proofs.paths.renamed.Outside.{where_pass}
+use Rattle.rule_laws.specs.flow_blocks.Reach.{Edge, IsReached, Start}
+use Rattle.rule_laws.specs.rule_shape.Switches.{wrong_switch}
+use Rattle.rule_laws.specs.rule_phis.Edges.{breaks_edges, first_wrong_edge, is_empty, leads, predecessors}
+use Rattle.rule_laws.proofs.ir_laws.facts.Truth.{equal_numbers, holds}
+use Rattle.rule_laws.proofs.ir_laws.paths.renamed.Outside.{where_pass}
 use Rattle.rule_laws.proofs.rules.renamed.Switches.{none_part}
-use Rattle.ir_laws.specs.facts.renamed.Regular.{passes}
+use Rattle.rule_laws.specs.ir_laws.facts.renamed.Regular.{passes}
 use Rattle.rule_laws.proofs.rules.path_rules.Holding.{of_parts}
-use Rattle.flow_solver.specs.Paths.{IsListed}
+use Rattle.rule_laws.specs.flow_solver.Paths.{IsListed}
 use Rattle.pass_proofs.proofs.edges.rules.CaseLabels.{switch_target}
 use Rattle.pass_proofs.proofs.edges.rules.Switched.{switched}
-use Rattle.ir_laws.specs.facts.branches.MovedState.{IsSwitch}
-use Rattle.pass_front.specs.Front.{is_alloca, is_no_alloca, with_allocas_first, with_front_allocas}
-use Rattle.ir_parts.specs.Contents.{result_of}
-use Rattle.ir_parts.specs.Parts.{parts_of}
+use Rattle.rule_laws.specs.ir_laws.facts.branches.MovedState.{IsSwitch}
+use Rattle.rule_laws.specs.pass_front.Front.{is_alloca, is_no_alloca, with_allocas_first, with_front_allocas}
+use Rattle.rule_laws.specs.ir_parts.Contents.{result_of}
+use Rattle.rule_laws.specs.ir_parts.Parts.{parts_of}
 use Rattle.ir_model.specs.Names.{first_where, position_of}
 use Rattle.ir_model.specs.declared.instr.Incoming.{Incoming}
 use Rattle.ir_model.specs.declared.instr.Instr.{Instr}
@@ -26,27 +26,27 @@ use Rattle.ir_model.specs.declared.instr.Phi.{Phi}
 use Rattle.ir_model.specs.declared.module.Block.{Block}
 use Rattle.ir_model.specs.declared.module.Function.{Function}
 use Rattle.ir_model.specs.declared.operand.Intrinsic.{Intrinsic}
-use Rattle.ir_paths.specs.Paths.{targets}
-use Rattle.ir_paths.specs.Windows.{end_block, instr_at, instr_in, is_call_of, label_at, label_of_term}
-use Rattle.ir_paths.specs.declared.point.Point.{Point}
+use Rattle.rule_laws.specs.ir_paths.Paths.{targets}
+use Rattle.rule_laws.specs.ir_paths.Windows.{end_block, instr_at, instr_in, is_call_of, label_at, label_of_term}
+use Rattle.rule_laws.specs.ir_paths.declared.point.Point.{Point}
 use Rattle.pass_proofs.proofs.edges.exit_rules.Shape.{suspend_is}
 use Rattle.rule_laws.proofs.rules.threaded.Single.{listed_leads}
 use Rattle.rule_laws.proofs.rules.threaded.Sources.{none_filtered}
-use Rattle.ir_laws.proofs.paths.threaded.Whole.{has_listed, listed_has}
-use Rattle.ir_laws.proofs.facts.Numbers.{First, IsSource, Same}
-use Rattle.ir_laws.proofs.facts.Lists.{came_from, in_front, last_stays, source_of}
+use Rattle.rule_laws.proofs.ir_laws.paths.threaded.Whole.{has_listed, listed_has}
+use Rattle.rule_laws.proofs.ir_laws.facts.Numbers.{First, IsSource, Same}
+use Rattle.rule_laws.proofs.ir_laws.facts.Lists.{came_from, in_front, last_stays, source_of}
 use Rattle.pass_proofs.proofs.edges.front_rules.Shape.{flat_front}
 use Rattle.rule_laws.proofs.rules.front_rules.Uses.{same_edges, same_position}
 use Rattle.rule_laws.specs.frames.crossing.Crossed.{IsNothingNeeded}
 use Rattle.rule_laws.specs.frames.needed.Crossed.{AreFramesUnneeded}
-use Rattle.run_step.specs.Step.{Fetched, fetch, fetch_in, fetch_or}
-use Rattle.frame_slots.proofs.Points.{where_complete}
-use Rattle.frame_crossing.specs.Crossing.{suspends_of as suspend_points}
-use Rattle.frame_crossing.specs.EdgeUses.{IsUsedOn, blocks_uses, edge_use, edge_uses, incoming_uses, phis_uses, uses_by}
-use Rattle.frame_crossing.specs.Paths.{Across, BranchesTo, IsNeeded, IsNeededBehind, IsNeededFrom, IsOutside, Next, OnEdge, Use, phis_at, phis_in, used_by}
-use Rattle.frame_crossing.specs.declared.edge_use.EdgeUse.{EdgeUse}
-use Rattle.frame_crossing.specs.Values.{blocks_defined, distinct, instrs_defined, is_apart, params_defined, phis_defined, result_unless, values_of}
-use Rattle.rule_uses.specs.Uses.{local_of}
+use Rattle.rule_laws.specs.run_step.Step.{Fetched, fetch, fetch_in, fetch_or}
+use Rattle.rule_laws.proofs.frame_slots.Points.{where_complete}
+use Rattle.rule_laws.specs.frame_crossing.Crossing.{suspends_of as suspend_points}
+use Rattle.rule_laws.specs.frame_crossing.EdgeUses.{IsUsedOn, blocks_uses, edge_use, edge_uses, incoming_uses, phis_uses, uses_by}
+use Rattle.rule_laws.specs.frame_crossing.Paths.{Across, BranchesTo, IsNeeded, IsNeededBehind, IsNeededFrom, IsOutside, Next, OnEdge, Use, phis_at, phis_in, used_by}
+use Rattle.rule_laws.specs.frame_crossing.declared.edge_use.EdgeUse.{EdgeUse}
+use Rattle.rule_laws.specs.frame_crossing.Values.{blocks_defined, distinct, instrs_defined, is_apart, params_defined, phis_defined, result_unless, values_of}
+use Rattle.rule_laws.specs.rule_uses.Uses.{local_of}
 
 -- ---- the end's block
 

@@ -2,23 +2,23 @@
 use Rattle.std.proofs.Common.{◌≡◌, ℕ, zero, suc, ◌+◌, Bool, true, false, List, [], ◌∷◌, ◌++◌, length, None, Option, Some, ap, not, refl, sym, subst, ◌∙◌, arith}
 use Rattle.std.specs.List.{count_by, flat_map}
 use Rattle.std.specs.Prelude.{filter, map, slice_get, ◌==◌, ◌&&◌, ◌||◌, if◌then◌else◌}
-use Rattle.ir_base.specs.declared.outcome.Place.{Place}
-use Rattle.rule_shape.specs.OneOfEach.{breaks_calls, calls_of, has_no_other_frame, is_first_in_block, is_right_instr, is_second, wrong_call}
-use Rattle.rule_shape.specs.Places.{is_the}
-use Rattle.rule_shape.specs.Switches.{is_last, wrong_switch}
-use Rattle.rule_shape.specs.Uses.{block_operands, phi_operands, uses_of}
-use Rattle.rule_shape.specs.declared.one_of_each.Calls.{Calls}
-use Rattle.rule_uses.specs.Undefined.{Entry}
-use Rattle.rule_uses.specs.Uses.{made_by_phis}
-use Rattle.ir_laws.proofs.facts.Truth.{equal_numbers, and_first, holds, second_no as or_second}
+use Rattle.rule_laws.specs.ir_base.declared.outcome.Place.{Place}
+use Rattle.rule_laws.specs.rule_shape.OneOfEach.{breaks_calls, calls_of, has_no_other_frame, is_first_in_block, is_right_instr, is_second, wrong_call}
+use Rattle.rule_laws.specs.rule_shape.Places.{is_the}
+use Rattle.rule_laws.specs.rule_shape.Switches.{is_last, wrong_switch}
+use Rattle.rule_laws.specs.rule_shape.Uses.{block_operands, phi_operands, uses_of}
+use Rattle.rule_laws.specs.rule_shape.declared.one_of_each.Calls.{Calls}
+use Rattle.rule_laws.specs.rule_uses.Undefined.{Entry}
+use Rattle.rule_laws.specs.rule_uses.Uses.{made_by_phis}
+use Rattle.rule_laws.proofs.ir_laws.facts.Truth.{equal_numbers, and_first, holds, second_no as or_second}
 use Rattle.rule_laws.proofs.rules.renamed.Switches.{none_part}
 use Rattle.rule_laws.proofs.rules.path_rules.Holding.{of_parts}
 use Rattle.pass_proofs.proofs.edges.rules.Switched.{switched}
-use Rattle.pass_front.specs.Front.{allocas_first, is_alloca, is_no_alloca, with_allocas_first, with_front_allocas}
-use Rattle.ir_parts.specs.Contents.{ending_operands, instr_operands}
-use Rattle.ir_parts.specs.Parts.{first_part, instr_place, parts_of}
-use Rattle.pass_intrinsics.specs.Shapes.{suspends_of}
-use Rattle.pass_intrinsics.specs.declared.shape.SuspendPoint.{SuspendPoint}
+use Rattle.rule_laws.specs.pass_front.Front.{allocas_first, is_alloca, is_no_alloca, with_allocas_first, with_front_allocas}
+use Rattle.rule_laws.specs.ir_parts.Contents.{ending_operands, instr_operands}
+use Rattle.rule_laws.specs.ir_parts.Parts.{first_part, instr_place, parts_of}
+use Rattle.rule_laws.specs.pass_intrinsics.Shapes.{suspends_of}
+use Rattle.rule_laws.specs.pass_intrinsics.declared.shape.SuspendPoint.{SuspendPoint}
 use Rattle.ir_model.specs.Names.{is_local, same_intrinsic}
 use Rattle.ir_model.specs.declared.instr.Instr.{Instr}
 use Rattle.ir_model.specs.declared.instr.Phi.{Phi}
@@ -27,10 +27,10 @@ use Rattle.ir_model.specs.declared.module.Function.{Function}
 use Rattle.ir_model.specs.declared.operand.Callee.{Callee}
 use Rattle.ir_model.specs.declared.operand.Intrinsic.{Intrinsic}
 use Rattle.ir_model.specs.declared.operand.Operand.{Operand}
-use Rattle.ir_paths.specs.Windows.{is_call_of}
+use Rattle.rule_laws.specs.ir_paths.Windows.{is_call_of}
 use Rattle.pass_proofs.proofs.edges.exit_rules.Shape.{suspend_is}
-use Rattle.ir_laws.proofs.facts.Lists.{in_front, same_count, same_length, source_of}
-use Rattle.ir_laws.proofs.facts.Numbers.{same_term}
+use Rattle.rule_laws.proofs.ir_laws.facts.Lists.{in_front, same_count, same_length, source_of}
+use Rattle.rule_laws.proofs.ir_laws.facts.Numbers.{same_term}
 use Rattle.rule_laws.proofs.rules.front_rules.Local.{sources_same}
 use Rattle.rule_laws.proofs.rules.front_rules.Uses.{begun_kept}
 use Rattle.rule_laws.proofs.rules.woven_shape.Found.{made, not_begin, result_made}
@@ -38,11 +38,11 @@ use Rattle.rule_laws.proofs.rules.woven_shape.OneOfEach.{wrong_call_same}
 use Rattle.rule_laws.proofs.rules.woven_shape.Switches.{wrong_switch_same}
 use Rattle.rule_laws.specs.rules.replaced.Splittable.{AreBegun, AreBlocksBegun}
 use Rattle.rule_laws.specs.frames.replaced.Splittable.{HasOwnEdges, IsLedToBy, token_taken}
-use Rattle.ir_laws.specs.facts.replaced.Splittable.{asks_begin}
+use Rattle.rule_laws.specs.ir_laws.facts.replaced.Splittable.{asks_begin}
 use Rattle.rule_laws.specs.rules.woven_shape.Calls.{ShapingCall, call_at, calls_in, calls_of_block, default_behind, default_on, first_named, is_shaping, joined, leads_block, second_named, shaping_calls, switched_to}
 use Rattle.rule_laws.specs.frames.woven_shape.Shaped.{IsShaped}
-use Rattle.ir_laws.specs.paths.woven_rules.Pairs.{AreDifferent}
-use Rattle.run_laws.specs.changed.Changed.{Each}
+use Rattle.rule_laws.specs.ir_laws.paths.woven_rules.Pairs.{AreDifferent}
+use Rattle.rule_laws.specs.run_laws.changed.Changed.{Each}
 use Rattle.rule_laws.proofs.frames.front_rules.Shape.{same_suspends}
 use Rattle.rule_laws.proofs.rules.front_rules.Shape.{no_operands}
 

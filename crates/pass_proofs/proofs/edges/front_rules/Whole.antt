@@ -2,18 +2,18 @@
 use Rattle.std.proofs.Common.{◌≡◌, ℕ, true, List, ap, sym, ◌∙◌}
 use Rattle.std.specs.Prelude.{slice_get}
 use Rattle.pass_edges.specs.Edges.{has_phis}
-use Rattle.rule_phis.specs.Edges.{has, leads}
+use Rattle.rule_laws.specs.rule_phis.Edges.{has, leads}
 use Rattle.pass_proofs.specs.edges.rules.Phis.{ArePhisEnteredByJumps}
 use Rattle.rule_laws.specs.rules.woven_rules.Pairs.{AreIncomingOnce}
-use Rattle.pass_front.specs.Front.{with_front_allocas}
-use Rattle.ir_parts.specs.Contents.{ending_labels}
+use Rattle.rule_laws.specs.pass_front.Front.{with_front_allocas}
+use Rattle.rule_laws.specs.ir_parts.Contents.{ending_labels}
 use Rattle.ir_model.specs.declared.instr.Phi.{Phi}
 use Rattle.ir_model.specs.declared.instr.Terminator.{Terminator}
 use Rattle.ir_model.specs.declared.module.Block.{Block}
 use Rattle.ir_model.specs.declared.module.Function.{Function}
 use Rattle.ir_model.specs.declared.module.Module.{Module}
-use Rattle.ir_laws.proofs.facts.Numbers.{same_term}
-use Rattle.ir_laws.proofs.facts.Lists.{source_of}
+use Rattle.rule_laws.proofs.ir_laws.facts.Numbers.{same_term}
+use Rattle.rule_laws.proofs.ir_laws.facts.Lists.{source_of}
 use Rattle.pass_proofs.proofs.edges.front_rules.Shape.{shape_kept}
 use Rattle.rule_laws.specs.frames.shape.Passes.{IsKept}
 use Rattle.rule_laws.proofs.rules.front_rules.Whole.{rules_kept}

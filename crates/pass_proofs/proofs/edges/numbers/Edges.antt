@@ -5,7 +5,7 @@ use Rattle.pass_edges.specs.EdgeBlocks.{edge_block, split_blocks, with_edge_bloc
 use Rattle.pass_edges.specs.Edges.{block_edges, edge_table, edges_of, phi_flags}
 use Rattle.pass_edges.specs.declared.edge.Edge.{Edge}
 use Rattle.rule_laws.proofs.frames.suspend_counts.Counted.{as_many, count, total}
-use Rattle.pass_intrinsics.specs.Shapes.{suspends_of}
+use Rattle.rule_laws.specs.pass_intrinsics.Shapes.{suspends_of}
 use Rattle.ir_model.specs.declared.module.Block.{Block}
 use Rattle.ir_model.specs.declared.module.Function.{Function}
 

@@ -11,30 +11,30 @@ use Rattle.ir_model.specs.declared.instr.Terminator.{Terminator}
 use Rattle.ir_model.specs.declared.module.Block.{Block}
 use Rattle.ir_model.specs.declared.module.Function.{Function}
 use Rattle.ir_model.specs.declared.operand.Intrinsic.{Intrinsic}
-use Rattle.ir_paths.proofs.Search.{Has, either, or_left, or_right, same_point-itself, same_point-same}
-use Rattle.ir_paths.specs.Paths.{Leads, block_points, entry_point, has_point, same_point, targets}
-use Rattle.ir_paths.specs.Slots.{IsBehindSuspend, behind_suspends, end_points, points_at}
-use Rattle.ir_paths.specs.Windows.{destroy_label, end_block, is_call_of, is_number, label_at, label_in, label_of_term, points_where, resume_label}
-use Rattle.ir_paths.specs.declared.point.Point.{Point}
-use Rattle.ir_laws.proofs.paths.expanded.Apart.{same_moved}
-use Rattle.ir_laws.proofs.facts.Options.{IsPassing}
-use Rattle.ir_laws.proofs.facts.Members.{at_each as each_at}
-use Rattle.ir_laws.proofs.paths.expanded.Saves.{passing_in}
-use Rattle.ir_laws.specs.facts.expanded.Spots.{instrs_in}
-use Rattle.run_laws.specs.changed.Changed.{Each}
+use Rattle.rule_laws.proofs.ir_paths.Search.{Has, either, or_left, or_right, same_point-itself, same_point-same}
+use Rattle.rule_laws.specs.ir_paths.Paths.{Leads, block_points, entry_point, has_point, same_point, targets}
+use Rattle.rule_laws.specs.ir_paths.Slots.{IsBehindSuspend, behind_suspends, end_points, points_at}
+use Rattle.rule_laws.specs.ir_paths.Windows.{destroy_label, end_block, is_call_of, is_number, label_at, label_in, label_of_term, points_where, resume_label}
+use Rattle.rule_laws.specs.ir_paths.declared.point.Point.{Point}
+use Rattle.rule_laws.proofs.ir_laws.paths.expanded.Apart.{same_moved}
+use Rattle.rule_laws.proofs.ir_laws.facts.Options.{IsPassing}
+use Rattle.rule_laws.proofs.ir_laws.facts.Members.{at_each as each_at}
+use Rattle.rule_laws.proofs.ir_laws.paths.expanded.Saves.{passing_in}
+use Rattle.rule_laws.specs.ir_laws.facts.expanded.Spots.{instrs_in}
+use Rattle.rule_laws.specs.run_laws.changed.Changed.{Each}
 use Rattle.pass_proofs.proofs.edges.paths.Blocks.{entry_moved, get_block, get_none, own_number, spot}
 use Rattle.pass_proofs.proofs.edges.paths.Edges.{edges_of_block, moved_apart, split_leads, threads}
 use Rattle.pass_proofs.proofs.edges.paths.Legs.{term_split}
 use Rattle.pass_proofs.proofs.edges.paths.Points.{points_moved}
-use Rattle.ir_laws.proofs.paths.threads.Threads.{IsAhead, ahead_forth, ahead_home, leads_forth, leads_home}
+use Rattle.rule_laws.proofs.ir_laws.paths.threads.Threads.{IsAhead, ahead_forth, ahead_home, leads_forth, leads_home}
 use Rattle.pass_proofs.proofs.edges.paths.Whole.{first_moved}
 use Rattle.pass_proofs.proofs.edges.paths.Windows.{differ}
 use Rattle.pass_proofs.specs.edges.paths.Labels.{AreSplit, IsSplit}
-use Rattle.ir_laws.specs.paths.threads.Labels.{HasLabelsBelow, HasNamedLabels}
-use Rattle.ir_laws.specs.facts.threads.Moved.{ArePaired}
-use Rattle.ir_laws.specs.paths.threads.Moved.{GoesTo}
+use Rattle.rule_laws.specs.ir_laws.paths.threads.Labels.{HasLabelsBelow, HasNamedLabels}
+use Rattle.rule_laws.specs.ir_laws.facts.threads.Moved.{ArePaired}
+use Rattle.rule_laws.specs.ir_laws.paths.threads.Moved.{GoesTo}
 use Rattle.pass_proofs.specs.edges.paths.Spots.{moved, table_of}
-use Rattle.ir_laws.specs.paths.threads.Threads.{AreAvoidedToo}
+use Rattle.rule_laws.specs.ir_laws.paths.threads.Threads.{AreAvoidedToo}
 
 -- ---- the label of a number of a switch
 

@@ -9,14 +9,14 @@ use Rattle.pass_edges.specs.declared.edge.Edge.{Edge}
 use Rattle.ir_model.specs.Names.{first_where, position_of}
 use Rattle.ir_model.specs.declared.module.Block.{Block}
 use Rattle.ir_model.specs.declared.module.Function.{Function}
-use Rattle.ir_paths.proofs.Search.{eq_from, eq_itself}
-use Rattle.ir_laws.proofs.facts.Lists.{get_expanded, none_past, place_beyond, place_end, place_unique}
-use Rattle.ir_laws.specs.facts.expanded.Expansion.{expanded, number_at, place_of}
-use Rattle.run_laws.specs.changed.Changed.{Each}
+use Rattle.rule_laws.proofs.ir_paths.Search.{eq_from, eq_itself}
+use Rattle.rule_laws.proofs.ir_laws.facts.Lists.{get_expanded, none_past, place_beyond, place_end, place_unique}
+use Rattle.rule_laws.specs.ir_laws.facts.expanded.Expansion.{expanded, number_at, place_of}
+use Rattle.rule_laws.specs.run_laws.changed.Changed.{Each}
 use Rattle.pass_proofs.proofs.edges.paths.Legs.{AreNumbered, numbered_at, term_numbered}
-use Rattle.ir_laws.specs.paths.threads.Labels.{HasLabelsBelow, HasNamedLabels}
+use Rattle.rule_laws.specs.ir_laws.paths.threads.Labels.{HasLabelsBelow, HasNamedLabels}
 use Rattle.pass_proofs.specs.edges.paths.Spots.{behind_edges, block_and_edges, moved, table_of}
-use Rattle.ir_paths.specs.Paths.{entry_point}
+use Rattle.rule_laws.specs.ir_paths.Paths.{entry_point}
 
 -- ---- first positions
 

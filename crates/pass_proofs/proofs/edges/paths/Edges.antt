@@ -8,19 +8,19 @@ use Rattle.pass_edges.specs.Edges.{block_edges, ends_in_suspend, phi_flags}
 use Rattle.pass_edges.specs.declared.edge.Edge.{Edge}
 use Rattle.ir_model.specs.declared.module.Block.{Block}
 use Rattle.ir_model.specs.declared.module.Function.{Function}
-use Rattle.ir_paths.proofs.Search.{Has, either, or_left, or_right, same_point-itself, same_point-same}
-use Rattle.ir_paths.specs.Paths.{entry_point, has_point, nexts, nexts_in, same_point, targets}
-use Rattle.ir_paths.specs.declared.point.Point.{Point}
-use Rattle.ir_laws.proofs.facts.Lists.{place_next, place_unique}
-use Rattle.ir_laws.proofs.facts.Members.{at_each as each_at}
-use Rattle.run_laws.specs.changed.Changed.{Each}
+use Rattle.rule_laws.proofs.ir_paths.Search.{Has, either, or_left, or_right, same_point-itself, same_point-same}
+use Rattle.rule_laws.specs.ir_paths.Paths.{entry_point, has_point, nexts, nexts_in, same_point, targets}
+use Rattle.rule_laws.specs.ir_paths.declared.point.Point.{Point}
+use Rattle.rule_laws.proofs.ir_laws.facts.Lists.{place_next, place_unique}
+use Rattle.rule_laws.proofs.ir_laws.facts.Members.{at_each as each_at}
+use Rattle.rule_laws.specs.run_laws.changed.Changed.{Each}
 use Rattle.pass_proofs.proofs.edges.paths.Blocks.{entry_moved, get_block, get_edge, get_none, own_number, place, place_apart, position_edge, spot}
 use Rattle.pass_proofs.proofs.edges.paths.Legs.{term_split}
 use Rattle.pass_proofs.specs.edges.paths.Labels.{AreSplit, IsAmong, IsSplit}
-use Rattle.ir_laws.specs.paths.threads.Labels.{HasLabelsBelow, HasNamedLabels}
+use Rattle.rule_laws.specs.ir_laws.paths.threads.Labels.{HasLabelsBelow, HasNamedLabels}
 use Rattle.pass_proofs.specs.edges.paths.Spots.{behind_edges, block_and_edges, moved, table_of}
-use Rattle.ir_laws.specs.paths.threads.Threads.{AreThreads, IsBetween, IsOnEdge, LeadsOver}
-use Rattle.ir_laws.proofs.paths.threads.Edges.{one_there, only_one}
+use Rattle.rule_laws.specs.ir_laws.paths.threads.Threads.{AreThreads, IsBetween, IsOnEdge, LeadsOver}
+use Rattle.rule_laws.proofs.ir_laws.paths.threads.Edges.{one_there, only_one}
 
 module _ (f : Function) where
   abbrev g : Function

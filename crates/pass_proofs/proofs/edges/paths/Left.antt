@@ -3,19 +3,19 @@ use Rattle.std.proofs.Common.{◌≡◌, inl, inr, Bool, true, false, List, [], 
 use Rattle.std.specs.Prelude.{filter, not, ◌&&◌, ◌||◌, if◌then◌else◌}
 use Rattle.pass_edges.specs.EdgeBlocks.{with_edge_blocks}
 use Rattle.ir_model.specs.declared.module.Function.{Function}
-use Rattle.ir_paths.proofs.Search.{Has}
-use Rattle.ir_paths.specs.Paths.{has_point, nexts, same_point}
-use Rattle.ir_paths.specs.Windows.{leaves, windows_of}
-use Rattle.ir_paths.specs.declared.point.Point.{Point}
-use Rattle.ir_paths.specs.declared.point.Window.{Window}
-use Rattle.ir_laws.proofs.paths.expanded.Apart.{same_moved}
+use Rattle.rule_laws.proofs.ir_paths.Search.{Has}
+use Rattle.rule_laws.specs.ir_paths.Paths.{has_point, nexts, same_point}
+use Rattle.rule_laws.specs.ir_paths.Windows.{leaves, windows_of}
+use Rattle.rule_laws.specs.ir_paths.declared.point.Point.{Point}
+use Rattle.rule_laws.specs.ir_paths.declared.point.Window.{Window}
+use Rattle.rule_laws.proofs.ir_laws.paths.expanded.Apart.{same_moved}
 use Rattle.pass_proofs.proofs.edges.paths.Edges.{threads}
 use Rattle.pass_proofs.proofs.edges.paths.Windows.{differ, windows_moved}
-use Rattle.ir_laws.specs.paths.threads.Labels.{HasNamedLabels}
-use Rattle.ir_laws.specs.facts.threads.Moved.{ArePaired}
-use Rattle.ir_laws.specs.paths.threads.Moved.{GoesTo, IsMoved}
+use Rattle.rule_laws.specs.ir_laws.paths.threads.Labels.{HasNamedLabels}
+use Rattle.rule_laws.specs.ir_laws.facts.threads.Moved.{ArePaired}
+use Rattle.rule_laws.specs.ir_laws.paths.threads.Moved.{GoesTo, IsMoved}
 use Rattle.pass_proofs.specs.edges.paths.Spots.{moved}
-use Rattle.ir_laws.specs.paths.threads.Threads.{AreThreads, IsBetween}
+use Rattle.rule_laws.specs.ir_laws.paths.threads.Threads.{AreThreads, IsBetween}
 
 module _ (f g : Function) (move : Point → Point) (threads : AreThreads f g move) where
   to_suspend : (w v : Window) → IsMoved g move w v → (q : Point) → same_point (move q) v.suspend ≡ same_point q w.suspend

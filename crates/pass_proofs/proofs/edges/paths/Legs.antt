@@ -6,8 +6,8 @@ use Rattle.pass_edges.specs.Edges.{after_edge, case_edges, edge_to, is_split, te
 use Rattle.pass_edges.specs.declared.edge.Edge.{Edge}
 use Rattle.ir_model.specs.declared.instr.Case.{Case}
 use Rattle.ir_model.specs.declared.instr.Terminator.{Terminator}
-use Rattle.ir_paths.specs.Paths.{targets}
-use Rattle.ir_laws.proofs.facts.Lists.{get_behind}
+use Rattle.rule_laws.specs.ir_paths.Paths.{targets}
+use Rattle.rule_laws.proofs.ir_laws.facts.Lists.{get_behind}
 use Rattle.pass_proofs.specs.edges.paths.Labels.{AreSplit, IsSplit}
 
 -- an edge of a terminator: whether it is a suspend's resume or destroy edge, and its label

@@ -8,11 +8,11 @@ use Rattle.ir_model.specs.Names.{is_local}
 use Rattle.ir_model.specs.declared.instr.Incoming.{Incoming}
 use Rattle.ir_model.specs.declared.instr.Phi.{Phi}
 use Rattle.ir_model.specs.declared.operand.Operand.{Operand}
-use Rattle.ir_paths.proofs.Search.{either, eq_from, eq_itself, or_left, or_right}
-use Rattle.ir_paths.specs.Slots.{occurs_in_phi}
-use Rattle.run_step.specs.Step.{incoming_from}
-use Rattle.ir_laws.proofs.facts.Truth.{same_truth}
-use Rattle.run_laws.specs.changed.Changed.{Each}
+use Rattle.rule_laws.proofs.ir_paths.Search.{either, eq_from, eq_itself, or_left, or_right}
+use Rattle.rule_laws.specs.ir_paths.Slots.{occurs_in_phi}
+use Rattle.rule_laws.specs.run_step.Step.{incoming_from}
+use Rattle.rule_laws.proofs.ir_laws.facts.Truth.{same_truth}
+use Rattle.rule_laws.specs.run_laws.changed.Changed.{Each}
 use Rattle.pass_proofs.specs.edges.paths.Labels.{IsAmong}
 
 -- ---- the operand that is taken

@@ -8,12 +8,12 @@ use Rattle.pass_edges.specs.declared.edge.Edge.{Edge}
 use Rattle.ir_model.specs.declared.instr.Instr.{Instr}
 use Rattle.ir_model.specs.declared.module.Block.{Block}
 use Rattle.ir_model.specs.declared.module.Function.{Function}
-use Rattle.ir_paths.proofs.Search.{Has, either, or_left, or_right, same_point-itself, same_point-same}
-use Rattle.ir_paths.specs.Paths.{has_point, same_point}
-use Rattle.ir_paths.specs.Windows.{points_from, points_in, points_where}
-use Rattle.ir_paths.specs.declared.point.Point.{Point}
+use Rattle.rule_laws.proofs.ir_paths.Search.{Has, either, or_left, or_right, same_point-itself, same_point-same}
+use Rattle.rule_laws.specs.ir_paths.Paths.{has_point, same_point}
+use Rattle.rule_laws.specs.ir_paths.Windows.{points_from, points_in, points_where}
+use Rattle.rule_laws.specs.ir_paths.declared.point.Point.{Point}
 use Rattle.pass_proofs.specs.edges.paths.Spots.{behind_edges, moved, moved_in, table_of}
-use Rattle.ir_laws.proofs.facts.Lists.{map_map, map_same}
+use Rattle.rule_laws.proofs.ir_laws.facts.Lists.{map_map, map_same}
 
 -- ---- blocks further on
 

@@ -14,24 +14,24 @@ use Rattle.ir_model.specs.declared.instr.Terminator.{Terminator}
 use Rattle.ir_model.specs.declared.module.Block.{Block}
 use Rattle.ir_model.specs.declared.module.Function.{Function}
 use Rattle.ir_model.specs.declared.operand.Intrinsic.{Intrinsic}
-use Rattle.ir_paths.proofs.Right.{facts_of_right}
-use Rattle.ir_paths.specs.Facts.{facts_of}
-use Rattle.ir_paths.specs.Paths.{has_point}
-use Rattle.ir_paths.specs.Slots.{IsBehindSuspend, IsRampSlot, addresses_of, addresses_within, allocas_in, allocas_of, exposed_in_block, exposes, geps_from, has_name, is_escaped, is_gep, local_of, occurs_in_phi, occurs_in_term, promise_of, touches, touching_points}
-use Rattle.ir_paths.specs.Windows.{call_operand, instr_at, is_call_of, points_where}
-use Rattle.ir_paths.specs.declared.point.Point.{Point}
-use Rattle.run_step.specs.Step.{incoming_from}
-use Rattle.ir_laws.proofs.facts.Truth.{same_truth}
-use Rattle.ir_laws.proofs.facts.Members.{at_each as each_at, each_by}
-use Rattle.run_laws.specs.changed.Changed.{Each}
+use Rattle.rule_laws.proofs.ir_paths.Right.{facts_of_right}
+use Rattle.rule_laws.specs.ir_paths.Facts.{facts_of}
+use Rattle.rule_laws.specs.ir_paths.Paths.{has_point}
+use Rattle.rule_laws.specs.ir_paths.Slots.{IsBehindSuspend, IsRampSlot, addresses_of, addresses_within, allocas_in, allocas_of, exposed_in_block, exposes, geps_from, has_name, is_escaped, is_gep, local_of, occurs_in_phi, occurs_in_term, promise_of, touches, touching_points}
+use Rattle.rule_laws.specs.ir_paths.Windows.{call_operand, instr_at, is_call_of, points_where}
+use Rattle.rule_laws.specs.ir_paths.declared.point.Point.{Point}
+use Rattle.rule_laws.specs.run_step.Step.{incoming_from}
+use Rattle.rule_laws.proofs.ir_laws.facts.Truth.{same_truth}
+use Rattle.rule_laws.proofs.ir_laws.facts.Members.{at_each as each_at, each_by}
+use Rattle.rule_laws.specs.run_laws.changed.Changed.{Each}
 use Rattle.pass_proofs.proofs.edges.paths.Behind.{behind_forth, behind_home}
 use Rattle.pass_proofs.proofs.edges.paths.Phis.{IsKept, same_occurs, same_taken}
-use Rattle.ir_laws.proofs.paths.expanded.Ways.{has_map}
+use Rattle.rule_laws.proofs.ir_laws.paths.expanded.Ways.{has_map}
 use Rattle.pass_proofs.proofs.edges.paths.Points.{map_has, points_moved}
 use Rattle.pass_proofs.proofs.edges.paths.Tables.{IsSplitFrom, filter_among, flag_at, one_edge, split_from, table_at}
 use Rattle.pass_proofs.proofs.edges.paths.Whole.{any_split, flat_split}
 use Rattle.pass_proofs.proofs.edges.paths.Windows.{instr_moved}
-use Rattle.ir_laws.specs.paths.threads.Labels.{HasLabelsBelow, HasNamedLabels}
+use Rattle.rule_laws.specs.ir_laws.paths.threads.Labels.{HasLabelsBelow, HasNamedLabels}
 use Rattle.pass_proofs.specs.edges.paths.Labels.{IsAmong}
 use Rattle.pass_proofs.specs.edges.paths.Phis.{AreLabelsOnce, ArePhisForEdges, IsForEdge}
 use Rattle.pass_proofs.specs.edges.paths.Spots.{moved, table_of}

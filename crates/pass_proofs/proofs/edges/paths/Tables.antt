@@ -8,14 +8,14 @@ use Rattle.pass_edges.specs.declared.edge.Edge.{Edge}
 use Rattle.ir_model.specs.Names.{position_of}
 use Rattle.ir_model.specs.declared.module.Block.{Block}
 use Rattle.ir_model.specs.declared.module.Function.{Function}
-use Rattle.ir_paths.proofs.Search.{either, eq_from, eq_itself}
-use Rattle.ir_paths.specs.Paths.{targets}
-use Rattle.ir_laws.proofs.facts.Lists.{get_behind, get_front}
-use Rattle.ir_laws.proofs.facts.Members.{at_each as each_at}
+use Rattle.rule_laws.proofs.ir_paths.Search.{either, eq_from, eq_itself}
+use Rattle.rule_laws.specs.ir_paths.Paths.{targets}
+use Rattle.rule_laws.proofs.ir_laws.facts.Lists.{get_behind, get_front}
+use Rattle.rule_laws.proofs.ir_laws.facts.Members.{at_each as each_at}
 use Rattle.pass_proofs.proofs.edges.paths.Blocks.{number, own_number}
 use Rattle.pass_proofs.proofs.edges.paths.Legs.{AreNumbered, term_numbered, term_split}
 use Rattle.pass_proofs.specs.edges.paths.Labels.{AreSplit, IsAmong, IsSplit}
-use Rattle.ir_laws.specs.paths.threads.Labels.{HasLabelsBelow, HasNamedLabels}
+use Rattle.rule_laws.specs.ir_laws.paths.threads.Labels.{HasLabelsBelow, HasNamedLabels}
 use Rattle.pass_proofs.specs.edges.paths.Phis.{AreLabelsOnce, ComesFrom}
 use Rattle.pass_proofs.specs.edges.paths.Spots.{behind_edges, table_of}
 

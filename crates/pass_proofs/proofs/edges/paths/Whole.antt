@@ -9,8 +9,8 @@ use Rattle.ir_model.specs.Names.{first_where}
 use Rattle.ir_model.specs.declared.instr.Instr.{Instr}
 use Rattle.ir_model.specs.declared.module.Block.{Block}
 use Rattle.ir_model.specs.declared.module.Function.{Function}
-use Rattle.run_step.specs.Step.{has_markers, is_marker_of}
-use Rattle.run_laws.specs.changed.Changed.{Each}
+use Rattle.rule_laws.specs.run_step.Step.{has_markers, is_marker_of}
+use Rattle.rule_laws.specs.run_laws.changed.Changed.{Each}
 use Rattle.pass_proofs.proofs.edges.paths.Blocks.{first_behind, length_blocks, place, spot}
 use Rattle.pass_proofs.specs.edges.paths.Spots.{behind_edges, table_of}
 

@@ -10,25 +10,25 @@ use Rattle.ir_model.specs.declared.instr.Instr.{Instr}
 use Rattle.ir_model.specs.declared.module.Block.{Block}
 use Rattle.ir_model.specs.declared.module.Function.{Function}
 use Rattle.ir_model.specs.declared.operand.Intrinsic.{Intrinsic}
-use Rattle.ir_paths.proofs.Right.{facts_of_right}
-use Rattle.ir_paths.proofs.Search.{Has, either, leads-more, or_left, or_right, same_point-itself, same_point-same}
-use Rattle.ir_paths.specs.Facts.{IsWindow}
-use Rattle.ir_paths.specs.Paths.{has_point, nexts, same_point}
-use Rattle.ir_paths.specs.Windows.{IsInWindow, call_result, instr_at, instr_in, is_call_of, is_suspend_of, points_where, suspend_of, window_of, windows_of}
-use Rattle.ir_paths.specs.declared.point.Point.{Point}
-use Rattle.ir_paths.specs.declared.point.Window.{Window}
-use Rattle.ir_laws.proofs.paths.expanded.Apart.{same_moved}
-use Rattle.ir_laws.proofs.facts.Truth.{same_truth}
+use Rattle.rule_laws.proofs.ir_paths.Right.{facts_of_right}
+use Rattle.rule_laws.proofs.ir_paths.Search.{Has, either, leads-more, or_left, or_right, same_point-itself, same_point-same}
+use Rattle.rule_laws.specs.ir_paths.Facts.{IsWindow}
+use Rattle.rule_laws.specs.ir_paths.Paths.{has_point, nexts, same_point}
+use Rattle.rule_laws.specs.ir_paths.Windows.{IsInWindow, call_result, instr_at, instr_in, is_call_of, is_suspend_of, points_where, suspend_of, window_of, windows_of}
+use Rattle.rule_laws.specs.ir_paths.declared.point.Point.{Point}
+use Rattle.rule_laws.specs.ir_paths.declared.point.Window.{Window}
+use Rattle.rule_laws.proofs.ir_laws.paths.expanded.Apart.{same_moved}
+use Rattle.rule_laws.proofs.ir_laws.facts.Truth.{same_truth}
 use Rattle.pass_proofs.proofs.edges.paths.Blocks.{get_block, get_none}
 use Rattle.pass_proofs.proofs.edges.paths.Edges.{threads}
 use Rattle.pass_proofs.proofs.edges.paths.Points.{points_moved}
-use Rattle.ir_laws.proofs.paths.threads.Threads.{IsAhead, ahead_forth, ahead_home, leads_forth, leads_home}
-use Rattle.ir_laws.specs.paths.threads.Labels.{HasNamedLabels}
-use Rattle.ir_laws.specs.facts.threads.Moved.{ArePaired}
-use Rattle.ir_laws.specs.paths.threads.Moved.{IsMoved, is_ahead}
+use Rattle.rule_laws.proofs.ir_laws.paths.threads.Threads.{IsAhead, ahead_forth, ahead_home, leads_forth, leads_home}
+use Rattle.rule_laws.specs.ir_laws.paths.threads.Labels.{HasNamedLabels}
+use Rattle.rule_laws.specs.ir_laws.facts.threads.Moved.{ArePaired}
+use Rattle.rule_laws.specs.ir_laws.paths.threads.Moved.{IsMoved, is_ahead}
 use Rattle.pass_proofs.specs.edges.paths.Spots.{moved, table_of}
-use Rattle.ir_laws.specs.paths.threads.Threads.{AreAvoidedToo, AreThreads, IsBetween}
-use Rattle.ir_laws.proofs.paths.path_rules.SavedWindows.{neither}
+use Rattle.rule_laws.specs.ir_laws.paths.threads.Threads.{AreAvoidedToo, AreThreads, IsBetween}
+use Rattle.rule_laws.proofs.ir_laws.paths.path_rules.SavedWindows.{neither}
 
 -- ---- tests of points
 

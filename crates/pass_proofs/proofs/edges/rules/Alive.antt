@@ -2,23 +2,23 @@
 use Rattle.std.proofs.Common.{Bool, List, [], ap, false, map, refl, subst, sym, true, ℕ, ◌++◌, ◌∙◌, ◌∷◌, ◌≡◌}
 use Rattle.std.specs.Prelude.{◌↔◌}
 use Rattle.pass_proofs.proofs.edges.paths.Edges.{moved_apart, threads}
-use Rattle.ir_laws.proofs.paths.expanded.Ways.{has_map}
+use Rattle.rule_laws.proofs.ir_laws.paths.expanded.Ways.{has_map}
 use Rattle.pass_proofs.proofs.edges.paths.Points.{map_has, points_moved}
-use Rattle.ir_laws.proofs.paths.threads.Threads.{paths_kept}
-use Rattle.ir_laws.specs.paths.threads.Labels.{HasNamedLabels}
+use Rattle.rule_laws.proofs.ir_laws.paths.threads.Threads.{paths_kept}
+use Rattle.rule_laws.specs.ir_laws.paths.threads.Labels.{HasNamedLabels}
 use Rattle.pass_proofs.specs.edges.paths.Spots.{moved}
-use Rattle.ir_laws.specs.paths.threads.Threads.{AreAvoidedToo}
+use Rattle.rule_laws.specs.ir_laws.paths.threads.Threads.{AreAvoidedToo}
 use Rattle.pass_edges.specs.EdgeBlocks.{with_edge_blocks}
 use Rattle.ir_model.specs.declared.instr.Instr.{Instr}
 use Rattle.ir_model.specs.declared.module.Function.{Function}
 use Rattle.ir_model.specs.declared.operand.Intrinsic.{Intrinsic}
-use Rattle.ir_paths.specs.Paths.{Leads, has_point}
-use Rattle.ir_paths.specs.Windows.{is_call_of, points_where}
-use Rattle.ir_paths.specs.declared.point.Point.{Point}
-use Rattle.ir_laws.proofs.facts.Truth.{same_truth}
-use Rattle.frame_classes.specs.Alive.{MayBeAlive, markers_of}
-use Rattle.frame_classes.specs.Alive.MayBeAlive.{Started, Unmarked}
-use Rattle.frame_slots.specs.Uses.{ends_of, is_marker_of, starts_of}
+use Rattle.rule_laws.specs.ir_paths.Paths.{Leads, has_point}
+use Rattle.rule_laws.specs.ir_paths.Windows.{is_call_of, points_where}
+use Rattle.rule_laws.specs.ir_paths.declared.point.Point.{Point}
+use Rattle.rule_laws.proofs.ir_laws.facts.Truth.{same_truth}
+use Rattle.rule_laws.specs.frame_classes.Alive.{MayBeAlive, markers_of}
+use Rattle.rule_laws.specs.frame_classes.Alive.MayBeAlive.{Started, Unmarked}
+use Rattle.rule_laws.specs.frame_slots.Uses.{ends_of, is_marker_of, starts_of}
 
 module _ (f : Function) (named : HasNamedLabels f) where
   abbrev g : Function

@@ -2,7 +2,7 @@
 use Rattle.std.proofs.Common.{Bool, None, Option, Some, ap, false, length, map, not, option_map, refl, subst, sym, ℕ, ⊎_elim, ◌+◌, ◌∙◌, ◌≡◌}
 use Rattle.std.proofs.lemmas.Option.{slice_get-map}
 use Rattle.std.specs.Prelude.{slice_get}
-use Rattle.ir_base.specs.declared.outcome.Place.{Place}
+use Rattle.rule_laws.specs.ir_base.declared.outcome.Place.{Place}
 use Rattle.rule_laws.proofs.rules.renamed.Switches.{none_part}
 use Rattle.rule_laws.proofs.rules.path_rules.Holding.{HoldsIn, of_parts, part_none, to_parts}
 use Rattle.pass_proofs.proofs.edges.paths.Blocks.{spot}
@@ -12,13 +12,13 @@ use Rattle.pass_proofs.proofs.edges.rules.Homes.{IsEdge, IsOwn, entry_same, home
 use Rattle.pass_edges.specs.EdgeBlocks.{edge_block, split_phi, with_edge_blocks}
 use Rattle.pass_edges.specs.Edges.{edges_at}
 use Rattle.pass_edges.specs.declared.edge.Edge.{Edge}
-use Rattle.ir_parts.specs.Parts.{Ending, Head, OfInstr, OfPhi, Part, Signature, block_place, first_part, function_place, instr_place, parts_of}
+use Rattle.rule_laws.specs.ir_parts.Parts.{Ending, Head, OfInstr, OfPhi, Part, Signature, block_place, first_part, function_place, instr_place, parts_of}
 use Rattle.ir_model.specs.declared.instr.Instr.{Instr}
 use Rattle.ir_model.specs.declared.instr.Phi.{Phi}
 use Rattle.ir_model.specs.declared.instr.Terminator.{Terminator}
 use Rattle.ir_model.specs.declared.module.Block.{Block}
 use Rattle.ir_model.specs.declared.module.Function.{Function}
-use Rattle.rule_locals.specs.Instrs.{on_instr}
+use Rattle.rule_laws.specs.rule_locals.Instrs.{on_instr}
 use Rattle.rule_laws.proofs.rules.rows.Carried.{AreAlikePlaced}
 
 -- what each part has become breaks the rule nowhere, if the part doesn't

@@ -6,12 +6,12 @@ use Rattle.pass_proofs.specs.edges.paths.Labels.{AreSplit, IsSplit}
 use Rattle.pass_edges.specs.EdgeBlocks.{split_label, split_term}
 use Rattle.pass_edges.specs.Edges.{after_edge, term_edges}
 use Rattle.pass_edges.specs.declared.edge.Edge.{Edge}
-use Rattle.ir_laws.specs.facts.branches.MovedState.{IsSwitch}
-use Rattle.flow_solver.specs.Paths.{IsListed}
+use Rattle.rule_laws.specs.ir_laws.facts.branches.MovedState.{IsSwitch}
+use Rattle.rule_laws.specs.flow_solver.Paths.{IsListed}
 use Rattle.ir_model.specs.declared.instr.Case.{Case}
 use Rattle.ir_model.specs.declared.instr.Terminator.{Terminator}
-use Rattle.ir_paths.specs.Paths.{targets}
-use Rattle.ir_paths.specs.Windows.{is_number, label_in, label_of_term}
+use Rattle.rule_laws.specs.ir_paths.Paths.{targets}
+use Rattle.rule_laws.specs.ir_paths.Windows.{is_number, label_in, label_of_term}
 
 -- ---- labels of cases
 

@@ -2,15 +2,15 @@
 use Rattle.std.proofs.Common.{Bool, List, None, Option, Some, [], ap, false, inl, inr, length, map, refl, subst, suc, sym, true, unwrap_or, ℕ, ⊎_elim, ◌++◌, ◌+◌, ◌∙◌, ◌∷◌, ◌≡◌, ◌⊎◌}
 use Rattle.std.specs.List.{list_any}
 use Rattle.std.specs.Prelude.{◌↔◌, slice_get}
-use Rattle.ir_laws.proofs.paths.renamed.Outside.{where_pass}
-use Rattle.ir_laws.specs.facts.renamed.Regular.{passes}
+use Rattle.rule_laws.proofs.ir_laws.paths.renamed.Outside.{where_pass}
+use Rattle.rule_laws.specs.ir_laws.facts.renamed.Regular.{passes}
 use Rattle.rule_laws.proofs.frames.alike_crossing.Crossing.{crossing_same}
 use Rattle.pass_proofs.proofs.edges.paths.Blocks.{own_number, position_edge, spot}
 use Rattle.pass_proofs.proofs.edges.paths.Edges.{edges_of_block}
 use Rattle.pass_proofs.proofs.edges.paths.Points.{points_moved}
 use Rattle.pass_proofs.proofs.edges.paths.Tables.{flag_at}
 use Rattle.pass_proofs.proofs.edges.paths.Whole.{first_moved}
-use Rattle.ir_laws.specs.paths.threads.Labels.{HasNamedLabels}
+use Rattle.rule_laws.specs.ir_laws.paths.threads.Labels.{HasNamedLabels}
 use Rattle.pass_proofs.specs.edges.paths.Labels.{IsSplit}
 use Rattle.pass_proofs.specs.edges.paths.Phis.{AreLabelsOnce, ArePhisForEdges}
 use Rattle.pass_proofs.specs.edges.paths.Spots.{behind_edges, moved, table_of}
@@ -23,26 +23,26 @@ use Rattle.pass_proofs.proofs.edges.rules.Standing.{branch_forth, branch_home, f
 use Rattle.pass_edges.specs.EdgeBlocks.{edge_block, split_blocks, split_phi, with_edge_blocks}
 use Rattle.pass_edges.specs.Edges.{block_edges, edges_at, ends_in_suspend, has_phis, phi_flags}
 use Rattle.pass_edges.specs.declared.edge.Edge.{Edge}
-use Rattle.ir_laws.specs.facts.branches.MovedState.{IsSwitch}
+use Rattle.rule_laws.specs.ir_laws.facts.branches.MovedState.{IsSwitch}
 use Rattle.pass_proofs.specs.edges.states.MovedState.{KeepsEdges}
-use Rattle.flow_solver.specs.Paths.{IsListed}
+use Rattle.rule_laws.specs.flow_solver.Paths.{IsListed}
 use Rattle.ir_model.specs.Names.{position_of}
 use Rattle.ir_model.specs.declared.instr.Instr.{Instr}
 use Rattle.ir_model.specs.declared.instr.Phi.{Phi}
 use Rattle.ir_model.specs.declared.module.Block.{Block}
 use Rattle.ir_model.specs.declared.module.Function.{Function}
 use Rattle.ir_model.specs.declared.operand.Intrinsic.{Intrinsic}
-use Rattle.ir_paths.proofs.Search.{or_left, or_right, same_point-itself}
-use Rattle.ir_paths.specs.Paths.{has_point, same_point, targets}
-use Rattle.ir_paths.specs.Windows.{end_block, instr_at, instr_in, is_call_of, label_at, label_of_term}
-use Rattle.ir_paths.specs.declared.point.Point.{Point}
-use Rattle.run_step.specs.Step.{AtInstr, Fetched, Nowhere, fetch, fetch_in}
-use Rattle.frame_crossing.specs.Crossing.{AreCrossing, Crosses, suspends_of}
-use Rattle.frame_crossing.specs.EdgeUses.{IsUsedOn}
-use Rattle.frame_crossing.specs.Paths.{BranchesTo, IsDefinedBefore, IsNeeded, IsNeededBehind, IsNeededFrom, IsOutside, phis_at, phis_in, used_by}
-use Rattle.frame_crossing.specs.Paths.IsDefinedBefore.{ByInstr, ByParam, ByPhi}
-use Rattle.frame_crossing.specs.Paths.IsNeeded.{Across, Next, OnEdge, Use}
-use Rattle.frame_crossing.specs.Values.{blocks_defined, distinct, instrs_defined, is_token, params_defined, phis_defined, unless, values_of}
+use Rattle.rule_laws.proofs.ir_paths.Search.{or_left, or_right, same_point-itself}
+use Rattle.rule_laws.specs.ir_paths.Paths.{has_point, same_point, targets}
+use Rattle.rule_laws.specs.ir_paths.Windows.{end_block, instr_at, instr_in, is_call_of, label_at, label_of_term}
+use Rattle.rule_laws.specs.ir_paths.declared.point.Point.{Point}
+use Rattle.rule_laws.specs.run_step.Step.{AtInstr, Fetched, Nowhere, fetch, fetch_in}
+use Rattle.rule_laws.specs.frame_crossing.Crossing.{AreCrossing, Crosses, suspends_of}
+use Rattle.rule_laws.specs.frame_crossing.EdgeUses.{IsUsedOn}
+use Rattle.rule_laws.specs.frame_crossing.Paths.{BranchesTo, IsDefinedBefore, IsNeeded, IsNeededBehind, IsNeededFrom, IsOutside, phis_at, phis_in, used_by}
+use Rattle.rule_laws.specs.frame_crossing.Paths.IsDefinedBefore.{ByInstr, ByParam, ByPhi}
+use Rattle.rule_laws.specs.frame_crossing.Paths.IsNeeded.{Across, Next, OnEdge, Use}
+use Rattle.rule_laws.specs.frame_crossing.Values.{blocks_defined, distinct, instrs_defined, is_token, params_defined, phis_defined, unless, values_of}
 
 -- ---- the values
 

@@ -5,7 +5,7 @@ use Rattle.std.specs.List.{cons_option}
 use Rattle.std.specs.Prelude.{filter_map, slice_get}
 use Rattle.pass_proofs.proofs.edges.paths.Blocks.{position_edge, spot}
 use Rattle.pass_proofs.proofs.edges.paths.Edges.{edges_of_block}
-use Rattle.ir_laws.specs.paths.threads.Labels.{HasNamedLabels}
+use Rattle.rule_laws.specs.ir_laws.paths.threads.Labels.{HasNamedLabels}
 use Rattle.pass_proofs.specs.edges.paths.Phis.{AreLabelsOnce, ArePhisForEdges, IsForEdge}
 use Rattle.pass_proofs.specs.edges.paths.Spots.{table_of}
 use Rattle.pass_proofs.proofs.edges.rules.Edges.{first_operand, label_below}
@@ -20,11 +20,11 @@ use Rattle.ir_model.specs.declared.instr.Phi.{Phi}
 use Rattle.ir_model.specs.declared.module.Block.{Block}
 use Rattle.ir_model.specs.declared.module.Function.{Function}
 use Rattle.ir_model.specs.declared.operand.Operand.{Operand}
-use Rattle.ir_paths.proofs.Search.{eq_from}
-use Rattle.ir_laws.proofs.facts.Members.{at_each as each_at}
-use Rattle.run_laws.specs.changed.Changed.{Each}
-use Rattle.frame_crossing.specs.EdgeUses.{IsUsedOn}
-use Rattle.ir_laws.proofs.facts.Numbers.{IsTakenBy}
+use Rattle.rule_laws.proofs.ir_paths.Search.{eq_from}
+use Rattle.rule_laws.proofs.ir_laws.facts.Members.{at_each as each_at}
+use Rattle.rule_laws.specs.run_laws.changed.Changed.{Each}
+use Rattle.rule_laws.specs.frame_crossing.EdgeUses.{IsUsedOn}
+use Rattle.rule_laws.proofs.ir_laws.facts.Numbers.{IsTakenBy}
 use Rattle.rule_laws.proofs.frames.rows.EdgeUses.{taken_by, used_on}
 
 -- ---- labels and positions

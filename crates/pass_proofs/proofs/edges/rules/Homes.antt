@@ -4,22 +4,22 @@ use Rattle.std.proofs.lemmas.Bool.{cases_lt}
 use Rattle.std.proofs.lemmas.List.{length-map}
 use Rattle.std.proofs.lemmas.Option.{slice_get-map, slice_get_within}
 use Rattle.std.specs.Prelude.{slice_get}
-use Rattle.ir_laws.proofs.facts.local_rules.Woven.{other_number}
+use Rattle.rule_laws.proofs.ir_laws.facts.local_rules.Woven.{other_number}
 use Rattle.pass_proofs.proofs.edges.paths.Blocks.{number, own_number, place, place_apart, position_edge, spot, get_block, get_edge}
 use Rattle.pass_proofs.proofs.edges.paths.Edges.{edge_apart, edges_of_block, target_named}
 use Rattle.pass_proofs.proofs.edges.paths.Legs.{Leg, edges_by_legs, leg_edges, legs, numbered_at, targets_by_legs, term_numbered, term_split}
 use Rattle.pass_proofs.specs.edges.paths.Labels.{AreSplit, IsSplit}
-use Rattle.ir_laws.specs.paths.threads.Labels.{HasNamedLabels}
+use Rattle.rule_laws.specs.ir_laws.paths.threads.Labels.{HasNamedLabels}
 use Rattle.pass_proofs.specs.edges.paths.Spots.{behind_edges, block_and_edges, table_of}
 use Rattle.pass_edges.specs.EdgeBlocks.{edge_block, split_block, split_blocks, with_edge_blocks}
 use Rattle.pass_edges.specs.Edges.{block_edges, ends_in_suspend, is_split, phi_flags}
 use Rattle.pass_edges.specs.declared.edge.Edge.{Edge}
-use Rattle.flow_solver.specs.Paths.{IsListed}
+use Rattle.rule_laws.specs.flow_solver.Paths.{IsListed}
 use Rattle.ir_model.specs.declared.module.Block.{Block}
 use Rattle.ir_model.specs.declared.module.Function.{Function}
-use Rattle.ir_paths.specs.Paths.{targets}
-use Rattle.ir_laws.proofs.facts.Lists.{get_behind, get_front, place_next, place_unique}
-use Rattle.run_laws.specs.changed.Changed.{Each}
+use Rattle.rule_laws.specs.ir_paths.Paths.{targets}
+use Rattle.rule_laws.proofs.ir_laws.facts.Lists.{get_behind, get_front, place_next, place_unique}
+use Rattle.rule_laws.specs.run_laws.changed.Changed.{Each}
 
 module _ (flags : List Bool) (table : List (List Edge)) where
   -- a block of the function, at the place to which it is moved

@@ -2,9 +2,9 @@
 use Rattle.std.proofs.Common.{ℕ, None, true, ◌≡◌, List}
 use Rattle.std.specs.Prelude.{◌↔◌}
 use Rattle.pass_proofs.specs.edges.paths.Spots.{moved}
-use Rattle.rule_shape.specs.Switches.{wrong_switch}
+use Rattle.rule_laws.specs.rule_shape.Switches.{wrong_switch}
 use Rattle.rule_laws.proofs.rules.source_rules.Locals.{own_label}
-use Rattle.ir_laws.specs.paths.threads.Labels.{HasNamedLabels}
+use Rattle.rule_laws.specs.ir_laws.paths.threads.Labels.{HasNamedLabels}
 use Rattle.pass_proofs.specs.edges.paths.Phis.{AreLabelsOnce}
 use Rattle.pass_proofs.proofs.edges.rules.Alive.{alive_stays}
 use Rattle.pass_proofs.proofs.edges.rules.Crossing.{crossing_stays}
@@ -24,9 +24,9 @@ use Rattle.pass_proofs.proofs.edges.sources.Rules.{rules_kept as keeps_edges}
 use Rattle.rule_laws.specs.rules.function_rules.Kept.{KeepsFunctionRules}
 use Rattle.ir_model.specs.declared.module.Function.{Function}
 use Rattle.ir_model.specs.declared.module.Module.{Module}
-use Rattle.ir_paths.specs.declared.point.Point.{Point}
-use Rattle.frame_classes.specs.Alive.{MayBeAlive}
-use Rattle.frame_crossing.specs.Crossing.{AreCrossing}
+use Rattle.rule_laws.specs.ir_paths.declared.point.Point.{Point}
+use Rattle.rule_laws.specs.frame_classes.Alive.{MayBeAlive}
+use Rattle.rule_laws.specs.frame_crossing.Crossing.{AreCrossing}
 use Rattle.rule_laws.specs.rules.woven_rules.Pairs.{AreIncomingOnce}
 
 module _ (m : Module) (func : ℕ) (f : Function) (rules : KeepsFunctionRules m func f) where

@@ -4,7 +4,7 @@ use Rattle.std.proofs.lemmas.Bool.{cases_lt}
 use Rattle.std.specs.List.{cons_option, list_all, list_any}
 use Rattle.std.specs.Prelude.{filter_map, slice_get}
 use Rattle.rule_laws.proofs.rules.local_rules.Defined.{label_defined}
-use Rattle.ir_laws.proofs.facts.Truth.{and_both, and_first, and_second}
+use Rattle.rule_laws.proofs.ir_laws.facts.Truth.{and_both, and_first, and_second}
 use Rattle.pass_proofs.proofs.edges.paths.Blocks.{number, spot}
 use Rattle.pass_proofs.proofs.edges.paths.Edges.{edges_of_block}
 use Rattle.pass_proofs.proofs.edges.paths.Tables.{among_filter, edge_among, filter_among, leads_to, table_at}
@@ -15,17 +15,17 @@ use Rattle.pass_edges.specs.EdgeBlocks.{edge_block, incoming_on, incoming_with, 
 use Rattle.pass_edges.specs.Edges.{block_edges, edges_at, edges_by, edges_of, phi_flags}
 use Rattle.pass_edges.specs.declared.edge.Edge.{Edge}
 use Rattle.rule_laws.proofs.rules.known_labels.Rules.{labels_spelt}
-use Rattle.ir_laws.proofs.facts.known_labels.Rules.{all_at}
-use Rattle.flow_solver.specs.Paths.{IsListed}
-use Rattle.ir_parts.specs.Contents.{ending_labels}
+use Rattle.rule_laws.proofs.ir_laws.facts.known_labels.Rules.{all_at}
+use Rattle.rule_laws.specs.flow_solver.Paths.{IsListed}
+use Rattle.rule_laws.specs.ir_parts.Contents.{ending_labels}
 use Rattle.ir_model.specs.declared.instr.Incoming.{Incoming}
 use Rattle.ir_model.specs.declared.module.Block.{Block}
 use Rattle.ir_model.specs.declared.module.Function.{Function}
 use Rattle.ir_model.specs.declared.operand.Operand.{Operand}
-use Rattle.ir_paths.proofs.Search.{eq_from, eq_itself, or_left, or_right}
-use Rattle.ir_paths.specs.Paths.{targets}
-use Rattle.rule_names.specs.Known.{is_label}
-use Rattle.ir_laws.proofs.facts.Lists.{get_behind, get_front}
+use Rattle.rule_laws.proofs.ir_paths.Search.{eq_from, eq_itself, or_left, or_right}
+use Rattle.rule_laws.specs.ir_paths.Paths.{targets}
+use Rattle.rule_laws.specs.rule_names.Known.{is_label}
+use Rattle.rule_laws.proofs.ir_laws.facts.Lists.{get_behind, get_front}
 
 -- ---- lists
 

@@ -2,13 +2,13 @@
 use Rattle.std.proofs.Common.{Bool, List, None, Option, Some, [], ap, false, length, map, not, refl, sym, true, ℕ, ◌&&◌, ◌<◌, ◌||◌, ◌∙◌, ◌∷◌, ◌≡◌}
 use Rattle.std.specs.List.{list_all}
 use Rattle.std.specs.Prelude.{filter_map, slice_get}
-use Rattle.ir_base.specs.declared.outcome.Place.{Place}
+use Rattle.rule_laws.specs.ir_base.declared.outcome.Place.{Place}
 use Rattle.rule_laws.proofs.rules.renamed.Switches.{none_part}
-use Rattle.ir_laws.proofs.facts.Truth.{and_both, and_first, and_second, holds}
+use Rattle.rule_laws.proofs.ir_laws.facts.Truth.{and_both, and_first, and_second, holds}
 use Rattle.rule_laws.specs.rules.local_rules.Local.{BreaksNoLocalRuleIn}
 use Rattle.rule_laws.proofs.rules.path_rules.Holding.{of_parts}
 use Rattle.pass_proofs.proofs.edges.paths.Blocks.{own_number}
-use Rattle.ir_laws.specs.paths.threads.Labels.{HasLabelsBelow, HasNamedLabels}
+use Rattle.rule_laws.specs.ir_laws.paths.threads.Labels.{HasLabelsBelow, HasNamedLabels}
 use Rattle.pass_proofs.specs.edges.paths.Spots.{table_of}
 use Rattle.rule_laws.proofs.rules.rows.Carried.{AreAlikePlaced}
 use Rattle.pass_proofs.proofs.edges.rules.Carried.{Carries, carried, on_instrs}
@@ -16,12 +16,12 @@ use Rattle.pass_proofs.proofs.edges.rules.Homes.{own_block}
 use Rattle.pass_proofs.proofs.edges.rules.Labels.{edge_target_known, incoming_known, targets_known}
 use Rattle.pass_proofs.proofs.edges.rules.Noted.{kinds_same, sizes_same, values_same}
 use Rattle.pass_proofs.proofs.edges.rules.Operands.{all_taken, ending_fits, ending_operands_same, ending_types_same}
-use Rattle.ir_laws.proofs.facts.Lists.{by_value}
+use Rattle.rule_laws.proofs.ir_laws.facts.Lists.{by_value}
 use Rattle.pass_edges.specs.EdgeBlocks.{incoming_on, split_phi, with_edge_blocks}
 use Rattle.pass_edges.specs.Edges.{edges_at, ends_in_suspend, phi_flags}
 use Rattle.pass_edges.specs.declared.edge.Edge.{Edge}
-use Rattle.ir_parts.specs.Contents.{ending_labels, ending_operands, ending_types, part_labels, part_operands, part_types}
-use Rattle.ir_parts.specs.Parts.{Ending, Head, OfInstr, OfPhi, first_part, parts_of}
+use Rattle.rule_laws.specs.ir_parts.Contents.{ending_labels, ending_operands, ending_types, part_labels, part_operands, part_types}
+use Rattle.rule_laws.specs.ir_parts.Parts.{Ending, Head, OfInstr, OfPhi, first_part, parts_of}
 use Rattle.rule_laws.proofs.rules.function_rules.Depths.{plain_part, types_fit}
 use Rattle.ir_model.specs.Ty.{Ty}
 use Rattle.ir_model.specs.declared.instr.Incoming.{Incoming}
@@ -31,23 +31,23 @@ use Rattle.ir_model.specs.declared.module.Block.{Block}
 use Rattle.ir_model.specs.declared.module.Function.{Function}
 use Rattle.ir_model.specs.declared.module.Module.{Module}
 use Rattle.ir_model.specs.declared.operand.Operand.{Operand}
-use Rattle.rule_locals.specs.Addresses.{is_no_function, points_to_functions}
-use Rattle.rule_locals.specs.Calls.{calls_closed, first_closed_call}
-use Rattle.rule_locals.specs.Entries.{allocates_late, first_late_alloca}
-use Rattle.rule_locals.specs.Extents.{breaks_extents, first_past_extent}
-use Rattle.rule_locals.specs.Instrs.{on_instr}
-use Rattle.rule_locals.specs.Intrinsics.{calls_inner, first_misplaced}
-use Rattle.rule_locals.specs.Markers.{first_other_mark, marks_otherwise, slot_size}
-use Rattle.rule_locals.specs.Transfers.{breaks_transfers, first_wrong_transfer}
-use Rattle.rule_names.specs.Known.{first_unknown, is_label, is_value, knows_called, knows_operand, knows_type, names_unknown}
-use Rattle.rule_names.specs.declared.stage.Stage.{Stage}
-use Rattle.ir_laws.proofs.facts.Members.{at_each as each_at}
-use Rattle.rule_types.specs.Limits.{all_fit, breaks_limits, first_past}
-use Rattle.rule_types.specs.Signatures.{calls_otherwise, first_otherwise}
-use Rattle.rule_values.specs.Fits.{fits, is_scalar}
-use Rattle.rule_values.specs.Kinds.{value_kind}
-use Rattle.rule_values.specs.Values.{breaks_values, first_wrong_value, fits_phi, takes}
-use Rattle.rule_values.specs.declared.kinds.Kind.{Kind}
+use Rattle.rule_laws.specs.rule_locals.Addresses.{is_no_function, points_to_functions}
+use Rattle.rule_laws.specs.rule_locals.Calls.{calls_closed, first_closed_call}
+use Rattle.rule_laws.specs.rule_locals.Entries.{allocates_late, first_late_alloca}
+use Rattle.rule_laws.specs.rule_locals.Extents.{breaks_extents, first_past_extent}
+use Rattle.rule_laws.specs.rule_locals.Instrs.{on_instr}
+use Rattle.rule_laws.specs.rule_locals.Intrinsics.{calls_inner, first_misplaced}
+use Rattle.rule_laws.specs.rule_locals.Markers.{first_other_mark, marks_otherwise, slot_size}
+use Rattle.rule_laws.specs.rule_locals.Transfers.{breaks_transfers, first_wrong_transfer}
+use Rattle.rule_laws.specs.rule_names.Known.{first_unknown, is_label, is_value, knows_called, knows_operand, knows_type, names_unknown}
+use Rattle.rule_laws.specs.rule_names.declared.stage.Stage.{Stage}
+use Rattle.rule_laws.proofs.ir_laws.facts.Members.{at_each as each_at}
+use Rattle.rule_laws.specs.rule_types.Limits.{all_fit, breaks_limits, first_past}
+use Rattle.rule_laws.specs.rule_types.Signatures.{calls_otherwise, first_otherwise}
+use Rattle.rule_laws.specs.rule_values.Fits.{fits, is_scalar}
+use Rattle.rule_laws.specs.rule_values.Kinds.{value_kind}
+use Rattle.rule_laws.specs.rule_values.Values.{breaks_values, first_wrong_value, fits_phi, takes}
+use Rattle.rule_laws.specs.rule_values.declared.kinds.Kind.{Kind}
 
 module _ (m : Module) (func : ℕ) (f : Function) where
   abbrev g : Function

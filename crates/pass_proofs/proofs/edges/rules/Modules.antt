@@ -7,7 +7,7 @@ use Rattle.pass_edges.specs.EdgeBlocks.{with_edge_blocks}
 use Rattle.pass_proofs.specs.edges.states.MovedState.{edge_function, edges_split}
 use Rattle.rule_laws.proofs.rules.function_rules.Signatures.{go_by_signatures}
 use Rattle.rule_laws.specs.rules.function_rules.Kept.{AllKeepFunctionRules, KeepsFunctionRules}
-use Rattle.ir_laws.specs.facts.function_rules.Signatures.{HaveSameSignatures, heading}
+use Rattle.rule_laws.specs.ir_laws.facts.function_rules.Signatures.{HaveSameSignatures, heading}
 use Rattle.ir_model.specs.declared.module.Function.{Function}
 use Rattle.ir_model.specs.declared.module.Module.{Module}
 

@@ -1,11 +1,11 @@
 -- The locals that the function defines whose edges have blocks are apart, and positions of its table of names (rule N1).
 use Rattle.std.proofs.Common.{Bool, List, None, [], ap, arith, length, length-append, map, refl, subst, suc, sym, ℕ, ⊎_elim, ◌++◌, ◌+◌, ◌<◌, ◌∷◌, ◌≡◌, ◌≤◌}
-use Rattle.rule_uses.specs.Undefined.{params_of}
+use Rattle.rule_laws.specs.rule_uses.Undefined.{params_of}
 use Rattle.rule_laws.proofs.rules.local_rules.Names.{numbers}
 use Rattle.rule_laws.proofs.rules.local_rules.Woven.{Ends, New, Woven, apart_names, apart_woven, joined_woven, listed_woven, none_twice, same_woven}
-use Rattle.ir_laws.proofs.paths.source_rules.Locals.{Apart}
+use Rattle.rule_laws.proofs.ir_laws.paths.source_rules.Locals.{Apart}
 use Rattle.rule_laws.proofs.rules.source_rules.Locals.{block_names, made_by, names_are}
-use Rattle.ir_laws.proofs.facts.Lists.{phi_names, row_of}
+use Rattle.rule_laws.proofs.ir_laws.facts.Lists.{phi_names, row_of}
 use Rattle.rule_laws.specs.rules.source_rules.Named.{HasTabledLocals}
 use Rattle.pass_proofs.proofs.edges.paths.Legs.{AreNumbered, term_numbered}
 use Rattle.pass_proofs.specs.edges.paths.Spots.{behind_edges, table_of}
@@ -13,13 +13,13 @@ use Rattle.pass_edges.specs.EdgeBlocks.{edge_block, edge_names, split_block, spl
 use Rattle.pass_edges.specs.Edges.{block_edges, edges_at, edges_by, edges_of, ends_in_suspend, phi_flags}
 use Rattle.pass_edges.specs.declared.edge.Edge.{Edge}
 use Rattle.pass_proofs.proofs.edges.states.Parts.{names_length}
-use Rattle.flow_solver.specs.Paths.{IsListed}
-use Rattle.ir_parts.specs.Locals.{locals_of}
+use Rattle.rule_laws.specs.flow_solver.Paths.{IsListed}
+use Rattle.rule_laws.specs.ir_parts.Locals.{locals_of}
 use Rattle.rule_laws.proofs.rules.function_rules.Tabled.{numbers_below, tabled_by}
 use Rattle.ir_model.specs.declared.instr.Phi.{Phi}
 use Rattle.ir_model.specs.declared.module.Block.{Block}
 use Rattle.ir_model.specs.declared.module.Function.{Function}
-use Rattle.rule_names.specs.Definitions.{first_twice}
+use Rattle.rule_laws.specs.rule_names.Definitions.{first_twice}
 
 module _ (flags : List Bool) (table : List (List Edge)) where
   names_of_phis : (es : List Edge) (ps : List Phi) → phi_names (map (split_phi es) ps) ≡ phi_names ps

@@ -10,11 +10,11 @@ use Rattle.ir_model.specs.declared.instr.Phi.{Phi}
 use Rattle.ir_model.specs.declared.module.Block.{Block}
 use Rattle.ir_model.specs.declared.module.Function.{Function}
 use Rattle.ir_model.specs.declared.module.Module.{Module}
-use Rattle.rule_locals.specs.Markers.{block_size, slot_size}
-use Rattle.ir_locals.specs.Tables.{first_in, or_first}
-use Rattle.rule_names.specs.Known.{is_value}
-use Rattle.rule_values.specs.Kinds.{block_kind, instr_kind, param_kind, phi_kind, value_kind}
-use Rattle.rule_values.specs.declared.kinds.Kind.{Kind}
+use Rattle.rule_laws.specs.rule_locals.Markers.{block_size, slot_size}
+use Rattle.rule_laws.specs.ir_locals.Tables.{first_in, or_first}
+use Rattle.rule_laws.specs.rule_names.Known.{is_value}
+use Rattle.rule_laws.specs.rule_values.Kinds.{block_kind, instr_kind, param_kind, phi_kind, value_kind}
+use Rattle.rule_laws.specs.rule_values.declared.kinds.Kind.{Kind}
 
 module _ {T : Type 0} (one : Block → ℕ → Option T) (v : ℕ) (flags : List Bool) (table : List (List Edge)) (stays : (n : ℕ) (b : Block) → one (split_block flags table n b) v ≡ one b v) (none : (e : Edge) → one (edge_block e) v ≡ None) where
   first_behind : (es : List Edge) (rest : List Block) → first_in one (map edge_block es ++ rest) v ≡ first_in one rest v

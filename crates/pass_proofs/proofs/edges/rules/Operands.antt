@@ -2,21 +2,21 @@
 use Rattle.std.proofs.Common.{Bool, List, None, Option, Some, [], ap, false, if◌then◌else◌, map, not, refl, subst, true, ℕ, ◌&&◌, ◌==◌, ◌∷◌, ◌≡◌}
 use Rattle.std.specs.List.{cons_option, list_all}
 use Rattle.std.specs.Prelude.{filter_map}
-use Rattle.ir_laws.proofs.facts.Truth.{and_both, and_first, and_second}
+use Rattle.rule_laws.proofs.ir_laws.facts.Truth.{and_both, and_first, and_second}
 use Rattle.pass_edges.specs.EdgeBlocks.{incoming_on, incoming_with, operand_from, split_cases, split_term}
 use Rattle.pass_edges.specs.Edges.{after_edge}
 use Rattle.pass_edges.specs.declared.edge.Edge.{Edge}
-use Rattle.ir_parts.specs.Contents.{ending_operands, ending_types}
+use Rattle.rule_laws.specs.ir_parts.Contents.{ending_operands, ending_types}
 use Rattle.ir_model.specs.Ty.{Ty}
 use Rattle.ir_model.specs.declared.instr.Case.{Case}
 use Rattle.ir_model.specs.declared.instr.Incoming.{Incoming}
 use Rattle.ir_model.specs.declared.instr.Terminator.{Terminator}
 use Rattle.ir_model.specs.declared.operand.Arg.{Arg}
 use Rattle.ir_model.specs.declared.operand.Operand.{Operand}
-use Rattle.rule_values.specs.Fits.{fits_integer}
-use Rattle.rule_values.specs.Switches.{any_twice, bits_in, case_word, fits_case, fits_switch}
-use Rattle.rule_values.specs.Values.{fits_ending}
-use Rattle.rule_values.specs.declared.kinds.Kind.{Kind}
+use Rattle.rule_laws.specs.rule_values.Fits.{fits_integer}
+use Rattle.rule_laws.specs.rule_values.Switches.{any_twice, bits_in, case_word, fits_case, fits_switch}
+use Rattle.rule_laws.specs.rule_values.Values.{fits_ending}
+use Rattle.rule_laws.specs.rule_values.declared.kinds.Kind.{Kind}
 
 -- ---- phis
 

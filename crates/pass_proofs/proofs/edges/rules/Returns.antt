@@ -5,25 +5,25 @@ use Rattle.pass_proofs.proofs.edges.paths.Blocks.{own_number, spot}
 use Rattle.pass_proofs.proofs.edges.paths.Edges.{edge_spot, edges_of_block, target_named}
 use Rattle.pass_proofs.proofs.edges.paths.Legs.{Leg, labels_by_legs, leg_labels, legs, targets_by_legs}
 use Rattle.pass_proofs.proofs.edges.paths.Tables.{edge_among, labels_apart, one_edge}
-use Rattle.ir_laws.specs.paths.threads.Labels.{HasNamedLabels}
+use Rattle.rule_laws.specs.ir_laws.paths.threads.Labels.{HasNamedLabels}
 use Rattle.pass_proofs.specs.edges.paths.Labels.{IsAmong}
 use Rattle.pass_proofs.specs.edges.paths.Phis.{AreLabelsOnce}
 use Rattle.pass_proofs.specs.edges.paths.Spots.{table_of}
 use Rattle.pass_proofs.proofs.edges.rules.Homes.{IsEdge, IsOwn, edge_target, home, label_behind, number_behind, own_block, target_home, target_low}
 use Rattle.pass_proofs.specs.edges.rules.Returns.{HaveOwnBlocks}
-use Rattle.ir_laws.specs.paths.rows.Returns.{IsEnteredOnce, IsOwnBlock, LeadsFrom}
+use Rattle.rule_laws.specs.ir_laws.paths.rows.Returns.{IsEnteredOnce, IsOwnBlock, LeadsFrom}
 use Rattle.pass_edges.specs.EdgeBlocks.{edge_block, split_case, split_term, with_edge_blocks, split_cases}
 use Rattle.pass_edges.specs.Edges.{after_edge, edge_to, ends_in_suspend, is_split, phi_flags, term_edges, case_edges}
 use Rattle.pass_edges.specs.declared.edge.Edge.{Edge}
-use Rattle.flow_solver.proofs.Lists.{listed_at}
+use Rattle.rule_laws.proofs.flow_solver.Lists.{listed_at}
 use Rattle.ir_model.specs.declared.instr.Case.{Case}
 use Rattle.ir_model.specs.declared.instr.Terminator.{Terminator}
 use Rattle.ir_model.specs.declared.module.Block.{Block}
 use Rattle.ir_model.specs.declared.module.Function.{Function}
 use Rattle.ir_model.specs.declared.operand.Arg.{Arg}
-use Rattle.ir_paths.specs.Paths.{targets}
-use Rattle.ir_laws.proofs.facts.Lists.{get_behind}
-use Rattle.run_laws.specs.changed.Changed.{Each}
+use Rattle.rule_laws.specs.ir_paths.Paths.{targets}
+use Rattle.rule_laws.proofs.ir_laws.facts.Lists.{get_behind}
+use Rattle.rule_laws.specs.run_laws.changed.Changed.{Each}
 
 -- ---- the edges of a suspend's switch
 

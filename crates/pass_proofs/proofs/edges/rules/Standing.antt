@@ -1,11 +1,11 @@
 -- What stands at the points of the function whose edges have blocks, and the paths between points.
 use Rattle.std.proofs.Common.{Bool, None, Option, Some, [], ap, false, inl, inr, length, refl, subst, suc, sym, true, ℕ, ◌+◌, ◌==◌, ◌∙◌, ◌∷◌, ◌≡◌}
 use Rattle.std.specs.Prelude.{slice_get}
-use Rattle.rule_uses.specs.Uses.{locals_in}
+use Rattle.rule_laws.specs.rule_uses.Uses.{locals_in}
 use Rattle.pass_proofs.proofs.edges.paths.Blocks.{get_none, own_number, position_edge, position_moved, spot}
 use Rattle.pass_proofs.proofs.edges.paths.Edges.{edges_of_block}
 use Rattle.pass_proofs.proofs.edges.paths.Legs.{term_split}
-use Rattle.ir_laws.specs.paths.threads.Labels.{HasNamedLabels}
+use Rattle.rule_laws.specs.ir_laws.paths.threads.Labels.{HasNamedLabels}
 use Rattle.pass_proofs.specs.edges.paths.Labels.{IsSplit}
 use Rattle.pass_proofs.specs.edges.paths.Spots.{table_of}
 use Rattle.pass_proofs.proofs.edges.rules.CaseLabels.{split_from}
@@ -15,17 +15,17 @@ use Rattle.pass_proofs.proofs.edges.rules.Uses.{phi_values_same}
 use Rattle.pass_edges.specs.EdgeBlocks.{with_edge_blocks}
 use Rattle.pass_edges.specs.Edges.{ends_in_suspend, phi_flags}
 use Rattle.pass_edges.specs.declared.edge.Edge.{Edge}
-use Rattle.flow_solver.proofs.Lists.{listed_at, place_of as place_in}
-use Rattle.flow_solver.specs.Paths.{IsListed}
+use Rattle.rule_laws.proofs.flow_solver.Lists.{listed_at, place_of as place_in}
+use Rattle.rule_laws.specs.flow_solver.Paths.{IsListed}
 use Rattle.ir_model.specs.Names.{position_of}
 use Rattle.ir_model.specs.declared.instr.Instr.{Instr}
 use Rattle.ir_model.specs.declared.instr.Terminator.{Terminator}
 use Rattle.ir_model.specs.declared.module.Block.{Block}
 use Rattle.ir_model.specs.declared.module.Function.{Function}
-use Rattle.ir_paths.specs.Paths.{targets}
-use Rattle.run_step.specs.Step.{AtInstr, AtTerm, Fetched, Nowhere, fetch, fetch_in, fetch_or}
-use Rattle.frame_crossing.specs.Paths.{BranchesTo, LeadsTo, phis_at, phis_in, used_by}
-use Rattle.frame_crossing.specs.Paths.LeadsTo.{Along, Over, There}
+use Rattle.rule_laws.specs.ir_paths.Paths.{targets}
+use Rattle.rule_laws.specs.run_step.Step.{AtInstr, AtTerm, Fetched, Nowhere, fetch, fetch_in, fetch_or}
+use Rattle.rule_laws.specs.frame_crossing.Paths.{BranchesTo, LeadsTo, phis_at, phis_in, used_by}
+use Rattle.rule_laws.specs.frame_crossing.Paths.LeadsTo.{Along, Over, There}
 
 -- ---- what stands at points
 

@@ -2,25 +2,25 @@
 use Rattle.std.proofs.Common.{pos, Bool, List, None, Option, Some, [], ap, append_assoc, arith, false, if◌then◌else◌, inl, inr, length, option_map, refl, subst, suc, sym, true, ℕ, ⊎_elim, ◌&&◌, ◌++◌, ◌+◌, ◌-◌, ◌∙◌, ◌∷◌, ◌≡◌, ◌⊎◌}
 use Rattle.std.proofs.lemmas.Option.{slice_get-map}
 use Rattle.std.specs.Prelude.{slice_get}
-use Rattle.rule_shape.specs.Switches.{are_both, wrong_switch}
-use Rattle.ir_laws.proofs.facts.Truth.{and_first, and_second}
-use Rattle.ir_laws.proofs.facts.local_rules.Woven.{other_number}
-use Rattle.ir_laws.proofs.facts.Lists.{row_of}
+use Rattle.rule_laws.specs.rule_shape.Switches.{are_both, wrong_switch}
+use Rattle.rule_laws.proofs.ir_laws.facts.Truth.{and_first, and_second}
+use Rattle.rule_laws.proofs.ir_laws.facts.local_rules.Woven.{other_number}
+use Rattle.rule_laws.proofs.ir_laws.facts.Lists.{row_of}
 use Rattle.pass_proofs.proofs.edges.paths.Blocks.{own_number}
-use Rattle.ir_laws.specs.paths.threads.Labels.{HasNamedLabels}
+use Rattle.rule_laws.specs.ir_laws.paths.threads.Labels.{HasNamedLabels}
 use Rattle.pass_proofs.specs.edges.paths.Phis.{AreLabelsOnce}
 use Rattle.pass_proofs.proofs.edges.rules.Homes.{IsEdge, IsOwn, home, own_block}
 use Rattle.pass_proofs.proofs.edges.rules.Returns.{have_own_blocks}
-use Rattle.ir_laws.proofs.paths.rows.Rows.{in_row_of, row_different}
+use Rattle.rule_laws.proofs.ir_laws.paths.rows.Rows.{in_row_of, row_different}
 use Rattle.pass_proofs.proofs.edges.rules.Switched.{both_split, switched}
-use Rattle.ir_laws.specs.paths.rows.Returns.{AreOwnAndDifferent, IsOwnBlock, LeadsFrom}
+use Rattle.rule_laws.specs.ir_laws.paths.rows.Returns.{AreOwnAndDifferent, IsOwnBlock, LeadsFrom}
 use Rattle.rule_laws.specs.frames.rows.Returns.{HaveOwnReturns, return_labels}
 use Rattle.rule_laws.specs.rules.rows.Returns.{IsSwitched}
 use Rattle.pass_edges.specs.EdgeBlocks.{split_cases, split_label, split_term, with_edge_blocks}
 use Rattle.pass_edges.specs.Edges.{after_edge, ends_in_suspend, is_suspend, is_suspend_at, phi_flags}
-use Rattle.flow_solver.specs.Paths.{IsListed}
-use Rattle.pass_intrinsics.specs.Shapes.{is_final, save_of, suspends_of, with_suspend, with_suspends_by, with_suspends_in}
-use Rattle.pass_intrinsics.specs.declared.shape.SuspendPoint.{SuspendPoint}
+use Rattle.rule_laws.specs.flow_solver.Paths.{IsListed}
+use Rattle.rule_laws.specs.pass_intrinsics.Shapes.{is_final, save_of, suspends_of, with_suspend, with_suspends_by, with_suspends_in}
+use Rattle.rule_laws.specs.pass_intrinsics.declared.shape.SuspendPoint.{SuspendPoint}
 use Rattle.ir_model.specs.declared.instr.Case.{Case}
 use Rattle.ir_model.specs.declared.instr.Instr.{Instr}
 use Rattle.ir_model.specs.declared.instr.Terminator.{Terminator}
@@ -30,10 +30,10 @@ use Rattle.ir_model.specs.declared.operand.Arg.{Arg}
 use Rattle.ir_model.specs.declared.operand.Callee.{Callee}
 use Rattle.ir_model.specs.declared.operand.Intrinsic.{Intrinsic}
 use Rattle.ir_model.specs.declared.operand.Operand.{Operand}
-use Rattle.ir_paths.proofs.Search.{either, eq_from}
-use Rattle.ir_paths.specs.Paths.{targets}
-use Rattle.ir_paths.specs.Windows.{is_number, label_in, label_of_term}
-use Rattle.ir_laws.specs.paths.woven_rules.Pairs.{AreDifferent}
+use Rattle.rule_laws.proofs.ir_paths.Search.{either, eq_from}
+use Rattle.rule_laws.specs.ir_paths.Paths.{targets}
+use Rattle.rule_laws.specs.ir_paths.Windows.{is_number, label_in, label_of_term}
+use Rattle.rule_laws.specs.ir_laws.paths.woven_rules.Pairs.{AreDifferent}
 
 -- ---- the labels of suspends, block by block
 

@@ -1,10 +1,10 @@
 -- The switches of suspends (rule K3), which stay where edges have blocks, but for where their defaults lead.
 use Rattle.std.proofs.Common.{Bool, List, None, Option, Some, [], ap, arith, false, if◌then◌else◌, length, not, refl, subst, sym, true, ℕ, ⊎_elim, ◌&&◌, ◌+◌, ◌∙◌, ◌∷◌, ◌≡◌}
 use Rattle.std.specs.Prelude.{slice_get}
-use Rattle.rule_shape.specs.Places.{is_the}
-use Rattle.rule_shape.specs.Switches.{are_both, breaks_switch, end_label, is_last, is_switch_on, is_switched, is_switched_in, wrong_switch}
+use Rattle.rule_laws.specs.rule_shape.Places.{is_the}
+use Rattle.rule_laws.specs.rule_shape.Switches.{are_both, breaks_switch, end_label, is_last, is_switch_on, is_switched, is_switched_in, wrong_switch}
 use Rattle.rule_laws.proofs.rules.renamed.Switches.{none_part}
-use Rattle.ir_laws.proofs.facts.Truth.{and_first, and_second, holds}
+use Rattle.rule_laws.proofs.ir_laws.facts.Truth.{and_first, and_second, holds}
 use Rattle.rule_laws.proofs.rules.path_rules.Holding.{of_parts}
 use Rattle.pass_proofs.proofs.edges.paths.Blocks.{own_number}
 use Rattle.pass_proofs.proofs.edges.rules.Homes.{IsEdge, IsOwn, home, own_block}
@@ -12,7 +12,7 @@ use Rattle.pass_proofs.specs.edges.rules.Returns.{AreSwitched}
 use Rattle.rule_laws.specs.rules.rows.Returns.{IsSwitched}
 use Rattle.pass_edges.specs.EdgeBlocks.{edge_block, split_cases, split_label, split_term, with_edge_blocks}
 use Rattle.pass_edges.specs.Edges.{after_edge, ends_in_suspend, is_suspend, phi_flags}
-use Rattle.ir_parts.specs.Parts.{first_part, instr_place, parts_of}
+use Rattle.rule_laws.specs.ir_parts.Parts.{first_part, instr_place, parts_of}
 use Rattle.ir_model.specs.Names.{is_local}
 use Rattle.ir_model.specs.declared.instr.Case.{Case}
 use Rattle.ir_model.specs.declared.instr.Instr.{Instr}
@@ -23,8 +23,8 @@ use Rattle.ir_model.specs.declared.operand.Arg.{Arg}
 use Rattle.ir_model.specs.declared.operand.Callee.{Callee}
 use Rattle.ir_model.specs.declared.operand.Intrinsic.{Intrinsic}
 use Rattle.ir_model.specs.declared.operand.Operand.{Operand}
-use Rattle.ir_paths.proofs.Search.{eq_from}
-use Rattle.ir_paths.specs.Windows.{call_result, is_call_of}
+use Rattle.rule_laws.proofs.ir_paths.Search.{eq_from}
+use Rattle.rule_laws.specs.ir_paths.Windows.{call_result, is_call_of}
 
 -- ---- one switch
 

@@ -2,16 +2,16 @@
 use Rattle.std.proofs.Common.{Bool, List, None, Option, Some, [], ap, arith, false, if◌then◌else◌, length, map, refl, subst, suc, sym, true, ℕ, ⊎_elim, ◌++◌, ◌+◌, ◌<◌, ◌==◌, ◌∙◌, ◌∷◌, ◌≡◌, inl, inr, unwrap_or}
 use Rattle.std.specs.List.{cons_option}
 use Rattle.std.specs.Prelude.{filter_map, option_to_list, slice_get}
-use Rattle.ir_base.specs.declared.outcome.Place.{Place}
-use Rattle.rule_uses.specs.Undefined.{Entry, IsFirstUndefined, IsUndefined, Next, ReachesWithout}
-use Rattle.rule_uses.specs.Uses.{Use, block_uses, block_values, blocks_uses, incoming_use, incoming_uses, instr_uses, local_of, locals_in, made_by_instrs, made_by_phis, phi_uses, phi_values, use_of, uses_at, uses_of, values_at, values_in}
-use Rattle.ir_laws.proofs.facts.Members.{each_behind, at_each as each_at}
+use Rattle.rule_laws.specs.ir_base.declared.outcome.Place.{Place}
+use Rattle.rule_laws.specs.rule_uses.Undefined.{Entry, IsFirstUndefined, IsUndefined, Next, ReachesWithout}
+use Rattle.rule_laws.specs.rule_uses.Uses.{Use, block_uses, block_values, blocks_uses, incoming_use, incoming_uses, instr_uses, local_of, locals_in, made_by_instrs, made_by_phis, phi_uses, phi_values, use_of, uses_at, uses_of, values_at, values_in}
+use Rattle.rule_laws.proofs.ir_laws.facts.Members.{each_behind, at_each as each_at}
 use Rattle.rule_laws.proofs.rules.renamed.Outside.{each_left, each_right}
 use Rattle.rule_laws.proofs.rules.renamed.Uses.{AreOfBlock, none_undefined, of_block, three_kinds}
 use Rattle.rule_laws.proofs.rules.path_rules.SavedUses.{all_defined}
 use Rattle.pass_proofs.proofs.edges.paths.Blocks.{own_number, position_edge, position_moved, spot}
 use Rattle.pass_proofs.proofs.edges.paths.Edges.{edges_of_block}
-use Rattle.ir_laws.specs.paths.threads.Labels.{HasLabelsBelow, HasNamedLabels}
+use Rattle.rule_laws.specs.ir_laws.paths.threads.Labels.{HasLabelsBelow, HasNamedLabels}
 use Rattle.pass_proofs.specs.edges.paths.Labels.{IsAmong}
 use Rattle.pass_proofs.specs.edges.paths.Phis.{AreLabelsOnce}
 use Rattle.pass_proofs.specs.edges.paths.Spots.{table_of}
@@ -21,10 +21,10 @@ use Rattle.pass_proofs.proofs.edges.rules.Operands.{ending_operands_same}
 use Rattle.pass_edges.specs.EdgeBlocks.{edge_block, incoming_on, incoming_with, split_phi, with_edge_blocks, operand_from}
 use Rattle.pass_edges.specs.Edges.{edges_at, ends_in_suspend, phi_flags}
 use Rattle.pass_edges.specs.declared.edge.Edge.{Edge}
-use Rattle.flow_solver.proofs.Lists.{listed_at, place_of as place_in}
-use Rattle.flow_solver.specs.Paths.{IsListed}
-use Rattle.ir_parts.specs.Contents.{ending_operands, instr_operands, result_of}
-use Rattle.ir_parts.specs.Parts.{instr_place}
+use Rattle.rule_laws.proofs.flow_solver.Lists.{listed_at, place_of as place_in}
+use Rattle.rule_laws.specs.flow_solver.Paths.{IsListed}
+use Rattle.rule_laws.specs.ir_parts.Contents.{ending_operands, instr_operands, result_of}
+use Rattle.rule_laws.specs.ir_parts.Parts.{instr_place}
 use Rattle.ir_model.specs.Names.{position_of}
 use Rattle.ir_model.specs.declared.instr.Incoming.{Incoming}
 use Rattle.ir_model.specs.declared.instr.Instr.{Instr}
@@ -32,10 +32,10 @@ use Rattle.ir_model.specs.declared.instr.Phi.{Phi}
 use Rattle.ir_model.specs.declared.module.Block.{Block}
 use Rattle.ir_model.specs.declared.module.Function.{Function}
 use Rattle.ir_model.specs.declared.operand.Operand.{Operand}
-use Rattle.ir_paths.proofs.Search.{eq_from}
-use Rattle.ir_paths.specs.Paths.{targets}
-use Rattle.run_laws.specs.changed.Changed.{Each}
-use Rattle.frame_crossing.proofs.Blocks.{edge_is_out, target_is_edge}
+use Rattle.rule_laws.proofs.ir_paths.Search.{eq_from}
+use Rattle.rule_laws.specs.ir_paths.Paths.{targets}
+use Rattle.rule_laws.specs.run_laws.changed.Changed.{Each}
+use Rattle.rule_laws.proofs.frame_crossing.Blocks.{edge_is_out, target_is_edge}
 
 -- ---- what blocks make
 

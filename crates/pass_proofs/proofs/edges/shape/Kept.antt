@@ -1,15 +1,15 @@
 -- What splitting asks of a coroutine's calls, where edges have blocks.
 use Rattle.std.proofs.Common.{◌≡◌, ℕ, Bool, true, false, List, [], ◌∷◌, length, refl, sym, ap, ◌∙◌, subst, ◌≤◌, arith}
 use Rattle.std.specs.Prelude.{Some, None, Option, nat_le, not, option_map, slice_get, ◌||◌, ◌==◌}
-use Rattle.rule_shape.specs.OneOfEach.{calls_of, wrong_call}
-use Rattle.rule_shape.specs.Switches.{end_label, wrong_switch}
-use Rattle.rule_shape.specs.Uses.{uses_of}
-use Rattle.ir_laws.proofs.facts.Truth.{equal_numbers, and_first, and_second}
-use Rattle.ir_laws.specs.facts.renamed.Regular.{passes}
+use Rattle.rule_laws.specs.rule_shape.OneOfEach.{calls_of, wrong_call}
+use Rattle.rule_laws.specs.rule_shape.Switches.{end_label, wrong_switch}
+use Rattle.rule_laws.specs.rule_shape.Uses.{uses_of}
+use Rattle.rule_laws.proofs.ir_laws.facts.Truth.{equal_numbers, and_first, and_second}
+use Rattle.rule_laws.specs.ir_laws.facts.renamed.Regular.{passes}
 use Rattle.rule_laws.proofs.rules.source_rules.Ends.{end_first}
 use Rattle.rule_laws.proofs.rules.source_rules.Locals.{own_label}
 use Rattle.pass_proofs.proofs.edges.paths.Tables.{flag_at}
-use Rattle.ir_laws.specs.paths.threads.Labels.{HasNamedLabels}
+use Rattle.rule_laws.specs.ir_laws.paths.threads.Labels.{HasNamedLabels}
 use Rattle.pass_proofs.specs.edges.paths.Phis.{AreLabelsOnce}
 use Rattle.pass_proofs.specs.edges.paths.Spots.{table_of}
 use Rattle.pass_edges.specs.EdgeBlocks.{with_edge_blocks}
@@ -24,18 +24,18 @@ use Rattle.ir_model.specs.declared.module.Function.{Function}
 use Rattle.ir_model.specs.declared.module.Module.{Module}
 use Rattle.ir_model.specs.declared.operand.Callee.{Callee}
 use Rattle.ir_model.specs.declared.operand.Intrinsic.{Intrinsic}
-use Rattle.ir_paths.specs.Windows.{end_block, instr_in, is_call_of}
-use Rattle.run_laws.specs.changed.Changed.{Each}
-use Rattle.ir_laws.proofs.facts.Members.{each_turns}
+use Rattle.rule_laws.specs.ir_paths.Windows.{end_block, instr_in, is_call_of}
+use Rattle.rule_laws.specs.run_laws.changed.Changed.{Each}
+use Rattle.rule_laws.proofs.ir_laws.facts.Members.{each_turns}
 use Rattle.rule_laws.proofs.rules.woven_shape.Found.{made, not_begin, result_made}
 use Rattle.rule_laws.proofs.rules.woven_shape.Gathered.{to_row}
 use Rattle.rule_laws.proofs.rules.woven_shape.OneOfEach.{IsRight, all_right, wrong_call_same}
 use Rattle.rule_laws.proofs.rules.woven_shape.Switches.{IsFine, all_fine, is_fine, leads_to, wrong_switch_same}
 use Rattle.rule_laws.specs.rules.woven_shape.Calls.{calls_in, is_suspend_call, shaping_calls, ShapingCall}
 use Rattle.pass_proofs.proofs.edges.shape.Uses.{IsNamed, all_named, blocks_same, ends_total, no_phi}
-use Rattle.flow_solver.specs.Paths.{IsListed}
-use Rattle.ir_laws.proofs.paths.woven_rules.Unbroken.{of_listed}
-use Rattle.ir_laws.proofs.facts.Lists.{none_of}
+use Rattle.rule_laws.specs.flow_solver.Paths.{IsListed}
+use Rattle.rule_laws.proofs.ir_laws.paths.woven_rules.Unbroken.{of_listed}
+use Rattle.rule_laws.proofs.ir_laws.facts.Lists.{none_of}
 
 module _ (m : Module) (k : ℕ) (f : Function) (rules : KeepsFunctionRules m k f) (coroutine : f.coroutine ≡ true) (calls : wrong_call k f ≡ None) (switches : wrong_switch k f ≡ None) where
   named : HasNamedLabels f

@@ -2,7 +2,7 @@
 use Rattle.std.proofs.Common.{◌≡◌, ℕ, ◌+◌, Bool, true, false, List, [], ◌∷◌, ◌++◌, length, refl, ap, ◌∙◌}
 use Rattle.std.proofs.lemmas.List.{length-map}
 use Rattle.std.specs.Prelude.{Some, None, Option, map, slice_get, unwrap_or, if◌then◌else◌, ◌&&◌, ◌==◌}
-use Rattle.rule_shape.specs.Switches.{are_both, is_last}
+use Rattle.rule_laws.specs.rule_shape.Switches.{are_both, is_last}
 use Rattle.rule_laws.proofs.rules.renamed.Outside.{each_left, each_right}
 use Rattle.pass_edges.specs.EdgeBlocks.{edge_block, split_block, split_blocks, split_cases, split_label, split_phi, split_term}
 use Rattle.pass_edges.specs.Edges.{after_edge, block_edges, edges_at, ends_in_suspend}
@@ -14,7 +14,7 @@ use Rattle.ir_model.specs.declared.instr.Terminator.{Terminator}
 use Rattle.ir_model.specs.declared.module.Block.{Block}
 use Rattle.ir_model.specs.declared.operand.Callee.{Callee}
 use Rattle.ir_model.specs.declared.operand.Intrinsic.{Intrinsic}
-use Rattle.run_laws.specs.changed.Changed.{Each}
+use Rattle.rule_laws.specs.run_laws.changed.Changed.{Each}
 use Rattle.rule_laws.specs.rules.woven_shape.Calls.{ShapingCall, call_at, calls_in, calls_of_block, default_on, first_named, is_shaping, is_suspend_call, joined, leads_block, second_named, shaping_call, switched_to}
 
 -- an edge to a label gets no block by flags

@@ -2,14 +2,14 @@
 use Rattle.std.proofs.Common.{◌≡◌, ℕ, zero, suc, ◌+◌, ◌≤◌, Bool, true, false, List, [], ◌∷◌, ◌++◌, length, refl, sym, ap, ◌∙◌, subst, arith}
 use Rattle.std.specs.List.{list_all}
 use Rattle.std.specs.Prelude.{Some, None, Option, cond, flat_map, map, not, slice_get, if◌then◌else◌, ◌&&◌}
-use Rattle.rule_shape.specs.Switches.{are_both, is_last}
-use Rattle.rule_shape.specs.Uses.{block_operands, phi_operands, uses_of}
+use Rattle.rule_laws.specs.rule_shape.Switches.{are_both, is_last}
+use Rattle.rule_laws.specs.rule_shape.Uses.{block_operands, phi_operands, uses_of}
 use Rattle.pass_proofs.proofs.early.path_rules.SavedSwitches.{times_append, times_in, times_more}
 use Rattle.pass_proofs.proofs.edges.rules.Operands.{all_taken, ending_operands_same}
 use Rattle.pass_edges.specs.EdgeBlocks.{edge_block, split_block, split_blocks, split_phi}
 use Rattle.pass_edges.specs.Edges.{block_edges, edges_at, ends_in_suspend}
 use Rattle.pass_edges.specs.declared.edge.Edge.{Edge}
-use Rattle.ir_parts.specs.Contents.{ending_operands, instr_operands}
+use Rattle.rule_laws.specs.ir_parts.Contents.{ending_operands, instr_operands}
 use Rattle.ir_model.specs.Names.{is_local, same_intrinsic}
 use Rattle.ir_model.specs.declared.instr.Instr.{Instr}
 use Rattle.ir_model.specs.declared.instr.Phi.{Phi}
@@ -19,7 +19,7 @@ use Rattle.ir_model.specs.declared.module.Function.{Function}
 use Rattle.ir_model.specs.declared.operand.Callee.{Callee}
 use Rattle.ir_model.specs.declared.operand.Intrinsic.{Intrinsic}
 use Rattle.ir_model.specs.declared.operand.Operand.{Operand}
-use Rattle.run_laws.specs.changed.Changed.{Each}
+use Rattle.rule_laws.specs.run_laws.changed.Changed.{Each}
 use Rattle.rule_laws.proofs.rules.woven_shape.Gathered.{gathered, of_rows}
 use Rattle.rule_laws.specs.rules.woven_shape.Calls.{ShapingCall, call_at, default_on, is_shaping, shaping_call, shaping_calls, switched_to}
 

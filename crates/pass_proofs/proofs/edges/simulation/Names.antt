@@ -19,10 +19,10 @@ use Rattle.ir_model.specs.declared.module.Function.{Function}
 use Rattle.ir_model.specs.declared.module.Module.{Module}
 use Rattle.ir_model.specs.declared.module.Param.{Param}
 use Rattle.ir_model.specs.declared.operand.Operand.{Operand}
-use Rattle.run_laws.specs.changed.Changed.{Each, operands_of, operands_of_term, result_of, Each as EachOperand}
-use Rattle.ir_laws.specs.facts.expanded.Tokens.{IsNamed, IsNamedResult}
-use Rattle.ir_laws.specs.facts.sound_states.Named.{AreLocalsNamed, AreUsesNamed, HasNamedLocals, HasNamedUses}
-use Rattle.ir_laws.proofs.facts.Members.{each_turns as each_more}
+use Rattle.rule_laws.specs.run_laws.changed.Changed.{Each, operands_of, operands_of_term, result_of, Each as EachOperand}
+use Rattle.rule_laws.specs.ir_laws.facts.expanded.Tokens.{IsNamed, IsNamedResult}
+use Rattle.rule_laws.specs.ir_laws.facts.sound_states.Named.{AreLocalsNamed, AreUsesNamed, HasNamedLocals, HasNamedUses}
+use Rattle.rule_laws.proofs.ir_laws.facts.Members.{each_turns as each_more}
 
 operands_more : (P Q : Operand → Type 0) → ((x : Operand) → P x → Q x) → (xs : List Operand) → EachOperand P xs → EachOperand Q xs
 operands_more P Q h [] k = tt

@@ -1,21 +1,21 @@
 -- The runs of the module whose coroutines' edges have blocks are those of the module.
 use Rattle.std.proofs.Common.{◌≡◌, ◌⊎◌, inl, inr, ℕ, ◌<◌, List, [], ◌∷◌, refl, sym, ap, ◌∙◌, subst, arith}
 use Rattle.std.specs.Prelude.{ℤ, None, Ok, Err, Result, map}
-use Rattle.run_agreement.proofs.Lockstep.{Advance, IsBetween, ShowsSame, Simulates, lockstep_near, lockstep_within}
-use Rattle.run_agreement.specs.Agreements.{AgreesWithin}
-use Rattle.run_agreement.specs.Costs.{AgreesBy}
-use Rattle.run_agreement.specs.Machines.{IsFine, IsRunning, Machine, iterate}
-use Rattle.run_memory.specs.Memory.{access_bytes, encode}
-use Rattle.run_memory.specs.declared.block.MemoryBlock.{MemoryBlock}
-use Rattle.run_memory.specs.declared.pointer.Value.{Value}
-use Rattle.ir_base.specs.declared.cause.Cause.{Cause}
-use Rattle.ir_base.specs.declared.outcome.Outcome.{Outcome}
-use Rattle.ir_base.specs.declared.outcome.Word.{Word}
-use Rattle.run_source.specs.Source.{SourceAt, act, advance_by, context_of, continue, first_state, given, step}
-use Rattle.run_source.specs.State.{function_of, or_undefined, work_of}
-use Rattle.run_source.specs.declared.state.Activation.{Activation}
-use Rattle.run_source.specs.declared.state.Mode.{Mode}
-use Rattle.run_source.specs.declared.state.State.{State}
+use Rattle.rule_laws.proofs.run_agreement.Lockstep.{Advance, IsBetween, ShowsSame, Simulates, lockstep_near, lockstep_within}
+use Rattle.rule_laws.specs.run_agreement.Agreements.{AgreesWithin}
+use Rattle.rule_laws.specs.run_agreement.Costs.{AgreesBy}
+use Rattle.rule_laws.specs.run_agreement.Machines.{IsFine, IsRunning, Machine, iterate}
+use Rattle.rule_laws.specs.run_memory.Memory.{access_bytes, encode}
+use Rattle.rule_laws.specs.run_memory.declared.block.MemoryBlock.{MemoryBlock}
+use Rattle.rule_laws.specs.run_memory.declared.pointer.Value.{Value}
+use Rattle.rule_laws.specs.ir_base.declared.cause.Cause.{Cause}
+use Rattle.rule_laws.specs.ir_base.declared.outcome.Outcome.{Outcome}
+use Rattle.rule_laws.specs.ir_base.declared.outcome.Word.{Word}
+use Rattle.rule_laws.specs.run_source.Source.{SourceAt, act, advance_by, context_of, continue, first_state, given, step}
+use Rattle.rule_laws.specs.run_source.State.{function_of, or_undefined, work_of}
+use Rattle.rule_laws.specs.run_source.declared.state.Activation.{Activation}
+use Rattle.rule_laws.specs.run_source.declared.state.Mode.{Mode}
+use Rattle.rule_laws.specs.run_source.declared.state.State.{State}
 use Rattle.pass_proofs.proofs.edges.states.Calls.{called_moved}
 use Rattle.pass_proofs.proofs.edges.states.Performs.{step_near}
 use Rattle.pass_proofs.proofs.edges.states.States.{operand_moved}
@@ -25,15 +25,15 @@ use Rattle.pass_proofs.specs.edges.states.Near.{IsBefore, IsNear}
 use Rattle.ir_model.specs.declared.module.Frame.{Frame}
 use Rattle.ir_model.specs.declared.module.GlobalItem.{GlobalItem}
 use Rattle.ir_model.specs.declared.module.Module.{Module}
-use Rattle.run_step.specs.Runs.{seen_of}
-use Rattle.run_step.specs.Step.{action_of, fetch, first_world, global_block}
-use Rattle.run_step.specs.Values.{access_of, stored}
-use Rattle.run_step.specs.declared.world.World.{World}
+use Rattle.rule_laws.specs.run_step.Runs.{seen_of}
+use Rattle.rule_laws.specs.run_step.Step.{action_of, fetch, first_world, global_block}
+use Rattle.rule_laws.specs.run_step.Values.{access_of, stored}
+use Rattle.rule_laws.specs.run_step.declared.world.World.{World}
 use Rattle.run_states.proofs.sound_states.Steps.{first_sound, source_step_sound}
 use Rattle.pass_proofs.specs.early.early_states.Beside.{source_machine}
-use Rattle.ir_laws.specs.facts.sound_states.Named.{AreLocalsNamed}
+use Rattle.rule_laws.specs.ir_laws.facts.sound_states.Named.{AreLocalsNamed}
 use Rattle.run_states.specs.sound_states.Sound.{IsSound}
-use Rattle.run_source_tables.specs.Given.{Given}
+use Rattle.rule_laws.specs.run_source_tables.Given.{Given}
 use Rattle.run_states.proofs.named.Simulation.{running_is}
 
 map_same : {A B : Type 0} (f g : A → B) → ((x : A) → f x ≡ g x) → (xs : List A) → map f xs ≡ map g xs

@@ -1,11 +1,11 @@
 -- A source that a text stands for and that breaks no rule keeps after the first pass all that blocks on edges ask of it.
 use Rattle.std.proofs.Common.{◌≡◌, ℕ, Bool, true, false, List, refl, sym, ap, ◌∙◌, subst}
 use Rattle.std.specs.Prelude.{ℤ, Some, None, Option, slice_get, unwrap_or, if◌then◌else◌}
-use Rattle.run_agreement.proofs.Compose.{compose_within}
-use Rattle.run_agreement.specs.Agreements.{AgreesWithin}
-use Rattle.run_agreement.specs.Machines.{Seen}
-use Rattle.ir_base.specs.declared.outcome.Word.{Word}
-use Rattle.run_source.specs.Source.{SourceAt}
+use Rattle.rule_laws.proofs.run_agreement.Compose.{compose_within}
+use Rattle.rule_laws.specs.run_agreement.Agreements.{AgreesWithin}
+use Rattle.rule_laws.specs.run_agreement.Machines.{Seen}
+use Rattle.rule_laws.specs.ir_base.declared.outcome.Word.{Word}
+use Rattle.rule_laws.specs.run_source.Source.{SourceAt}
 use Rattle.pass_proofs.proofs.early.renaming.Composition.{early_in_turn}
 use Rattle.pass_proofs.specs.early.renaming.Passes.{named_module, renamed_module}
 use Rattle.pass_proofs.proofs.early.local_rules.Names.{early_once}
@@ -19,23 +19,23 @@ use Rattle.rule_laws.proofs.rules.source_rules.Order.{IsUnbroken, unbroken}
 use Rattle.rule_laws.specs.rules.source_rules.Named.{HasTabledLocals}
 use Rattle.pass_proofs.proofs.early.sources.Accepted.{accepted_agree}
 use Rattle.rule_laws.proofs.rules.sources.Tables.{all_tabled}
-use Rattle.ir_laws.specs.paths.threads.Labels.{HasNamedLabels}
+use Rattle.rule_laws.specs.ir_laws.paths.threads.Labels.{HasNamedLabels}
 use Rattle.pass_proofs.proofs.edges.simulation.Simulation.{edges_agree}
 use Rattle.pass_proofs.proofs.early.labels.Labels.{labels_early, labels_named, text_labels}
 use Rattle.pass_proofs.proofs.edges.sources.Rules.{rules_kept}
 use Rattle.pass_proofs.specs.edges.states.MovedState.{AreEdgesKept, Keeps, edges_split}
-use Rattle.rule_all.specs.Refused.{IsRefused}
-use Rattle.text_grammar.specs.Text.{StandsFor}
+use Rattle.rule_laws.specs.rule_all.Refused.{IsRefused}
+use Rattle.rule_laws.specs.text_grammar.Text.{StandsFor}
 use Rattle.ir_model.specs.Calls.{first_result}
 use Rattle.ir_model.specs.Names.{function_at, no_function}
 use Rattle.ir_model.specs.declared.module.Frame.{Frame}
 use Rattle.ir_model.specs.declared.module.Function.{Function}
 use Rattle.ir_model.specs.declared.module.Module.{Module}
 use Rattle.ir_model.specs.declared.operand.Intrinsic.{Intrinsic}
-use Rattle.rule_names.specs.declared.stage.Stage.{Stage}
+use Rattle.rule_laws.specs.rule_names.declared.stage.Stage.{Stage}
 use Rattle.rule_laws.proofs.texts.named_texts.Placed.{locals_named, uses_named}
 use Rattle.pass_proofs.proofs.early.save_simulation.Tables.{locals_stay_named}
-use Rattle.ir_laws.specs.facts.sound_states.Named.{AreLocalsNamed}
+use Rattle.rule_laws.specs.ir_laws.facts.sound_states.Named.{AreLocalsNamed}
 
 -- ---- functions
 

@@ -7,15 +7,15 @@ use Rattle.rule_laws.specs.rules.path_rules.Shape.{KeepsShape}
 use Rattle.rule_laws.specs.rules.source_rules.Named.{AreTabled, HasTabledLocals}
 use Rattle.pass_proofs.proofs.edges.sources.Rules.{rules_kept}
 use Rattle.pass_proofs.specs.edges.states.MovedState.{AreEdgesKept, Keeps}
-use Rattle.ir_parts.specs.Locals.{locals_of}
-use Rattle.ir_parts.specs.Parts.{place_if, function_place}
+use Rattle.rule_laws.specs.ir_parts.Locals.{locals_of}
+use Rattle.rule_laws.specs.ir_parts.Parts.{place_if, function_place}
 use Rattle.ir_model.specs.Names.{function_at, no_function}
 use Rattle.ir_model.specs.declared.module.Function.{Function}
 use Rattle.ir_model.specs.declared.module.Module.{Module}
-use Rattle.rule_names.specs.Definitions.{first_second, first_twice, is_second_function, second_definitions}
-use Rattle.rule_names.specs.Items.{first_item}
-use Rattle.rule_names.specs.Known.{first_unknown, unknown_names}
-use Rattle.ir_base.specs.declared.outcome.Item.{Item}
+use Rattle.rule_laws.specs.rule_names.Definitions.{first_second, first_twice, is_second_function, second_definitions}
+use Rattle.rule_laws.specs.rule_names.Items.{first_item}
+use Rattle.rule_laws.specs.rule_names.Known.{first_unknown, unknown_names}
+use Rattle.rule_laws.specs.ir_base.declared.outcome.Item.{Item}
 use Rattle.rule_laws.proofs.rules.known_labels.Known.{functions_hold, labels_known}
 
 module _ (m : Module) (tabled : AreTabled m) (local : BreaksNoLocalRule m) (shape : (k : ℕ) (f : Function) → slice_get m.functions k ≡ Some f → KeepsShape k f) where

@@ -2,32 +2,32 @@
 use Rattle.std.proofs.Common.{◌≡◌, ℕ, zero, suc, ◌+◌, Bool, true, false, List, [], ◌∷◌, length, refl, sym, ap, ◌∙◌, subst}
 use Rattle.std.specs.List.{list_all, list_any}
 use Rattle.std.specs.Prelude.{ℤ, pos, negsuc, Some, None, Option, filter, map, not, option_and_then, slice_get, if◌then◌else◌, ◌&&◌, ◌||◌, ◌==◌}
-use Rattle.ir_base.specs.declared.outcome.Place.{Place}
-use Rattle.rule_shape.specs.Switches.{breaks_switch, end_label, is_last, is_switch_on, is_switched, is_switched_in, wrong_switch}
-use Rattle.ir_laws.proofs.facts.Truth.{equal_numbers, itself, both_true, holds, was_not as fails}
+use Rattle.rule_laws.specs.ir_base.declared.outcome.Place.{Place}
+use Rattle.rule_laws.specs.rule_shape.Switches.{breaks_switch, end_label, is_last, is_switch_on, is_switched, is_switched_in, wrong_switch}
+use Rattle.rule_laws.proofs.ir_laws.facts.Truth.{equal_numbers, itself, both_true, holds, was_not as fails}
 use Rattle.rule_laws.proofs.rules.renamed.Switches.{none_part}
-use Rattle.ir_laws.proofs.paths.renamed.Uses.{stands_in}
+use Rattle.rule_laws.proofs.ir_laws.paths.renamed.Uses.{stands_in}
 use Rattle.rule_laws.proofs.rules.path_rules.Holding.{of_parts}
 use Rattle.rule_laws.proofs.rules.source_rules.Locals.{own_label}
-use Rattle.ir_laws.specs.paths.threads.Labels.{HasNamedLabels}
+use Rattle.rule_laws.specs.ir_laws.paths.threads.Labels.{HasNamedLabels}
 use Rattle.pass_proofs.specs.edges.paths.Phis.{ArePhisForEdges, ComesFrom, IsForEdge}
 use Rattle.pass_edges.specs.EdgeBlocks.{operand_from}
-use Rattle.rule_phis.specs.Edges.{breaks_edges, differs, first_wrong_edge, fits_edges, has, incoming_labels, into_block, leads, predecessors}
-use Rattle.rule_phis.specs.Operands.{same_operand, same_whole}
+use Rattle.rule_laws.specs.rule_phis.Edges.{breaks_edges, differs, first_wrong_edge, fits_edges, has, incoming_labels, into_block, leads, predecessors}
+use Rattle.rule_laws.specs.rule_phis.Operands.{same_operand, same_whole}
 use Rattle.pass_proofs.specs.edges.states.MovedState.{HaveSwitches, KeepsEdges}
-use Rattle.ir_laws.specs.facts.branches.MovedState.{IsSwitch}
-use Rattle.ir_parts.specs.Locals.{locals_of}
-use Rattle.ir_parts.specs.Parts.{first_part, instr_place, parts_of}
+use Rattle.rule_laws.specs.ir_laws.facts.branches.MovedState.{IsSwitch}
+use Rattle.rule_laws.specs.ir_parts.Locals.{locals_of}
+use Rattle.rule_laws.specs.ir_parts.Parts.{first_part, instr_place, parts_of}
 use Rattle.ir_model.specs.declared.instr.Incoming.{Incoming}
 use Rattle.ir_model.specs.declared.instr.Phi.{Phi}
 use Rattle.ir_model.specs.declared.module.Block.{Block}
 use Rattle.ir_model.specs.declared.module.Function.{Function}
 use Rattle.ir_model.specs.declared.operand.Operand.{Operand}
-use Rattle.ir_paths.specs.Windows.{call_result}
-use Rattle.rule_names.specs.Definitions.{first_twice}
-use Rattle.run_step.proofs.Tables.{same_name-same}
-use Rattle.run_laws.specs.changed.Changed.{Each}
-use Rattle.ir_laws.proofs.facts.known_labels.Rules.{all_at, each_there, none_at}
+use Rattle.rule_laws.specs.ir_paths.Windows.{call_result}
+use Rattle.rule_laws.specs.rule_names.Definitions.{first_twice}
+use Rattle.rule_laws.proofs.run_step.Tables.{same_name-same}
+use Rattle.rule_laws.specs.run_laws.changed.Changed.{Each}
+use Rattle.rule_laws.proofs.ir_laws.facts.known_labels.Rules.{all_at, each_there, none_at}
 use Rattle.rule_laws.proofs.rules.known_labels.Rules.{is_switch, labels_spelt}
 
 -- ---- operands that are written the same are the same

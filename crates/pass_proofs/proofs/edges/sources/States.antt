@@ -1,11 +1,11 @@
 -- The states of a source that breaks no rule, and those after the first pass where coroutines' edges have blocks.
 use Rattle.std.proofs.Common.{ℕ, List}
 use Rattle.std.specs.Prelude.{ℤ, None}
-use Rattle.run_agreement.proofs.Costs.{compose_by}
-use Rattle.run_agreement.specs.Costs.{AgreesBy}
-use Rattle.run_agreement.specs.Machines.{Machine}
-use Rattle.ir_base.specs.declared.outcome.Word.{Word}
-use Rattle.run_source.specs.declared.state.State.{State}
+use Rattle.rule_laws.proofs.run_agreement.Costs.{compose_by}
+use Rattle.rule_laws.specs.run_agreement.Costs.{AgreesBy}
+use Rattle.rule_laws.specs.run_agreement.Machines.{Machine}
+use Rattle.rule_laws.specs.ir_base.declared.outcome.Word.{Word}
+use Rattle.rule_laws.specs.run_source.declared.state.State.{State}
 use Rattle.pass_early.specs.Early.{early_module}
 use Rattle.pass_proofs.proofs.early.early_states.Composition.{early_corresponds}
 use Rattle.run_states.proofs.early_states.Scaled.{scale_by}
@@ -17,11 +17,11 @@ use Rattle.pass_proofs.proofs.edges.simulation.Simulation.{edges_correspond}
 use Rattle.pass_proofs.proofs.edges.sources.Accepted.{accepted_kept, locals_now}
 use Rattle.pass_proofs.specs.edges.simulation.Beside.{IsEarlySplitOf, IsNearlyEarlySplitOf, IsNearlySplitOf, IsSplitOf}
 use Rattle.pass_proofs.specs.edges.states.MovedState.{edges_split}
-use Rattle.rule_all.specs.Refused.{IsRefused}
-use Rattle.text_grammar.specs.Text.{StandsFor}
+use Rattle.rule_laws.specs.rule_all.Refused.{IsRefused}
+use Rattle.rule_laws.specs.text_grammar.Text.{StandsFor}
 use Rattle.ir_model.specs.declared.module.Frame.{Frame}
 use Rattle.ir_model.specs.declared.module.Module.{Module}
-use Rattle.rule_names.specs.declared.stage.Stage.{Stage}
+use Rattle.rule_laws.specs.rule_names.declared.stage.Stage.{Stage}
 
 module _ (text : List ℕ) (m : Module) (stands : StandsFor text m) (accepted : IsRefused Stage.Source m None)
     (sizes : List Frame) (entry : ℕ) (args : List Word) (answers : List ℤ) where

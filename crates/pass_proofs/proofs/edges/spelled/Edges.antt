@@ -4,14 +4,14 @@ use Rattle.std.specs.Prelude.{map}
 use Rattle.pass_edges.specs.EdgeBlocks.{edge_block, edge_names, split_blocks, split_phi, with_edge_blocks}
 use Rattle.pass_edges.specs.Edges.{block_edges, edge_table, edges_at, edges_of, ends_in_suspend, phi_flags}
 use Rattle.pass_edges.specs.declared.edge.Edge.{Edge}
-use Rattle.ir_laws.proofs.facts.Members.{each_joined, joined_names}
+use Rattle.rule_laws.proofs.ir_laws.facts.Members.{each_joined, joined_names}
 use Rattle.ir_model.specs.declared.instr.Phi.{Phi}
 use Rattle.ir_model.specs.declared.module.Block.{Block}
 use Rattle.ir_model.specs.declared.module.Function.{Function}
 use Rattle.pass_proofs.proofs.edges.spelled.Names.{edges_named}
 use Rattle.rule_laws.specs.texts.spelled.Spelled.{IsSpelled}
 use Rattle.rule_laws.specs.rules.spelled.Spelled.{IsSpelledBlock, IsSpelledFunction}
-use Rattle.run_laws.specs.changed.Changed.{Each}
+use Rattle.rule_laws.specs.run_laws.changed.Changed.{Each}
 use Rattle.pass_proofs.proofs.edges.rules.Operands as split
 
 -- ---- blocks on edges

@@ -6,7 +6,7 @@ use Rattle.pass_edges.specs.Edges.{edges_at}
 use Rattle.pass_edges.specs.declared.edge.Edge.{Edge}
 use Rattle.ir_model.specs.declared.module.Block.{Block}
 use Rattle.ir_model.specs.declared.module.Function.{Function}
-use Rattle.ir_laws.specs.facts.spelled.Filled.{HasNoEntryPhis}
+use Rattle.rule_laws.specs.ir_laws.facts.spelled.Filled.{HasNoEntryPhis}
 
 split_entry : (flags : List Bool) (table : List (List Edge)) (n : ℕ) (bs : List Block) → HasNoEntryPhis bs → HasNoEntryPhis (split_blocks flags table n bs)
 split_entry flags table n [] h = tt

@@ -1,12 +1,12 @@
 -- Lemmas on names.
 use Rattle.std.proofs.Common.{ℕ, zero, suc, [], ◌∷◌, refl}
 use Rattle.std.specs.Prelude.{codes}
-use Rattle.text_names.specs.Spelling.{IsName}
+use Rattle.rule_laws.specs.text_names.Spelling.{IsName}
 use Rattle.pass_edges.specs.EdgeBlocks.{edge_names}
 use Rattle.ir_model.specs.Names.{numbered}
-use Rattle.run_laws.specs.changed.Changed.{Each}
-use Rattle.ir_laws.proofs.facts.Lists.{numbered_named}
-use Rattle.ir_laws.proofs.facts.Members.{joined_names}
+use Rattle.rule_laws.specs.run_laws.changed.Changed.{Each}
+use Rattle.rule_laws.proofs.ir_laws.facts.Lists.{numbered_named}
+use Rattle.rule_laws.proofs.ir_laws.facts.Members.{joined_names}
 
 pub edges_named : (k : ℕ) → Each IsName (edge_names k)
 edges_named zero = tt

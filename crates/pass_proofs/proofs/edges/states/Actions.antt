@@ -1,24 +1,24 @@
 -- What an instruction does in a module, and in the module whose edges have blocks.
 use Rattle.std.proofs.Common.{◌≡◌, ℕ, List, [], ◌∷◌, length, refl, sym, ap, ◌∙◌}
 use Rattle.std.specs.Prelude.{ℤ, Some, None, Option, map, option_map}
-use Rattle.ir_base.specs.declared.name.Name.{Name}
-use Rattle.ir_base.specs.declared.outcome.Event.{Event}
-use Rattle.run_source.specs.Source.{context_of, given}
-use Rattle.run_source.specs.State.{work_of}
-use Rattle.run_source.specs.declared.state.State.{State}
+use Rattle.rule_laws.specs.ir_base.declared.name.Name.{Name}
+use Rattle.rule_laws.specs.ir_base.declared.outcome.Event.{Event}
+use Rattle.rule_laws.specs.run_source.Source.{context_of, given}
+use Rattle.rule_laws.specs.run_source.State.{work_of}
+use Rattle.rule_laws.specs.run_source.declared.state.State.{State}
 use Rattle.ir_model.specs.Names.{declaration_named, function_at}
 use Rattle.ir_model.specs.declared.module.Frame.{Frame}
 use Rattle.ir_model.specs.declared.module.Function.{Function}
 use Rattle.ir_model.specs.declared.module.Module.{Module}
 use Rattle.ir_model.specs.declared.operand.Operand.{Operand}
-use Rattle.run_step.specs.Step.{Action, Context, Coro, Deallocate, Done, Enter, Fetched, GoTo, NewSlot, Return, Stuck, Work, action_of, has_markers}
+use Rattle.rule_laws.specs.run_step.Step.{Action, Context, Coro, Deallocate, Done, Enter, Fetched, GoTo, NewSlot, Return, Stuck, Work, action_of, has_markers}
 use Rattle.run_states.proofs.expanded.Environments.{grown, result_grown}
-use Rattle.ir_laws.specs.facts.expanded.Tokens.{IsNamedResult}
+use Rattle.rule_laws.specs.ir_laws.facts.expanded.Tokens.{IsNamedResult}
 use Rattle.pass_proofs.proofs.edges.states.Parts.{coroutine_stays, fits_moved, function_moved, markers_moved, named_moved}
 use Rattle.pass_proofs.specs.edges.states.MovedState.{edge_count, edges_split, moved_action, moved_state, moved_work}
 use Rattle.pass_proofs.proofs.edges.states.States.{operand_moved}
-use Rattle.run_laws.proofs.changed.Kept.{action_kept}
-use Rattle.run_laws.specs.changed.Changed.{Change, IsDeclaredAlike, IsKeptAt, IsLike, IsSameOperand, callee_at, changed_action, changed_event, changed_work, operands_at, result_at, Each as EachOperand}
+use Rattle.rule_laws.proofs.run_laws.changed.Kept.{action_kept}
+use Rattle.rule_laws.specs.run_laws.changed.Changed.{Change, IsDeclaredAlike, IsKeptAt, IsLike, IsSameOperand, callee_at, changed_action, changed_event, changed_work, operands_at, result_at, Each as EachOperand}
 
 abbrev growing : Function → Change
 growing f = record { values = grown (edge_count f); declaration = λ d. d }

@@ -1,25 +1,25 @@
 -- What an action does to a state, and to that of the module whose edges have blocks.
 use Rattle.std.proofs.Common.{◌≡◌, ℕ, Bool, true, false, List, [], ◌∷◌, ◌++◌, refl, sym, ap, ◌∙◌}
 use Rattle.std.specs.Prelude.{ℤ, Some, None, Ok, Err, Option, Result, filter, not, option_map, ◌&&◌, ◌||◌, if◌then◌else◌}
-use Rattle.run_memory.specs.Memory.{disown, killed}
-use Rattle.run_memory.specs.declared.block.MemoryBlock.{MemoryBlock}
-use Rattle.run_memory.specs.declared.pointer.Value.{Value}
-use Rattle.ir_base.specs.declared.cause.Cause.{Cause}
-use Rattle.run_source.specs.Source.{deallocate, given, if_let_go, is_over, kill_late, let_go, may_be_freed, new_slot, with_new_slots}
-use Rattle.run_source.specs.State.{instance_at, is_finished, is_suspended, next, own_instance, settled, with_instance, with_memory, with_slots}
-use Rattle.run_source.specs.declared.state.Instance.{Instance}
-use Rattle.run_source.specs.declared.state.State.{State}
-use Rattle.run_source.specs.declared.state.Status.{Status}
+use Rattle.rule_laws.specs.run_memory.Memory.{disown, killed}
+use Rattle.rule_laws.specs.run_memory.declared.block.MemoryBlock.{MemoryBlock}
+use Rattle.rule_laws.specs.run_memory.declared.pointer.Value.{Value}
+use Rattle.rule_laws.specs.ir_base.declared.cause.Cause.{Cause}
+use Rattle.rule_laws.specs.run_source.Source.{deallocate, given, if_let_go, is_over, kill_late, let_go, may_be_freed, new_slot, with_new_slots}
+use Rattle.rule_laws.specs.run_source.State.{instance_at, is_finished, is_suspended, next, own_instance, settled, with_instance, with_memory, with_slots}
+use Rattle.rule_laws.specs.run_source.declared.state.Instance.{Instance}
+use Rattle.rule_laws.specs.run_source.declared.state.State.{State}
+use Rattle.rule_laws.specs.run_source.declared.state.Status.{Status}
 use Rattle.ir_model.specs.Names.{function_at}
 use Rattle.ir_model.specs.declared.module.Frame.{Frame}
 use Rattle.ir_model.specs.declared.module.Function.{Function}
 use Rattle.ir_model.specs.declared.module.Module.{Module}
-use Rattle.ir_paths.specs.Facts.{facts_of}
-use Rattle.ir_paths.specs.Slots.{has_name}
-use Rattle.ir_paths.specs.declared.point.Facts.{Facts}
-use Rattle.run_step.specs.Results.{and_then}
-use Rattle.run_step.specs.Step.{Work, deallocated, without_slots}
-use Rattle.run_step.specs.declared.world.Slot.{Slot}
+use Rattle.rule_laws.specs.ir_paths.Facts.{facts_of}
+use Rattle.rule_laws.specs.ir_paths.Slots.{has_name}
+use Rattle.rule_laws.specs.ir_paths.declared.point.Facts.{Facts}
+use Rattle.rule_laws.specs.run_step.Results.{and_then}
+use Rattle.rule_laws.specs.run_step.Step.{Work, deallocated, without_slots}
+use Rattle.rule_laws.specs.run_step.declared.world.Slot.{Slot}
 use Rattle.pass_proofs.proofs.edges.states.Parts.{ramp_kept}
 use Rattle.pass_proofs.specs.edges.states.MovedState.{Keeps, edge_function, edges_split, moved_work, moved_instance, moved_result, moved_state, moved_status}
 use Rattle.run_states.proofs.saved.States.{facts_are}

@@ -2,27 +2,27 @@
 use Rattle.std.proofs.Common.{◌≡◌, ℕ, ◌+◌, ◌<◌, Bool, false, List, [], ◌∷◌, length, refl, sym, ap, ◌∙◌, subst}
 use Rattle.std.proofs.lemmas.List.{replicate-append-replicate}
 use Rattle.std.specs.Prelude.{ℤ, None, Ok, Err, Option, Result, map, replicate, unwrap_or, if◌then◌else◌}
-use Rattle.run_memory.specs.declared.pointer.Value.{Value}
-use Rattle.ir_base.specs.declared.cause.Cause.{Cause}
-use Rattle.ir_base.specs.declared.outcome.Outcome.{Outcome}
-use Rattle.run_source.specs.Source.{called, enter, given, mode_of, pop, return, returned}
-use Rattle.run_source.specs.declared.state.Activation.{Activation}
-use Rattle.run_source.specs.declared.state.Mode.{Mode}
-use Rattle.run_source.specs.declared.state.State.{State}
+use Rattle.rule_laws.specs.run_memory.declared.pointer.Value.{Value}
+use Rattle.rule_laws.specs.ir_base.declared.cause.Cause.{Cause}
+use Rattle.rule_laws.specs.ir_base.declared.outcome.Outcome.{Outcome}
+use Rattle.rule_laws.specs.run_source.Source.{called, enter, given, mode_of, pop, return, returned}
+use Rattle.rule_laws.specs.run_source.declared.state.Activation.{Activation}
+use Rattle.rule_laws.specs.run_source.declared.state.Mode.{Mode}
+use Rattle.rule_laws.specs.run_source.declared.state.State.{State}
 use Rattle.ir_model.specs.Names.{function_at}
 use Rattle.ir_model.specs.declared.module.Frame.{Frame}
 use Rattle.ir_model.specs.declared.module.Function.{Function}
 use Rattle.ir_model.specs.declared.module.Module.{Module}
 use Rattle.ir_model.specs.declared.module.Param.{Param}
-use Rattle.run_step.specs.Results.{and_then}
-use Rattle.run_step.specs.Step.{entry_values, outcome_of, with_params}
-use Rattle.run_step.specs.Values.{Env}
+use Rattle.rule_laws.specs.run_step.Results.{and_then}
+use Rattle.rule_laws.specs.run_step.Step.{entry_values, outcome_of, with_params}
+use Rattle.rule_laws.specs.run_step.Values.{Env}
 use Rattle.run_states.proofs.expanded.Environments.{grown, params_grown, result_grown}
 use Rattle.pass_proofs.proofs.edges.states.Parts.{coroutine_stays, first_place, function_moved, names_counted, params_stay}
 use Rattle.pass_proofs.specs.edges.states.MovedState.{edge_count, edge_function, edges_split, moved_activation, moved_result, moved_state}
-use Rattle.run_laws.specs.changed.Changed.{Each}
+use Rattle.rule_laws.specs.run_laws.changed.Changed.{Each}
 use Rattle.run_states.specs.branches.MovedState.{IsNamedBelow}
-use Rattle.ir_laws.specs.facts.sound_states.Named.{HasNamedParams}
+use Rattle.rule_laws.specs.ir_laws.facts.sound_states.Named.{HasNamedParams}
 use Rattle.run_states.proofs.branches.Calls.{length_none}
 
 entry_moved : (f : Function) (args : List Value) → HasNamedParams f → entry_values (edge_function f) args ≡ grown (edge_count f) (entry_values f args)

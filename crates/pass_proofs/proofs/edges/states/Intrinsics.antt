@@ -4,35 +4,35 @@ use Rattle.std.proofs.lemmas.List.{length-map, map-append}
 use Rattle.std.specs.List.{find}
 use Rattle.std.specs.Option.{option_map_or}
 use Rattle.std.specs.Prelude.{ℤ, negsuc, Some, None, Ok, Err, Option, Result, is_none, map, not, option_and_then, option_map, slice_get, if◌then◌else◌, ◌==◌}
-use Rattle.run_memory.specs.Memory.{own}
-use Rattle.run_memory.specs.declared.block.Kind.{Kind}
-use Rattle.run_memory.specs.declared.block.MemoryBlock.{MemoryBlock}
-use Rattle.run_memory.specs.declared.pointer.Pointer.{Pointer}
-use Rattle.run_memory.specs.declared.pointer.Value.{Value}
-use Rattle.ir_base.specs.declared.cause.Cause.{Cause}
-use Rattle.run_source.specs.Source.{Sleeper, after_end, begin, begin_at, begun, block_of_slot, change_own, continue, destroy, done_at, end_of, finish, frame_address, frame_of_promise, given, has_promise_at, is_live_at, is_over, new_instance, promise, promise_block, promise_of_frame, release, resume, save, save_for, sleeper_at, slots_of, suspend, with_new_slots}
-use Rattle.run_source.specs.State.{frame_address_of, gives, instance_at, next, own_facts, own_frame, own_instance, point_of, with_instance, with_left, with_memory}
-use Rattle.run_source.specs.declared.state.Instance.{Instance}
-use Rattle.run_source.specs.declared.state.Mode.{Mode}
-use Rattle.run_source.specs.declared.state.State.{State}
-use Rattle.run_source.specs.declared.state.Status.{Status}
+use Rattle.rule_laws.specs.run_memory.Memory.{own}
+use Rattle.rule_laws.specs.run_memory.declared.block.Kind.{Kind}
+use Rattle.rule_laws.specs.run_memory.declared.block.MemoryBlock.{MemoryBlock}
+use Rattle.rule_laws.specs.run_memory.declared.pointer.Pointer.{Pointer}
+use Rattle.rule_laws.specs.run_memory.declared.pointer.Value.{Value}
+use Rattle.rule_laws.specs.ir_base.declared.cause.Cause.{Cause}
+use Rattle.rule_laws.specs.run_source.Source.{Sleeper, after_end, begin, begin_at, begun, block_of_slot, change_own, continue, destroy, done_at, end_of, finish, frame_address, frame_of_promise, given, has_promise_at, is_live_at, is_over, new_instance, promise, promise_block, promise_of_frame, release, resume, save, save_for, sleeper_at, slots_of, suspend, with_new_slots}
+use Rattle.rule_laws.specs.run_source.State.{frame_address_of, gives, instance_at, next, own_facts, own_frame, own_instance, point_of, with_instance, with_left, with_memory}
+use Rattle.rule_laws.specs.run_source.declared.state.Instance.{Instance}
+use Rattle.rule_laws.specs.run_source.declared.state.Mode.{Mode}
+use Rattle.rule_laws.specs.run_source.declared.state.State.{State}
+use Rattle.rule_laws.specs.run_source.declared.state.Status.{Status}
 use Rattle.ir_model.specs.Names.{function_at}
 use Rattle.ir_model.specs.declared.module.Frame.{Frame}
 use Rattle.ir_model.specs.declared.module.Function.{Function}
 use Rattle.ir_model.specs.declared.module.Module.{Module}
 use Rattle.ir_model.specs.declared.operand.Operand.{Operand}
-use Rattle.ir_paths.specs.Facts.{facts_of}
-use Rattle.ir_paths.specs.Slots.{promise_of}
-use Rattle.ir_paths.specs.Windows.{destroy_label, label_at, resume_label, suspend_of}
-use Rattle.ir_paths.specs.declared.point.Facts.{Facts}
-use Rattle.ir_paths.specs.declared.point.Point.{Point}
-use Rattle.run_step.specs.Results.{and_then, found, ok_if}
-use Rattle.run_step.specs.Step.{block_of, without_slots}
-use Rattle.run_step.specs.Values.{Env, integer, pointer_to, truth_value}
-use Rattle.run_step.specs.declared.world.Slot.{Slot}
+use Rattle.rule_laws.specs.ir_paths.Facts.{facts_of}
+use Rattle.rule_laws.specs.ir_paths.Slots.{promise_of}
+use Rattle.rule_laws.specs.ir_paths.Windows.{destroy_label, label_at, resume_label, suspend_of}
+use Rattle.rule_laws.specs.ir_paths.declared.point.Facts.{Facts}
+use Rattle.rule_laws.specs.ir_paths.declared.point.Point.{Point}
+use Rattle.rule_laws.specs.run_step.Results.{and_then, found, ok_if}
+use Rattle.rule_laws.specs.run_step.Step.{block_of, without_slots}
+use Rattle.rule_laws.specs.run_step.Values.{Env, integer, pointer_to, truth_value}
+use Rattle.rule_laws.specs.run_step.declared.world.Slot.{Slot}
 use Rattle.run_states.proofs.expanded.Environments.{result_grown}
-use Rattle.ir_laws.specs.facts.expanded.Tokens.{IsNamedResult}
-use Rattle.ir_base.specs.declared.outcome.Outcome.{Outcome}
+use Rattle.rule_laws.specs.ir_laws.facts.expanded.Tokens.{IsNamedResult}
+use Rattle.rule_laws.specs.ir_base.declared.outcome.Outcome.{Outcome}
 use Rattle.pass_proofs.proofs.edges.states.Parts.{final_kept, function_moved, has_final_kept, promise_kept, ramp_kept, suspend_kept}
 use Rattle.pass_proofs.proofs.edges.states.Ways.{label_enters}
 use Rattle.pass_proofs.specs.edges.states.MovedState.{AreEdgesKept, Keeps, edge_count, edge_function, edges_split, placed, placed_block, moved_activation, moved_instance, moved_result, moved_state, moved_values}
@@ -46,8 +46,8 @@ use Rattle.run_states.proofs.saved.States.{facts_are}
 use Rattle.pass_proofs.proofs.edges.states.States.{facts_moved, found_moved, own_moved, with_instance_moved, with_number}
 use Rattle.pass_proofs.proofs.edges.states.Suspends.{save_for_moved}
 use Rattle.run_states.specs.branches.MovedState.{IsNamedBelow, IsOwnedBy}
-use Rattle.ir_laws.specs.facts.sound_states.Named.{AreLocalsNamed}
-use Rattle.run_source_tables.specs.Given.{Given, has_final, is_final, is_true}
+use Rattle.rule_laws.specs.ir_laws.facts.sound_states.Named.{AreLocalsNamed}
+use Rattle.rule_laws.specs.run_source_tables.Given.{Given, has_final, is_final, is_true}
 
 -- ---- results of calls
 

@@ -3,7 +3,7 @@ use Rattle.std.proofs.Common.{◌≡◌, ℕ, zero, suc, ◌+◌, Bool, true, fa
 use Rattle.std.proofs.lemmas.Option.{slice_get-map}
 use Rattle.std.specs.List.{list_any}
 use Rattle.std.specs.Prelude.{Some, None, Option, map, option_map, slice_get, unwrap_or, if◌then◌else◌, ◌||◌}
-use Rattle.ir_base.specs.declared.name.Name.{Name}
+use Rattle.rule_laws.specs.ir_base.declared.name.Name.{Name}
 use Rattle.pass_proofs.proofs.edges.paths.Edges.{moved_apart}
 use Rattle.pass_proofs.proofs.edges.paths.Points.{points_moved}
 use Rattle.pass_proofs.proofs.edges.paths.Slots.{same_promise, same_ramp_slots}
@@ -19,12 +19,12 @@ use Rattle.ir_model.specs.declared.module.Function.{Function}
 use Rattle.ir_model.specs.declared.module.Module.{Module}
 use Rattle.ir_model.specs.declared.operand.Arg.{Arg}
 use Rattle.ir_model.specs.declared.operand.Intrinsic.{Intrinsic}
-use Rattle.ir_paths.specs.Facts.{facts_of}
-use Rattle.ir_paths.specs.Slots.{has_name, promise_of}
-use Rattle.ir_paths.specs.Windows.{is_call_of, points_where, suspend_of}
-use Rattle.ir_paths.specs.declared.point.Point.{Point}
-use Rattle.run_step.specs.Step.{fits_function, has_markers}
-use Rattle.run_source_tables.specs.Given.{has_final, is_final, is_final_call}
+use Rattle.rule_laws.specs.ir_paths.Facts.{facts_of}
+use Rattle.rule_laws.specs.ir_paths.Slots.{has_name, promise_of}
+use Rattle.rule_laws.specs.ir_paths.Windows.{is_call_of, points_where, suspend_of}
+use Rattle.rule_laws.specs.ir_paths.declared.point.Point.{Point}
+use Rattle.rule_laws.specs.run_step.Step.{fits_function, has_markers}
+use Rattle.rule_laws.specs.run_source_tables.Given.{has_final, is_final, is_final_call}
 
 -- ---- what holds of coroutines and of others
 

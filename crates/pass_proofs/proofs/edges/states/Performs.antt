@@ -1,14 +1,14 @@
 -- What a step does to a state, and to that of the module whose edges have blocks.
 use Rattle.std.proofs.Common.{◌≡◌, inl, ℕ, Bool, true, false, List, [], ◌∷◌, ◌++◌, length, refl, sym, ap, ◌∙◌, subst}
 use Rattle.std.specs.Prelude.{ℤ, pos, Some, None, Option, Result, replicate, if◌then◌else◌, ◌==◌}
-use Rattle.run_memory.specs.declared.pointer.Value.{Value}
-use Rattle.ir_base.specs.declared.cause.Cause.{Cause}
-use Rattle.ir_base.specs.declared.outcome.Outcome.{Outcome}
-use Rattle.ir_base.specs.declared.outcome.Word.{Word}
-use Rattle.run_source.specs.Source.{act, context_of, continue, coro, given, return}
-use Rattle.run_source.specs.State.{function_of, own_frame, point_of, settled, work_of}
-use Rattle.run_source.specs.declared.state.State.{State}
-use Rattle.ir_laws.specs.facts.threads.Moved.{ArePaired}
+use Rattle.rule_laws.specs.run_memory.declared.pointer.Value.{Value}
+use Rattle.rule_laws.specs.ir_base.declared.cause.Cause.{Cause}
+use Rattle.rule_laws.specs.ir_base.declared.outcome.Outcome.{Outcome}
+use Rattle.rule_laws.specs.ir_base.declared.outcome.Word.{Word}
+use Rattle.rule_laws.specs.run_source.Source.{act, context_of, continue, coro, given, return}
+use Rattle.rule_laws.specs.run_source.State.{function_of, own_frame, point_of, settled, work_of}
+use Rattle.rule_laws.specs.run_source.declared.state.State.{State}
+use Rattle.rule_laws.specs.ir_laws.facts.threads.Moved.{ArePaired}
 use Rattle.pass_proofs.proofs.edges.states.Actions.{action_moved}
 use Rattle.pass_proofs.proofs.edges.states.Acts.{deallocate_moved, new_slot_moved}
 use Rattle.run_states.proofs.branches.Branches.{IsNoBranch, instr_none}
@@ -19,9 +19,9 @@ use Rattle.pass_proofs.proofs.edges.states.States.{go_to_near, near_same, operan
 use Rattle.pass_proofs.proofs.edges.states.Ways.{fetch_kept}
 use Rattle.pass_proofs.specs.edges.states.MovedState.{AreEdgesKept, edge_count, edges_split, moved_action, moved_result, moved_state, placed, placed_block}
 use Rattle.pass_proofs.specs.edges.states.Near.{IsNear}
-use Rattle.ir_laws.specs.paths.branches.Ways.{AreFetched}
+use Rattle.rule_laws.specs.ir_laws.paths.branches.Ways.{AreFetched}
 use Rattle.pass_proofs.specs.edges.states.Ways.{Goes}
-use Rattle.ir_laws.specs.facts.branches.Ways.{TermsPaired}
+use Rattle.rule_laws.specs.ir_laws.facts.branches.Ways.{TermsPaired}
 use Rattle.ir_model.specs.Names.{function_at}
 use Rattle.ir_model.specs.Ty.{int}
 use Rattle.ir_model.specs.declared.instr.Case.{Case}
@@ -32,15 +32,15 @@ use Rattle.ir_model.specs.declared.module.Function.{Function}
 use Rattle.ir_model.specs.declared.module.Module.{Module}
 use Rattle.ir_model.specs.declared.operand.Arg.{Arg}
 use Rattle.ir_model.specs.declared.operand.Intrinsic.{Intrinsic}
-use Rattle.ir_paths.specs.Windows.{operand_at}
-use Rattle.run_step.specs.Step.{Action, AtInstr, AtTerm, Coro, Deallocate, Done, Enter, Fetched, GoTo, NewSlot, Nowhere, Return, Stuck, action_of, branch, fetch, is_word, switch, target_of, term_action}
-use Rattle.run_step.specs.Values.{Env, arg_value, arg_values, integer, nth, operand_value, truth_value}
-use Rattle.ir_laws.specs.facts.expanded.Tokens.{IsNamedResult}
+use Rattle.rule_laws.specs.ir_paths.Windows.{operand_at}
+use Rattle.rule_laws.specs.run_step.Step.{Action, AtInstr, AtTerm, Coro, Deallocate, Done, Enter, Fetched, GoTo, NewSlot, Nowhere, Return, Stuck, action_of, branch, fetch, is_word, switch, target_of, term_action}
+use Rattle.rule_laws.specs.run_step.Values.{Env, arg_value, arg_values, integer, nth, operand_value, truth_value}
+use Rattle.rule_laws.specs.ir_laws.facts.expanded.Tokens.{IsNamedResult}
 use Rattle.run_states.proofs.sound_states.Fits.{Fits, calls_at, fits, result_named}
-use Rattle.ir_laws.specs.facts.sound_states.Named.{AreLocalsNamed}
+use Rattle.rule_laws.specs.ir_laws.facts.sound_states.Named.{AreLocalsNamed}
 use Rattle.run_states.specs.sound_states.Sound.{IsSound}
-use Rattle.run_source_tables.specs.Given.{Given}
-use Rattle.run_laws.specs.changed.Changed.{result_at}
+use Rattle.rule_laws.specs.run_source_tables.Given.{Given}
+use Rattle.rule_laws.specs.run_laws.changed.Changed.{result_at}
 use Rattle.run_states.proofs.branches.Performs.{asleep, below_of, kept_room, own_of}
 
 -- ---- actions

@@ -1,26 +1,26 @@
 -- Resumes and destroys, where edges have blocks.
 use Rattle.std.proofs.Common.{◌≡◌, ℕ, List, length, refl, sym, ap, ◌∙◌, subst}
 use Rattle.std.specs.Prelude.{ℤ, Some, None, Ok, Err, Option, Result}
-use Rattle.run_memory.specs.declared.pointer.Value.{Value}
-use Rattle.ir_base.specs.declared.cause.Cause.{Cause}
-use Rattle.run_source.specs.Source.{Sleeper, continue, enter_block, given, push, resumed, sleeper_at, sleeper_of}
-use Rattle.run_source.specs.State.{instance_at, with_status}
-use Rattle.run_source.specs.declared.state.Instance.{Instance}
-use Rattle.run_source.specs.declared.state.State.{State}
-use Rattle.run_source.specs.declared.state.Status.{Status}
+use Rattle.rule_laws.specs.run_memory.declared.pointer.Value.{Value}
+use Rattle.rule_laws.specs.ir_base.declared.cause.Cause.{Cause}
+use Rattle.rule_laws.specs.run_source.Source.{Sleeper, continue, enter_block, given, push, resumed, sleeper_at, sleeper_of}
+use Rattle.rule_laws.specs.run_source.State.{instance_at, with_status}
+use Rattle.rule_laws.specs.run_source.declared.state.Instance.{Instance}
+use Rattle.rule_laws.specs.run_source.declared.state.State.{State}
+use Rattle.rule_laws.specs.run_source.declared.state.Status.{Status}
 use Rattle.ir_model.specs.Names.{function_at}
 use Rattle.ir_model.specs.declared.module.Frame.{Frame}
 use Rattle.ir_model.specs.declared.module.Module.{Module}
-use Rattle.ir_paths.specs.declared.point.Point.{Point}
-use Rattle.run_step.specs.Results.{and_then, found}
-use Rattle.run_step.specs.Values.{Env}
-use Rattle.run_source_tables.specs.Given.{Given}
-use Rattle.ir_base.specs.declared.outcome.Outcome.{Outcome}
+use Rattle.rule_laws.specs.ir_paths.declared.point.Point.{Point}
+use Rattle.rule_laws.specs.run_step.Results.{and_then, found}
+use Rattle.rule_laws.specs.run_step.Values.{Env}
+use Rattle.rule_laws.specs.run_source_tables.Given.{Given}
+use Rattle.rule_laws.specs.ir_base.declared.outcome.Outcome.{Outcome}
 use Rattle.pass_proofs.specs.edges.states.MovedState.{Keeps, edges_split, placed, moved_instance, moved_state, moved_status, moved_values}
 use Rattle.pass_proofs.specs.edges.states.Near.{IsNear}
 use Rattle.pass_proofs.specs.edges.states.Ways.{Enters}
 use Rattle.pass_proofs.proofs.edges.states.States.{enters_near, found_moved, with_instance_moved, with_number}
-use Rattle.ir_laws.specs.facts.sound_states.Named.{HasNamedPhis}
+use Rattle.rule_laws.specs.ir_laws.facts.sound_states.Named.{HasNamedPhis}
 
 module _ (m : Module) (sizes : List Frame) (answers : List ℤ) where
   abbrev g : Given

@@ -4,21 +4,21 @@ use Rattle.std.proofs.lemmas.List.{length-map}
 use Rattle.std.proofs.lemmas.Option.{slice_get-map}
 use Rattle.std.specs.List.{list_all}
 use Rattle.std.specs.Prelude.{ℤ, Some, None, Ok, Err, Option, Result, filter, map, option_and_then, option_map, slice_get, ◌&&◌, ◌==◌, if◌then◌else◌}
-use Rattle.run_memory.specs.declared.pointer.Pointer.{Pointer}
-use Rattle.run_memory.specs.declared.pointer.Value.{Value}
-use Rattle.ir_base.specs.declared.cause.Cause.{Cause}
-use Rattle.ir_base.specs.declared.outcome.Outcome.{Outcome}
-use Rattle.run_source.specs.Indexes.{last_from, or_else}
-use Rattle.run_source.specs.Source.{act, advance_by, branch_leaving, context_of, continue, enter_block, given, go_to, is_save, left_windows, may_leave, step}
-use Rattle.run_source.specs.State.{began_at, instance_at, is_suspended, numbered, or_undefined, own_instance, point_of, with_instance, with_left, with_status, work_of}
-use Rattle.run_source.specs.declared.state.Instance.{Instance}
-use Rattle.run_source.specs.declared.state.Saved.{Saved}
-use Rattle.run_source.specs.declared.state.State.{State}
-use Rattle.run_source.specs.declared.state.Status.{Status}
+use Rattle.rule_laws.specs.run_memory.declared.pointer.Pointer.{Pointer}
+use Rattle.rule_laws.specs.run_memory.declared.pointer.Value.{Value}
+use Rattle.rule_laws.specs.ir_base.declared.cause.Cause.{Cause}
+use Rattle.rule_laws.specs.ir_base.declared.outcome.Outcome.{Outcome}
+use Rattle.rule_laws.specs.run_source.Indexes.{last_from, or_else}
+use Rattle.rule_laws.specs.run_source.Source.{act, advance_by, branch_leaving, context_of, continue, enter_block, given, go_to, is_save, left_windows, may_leave, step}
+use Rattle.rule_laws.specs.run_source.State.{began_at, instance_at, is_suspended, numbered, or_undefined, own_instance, point_of, with_instance, with_left, with_status, work_of}
+use Rattle.rule_laws.specs.run_source.declared.state.Instance.{Instance}
+use Rattle.rule_laws.specs.run_source.declared.state.Saved.{Saved}
+use Rattle.rule_laws.specs.run_source.declared.state.State.{State}
+use Rattle.rule_laws.specs.run_source.declared.state.Status.{Status}
 use Rattle.pass_proofs.proofs.edges.paths.Left.{left_moved, none_left}
-use Rattle.ir_laws.specs.facts.threads.Moved.{ArePaired}
-use Rattle.ir_laws.specs.paths.threads.Moved.{IsMoved}
-use Rattle.ir_laws.specs.paths.threads.Threads.{IsBetween}
+use Rattle.rule_laws.specs.ir_laws.facts.threads.Moved.{ArePaired}
+use Rattle.rule_laws.specs.ir_laws.paths.threads.Moved.{IsMoved}
+use Rattle.rule_laws.specs.ir_laws.paths.threads.Threads.{IsBetween}
 use Rattle.pass_edges.specs.EdgeBlocks.{edge_block}
 use Rattle.pass_edges.specs.declared.edge.Edge.{Edge}
 use Rattle.pass_proofs.proofs.edges.states.Parts.{by_kind, function_moved, named_moved, placed_apart}
@@ -34,23 +34,23 @@ use Rattle.ir_model.specs.declared.module.Frame.{Frame}
 use Rattle.ir_model.specs.declared.module.Function.{Function}
 use Rattle.ir_model.specs.declared.module.Module.{Module}
 use Rattle.ir_model.specs.declared.operand.Operand.{Operand}
-use Rattle.ir_paths.proofs.Search.{Has}
-use Rattle.ir_paths.specs.Facts.{all_facts, facts_of}
-use Rattle.ir_paths.specs.Paths.{entry_point, nexts, same_point}
-use Rattle.ir_paths.specs.Windows.{leaves, windows_of}
-use Rattle.ir_paths.specs.declared.point.Facts.{Facts}
-use Rattle.ir_paths.specs.declared.point.Point.{Point}
-use Rattle.ir_paths.specs.declared.point.Window.{Window}
-use Rattle.run_step.specs.Results.{and_then, found, ok_if}
-use Rattle.run_step.specs.Step.{action_of, fetch_in, incoming_from, label_of, phi_values, phis_of, values_in, with_all}
-use Rattle.run_step.specs.Values.{Env, address_from, operand_value}
-use Rattle.ir_laws.proofs.paths.expanded.Apart.{same_moved}
+use Rattle.rule_laws.proofs.ir_paths.Search.{Has}
+use Rattle.rule_laws.specs.ir_paths.Facts.{all_facts, facts_of}
+use Rattle.rule_laws.specs.ir_paths.Paths.{entry_point, nexts, same_point}
+use Rattle.rule_laws.specs.ir_paths.Windows.{leaves, windows_of}
+use Rattle.rule_laws.specs.ir_paths.declared.point.Facts.{Facts}
+use Rattle.rule_laws.specs.ir_paths.declared.point.Point.{Point}
+use Rattle.rule_laws.specs.ir_paths.declared.point.Window.{Window}
+use Rattle.rule_laws.specs.run_step.Results.{and_then, found, ok_if}
+use Rattle.rule_laws.specs.run_step.Step.{action_of, fetch_in, incoming_from, label_of, phi_values, phis_of, values_in, with_all}
+use Rattle.rule_laws.specs.run_step.Values.{Env, address_from, operand_value}
+use Rattle.rule_laws.proofs.ir_laws.paths.expanded.Apart.{same_moved}
 use Rattle.run_states.proofs.expanded.Environments.{all_grown, grown, value_grown}
-use Rattle.ir_laws.proofs.facts.Members.{at_each as each_at}
-use Rattle.run_laws.specs.changed.Changed.{Each}
-use Rattle.ir_laws.specs.facts.sound_states.Named.{HasNamedPhis}
-use Rattle.run_source_tables.specs.Given.{Given, facts_at}
-use Rattle.ir_laws.proofs.facts.Lists.{map_set}
+use Rattle.rule_laws.proofs.ir_laws.facts.Members.{at_each as each_at}
+use Rattle.rule_laws.specs.run_laws.changed.Changed.{Each}
+use Rattle.rule_laws.specs.ir_laws.facts.sound_states.Named.{HasNamedPhis}
+use Rattle.rule_laws.specs.run_source_tables.Given.{Given, facts_at}
+use Rattle.rule_laws.proofs.ir_laws.facts.Lists.{map_set}
 use Rattle.run_states.proofs.saved.States.{facts_are}
 
 pub facts_moved : (m : Module) (func : ℕ) → facts_at (all_facts (edges_split m)) func ≡ facts_of (edge_function (function_at m func))

@@ -9,36 +9,36 @@ use Rattle.pass_proofs.proofs.edges.paths.Legs.{term_split}
 use Rattle.pass_proofs.proofs.edges.paths.Slots.{phi_taken}
 use Rattle.pass_proofs.proofs.edges.paths.Tables.{among_filter, edge_among, flag_at, leads_to, table_at}
 use Rattle.pass_proofs.specs.edges.paths.Labels.{AreSplit, IsAmong}
-use Rattle.ir_laws.specs.paths.threads.Labels.{HasLabelsBelow, HasNamedLabels}
-use Rattle.ir_laws.specs.facts.threads.Moved.{ArePaired}
+use Rattle.rule_laws.specs.ir_laws.paths.threads.Labels.{HasLabelsBelow, HasNamedLabels}
+use Rattle.rule_laws.specs.ir_laws.facts.threads.Moved.{ArePaired}
 use Rattle.pass_proofs.specs.edges.paths.Phis.{AreLabelsOnce}
 use Rattle.pass_proofs.specs.edges.paths.Spots.{moved, table_of}
 use Rattle.pass_edges.specs.EdgeBlocks.{split_block, split_cases, split_label, split_phi, split_term, with_edge_blocks}
 use Rattle.pass_edges.specs.Edges.{after_edge, edges_at, edges_of, ends_in_suspend, has_phis, phi_flags}
 use Rattle.pass_edges.specs.declared.edge.Edge.{Edge}
-use Rattle.ir_laws.specs.paths.branches.Ways.{AreFetched}
+use Rattle.rule_laws.specs.ir_laws.paths.branches.Ways.{AreFetched}
 use Rattle.pass_proofs.specs.edges.states.Ways.{Enters, Goes, PhisTake, TakesSame}
-use Rattle.ir_laws.specs.facts.branches.Ways.{TermsPaired}
+use Rattle.rule_laws.specs.ir_laws.facts.branches.Ways.{TermsPaired}
 use Rattle.pass_proofs.specs.edges.states.MovedState.{HaveSwitches, Keeps, edge_function, placed, placed_block}
-use Rattle.ir_laws.specs.facts.branches.MovedState.{IsSwitch}
+use Rattle.rule_laws.specs.ir_laws.facts.branches.MovedState.{IsSwitch}
 use Rattle.pass_proofs.proofs.edges.states.Parts.{by_kind}
 use Rattle.run_states.specs.sound_states.Sound.{IsSuspendAt}
 use Rattle.ir_model.specs.declared.instr.Case.{Case}
 use Rattle.ir_model.specs.declared.instr.Instr.{Instr}
 use Rattle.ir_model.specs.declared.instr.Terminator.{Terminator}
 use Rattle.ir_model.specs.declared.operand.Intrinsic.{Intrinsic}
-use Rattle.ir_paths.specs.Windows.{instr_at, instr_in, is_call_of, label_at, label_in, label_of_term}
-use Rattle.ir_paths.specs.declared.point.Point.{Point}
-use Rattle.run_laws.specs.changed.Changed.{Each}
+use Rattle.rule_laws.specs.ir_paths.Windows.{instr_at, instr_in, is_call_of, label_at, label_in, label_of_term}
+use Rattle.rule_laws.specs.ir_paths.declared.point.Point.{Point}
+use Rattle.rule_laws.specs.run_laws.changed.Changed.{Each}
 use Rattle.std.proofs.lemmas.Bool.{le-ltb}
 use Rattle.ir_model.specs.Names.{first_where, position_of}
 use Rattle.ir_model.specs.declared.instr.Phi.{Phi}
 use Rattle.ir_model.specs.declared.module.Block.{Block}
 use Rattle.ir_model.specs.declared.module.Function.{Function}
-use Rattle.ir_paths.proofs.Search.{Has, eq_from, eq_itself, or_left, or_right, same_point-itself}
-use Rattle.ir_paths.specs.Paths.{entry_point, has_point, nexts, nexts_in, same_point, targets}
-use Rattle.run_step.specs.Step.{Nowhere, fetch, fetch_in, fetch_or, label_of, phis_of}
-use Rattle.ir_laws.proofs.facts.Members.{at_each as each_at}
+use Rattle.rule_laws.proofs.ir_paths.Search.{Has, eq_from, eq_itself, or_left, or_right, same_point-itself}
+use Rattle.rule_laws.specs.ir_paths.Paths.{entry_point, has_point, nexts, nexts_in, same_point, targets}
+use Rattle.rule_laws.specs.run_step.Step.{Nowhere, fetch, fetch_in, fetch_or, label_of, phis_of}
+use Rattle.rule_laws.proofs.ir_laws.facts.Members.{at_each as each_at}
 
 -- ---- the block at the position of a label
 

@@ -5,19 +5,19 @@ use Rattle.std.specs.List.{AllByRecursion, cons_option}
 use Rattle.std.specs.Prelude.{Some, None, Option, filter, filter_map, map, option_map}
 use Rattle.pass_proofs.proofs.edges.paths.Left.{left_by, none_by}
 use Rattle.pass_proofs.proofs.edges.paths.Windows.{window_moved}
-use Rattle.ir_laws.specs.facts.threads.Moved.{ArePaired}
-use Rattle.ir_laws.specs.paths.threads.Moved.{GoesTo, IsMoved}
-use Rattle.ir_laws.specs.paths.threads.Threads.{AreThreads, IsBetween}
+use Rattle.rule_laws.specs.ir_laws.facts.threads.Moved.{ArePaired}
+use Rattle.rule_laws.specs.ir_laws.paths.threads.Moved.{GoesTo, IsMoved}
+use Rattle.rule_laws.specs.ir_laws.paths.threads.Threads.{AreThreads, IsBetween}
 use Rattle.ir_model.specs.declared.instr.Instr.{Instr}
 use Rattle.ir_model.specs.declared.module.Function.{Function}
 use Rattle.ir_model.specs.declared.operand.Intrinsic.{Intrinsic}
-use Rattle.ir_paths.proofs.Right.{facts_of_right}
-use Rattle.ir_paths.proofs.Search.{Has}
-use Rattle.ir_paths.specs.Facts.{IsWindow}
-use Rattle.ir_paths.specs.Paths.{nexts}
-use Rattle.ir_paths.specs.Windows.{is_call_of, leaves, points_where, suspend_of, window_of, windows_of}
-use Rattle.ir_paths.specs.declared.point.Point.{Point}
-use Rattle.ir_paths.specs.declared.point.Window.{Window}
+use Rattle.rule_laws.proofs.ir_paths.Right.{facts_of_right}
+use Rattle.rule_laws.proofs.ir_paths.Search.{Has}
+use Rattle.rule_laws.specs.ir_paths.Facts.{IsWindow}
+use Rattle.rule_laws.specs.ir_paths.Paths.{nexts}
+use Rattle.rule_laws.specs.ir_paths.Windows.{is_call_of, leaves, points_where, suspend_of, window_of, windows_of}
+use Rattle.rule_laws.specs.ir_paths.declared.point.Point.{Point}
+use Rattle.rule_laws.specs.ir_paths.declared.point.Window.{Window}
 use Rattle.run_states.specs.moved_states.Moving.{saves_left}
 
 module _ (f g : Function) (move : Point → Point) (threads : AreThreads f g move) (points : (test : Instr → Bool) → points_where test g ≡ map move (points_where test f)) (suspends : (p : Point) → suspend_of g (move p) ≡ option_map move (suspend_of f p)) where

@@ -5,16 +5,16 @@ use Rattle.std.specs.Prelude.{None, Option, Some, not, slice_get}
 use Rattle.pass_proofs.specs.edges.paths.Spots.{table_of}
 use Rattle.pass_edges.specs.EdgeBlocks.{with_edge_blocks}
 use Rattle.pass_edges.specs.Edges.{edges_at, ends_in_suspend, phi_flags}
-use Rattle.ir_laws.proofs.facts.Truth.{holds}
+use Rattle.rule_laws.proofs.ir_laws.facts.Truth.{holds}
 use Rattle.pass_proofs.proofs.edges.rules.Homes.{IsEdge, IsOwn, home}
-use Rattle.ir_parts.specs.Contents.{ending_operands, part_operands}
-use Rattle.ir_parts.specs.Parts.{OfPhi}
+use Rattle.rule_laws.specs.ir_parts.Contents.{ending_operands, part_operands}
+use Rattle.rule_laws.specs.ir_parts.Parts.{OfPhi}
 use Rattle.ir_model.specs.declared.instr.Instr.{Instr}
 use Rattle.ir_model.specs.declared.module.Block.{Block}
 use Rattle.ir_model.specs.declared.module.Function.{Function}
-use Rattle.ir_paths.specs.Windows.{instr_at, instr_in}
-use Rattle.ir_paths.specs.declared.point.Point.{Point}
-use Rattle.ir_laws.proofs.paths.unused.Standing.{stands_at}
+use Rattle.rule_laws.specs.ir_paths.Windows.{instr_at, instr_in}
+use Rattle.rule_laws.specs.ir_paths.declared.point.Point.{Point}
+use Rattle.rule_laws.proofs.ir_laws.paths.unused.Standing.{stands_at}
 use Rattle.rule_laws.specs.rules.unused.Unused.{AreFramesUnused, is_other, names_value}
 use Rattle.pass_proofs.proofs.edges.rules.Carried as edges
 use Rattle.pass_proofs.proofs.edges.rules.Operands as operands

@@ -6,9 +6,9 @@ use Rattle.pass_proofs.proofs.early.local_rules.Known.{ending_types_same}
 use Rattle.pass_proofs.proofs.edges.rules.Homes.{own_block}
 use Rattle.pass_edges.specs.EdgeBlocks.{with_edge_blocks}
 use Rattle.pass_edges.specs.Edges.{ends_in_suspend, phi_flags}
-use Rattle.ir_parts.specs.Contents.{ending_types}
+use Rattle.rule_laws.specs.ir_parts.Contents.{ending_types}
 use Rattle.ir_model.specs.declared.module.Function.{Function}
-use Rattle.ir_laws.proofs.facts.Lists.{same_widths}
+use Rattle.rule_laws.proofs.ir_laws.facts.Lists.{same_widths}
 use Rattle.pass_proofs.proofs.edges.rules.Carried as edges
 use Rattle.pass_proofs.proofs.edges.rules.Operands as operands
 

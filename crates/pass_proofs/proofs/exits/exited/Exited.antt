@@ -1,14 +1,14 @@
 -- The module whose coroutines have blocks on the edges that leave their windows: what is known of its functions is what was.
 use Rattle.std.proofs.Common.{◌≡◌, ℕ, zero, suc, Bool, true, false, List, [], ◌∷◌, refl, sym, ap, ◌∙◌, subst}
 use Rattle.std.specs.Prelude.{Option, Some, codes, map, option_map, slice_get, if◌then◌else◌}
-use Rattle.ir_base.specs.declared.name.Name.{Name}
-use Rattle.ir_laws.specs.facts.function_rules.Signatures.{HaveSameSignatures, heading}
+use Rattle.rule_laws.specs.ir_base.declared.name.Name.{Name}
+use Rattle.rule_laws.specs.ir_laws.facts.function_rules.Signatures.{HaveSameSignatures, heading}
 use Rattle.ir_model.specs.Names.{first_where, function_named, same_name}
 use Rattle.ir_model.specs.Ty.{Ty}
 use Rattle.ir_model.specs.declared.module.Function.{Function}
 use Rattle.ir_model.specs.declared.module.Module.{Module}
 use Rattle.ir_model.specs.declared.module.Param.{Param}
-use Rattle.rule_names.specs.Reserved.{part_name}
+use Rattle.rule_laws.specs.rule_names.Reserved.{part_name}
 use Rattle.rule_laws.specs.frames.same_names.Parts.{HasPart, HasPartsOf, HasSignature}
 use Rattle.pass_exits.specs.ExitBlocks.{with_exit_blocks}
 

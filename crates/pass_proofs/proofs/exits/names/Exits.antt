@@ -5,12 +5,12 @@ use Rattle.std.specs.Fmt.{digit_glyph, digits, digits_onto}
 use Rattle.std.proofs.lemmas.Bool.Decides.{nat_tests}
 use Rattle.std.proofs.lemmas.Fmt.{decimal_injective}
 use Rattle.std.proofs.lemmas.List.{append_cancel_left}
-use Rattle.ir_base.specs.declared.name.Name.{Name}
+use Rattle.rule_laws.specs.ir_base.declared.name.Name.{Name}
 use Rattle.ir_model.specs.Names.{numbered}
 use Rattle.pass_exits.specs.ExitBlocks.{exit_name, exit_names}
 use Rattle.pass_exits.specs.declared.exit.Exit.{Exit}
-use Rattle.run_laws.specs.changed.Changed.{Each}
-use Rattle.ir_laws.proofs.facts.Lists.{AreDifferent, IsNone}
+use Rattle.rule_laws.specs.run_laws.changed.Changed.{Each}
+use Rattle.rule_laws.proofs.ir_laws.facts.Lists.{AreDifferent, IsNone}
 use Rattle.rule_laws.proofs.rules.names_apart.Numbered.{text_in}
 use Rattle.rule_laws.proofs.rules.names_apart.Words.{AreNew}
 use Rattle.rule_laws.specs.rules.names_apart.Words.{begins_with_one}

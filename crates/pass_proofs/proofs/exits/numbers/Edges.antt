@@ -1,7 +1,7 @@
 -- Lemmas on edges.
 use Rattle.std.proofs.Common.{◌≡◌, ℕ, ◌+◌, List, [], ◌∷◌, ◌++◌, length, refl, ◌∙◌, arith}
 use Rattle.rule_laws.proofs.frames.suspend_counts.Counted.{as_many, count, total}
-use Rattle.pass_intrinsics.specs.Shapes.{suspends_of}
+use Rattle.rule_laws.specs.pass_intrinsics.Shapes.{suspends_of}
 use Rattle.ir_model.specs.declared.module.Block.{Block}
 use Rattle.ir_model.specs.declared.module.Function.{Function}
 use Rattle.pass_exits.specs.ExitBlocks.{blocks_by, exit_blocks, with_exit_blocks}

@@ -1,11 +1,11 @@
 -- The edges of a terminator, and the labels to which they lead when blocks are put on those that leave windows.
 use Rattle.std.proofs.Common.{◌≡◌, ℕ, zero, suc, ◌+◌, ◌⊎◌, inl, inr, List, [], ◌∷◌, ◌++◌, map, None, Option, Some, refl, sym, ap, subst, arith}
 use Rattle.std.specs.Prelude.{slice_get}
-use Rattle.flow_solver.specs.Paths.{IsListed}
+use Rattle.rule_laws.specs.flow_solver.Paths.{IsListed}
 use Rattle.ir_model.specs.declared.instr.Case.{Case}
 use Rattle.ir_model.specs.declared.instr.Terminator.{Terminator}
 use Rattle.ir_model.specs.declared.module.Function.{Function}
-use Rattle.ir_paths.specs.Paths.{targets}
+use Rattle.rule_laws.specs.ir_paths.Paths.{targets}
 use Rattle.pass_exits.specs.ExitBlocks.{after_exit, exit_cases, exit_label, exit_term}
 use Rattle.pass_exits.specs.Exits.{exit_to, exits_to, mark_of}
 use Rattle.pass_exits.specs.declared.exit.Exit.{Exit}

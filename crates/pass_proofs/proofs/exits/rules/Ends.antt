@@ -7,10 +7,10 @@ use Rattle.ir_model.specs.Names.{first_where}
 use Rattle.ir_model.specs.declared.module.Block.{Block}
 use Rattle.ir_model.specs.declared.module.Function.{Function}
 use Rattle.ir_model.specs.declared.operand.Intrinsic.{Intrinsic}
-use Rattle.ir_paths.specs.Windows.{end_block, is_call_of}
-use Rattle.ir_laws.proofs.facts.Lists.{place_end}
-use Rattle.ir_laws.specs.facts.expanded.Expansion.{expanded, place_of}
-use Rattle.run_laws.specs.changed.Changed.{Each}
+use Rattle.rule_laws.specs.ir_paths.Windows.{end_block, is_call_of}
+use Rattle.rule_laws.proofs.ir_laws.facts.Lists.{place_end}
+use Rattle.rule_laws.specs.ir_laws.facts.expanded.Expansion.{expanded, place_of}
+use Rattle.rule_laws.specs.run_laws.changed.Changed.{Each}
 use Rattle.pass_exits.specs.ExitBlocks.{blocks_by, exit_block, exit_blocks, with_exit_blocks, with_exits}
 use Rattle.pass_exits.specs.Exits.{block_exits}
 use Rattle.pass_exits.specs.declared.exit.Exit.{Exit}

@@ -2,18 +2,18 @@
 use Rattle.std.proofs.Common.{◌≡◌, ⊎_elim, inl, inr, ℕ, Bool, true, false, ◌&&◌, ◌||◌, List, [], ◌∷◌, None, Option, Some, ap, not, refl, sym, ◌∙◌}
 use Rattle.std.specs.List.{list_all}
 use Rattle.std.specs.Prelude.{slice_get, ◌==◌}
-use Rattle.ir_base.specs.declared.outcome.Place.{Place}
+use Rattle.rule_laws.specs.ir_base.declared.outcome.Place.{Place}
 use Rattle.rule_laws.proofs.rules.local_rules.Defined.{label_defined}
-use Rattle.ir_laws.proofs.facts.Truth.{and_both, and_first, and_second, holds}
+use Rattle.rule_laws.proofs.ir_laws.facts.Truth.{and_both, and_first, and_second, holds}
 use Rattle.rule_laws.specs.rules.local_rules.Local.{BreaksNoLocalRuleIn}
 use Rattle.rule_laws.proofs.rules.rows.Carried.{AreAlikePlaced}
 use Rattle.pass_proofs.proofs.edges.rules.Labels.{any_at, at_all}
 use Rattle.pass_proofs.specs.edges.rules.Phis.{ArePhisEnteredByJumps}
 use Rattle.rule_laws.proofs.rules.known_labels.Rules.{labels_spelt}
-use Rattle.flow_solver.proofs.Lists.{listed_at}
-use Rattle.flow_solver.specs.Paths.{IsListed}
-use Rattle.ir_parts.specs.Contents.{ending_labels, ending_operands, ending_types, part_labels, part_operands, part_types}
-use Rattle.ir_parts.specs.Parts.{Ending, Head, OfInstr, OfPhi, first_part, parts_of}
+use Rattle.rule_laws.proofs.flow_solver.Lists.{listed_at}
+use Rattle.rule_laws.specs.flow_solver.Paths.{IsListed}
+use Rattle.rule_laws.specs.ir_parts.Contents.{ending_labels, ending_operands, ending_types, part_labels, part_operands, part_types}
+use Rattle.rule_laws.specs.ir_parts.Parts.{Ending, Head, OfInstr, OfPhi, first_part, parts_of}
 use Rattle.rule_laws.proofs.rules.function_rules.Depths.{plain_part, types_fit}
 use Rattle.rule_laws.specs.rules.function_rules.Kept.{KeepsFunctionRules}
 use Rattle.ir_model.specs.Names.{position_of}
@@ -23,23 +23,23 @@ use Rattle.ir_model.specs.declared.module.Block.{Block}
 use Rattle.ir_model.specs.declared.module.Function.{Function}
 use Rattle.ir_model.specs.declared.module.Module.{Module}
 use Rattle.ir_model.specs.declared.operand.Operand.{Operand}
-use Rattle.ir_paths.proofs.Search.{eq_itself}
-use Rattle.ir_paths.specs.Paths.{targets}
-use Rattle.rule_locals.specs.Addresses.{is_no_function, points_to_functions}
-use Rattle.rule_locals.specs.Calls.{calls_closed}
-use Rattle.rule_locals.specs.Entries.{allocates_late}
-use Rattle.rule_locals.specs.Extents.{breaks_extents}
-use Rattle.rule_locals.specs.Instrs.{on_instr}
-use Rattle.rule_locals.specs.Intrinsics.{calls_inner}
-use Rattle.rule_locals.specs.Markers.{first_other_mark, marks_otherwise, slot_size}
-use Rattle.rule_locals.specs.Transfers.{breaks_transfers}
-use Rattle.rule_names.specs.Known.{first_unknown, is_label, is_value, knows_operand, knows_type, names_unknown}
-use Rattle.rule_names.specs.declared.stage.Stage.{Stage}
-use Rattle.rule_types.specs.Limits.{all_fit, breaks_limits, first_past}
-use Rattle.rule_types.specs.Signatures.{calls_otherwise, first_otherwise}
-use Rattle.rule_values.specs.Kinds.{value_kind}
-use Rattle.rule_values.specs.Values.{breaks_values, first_wrong_value}
-use Rattle.rule_values.specs.declared.kinds.Kind.{Kind}
+use Rattle.rule_laws.proofs.ir_paths.Search.{eq_itself}
+use Rattle.rule_laws.specs.ir_paths.Paths.{targets}
+use Rattle.rule_laws.specs.rule_locals.Addresses.{is_no_function, points_to_functions}
+use Rattle.rule_laws.specs.rule_locals.Calls.{calls_closed}
+use Rattle.rule_laws.specs.rule_locals.Entries.{allocates_late}
+use Rattle.rule_laws.specs.rule_locals.Extents.{breaks_extents}
+use Rattle.rule_laws.specs.rule_locals.Instrs.{on_instr}
+use Rattle.rule_laws.specs.rule_locals.Intrinsics.{calls_inner}
+use Rattle.rule_laws.specs.rule_locals.Markers.{first_other_mark, marks_otherwise, slot_size}
+use Rattle.rule_laws.specs.rule_locals.Transfers.{breaks_transfers}
+use Rattle.rule_laws.specs.rule_names.Known.{first_unknown, is_label, is_value, knows_operand, knows_type, names_unknown}
+use Rattle.rule_laws.specs.rule_names.declared.stage.Stage.{Stage}
+use Rattle.rule_laws.specs.rule_types.Limits.{all_fit, breaks_limits, first_past}
+use Rattle.rule_laws.specs.rule_types.Signatures.{calls_otherwise, first_otherwise}
+use Rattle.rule_laws.specs.rule_values.Kinds.{value_kind}
+use Rattle.rule_laws.specs.rule_values.Values.{breaks_values, first_wrong_value}
+use Rattle.rule_laws.specs.rule_values.declared.kinds.Kind.{Kind}
 use Rattle.pass_exits.specs.ExitBlocks.{exit_term, with_exit_blocks}
 use Rattle.rule_laws.proofs.rules.threaded.Carried.{Carries, carried, on_instrs}
 use Rattle.rule_laws.proofs.rules.threaded.Labels.{HasBlock, block_there, ending_known}
@@ -47,7 +47,7 @@ use Rattle.pass_proofs.proofs.exits.rules.Noted.{kinds_same, sizes_same, values_
 use Rattle.pass_proofs.proofs.exits.rules.Operands.{ending_fits, ending_types_same}
 use Rattle.pass_proofs.proofs.exits.rules.Places.{own_number, own_there, spot}
 use Rattle.pass_proofs.proofs.exits.rules.Threaded.{moves, threaded}
-use Rattle.ir_laws.proofs.paths.threaded.Threads.{IsOver, Moves, between, ended}
+use Rattle.rule_laws.proofs.ir_laws.paths.threaded.Threads.{IsOver, Moves, between, ended}
 use Rattle.rule_laws.proofs.rules.threaded.Threads.{IsThreaded}
 
 module _ (m : Module) (func : ℕ) (f : Function) (rules : KeepsFunctionRules m func f) (jumps : ArePhisEnteredByJumps f) where

@@ -1,18 +1,18 @@
 -- The locals of the function with blocks on the edges that leave windows are apart, and positions of its table of names (rule N1).
 use Rattle.std.proofs.Common.{◌≡◌, ℕ, suc, ◌+◌, ◌<◌, ◌≤◌, List, [], ◌∷◌, ◌++◌, None, length, length-append, refl, sym, ap, subst, arith, ⊎_elim}
-use Rattle.rule_uses.specs.Undefined.{params_of}
+use Rattle.rule_laws.specs.rule_uses.Undefined.{params_of}
 use Rattle.rule_laws.proofs.rules.local_rules.Names.{numbers}
 use Rattle.rule_laws.proofs.rules.local_rules.Woven.{Ends, New, Woven, apart_names, apart_woven, joined_woven, listed_woven, none_twice, same_woven}
-use Rattle.ir_laws.proofs.paths.source_rules.Locals.{Apart}
+use Rattle.rule_laws.proofs.ir_laws.paths.source_rules.Locals.{Apart}
 use Rattle.rule_laws.proofs.rules.source_rules.Locals.{block_names, names_are}
-use Rattle.ir_laws.proofs.facts.Lists.{row_of}
+use Rattle.rule_laws.proofs.ir_laws.facts.Lists.{row_of}
 use Rattle.rule_laws.specs.rules.source_rules.Named.{HasTabledLocals}
-use Rattle.flow_solver.specs.Paths.{IsListed}
-use Rattle.ir_parts.specs.Locals.{locals_of}
+use Rattle.rule_laws.specs.flow_solver.Paths.{IsListed}
+use Rattle.rule_laws.specs.ir_parts.Locals.{locals_of}
 use Rattle.rule_laws.proofs.rules.function_rules.Tabled.{numbers_below, tabled_by}
 use Rattle.ir_model.specs.declared.module.Block.{Block}
 use Rattle.ir_model.specs.declared.module.Function.{Function}
-use Rattle.rule_names.specs.Definitions.{first_twice}
+use Rattle.rule_laws.specs.rule_names.Definitions.{first_twice}
 use Rattle.pass_exits.specs.ExitBlocks.{blocks_by, exit_blocks, exit_names, with_exit_blocks}
 use Rattle.pass_exits.specs.Exits.{block_exits, exits_by, exits_of}
 use Rattle.pass_exits.specs.declared.exit.Exit.{Exit}

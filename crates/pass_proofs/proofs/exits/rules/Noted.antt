@@ -5,10 +5,10 @@ use Rattle.rule_laws.proofs.rules.local_rules.Defined.{value_defined}
 use Rattle.ir_model.specs.declared.module.Block.{Block}
 use Rattle.ir_model.specs.declared.module.Function.{Function}
 use Rattle.ir_model.specs.declared.module.Module.{Module}
-use Rattle.rule_locals.specs.Markers.{block_size, slot_size}
-use Rattle.ir_locals.specs.Tables.{first_in, or_first}
-use Rattle.rule_names.specs.Known.{is_value}
-use Rattle.rule_values.specs.Kinds.{block_kind, param_kind, value_kind}
+use Rattle.rule_laws.specs.rule_locals.Markers.{block_size, slot_size}
+use Rattle.rule_laws.specs.ir_locals.Tables.{first_in, or_first}
+use Rattle.rule_laws.specs.rule_names.Known.{is_value}
+use Rattle.rule_laws.specs.rule_values.Kinds.{block_kind, param_kind, value_kind}
 use Rattle.pass_exits.specs.ExitBlocks.{blocks_by, exit_block, exit_blocks, with_exit_blocks, with_exits}
 use Rattle.pass_exits.specs.Exits.{block_exits}
 use Rattle.pass_exits.specs.declared.exit.Exit.{Exit}

@@ -1,17 +1,17 @@
 -- The operands, types and values of terminators stay when blocks are put on edges that leave windows.
 use Rattle.std.proofs.Common.{◌≡◌, ℕ, Bool, ◌&&◌, List, [], ◌∷◌, map, not, Option, refl, ap}
 use Rattle.std.specs.List.{list_all}
-use Rattle.ir_parts.specs.Contents.{ending_operands, ending_types}
+use Rattle.rule_laws.specs.ir_parts.Contents.{ending_operands, ending_types}
 use Rattle.ir_model.specs.Ty.{Ty}
 use Rattle.ir_model.specs.declared.instr.Case.{Case}
 use Rattle.ir_model.specs.declared.instr.Terminator.{Terminator}
 use Rattle.ir_model.specs.declared.module.Function.{Function}
 use Rattle.ir_model.specs.declared.operand.Arg.{Arg}
 use Rattle.ir_model.specs.declared.operand.Operand.{Operand}
-use Rattle.rule_values.specs.Fits.{fits_integer}
-use Rattle.rule_values.specs.Switches.{any_twice, bits_in, case_word, fits_case, fits_switch}
-use Rattle.rule_values.specs.Values.{fits_ending}
-use Rattle.rule_values.specs.declared.kinds.Kind.{Kind}
+use Rattle.rule_laws.specs.rule_values.Fits.{fits_integer}
+use Rattle.rule_laws.specs.rule_values.Switches.{any_twice, bits_in, case_word, fits_case, fits_switch}
+use Rattle.rule_laws.specs.rule_values.Values.{fits_ending}
+use Rattle.rule_laws.specs.rule_values.declared.kinds.Kind.{Kind}
 use Rattle.pass_exits.specs.ExitBlocks.{after_exit, exit_cases, exit_term}
 use Rattle.pass_exits.specs.Exits.{mark_of}
 

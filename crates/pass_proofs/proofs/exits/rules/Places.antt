@@ -6,8 +6,8 @@ use Rattle.std.proofs.lemmas.Option.{slice_get-map, slice_get_past, slice_get_wi
 use Rattle.std.specs.Prelude.{slice_get}
 use Rattle.ir_model.specs.declared.module.Block.{Block}
 use Rattle.ir_model.specs.declared.module.Function.{Function}
-use Rattle.ir_laws.proofs.facts.Lists.{get_behind, get_expanded, get_front, none_past, place_beyond, place_next, place_unique}
-use Rattle.ir_laws.specs.facts.expanded.Expansion.{expanded, number_at, place_of}
+use Rattle.rule_laws.proofs.ir_laws.facts.Lists.{get_behind, get_expanded, get_front, none_past, place_beyond, place_next, place_unique}
+use Rattle.rule_laws.specs.ir_laws.facts.expanded.Expansion.{expanded, number_at, place_of}
 use Rattle.pass_exits.specs.ExitBlocks.{blocks_by, exit_block, exit_blocks, with_exit_blocks, with_exits}
 use Rattle.pass_exits.specs.Exits.{block_exits}
 use Rattle.pass_exits.specs.declared.exit.Exit.{Exit}

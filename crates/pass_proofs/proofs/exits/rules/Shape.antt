@@ -1,10 +1,10 @@
 -- The calls by which a function is a coroutine stay when blocks are put on edges that leave windows, as a suspend's block stays as it is.
 use Rattle.std.proofs.Common.{◌≡◌, ℕ, suc, ◌+◌, ◌-◌, Bool, true, false, List, [], ◌∷◌, ◌++◌, None, Option, Some, if◌then◌else◌, ap, length, map, refl, sym, ◌∙◌, arith}
 use Rattle.std.specs.Prelude.{count_by, flat_map, slice_get, ◌==◌}
-use Rattle.rule_shape.specs.Uses.{block_operands, uses_of, phi_operands}
-use Rattle.ir_laws.proofs.facts.local_rules.Woven.{other_number}
+use Rattle.rule_laws.specs.rule_shape.Uses.{block_operands, uses_of, phi_operands}
+use Rattle.rule_laws.proofs.ir_laws.facts.local_rules.Woven.{other_number}
 use Rattle.pass_edges.specs.Edges.{ends_in_suspend, is_suspend, is_suspend_at}
-use Rattle.ir_parts.specs.Contents.{instr_operands}
+use Rattle.rule_laws.specs.ir_parts.Contents.{instr_operands}
 use Rattle.ir_model.specs.Names.{is_local, same_intrinsic}
 use Rattle.ir_model.specs.declared.instr.Case.{Case}
 use Rattle.ir_model.specs.declared.instr.Instr.{Instr}
@@ -14,8 +14,8 @@ use Rattle.ir_model.specs.declared.module.Function.{Function}
 use Rattle.ir_model.specs.declared.operand.Callee.{Callee}
 use Rattle.ir_model.specs.declared.operand.Intrinsic.{Intrinsic}
 use Rattle.ir_model.specs.declared.operand.Operand.{Operand}
-use Rattle.ir_paths.specs.Paths.{entry_point}
-use Rattle.ir_paths.specs.Windows.{windows_of}
+use Rattle.rule_laws.specs.ir_paths.Paths.{entry_point}
+use Rattle.rule_laws.specs.ir_paths.Windows.{windows_of}
 use Rattle.pass_exits.specs.ExitBlocks.{after_exit, blocks_by, exit_blocks, exit_cases, exit_label, exit_term, with_exit_blocks, with_exits}
 use Rattle.pass_exits.specs.Exits.{block_exits, end_of, mark_from, mark_in, mark_of}
 use Rattle.pass_exits.specs.declared.exit.Exit.{Exit}

@@ -2,23 +2,23 @@
 use Rattle.std.proofs.Common.{◌≡◌, ℕ, ◌+◌, Bool, true, false, ◌&&◌, ◌||◌, List, [], ◌∷◌, length, map, refl, sym, ap, ◌∙◌, subst}
 use Rattle.std.proofs.lemmas.List.Elements.{All-head, All-tail}
 use Rattle.std.specs.Prelude.{All, Some, None, Option, not, slice_get, if◌then◌else◌}
-use Rattle.ir_laws.proofs.paths.threads.Edges.{only_one}
+use Rattle.rule_laws.proofs.ir_laws.paths.threads.Edges.{only_one}
 use Rattle.pass_proofs.specs.edges.rules.Phis.{ArePhisEnteredByJumps}
 use Rattle.pass_edges.specs.Edges.{ends_in_suspend, has_phis}
-use Rattle.rule_phis.specs.Edges.{has}
-use Rattle.flow_solver.specs.Paths.{IsListed}
+use Rattle.rule_laws.specs.rule_phis.Edges.{has}
+use Rattle.rule_laws.specs.flow_solver.Paths.{IsListed}
 use Rattle.ir_model.specs.declared.instr.Terminator.{Terminator}
 use Rattle.ir_model.specs.declared.module.Block.{Block}
 use Rattle.ir_model.specs.declared.module.Function.{Function}
-use Rattle.ir_paths.proofs.Right.{facts_of_right}
-use Rattle.ir_paths.proofs.Search.{Has, eq_itself, leads-more, or_left, or_right, same_point-itself}
-use Rattle.ir_paths.specs.Facts.{IsWindow}
-use Rattle.ir_paths.specs.Paths.{IsPath, entry_point, has_point, nexts, nexts_in, same_point, targets}
-use Rattle.ir_paths.specs.Windows.{IsInWindow, leaves, windows_of}
-use Rattle.ir_paths.specs.declared.point.Point.{Point}
-use Rattle.ir_paths.specs.declared.point.Window.{Window}
+use Rattle.rule_laws.proofs.ir_paths.Right.{facts_of_right}
+use Rattle.rule_laws.proofs.ir_paths.Search.{Has, eq_itself, leads-more, or_left, or_right, same_point-itself}
+use Rattle.rule_laws.specs.ir_paths.Facts.{IsWindow}
+use Rattle.rule_laws.specs.ir_paths.Paths.{IsPath, entry_point, has_point, nexts, nexts_in, same_point, targets}
+use Rattle.rule_laws.specs.ir_paths.Windows.{IsInWindow, leaves, windows_of}
+use Rattle.rule_laws.specs.ir_paths.declared.point.Point.{Point}
+use Rattle.rule_laws.specs.ir_paths.declared.point.Window.{Window}
 use Rattle.pass_exits.specs.Exits.{end_of, mark_from, mark_in, mark_of, number_of, or_else}
-use Rattle.ir_laws.proofs.facts.Truth.{first_no as none_first, not_below, second_no as none_second}
+use Rattle.rule_laws.proofs.ir_laws.facts.Truth.{first_no as none_first, not_below, second_no as none_second}
 use Rattle.rule_laws.proofs.rules.threaded.Single.{listed_leads}
 
 no_mark_by : (x y z : Bool) → (x ≡ true → (y || z) ≡ true) → (x && not y && not z) ≡ false

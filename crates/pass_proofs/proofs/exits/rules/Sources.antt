@@ -2,25 +2,25 @@
 use Rattle.std.proofs.Common.{◌≡◌, ⊎_elim, inl, inr, ℕ, suc, ◌+◌, ◌<◌, Bool, true, false, ◌&&◌, ◌||◌, List, [], ◌∷◌, ◌++◌, None, Option, Some, ap, filter, length, map, not, refl, subst, sym, ◌∙◌, arith, if◌then◌else◌}
 use Rattle.std.specs.Prelude.{slice_get, ◌==◌}
 use Rattle.rule_laws.proofs.rules.renamed.Switches.{none_part}
-use Rattle.ir_laws.proofs.facts.Truth.{holds}
-use Rattle.ir_laws.proofs.facts.local_rules.Woven.{other_number}
+use Rattle.rule_laws.proofs.ir_laws.facts.Truth.{holds}
+use Rattle.rule_laws.proofs.ir_laws.facts.local_rules.Woven.{other_number}
 use Rattle.rule_laws.proofs.rules.path_rules.Holding.{HoldsIn, of_parts, part_none, to_parts}
-use Rattle.ir_base.specs.declared.outcome.Place.{Place}
-use Rattle.ir_laws.specs.paths.threads.Labels.{HasLabelsBelow}
+use Rattle.rule_laws.specs.ir_base.declared.outcome.Place.{Place}
+use Rattle.rule_laws.specs.ir_laws.paths.threads.Labels.{HasLabelsBelow}
 use Rattle.pass_proofs.proofs.edges.rules.Edges.{phis_there}
 use Rattle.pass_proofs.specs.edges.rules.Phis.{ArePhisEnteredByJumps}
-use Rattle.rule_phis.specs.Edges.{breaks_edges, first_wrong_edge, fits_edges, has, into_block, is_empty, leads, predecessors}
+use Rattle.rule_laws.specs.rule_phis.Edges.{breaks_edges, first_wrong_edge, fits_edges, has, into_block, is_empty, leads, predecessors}
 use Rattle.rule_laws.proofs.rules.known_labels.Known.{labels_known}
 use Rattle.rule_laws.proofs.rules.known_labels.Rules.{labels_spelt}
-use Rattle.flow_solver.specs.Paths.{IsListed}
-use Rattle.ir_parts.specs.Parts.{Part, parts_of}
+use Rattle.rule_laws.specs.flow_solver.Paths.{IsListed}
+use Rattle.rule_laws.specs.ir_parts.Parts.{Part, parts_of}
 use Rattle.rule_laws.specs.rules.function_rules.Kept.{KeepsFunctionRules}
 use Rattle.ir_model.specs.declared.instr.Phi.{Phi}
 use Rattle.ir_model.specs.declared.module.Block.{Block}
 use Rattle.ir_model.specs.declared.module.Function.{Function}
 use Rattle.ir_model.specs.declared.module.Module.{Module}
-use Rattle.ir_paths.specs.Paths.{targets}
-use Rattle.ir_laws.proofs.facts.Members.{at_each as each_at}
+use Rattle.rule_laws.specs.ir_paths.Paths.{targets}
+use Rattle.rule_laws.proofs.ir_laws.facts.Members.{at_each as each_at}
 use Rattle.pass_exits.specs.ExitBlocks.{after_exit, blocks_by, exit_block, exit_blocks, exit_label, exit_term, with_exit_blocks, with_exits}
 use Rattle.pass_exits.specs.Exits.{block_exits, mark_of}
 use Rattle.pass_exits.specs.declared.exit.Exit.{Exit}
@@ -30,7 +30,7 @@ use Rattle.pass_proofs.proofs.exits.rules.Places.{own_there, spot}
 use Rattle.rule_laws.proofs.rules.threaded.Single.{listed_leads}
 use Rattle.pass_proofs.proofs.exits.rules.Single.{phis_unmarked}
 use Rattle.pass_proofs.proofs.exits.rules.Threaded.{moves, threaded}
-use Rattle.ir_laws.proofs.paths.threaded.Threads.{IsBlockOver, IsMovedBlock, between, ended}
+use Rattle.rule_laws.proofs.ir_laws.paths.threaded.Threads.{IsBlockOver, IsMovedBlock, between, ended}
 use Rattle.rule_laws.proofs.rules.threaded.Threads.{IsThreaded}
 use Rattle.rule_laws.proofs.rules.threaded.Sources.{none_filtered}
 

@@ -1,21 +1,21 @@
 -- The suspends of a coroutine stay when blocks are put on edges that leave windows, with their labels and edges.
 use Rattle.std.proofs.Common.{◌≡◌, ◌⊎◌, inl, inr, ⊎_elim, ℕ, zero, suc, ◌+◌, ◌-◌, ◌<◌, Bool, true, false, List, [], ◌∷◌, ◌++◌, None, Some, if◌then◌else◌, ap, filter, length, map, refl, subst, sym, ◌∙◌, arith}
 use Rattle.std.specs.Prelude.{slice_get}
-use Rattle.rule_shape.specs.Switches.{wrong_switch}
+use Rattle.rule_laws.specs.rule_shape.Switches.{wrong_switch}
 use Rattle.rule_laws.proofs.rules.source_rules.Locals.{own_label}
-use Rattle.ir_laws.specs.paths.threads.Labels.{HasLabelsBelow}
+use Rattle.rule_laws.specs.ir_laws.paths.threads.Labels.{HasLabelsBelow}
 use Rattle.pass_proofs.proofs.edges.rules.CaseLabels.{switch_target}
 use Rattle.pass_proofs.proofs.edges.rules.Switched.{switched}
 use Rattle.pass_proofs.specs.edges.rules.Returns.{AreSwitched}
 use Rattle.rule_laws.specs.rules.rows.Returns.{IsSwitched}
 use Rattle.pass_edges.specs.Edges.{ends_in_suspend, is_suspend, is_suspend_at}
-use Rattle.rule_phis.specs.Edges.{leads, predecessors}
+use Rattle.rule_laws.specs.rule_phis.Edges.{leads, predecessors}
 use Rattle.rule_laws.proofs.rules.known_labels.Known.{labels_known}
-use Rattle.ir_laws.specs.facts.branches.MovedState.{IsSwitch}
-use Rattle.flow_solver.specs.Paths.{IsListed}
+use Rattle.rule_laws.specs.ir_laws.facts.branches.MovedState.{IsSwitch}
+use Rattle.rule_laws.specs.flow_solver.Paths.{IsListed}
 use Rattle.rule_laws.specs.rules.function_rules.Kept.{KeepsFunctionRules}
-use Rattle.pass_intrinsics.specs.Shapes.{is_final, save_of, suspends_of, with_suspend, with_suspends_by, with_suspends_in}
-use Rattle.pass_intrinsics.specs.declared.shape.SuspendPoint.{SuspendPoint}
+use Rattle.rule_laws.specs.pass_intrinsics.Shapes.{is_final, save_of, suspends_of, with_suspend, with_suspends_by, with_suspends_in}
+use Rattle.rule_laws.specs.pass_intrinsics.declared.shape.SuspendPoint.{SuspendPoint}
 use Rattle.ir_model.specs.Names.{position_of}
 use Rattle.ir_model.specs.declared.instr.Instr.{Instr}
 use Rattle.ir_model.specs.declared.instr.Terminator.{Terminator}
@@ -24,15 +24,15 @@ use Rattle.ir_model.specs.declared.module.Function.{Function}
 use Rattle.ir_model.specs.declared.module.Module.{Module}
 use Rattle.ir_model.specs.declared.operand.Callee.{Callee}
 use Rattle.ir_model.specs.declared.operand.Intrinsic.{Intrinsic}
-use Rattle.ir_paths.specs.Paths.{targets}
-use Rattle.ir_paths.specs.Windows.{label_of_term}
-use Rattle.ir_laws.proofs.facts.Members.{at_each as each_at}
-use Rattle.run_laws.specs.changed.Changed.{Each as BelowAll, Each}
+use Rattle.rule_laws.specs.ir_paths.Paths.{targets}
+use Rattle.rule_laws.specs.ir_paths.Windows.{label_of_term}
+use Rattle.rule_laws.proofs.ir_laws.facts.Members.{at_each as each_at}
+use Rattle.rule_laws.specs.run_laws.changed.Changed.{Each as BelowAll, Each}
 use Rattle.rule_laws.specs.frames.replaced.Splittable.{HasOwnEdges, IsLedToBy}
 use Rattle.pass_exits.specs.ExitBlocks.{blocks_by, exit_blocks, with_exit_blocks, with_exits}
 use Rattle.pass_exits.specs.Exits.{block_exits, mark_of}
 use Rattle.pass_exits.specs.declared.exit.Exit.{Exit}
-use Rattle.ir_laws.proofs.paths.woven_rules.Unbroken.{each_listed, of_listed}
+use Rattle.rule_laws.proofs.ir_laws.paths.woven_rules.Unbroken.{each_listed, of_listed}
 use Rattle.pass_proofs.proofs.exits.rules.Places.{IsExit, IsOwn, home}
 use Rattle.pass_proofs.proofs.exits.rules.Shape.{AreFrom, all_from, first_from, rest_from, suspend_block, suspend_unmarked}
 use Rattle.rule_laws.proofs.rules.threaded.Single.{listed_leads}

@@ -5,14 +5,14 @@ use Rattle.rule_laws.proofs.rules.source_rules.Locals.{own_label}
 use Rattle.pass_proofs.proofs.edges.rules.EdgeUses.{label_there}
 use Rattle.pass_proofs.specs.edges.rules.Phis.{ArePhisEnteredByJumps}
 use Rattle.pass_edges.specs.Edges.{has_phis}
-use Rattle.flow_solver.specs.Paths.{IsListed}
+use Rattle.rule_laws.specs.flow_solver.Paths.{IsListed}
 use Rattle.rule_laws.specs.rules.function_rules.Kept.{KeepsFunctionRules}
 use Rattle.ir_model.specs.Names.{position_of}
 use Rattle.ir_model.specs.declared.instr.Phi.{Phi}
 use Rattle.ir_model.specs.declared.module.Block.{Block}
 use Rattle.ir_model.specs.declared.module.Function.{Function}
 use Rattle.ir_model.specs.declared.module.Module.{Module}
-use Rattle.ir_paths.specs.Paths.{targets}
+use Rattle.rule_laws.specs.ir_paths.Paths.{targets}
 use Rattle.pass_exits.specs.ExitBlocks.{exit_block, exit_term, with_exit_blocks}
 use Rattle.pass_exits.specs.Exits.{block_exits, mark_of}
 use Rattle.pass_exits.specs.declared.exit.Exit.{Exit}
@@ -22,7 +22,7 @@ use Rattle.pass_proofs.proofs.exits.rules.Names.{names_once}
 use Rattle.pass_proofs.proofs.exits.rules.Operands.{ending_operands_same}
 use Rattle.pass_proofs.proofs.exits.rules.Places.{IsExit, IsOwn, exit_spots, exit_there, home, none_there, own_number, own_there, spot, spots_apart, spots_no_exit}
 use Rattle.pass_proofs.proofs.exits.rules.Single.{phis_unmarked}
-use Rattle.ir_laws.proofs.paths.threaded.Threads.{IsBlockOver, IsOver, IsWay, LeadsBack, LeadsForth, Moves, between}
+use Rattle.rule_laws.proofs.ir_laws.paths.threaded.Threads.{IsBlockOver, IsOver, IsWay, LeadsBack, LeadsForth, Moves, between}
 use Rattle.rule_laws.proofs.rules.threaded.Threads.{IsThreaded}
 
 abbrev pub moves : Function → Moves

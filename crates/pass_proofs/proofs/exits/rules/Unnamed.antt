@@ -1,9 +1,9 @@
 -- Lemmas on unnamed.
 use Rattle.std.proofs.Common.{◌≡◌, ℕ, true, ◌≤◌, List, None, length, sym, subst}
-use Rattle.rule_shape.specs.Switches.{wrong_switch}
-use Rattle.frame_layout.specs.declared.layout.Layout.{Layout}
-use Rattle.pass_intrinsics.specs.Shapes.{shape_of}
-use Rattle.pass_intrinsics.specs.declared.shape.SuspendPoint.{SuspendPoint}
+use Rattle.rule_laws.specs.rule_shape.Switches.{wrong_switch}
+use Rattle.rule_laws.specs.frame_layout.declared.layout.Layout.{Layout}
+use Rattle.rule_laws.specs.pass_intrinsics.Shapes.{shape_of}
+use Rattle.rule_laws.specs.pass_intrinsics.declared.shape.SuspendPoint.{SuspendPoint}
 use Rattle.ir_model.specs.declared.module.Function.{Function}
 use Rattle.rule_laws.specs.frames.replaced.Parted.{IsSmall}
 use Rattle.pass_exits.specs.ExitBlocks.{with_exit_blocks}

@@ -1,7 +1,7 @@
 -- Lemmas on whole.
 use Rattle.std.proofs.Common.{◌≡◌, ℕ, true, None, ap, arith, refl, sym, ◌∙◌}
-use Rattle.rule_shape.specs.OneOfEach.{wrong_call}
-use Rattle.rule_shape.specs.Switches.{wrong_switch}
+use Rattle.rule_laws.specs.rule_shape.OneOfEach.{wrong_call}
+use Rattle.rule_laws.specs.rule_shape.Switches.{wrong_switch}
 use Rattle.ir_model.specs.Calls.{first_result}
 use Rattle.ir_model.specs.declared.module.Function.{Function}
 use Rattle.ir_model.specs.declared.operand.Intrinsic.{Intrinsic}

@@ -1,14 +1,14 @@
 -- Lemmas on edges.
 use Rattle.std.proofs.Common.{◌≡◌, ℕ, ◌+◌, List, [], ◌∷◌, ◌++◌, true, length, refl, sym, subst}
 use Rattle.std.specs.Prelude.{codes, decimal}
-use Rattle.text_names.specs.Spelling.{IsName, is_name_text}
-use Rattle.ir_laws.proofs.facts.Members.{each_joined, joined_names}
+use Rattle.rule_laws.specs.text_names.Spelling.{IsName, is_name_text}
+use Rattle.rule_laws.proofs.ir_laws.facts.Members.{each_joined, joined_names}
 use Rattle.ir_model.specs.declared.module.Block.{Block}
 use Rattle.ir_model.specs.declared.module.Function.{Function}
-use Rattle.ir_laws.proofs.facts.Lists.{number_bytes, numbered_named, word_first}
+use Rattle.rule_laws.proofs.ir_laws.facts.Lists.{number_bytes, numbered_named, word_first}
 use Rattle.rule_laws.specs.texts.spelled.Spelled.{IsSpelled}
 use Rattle.rule_laws.specs.rules.spelled.Spelled.{IsSpelledBlock, IsSpelledFunction}
-use Rattle.run_laws.specs.changed.Changed.{Each}
+use Rattle.rule_laws.specs.run_laws.changed.Changed.{Each}
 use Rattle.pass_exits.specs.ExitBlocks.{blocks_by, exit_blocks, exit_names, mark_text, with_exit_blocks}
 use Rattle.pass_exits.specs.Exits.{block_exits, exits_of}
 use Rattle.pass_exits.specs.declared.exit.Exit.{Exit}

@@ -1,14 +1,14 @@
 -- With blocks on the edges that leave windows each framed run agrees with the run of the module.
 use Rattle.std.proofs.Common.{ℕ, ◌⊎◌, inl, inr, ⊎_elim, List, refl, arith}
 use Rattle.std.specs.Prelude.{ℤ}
-use Rattle.run_agreement.proofs.Costs.{weaken_by}
-use Rattle.run_agreement.specs.Agreements.{AgreesWithin}
-use Rattle.run_agreement.specs.Costs.{AgreesBy, IsNear}
-use Rattle.ir_base.specs.declared.outcome.Word.{Word}
-use Rattle.run_source.specs.declared.state.State.{State}
-use Rattle.ir_laws.specs.facts.sound_states.Named.{AreLocalsNamed}
-use Rattle.frame_layout.specs.declared.layout.Layouts.{Layouts}
-use Rattle.run_framed.specs.Framed.{FramedAt}
+use Rattle.rule_laws.proofs.run_agreement.Costs.{weaken_by}
+use Rattle.rule_laws.specs.run_agreement.Agreements.{AgreesWithin}
+use Rattle.rule_laws.specs.run_agreement.Costs.{AgreesBy, IsNear}
+use Rattle.rule_laws.specs.ir_base.declared.outcome.Word.{Word}
+use Rattle.rule_laws.specs.run_source.declared.state.State.{State}
+use Rattle.rule_laws.specs.ir_laws.facts.sound_states.Named.{AreLocalsNamed}
+use Rattle.rule_laws.specs.frame_layout.declared.layout.Layouts.{Layouts}
+use Rattle.run_states.specs.run_framed.Framed.{FramedAt}
 use Rattle.ir_model.specs.declared.module.Module.{Module}
 use Rattle.pass_proofs.proofs.exits.states.Exits.{all_move, exit_moving, kinds}
 use Rattle.run_states.proofs.moved_states.Costs.{moves_pay}

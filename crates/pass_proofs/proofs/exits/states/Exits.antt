@@ -8,28 +8,28 @@ use Rattle.pass_proofs.proofs.edges.rules.CaseLabels.{switch_target}
 use Rattle.pass_proofs.proofs.edges.rules.Switched.{switched}
 use Rattle.pass_proofs.specs.edges.rules.Returns.{AreSwitched}
 use Rattle.rule_laws.specs.rules.rows.Returns.{IsSwitched}
-use Rattle.ir_laws.specs.facts.threads.Moved.{ArePaired}
-use Rattle.ir_laws.specs.facts.branches.MovedState.{IsSwitch}
-use Rattle.ir_laws.specs.paths.branches.Ways.{AreFetched}
-use Rattle.ir_laws.specs.facts.branches.Ways.{TermsPaired}
-use Rattle.run_framed.specs.Framed.{alloca_from, alloca_of}
+use Rattle.rule_laws.specs.ir_laws.facts.threads.Moved.{ArePaired}
+use Rattle.rule_laws.specs.ir_laws.facts.branches.MovedState.{IsSwitch}
+use Rattle.rule_laws.specs.ir_laws.paths.branches.Ways.{AreFetched}
+use Rattle.rule_laws.specs.ir_laws.facts.branches.Ways.{TermsPaired}
+use Rattle.run_states.specs.run_framed.Framed.{alloca_from, alloca_of}
 use Rattle.ir_model.specs.Names.{no_function, position_of}
 use Rattle.ir_model.specs.declared.instr.Instr.{Instr}
 use Rattle.ir_model.specs.declared.instr.Terminator.{Terminator}
 use Rattle.ir_model.specs.declared.module.Block.{Block}
 use Rattle.ir_model.specs.declared.module.Function.{Function}
 use Rattle.ir_model.specs.declared.module.Module.{Module}
-use Rattle.ir_paths.specs.Slots.{allocas_in}
-use Rattle.ir_paths.specs.Paths.{entry_point}
-use Rattle.ir_paths.specs.Windows.{instr_in, label_at, label_of_term, suspend_of}
-use Rattle.ir_paths.specs.declared.point.Point.{Point}
+use Rattle.rule_laws.specs.ir_paths.Slots.{allocas_in}
+use Rattle.rule_laws.specs.ir_paths.Paths.{entry_point}
+use Rattle.rule_laws.specs.ir_paths.Windows.{instr_in, label_at, label_of_term, suspend_of}
+use Rattle.rule_laws.specs.ir_paths.declared.point.Point.{Point}
 use Rattle.pass_proofs.proofs.exits.rules.Places.{none_there, own_number, own_there, spot, spots_apart}
 use Rattle.pass_proofs.proofs.exits.rules.Shape.{suspend_block}
 use Rattle.pass_proofs.proofs.edges.exit_rules.Shape.{suspend_is}
 use Rattle.pass_proofs.proofs.exits.rules.Suspends.{suspend_ends}
 use Rattle.pass_proofs.proofs.exits.rules.Threaded.{moves, threaded}
 use Rattle.rule_laws.proofs.rules.threaded.Threads.{IsThreaded}
-use Rattle.run_step.specs.Step.{AtInstr, AtTerm, Fetched, Nowhere, fetch, has_markers, is_marker_of, label_of, phis_of}
+use Rattle.rule_laws.specs.run_step.Step.{AtInstr, AtTerm, Fetched, Nowhere, fetch, has_markers, is_marker_of, label_of, phis_of}
 use Rattle.pass_proofs.proofs.exits.states.Points.{begin_same, final_moved, finals_same, suspend_moved}
 use Rattle.pass_proofs.proofs.exits.states.Ways.{places_kept}
 use Rattle.pass_proofs.specs.exits.states.Exits.{AreExitsKept, KeepsExits, exit_function}

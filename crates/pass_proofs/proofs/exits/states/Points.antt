@@ -4,18 +4,18 @@ use Rattle.std.proofs.lemmas.List.{map-append}
 use Rattle.std.proofs.lemmas.Option.{slice_get-map}
 use Rattle.std.specs.List.{list_any}
 use Rattle.std.specs.Prelude.{Some, None, Option, map, option_and_then, option_map, slice_get, if◌then◌else◌, ◌||◌}
-use Rattle.ir_laws.proofs.facts.Lists.{map_map, map_same}
+use Rattle.rule_laws.proofs.ir_laws.facts.Lists.{map_map, map_same}
 use Rattle.pass_proofs.proofs.edges.paths.Points.{shift_in}
-use Rattle.ir_laws.specs.facts.expanded.Expansion.{place_of}
-use Rattle.run_framed.specs.Framed.{begin_name}
+use Rattle.rule_laws.specs.ir_laws.facts.expanded.Expansion.{place_of}
+use Rattle.run_states.specs.run_framed.Framed.{begin_name}
 use Rattle.ir_model.specs.declared.instr.Instr.{Instr}
 use Rattle.ir_model.specs.declared.module.Block.{Block}
 use Rattle.ir_model.specs.declared.module.Function.{Function}
 use Rattle.ir_model.specs.declared.operand.Intrinsic.{Intrinsic}
-use Rattle.ir_paths.specs.Windows.{call_result, instr_at, instr_in, is_call_of, is_suspend_of, points_from, points_in, points_where, suspend_of}
-use Rattle.ir_paths.specs.declared.point.Point.{Point}
+use Rattle.rule_laws.specs.ir_paths.Windows.{call_result, instr_at, instr_in, is_call_of, is_suspend_of, points_from, points_in, points_where, suspend_of}
+use Rattle.rule_laws.specs.ir_paths.declared.point.Point.{Point}
 use Rattle.pass_proofs.proofs.exits.rules.Places.{after, grow, none_there, own_there, spot, unplaced, with_places}
-use Rattle.run_source_tables.specs.Given.{has_final, is_final, is_final_call}
+use Rattle.rule_laws.specs.run_source_tables.Given.{has_final, is_final, is_final_call}
 use Rattle.pass_exits.specs.ExitBlocks.{blocks_by, exit_blocks, with_exit_blocks}
 use Rattle.pass_exits.specs.Exits.{block_exits}
 use Rattle.pass_exits.specs.declared.exit.Exit.{Exit}

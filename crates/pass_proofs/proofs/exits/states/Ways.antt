@@ -2,13 +2,13 @@
 use Rattle.std.proofs.Common.{◌≡◌, inl, inr, ℕ, Bool, true, false, List, [], ◌∷◌, length, refl, sym, ap, ◌∙◌, subst, arith}
 use Rattle.std.proofs.lemmas.Bool.{le-ltb}
 use Rattle.std.specs.Prelude.{Some, None, Option, filter, map, nat_lt, slice_get, ◌==◌}
-use Rattle.flow_solver.specs.Paths.{IsListed}
-use Rattle.ir_laws.specs.facts.threads.Moved.{ArePaired}
-use Rattle.ir_laws.specs.paths.threads.Moved.{GoesTo}
-use Rattle.ir_laws.specs.paths.threads.Threads.{IsBetween}
+use Rattle.rule_laws.specs.flow_solver.Paths.{IsListed}
+use Rattle.rule_laws.specs.ir_laws.facts.threads.Moved.{ArePaired}
+use Rattle.rule_laws.specs.ir_laws.paths.threads.Moved.{GoesTo}
+use Rattle.rule_laws.specs.ir_laws.paths.threads.Threads.{IsBetween}
 use Rattle.pass_proofs.specs.edges.rules.Phis.{ArePhisEnteredByJumps}
-use Rattle.ir_laws.specs.paths.branches.Ways.{AreFetched}
-use Rattle.ir_laws.specs.facts.branches.Ways.{TermsPaired}
+use Rattle.rule_laws.specs.ir_laws.paths.branches.Ways.{AreFetched}
+use Rattle.rule_laws.specs.ir_laws.facts.branches.Ways.{TermsPaired}
 use Rattle.rule_laws.specs.rules.function_rules.Kept.{KeepsFunctionRules}
 use Rattle.ir_model.specs.Names.{position_of}
 use Rattle.ir_model.specs.declared.instr.Case.{Case}
@@ -17,16 +17,16 @@ use Rattle.ir_model.specs.declared.instr.Terminator.{Terminator}
 use Rattle.ir_model.specs.declared.module.Block.{Block}
 use Rattle.ir_model.specs.declared.module.Function.{Function}
 use Rattle.ir_model.specs.declared.module.Module.{Module}
-use Rattle.ir_paths.proofs.Search.{Has, eq_from, eq_itself}
-use Rattle.ir_paths.specs.Paths.{entry_point, nexts, targets}
-use Rattle.ir_paths.specs.Windows.{leaves, windows_of}
-use Rattle.ir_paths.specs.declared.point.Point.{Point}
+use Rattle.rule_laws.proofs.ir_paths.Search.{Has, eq_from, eq_itself}
+use Rattle.rule_laws.specs.ir_paths.Paths.{entry_point, nexts, targets}
+use Rattle.rule_laws.specs.ir_paths.Windows.{leaves, windows_of}
+use Rattle.rule_laws.specs.ir_paths.declared.point.Point.{Point}
 use Rattle.pass_proofs.proofs.exits.rules.Cuts.{Cut, cut_labels, cut_targets, later_cut, one_cut}
 use Rattle.pass_proofs.proofs.exits.rules.Places.{none_there, own_number, own_there, spot}
 use Rattle.pass_proofs.proofs.exits.rules.Threaded.{moves, threaded, way}
 use Rattle.rule_laws.proofs.rules.threaded.Threads.{IsThreaded}
-use Rattle.ir_laws.proofs.paths.threaded.Threads.{IsWay}
-use Rattle.run_step.specs.Step.{Nowhere, fetch, fetch_in, fetch_or, phis_of}
+use Rattle.rule_laws.proofs.ir_laws.paths.threaded.Threads.{IsWay}
+use Rattle.rule_laws.specs.run_step.Step.{Nowhere, fetch, fetch_in, fetch_or, phis_of}
 use Rattle.pass_proofs.proofs.exits.states.Points.{moved, points_moved, suspend_moved}
 use Rattle.rule_laws.proofs.rules.threading.Threading.{entry_has, entry_moved, is_between, moved_nexts, own_nexts, threads}
 use Rattle.pass_proofs.proofs.edges.threads.Windows.{left_moved, none_left}

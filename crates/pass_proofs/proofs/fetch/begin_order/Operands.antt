@@ -3,7 +3,7 @@ use Rattle.std.proofs.Common.{ℕ, ◌≤◌, Bool, List, [], ◌∷◌, ◌++�
 use Rattle.std.specs.Prelude.{None, Option, Some}
 use Rattle.rule_laws.specs.rules.begin_order.Behind.{access_operands, besides_second, other_operands}
 use Rattle.pass_proofs.proofs.fetch.rules.Puts.{fetch_rises}
-use Rattle.ir_parts.specs.Contents.{arg_operands, callee_operands, ending_operands, instr_operands}
+use Rattle.rule_laws.specs.ir_parts.Contents.{arg_operands, callee_operands, ending_operands, instr_operands}
 use Rattle.ir_model.specs.Ty.{Ty}
 use Rattle.ir_model.specs.declared.instr.Instr.{Instr}
 use Rattle.ir_model.specs.declared.instr.Terminator.{Terminator}
@@ -11,10 +11,10 @@ use Rattle.ir_model.specs.declared.operand.Arg.{Arg}
 use Rattle.ir_model.specs.declared.operand.Callee.{Callee}
 use Rattle.ir_model.specs.declared.operand.Intrinsic.{Intrinsic}
 use Rattle.ir_model.specs.declared.operand.Operand.{Operand}
-use Rattle.run_laws.specs.changed.Changed.{Each}
-use Rattle.pass_fetch.specs.Fetching.{callee_by, fetch_of, fetched_args, fetched_operand, next_after, operand_by}
-use Rattle.pass_fetch.specs.Instrs.{fetched_term, with_fetched}
-use Rattle.pass_fetch.specs.declared.fetch.Fetch.{Fetch}
+use Rattle.rule_laws.specs.run_laws.changed.Changed.{Each}
+use Rattle.rule_laws.specs.pass_fetch.Fetching.{callee_by, fetch_of, fetched_args, fetched_operand, next_after, operand_by}
+use Rattle.rule_laws.specs.pass_fetch.Instrs.{fetched_term, with_fetched}
+use Rattle.rule_laws.specs.pass_fetch.declared.fetch.Fetch.{Fetch}
 
 module _ (P : Operand → Type 0) where
   -- ---- the operands of an instruction are accesses and others, and more

@@ -2,8 +2,8 @@
 use Rattle.std.proofs.Common.{◌≡◌, true, refl}
 use Rattle.ir_model.specs.Layout.{bytes_of_width}
 use Rattle.ir_model.specs.Ty.{Ty, int, ptr}
-use Rattle.rule_locals.specs.Extents.{is_aligned}
-use Rattle.pass_fetch.specs.Fetching.{value_bytes}
+use Rattle.rule_laws.specs.rule_locals.Extents.{is_aligned}
+use Rattle.rule_laws.specs.pass_fetch.Fetching.{value_bytes}
 use Rattle.rule_laws.proofs.rules.counted.Types.{is_cell_type, width_cases}
 
 -- ---- what holds of such a type

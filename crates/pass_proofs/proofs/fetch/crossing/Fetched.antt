@@ -2,16 +2,16 @@
 use Rattle.std.proofs.Common.{◌≡◌, ⊎_elim, inl, inr, ℕ, zero, suc, ◌<◌, ◌≤◌, List, [], ◌∷◌, ◌++◌, append_assoc, refl, sym, ap, subst, arith}
 use Rattle.std.specs.Prelude.{None, Option, Some, map, option_to_list, replicate, slice_get, slice_set}
 use Rattle.rule_laws.proofs.rules.crossing.Follows.{IsExtra, Uses}
-use Rattle.rule_uses.specs.Uses.{local_of, locals_in}
-use Rattle.ir_laws.proofs.paths.source_rules.Locals.{listed_either, listed_left, listed_right}
+use Rattle.rule_laws.specs.rule_uses.Uses.{local_of, locals_in}
+use Rattle.rule_laws.proofs.ir_laws.paths.source_rules.Locals.{listed_either, listed_left, listed_right}
 use Rattle.pass_proofs.proofs.fetch.rules.Ends.{phis_rise}
 use Rattle.pass_proofs.proofs.fetch.rules.Fetched.{block_rises, instrs_rise}
 use Rattle.pass_proofs.proofs.fetch.rules.Puts.{fetch_rises}
 use Rattle.pass_proofs.specs.fetch.rules.Fetches.{base_of}
-use Rattle.flow_solver.specs.Paths.{IsListed}
+use Rattle.rule_laws.specs.flow_solver.Paths.{IsListed}
 use Rattle.rule_laws.proofs.frames.needed.Follows.{Ended, Extra, Follows, Same, extras_follow}
 use Rattle.pass_proofs.proofs.fetch.shape.Fetching.{no_rows}
-use Rattle.ir_parts.specs.Contents.{arg_operands, callee_operands, instr_operands, result_of}
+use Rattle.rule_laws.specs.ir_parts.Contents.{arg_operands, callee_operands, instr_operands, result_of}
 use Rattle.ir_model.specs.declared.instr.Incoming.{Incoming}
 use Rattle.ir_model.specs.declared.instr.Instr.{Instr}
 use Rattle.ir_model.specs.declared.instr.Phi.{Phi}
@@ -19,13 +19,13 @@ use Rattle.ir_model.specs.declared.module.Block.{Block}
 use Rattle.ir_model.specs.declared.operand.Arg.{Arg}
 use Rattle.ir_model.specs.declared.operand.Callee.{Callee}
 use Rattle.ir_model.specs.declared.operand.Operand.{Operand}
-use Rattle.run_laws.specs.changed.Changed.{Each}
-use Rattle.pass_fetch.specs.Blocks.{end_at, ends_of_blocks, ends_of_incoming, ends_of_phis, fetched_block, fetched_blocks, next_after_block, next_after_phi, next_after_phis, with_end}
-use Rattle.pass_fetch.specs.Fetching.{callee_by, fetch_at, fetch_into, fetch_of, fetched_args, fetched_operand, fetches_by, fetches_of, fetches_of_all, next_after, operand_by}
-use Rattle.pass_fetch.specs.Instrs.{fetched_instr, fetched_instrs, next_after_instr, next_after_instrs, term_operands, with_fetched}
-use Rattle.pass_fetch.specs.declared.fetch.Fetch.{Fetch}
-use Rattle.ir_laws.proofs.facts.Members.{each_behind as each_both}
-use Rattle.ir_laws.proofs.paths.crossing.NewUses.{some_local}
+use Rattle.rule_laws.specs.run_laws.changed.Changed.{Each}
+use Rattle.rule_laws.specs.pass_fetch.Blocks.{end_at, ends_of_blocks, ends_of_incoming, ends_of_phis, fetched_block, fetched_blocks, next_after_block, next_after_phi, next_after_phis, with_end}
+use Rattle.rule_laws.specs.pass_fetch.Fetching.{callee_by, fetch_at, fetch_into, fetch_of, fetched_args, fetched_operand, fetches_by, fetches_of, fetches_of_all, next_after, operand_by}
+use Rattle.rule_laws.specs.pass_fetch.Instrs.{fetched_instr, fetched_instrs, next_after_instr, next_after_instrs, term_operands, with_fetched}
+use Rattle.rule_laws.specs.pass_fetch.declared.fetch.Fetch.{Fetch}
+use Rattle.rule_laws.proofs.ir_laws.facts.Members.{each_behind as each_both}
+use Rattle.rule_laws.proofs.ir_laws.paths.crossing.NewUses.{some_local}
 
 module _ (t : List (Option Fetch)) (first v : ℕ) (old : v < first) (based : (u : ℕ) (x : Fetch) → fetch_of t (Operand.Local u) ≡ Some x → base_of x ≡ v → ⊥) where
   -- ---- what is fetched

@@ -2,7 +2,7 @@
 use Rattle.std.proofs.Common.{◌≡◌, ℕ, zero, suc, ◌+◌, Bool, List, [], ◌∷◌, ◌++◌, length, replicate, refl, ap, ◌∙◌, arith}
 use Rattle.std.specs.Prelude.{None, Option, Some, slice_set}
 use Rattle.rule_laws.proofs.frames.suspend_counts.Counted.{count, joined, one, total}
-use Rattle.ir_parts.specs.Contents.{callee_operands, instr_operands}
+use Rattle.rule_laws.specs.ir_parts.Contents.{callee_operands, instr_operands}
 use Rattle.ir_model.specs.declared.instr.Incoming.{Incoming}
 use Rattle.ir_model.specs.declared.instr.Instr.{Instr}
 use Rattle.ir_model.specs.declared.instr.Phi.{Phi}
@@ -13,10 +13,10 @@ use Rattle.ir_model.specs.declared.operand.Callee.{Callee}
 use Rattle.ir_model.specs.declared.operand.Intrinsic.{Intrinsic}
 use Rattle.ir_model.specs.declared.operand.Operand.{Operand}
 use Rattle.ir_model.specs.Ty.{Ty}
-use Rattle.pass_fetch.specs.Blocks.{end_at, ends_of_blocks, ends_of_incoming, ends_of_phis, fetched_blocks, next_after_block, next_after_phi, next_after_phis, next_after_phis_by, with_end, with_fetches}
-use Rattle.pass_fetch.specs.Fetching.{callee_by, fetch_into, fetch_of, fetch_of_callee, fetched_args, fetched_callee, fetches_by, fetches_of, fetches_of_all, next_after, next_after_all}
-use Rattle.pass_fetch.specs.Instrs.{fetched_instr, fetched_instrs, next_after_instr, next_after_instrs, term_operands, with_fetched}
-use Rattle.pass_fetch.specs.declared.fetch.Fetch.{Fetch}
+use Rattle.rule_laws.specs.pass_fetch.Blocks.{end_at, ends_of_blocks, ends_of_incoming, ends_of_phis, fetched_blocks, next_after_block, next_after_phi, next_after_phis, next_after_phis_by, with_end, with_fetches}
+use Rattle.rule_laws.specs.pass_fetch.Fetching.{callee_by, fetch_into, fetch_of, fetch_of_callee, fetched_args, fetched_callee, fetches_by, fetches_of, fetches_of_all, next_after, next_after_all}
+use Rattle.rule_laws.specs.pass_fetch.Instrs.{fetched_instr, fetched_instrs, next_after_instr, next_after_instrs, term_operands, with_fetched}
+use Rattle.rule_laws.specs.pass_fetch.declared.fetch.Fetch.{Fetch}
 
 one_fetch : (n : ℕ) (y : Fetch) → one (fetch_into n y) ≡ 0
 one_fetch n (Fetch.Load ty cell) = refl

@@ -2,19 +2,19 @@
 use Rattle.std.proofs.Common.{◌≡◌, ⊎_elim, ℕ, zero, suc, ◌+◌, ◌-◌, ◌<◌, ◌≤◌, true, false, List, [], ◌∷◌, ◌++◌, length, refl, sym, ap, ◌∙◌, subst, arith, append_assoc}
 use Rattle.std.proofs.lemmas.List.{length-append}
 use Rattle.std.specs.Prelude.{Option, Some, is_some, map, option_map, option_to_list, slice_get, unwrap_or, ◌==◌, if◌then◌else◌}
-use Rattle.ir_base.specs.declared.outcome.Place.{Place}
-use Rattle.rule_uses.specs.Uses.{block_uses, block_values, blocks_uses, instr_uses, made_by_instrs, made_by_phis, phi_values, uses_at, values_at, values_in}
+use Rattle.rule_laws.specs.ir_base.declared.outcome.Place.{Place}
+use Rattle.rule_laws.specs.rule_uses.Uses.{block_uses, block_values, blocks_uses, instr_uses, made_by_instrs, made_by_phis, phi_values, uses_at, values_at, values_in}
 use Rattle.rule_laws.proofs.rules.local_rules.Carried.{Passing}
-use Rattle.ir_laws.proofs.facts.Members.{each_left, each_right}
-use Rattle.ir_laws.proofs.paths.source_rules.Locals.{listed_either, listed_left, listed_right}
+use Rattle.rule_laws.proofs.ir_laws.facts.Members.{each_left, each_right}
+use Rattle.rule_laws.proofs.ir_laws.paths.source_rules.Locals.{listed_either, listed_left, listed_right}
 use Rattle.rule_laws.proofs.rules.source_rules.Locals.{made_by, own_label}
 use Rattle.pass_proofs.proofs.fetch.rules.Ends.{AreGood, HasEnds, HaveEnds, IsGrown, blocks_rise, grown_blocks, grown_both, grown_phis, has_phis, phis_rise}
 use Rattle.pass_proofs.proofs.fetch.rules.Puts.{HasMade, KnowsBase, all_in_place, fetch_makes, fetch_put, fetch_range, fetch_rises, fetched_woven, one_in_place, puts_woven, term_fetched}
 use Rattle.pass_proofs.proofs.fetch.rules.Times.{with_result}
 use Rattle.pass_proofs.specs.fetch.rules.Fetches.{FetchesFit, FitsTable, HasBase, LeavesMarks, base_of, fetch_weaving, second_name}
-use Rattle.flow_solver.specs.Paths.{IsListed}
-use Rattle.ir_parts.specs.Contents.{ending_operands, instr_operands, result_of}
-use Rattle.ir_parts.specs.Parts.{Part, block_parts, blocks_parts, instr_place, phi_parts}
+use Rattle.rule_laws.specs.flow_solver.Paths.{IsListed}
+use Rattle.rule_laws.specs.ir_parts.Contents.{ending_operands, instr_operands, result_of}
+use Rattle.rule_laws.specs.ir_parts.Parts.{Part, block_parts, blocks_parts, instr_place, phi_parts}
 use Rattle.rule_laws.specs.rules.function_rules.Kept.{KeepsFunctionRules}
 use Rattle.ir_model.specs.Names.{first_where, numbered, position_of}
 use Rattle.ir_model.specs.declared.instr.Incoming.{Incoming}
@@ -25,20 +25,20 @@ use Rattle.ir_model.specs.declared.module.Block.{Block}
 use Rattle.ir_model.specs.declared.module.Function.{Function}
 use Rattle.ir_model.specs.declared.module.Module.{Module}
 use Rattle.ir_model.specs.declared.operand.Operand.{Operand}
-use Rattle.ir_locals.specs.Tables.{or_first}
-use Rattle.rule_names.specs.Known.{is_label}
-use Rattle.run_laws.specs.changed.Changed.{Each}
-use Rattle.pass_fetch.specs.Blocks.{end_at, ends_of_blocks, ends_of_phis, fetched_block, fetched_blocks, fetched_incoming, fetched_phi, fetched_phis, next_after_block, next_after_blocks, next_after_phi, next_after_phis, next_after_phis_by, numbered_names, with_fetches}
-use Rattle.pass_fetch.specs.Fetching.{fetch_into, fetch_of, fetched_operand, fetches_of_all, next_after, next_after_all}
-use Rattle.pass_fetch.specs.Instrs.{fetched_instr, fetched_instrs, next_after_instr, next_after_instrs, term_operands, with_fetched}
-use Rattle.pass_fetch.specs.declared.fetch.Fetch.{Fetch}
-use Rattle.rule_values.specs.declared.kinds.Kind.{Kind}
+use Rattle.rule_laws.specs.ir_locals.Tables.{or_first}
+use Rattle.rule_laws.specs.rule_names.Known.{is_label}
+use Rattle.rule_laws.specs.run_laws.changed.Changed.{Each}
+use Rattle.rule_laws.specs.pass_fetch.Blocks.{end_at, ends_of_blocks, ends_of_phis, fetched_block, fetched_blocks, fetched_incoming, fetched_phi, fetched_phis, next_after_block, next_after_blocks, next_after_phi, next_after_phis, next_after_phis_by, numbered_names, with_fetches}
+use Rattle.rule_laws.specs.pass_fetch.Fetching.{fetch_into, fetch_of, fetched_operand, fetches_of_all, next_after, next_after_all}
+use Rattle.rule_laws.specs.pass_fetch.Instrs.{fetched_instr, fetched_instrs, next_after_instr, next_after_instrs, term_operands, with_fetched}
+use Rattle.rule_laws.specs.pass_fetch.declared.fetch.Fetch.{Fetch}
+use Rattle.rule_laws.specs.rule_values.declared.kinds.Kind.{Kind}
 use Rattle.pass_proofs.proofs.fetch.rules.Good.{LabelsKnown, all_good, all_pass, based_block, final, final_ends, found, no_names, once, phi_labels, phis_pass, start, unknown}
 use Rattle.rule_laws.proofs.rules.woven_rules.Pieces.{listed_woven, made_contains}
 use Rattle.rule_laws.proofs.rules.woven_rules.Told.{told}
 use Rattle.rule_laws.proofs.rules.woven_rules.ValueKinds.{made_grows}
 use Rattle.rule_laws.specs.rules.woven_rules.Blocks.{AreWoven, AreWovenBlocks, Done, IsNew, IsPutIn, IsWoven, IsWovenBlock, NoBlock, OneBlock}
-use Rattle.ir_laws.specs.facts.woven_rules.Pairs.{Empty, Pair, Pairwise}
+use Rattle.rule_laws.specs.ir_laws.facts.woven_rules.Pairs.{Empty, Pair, Pairwise}
 use Rattle.rule_laws.specs.rules.woven_rules.Parts.{IncomingStays, PhiStays}
 use Rattle.rule_laws.specs.rules.woven_rules.Weaving.{IsInPlace, IsKnown, IsThere, Old, Weaving, kinds_with}
 

@@ -3,25 +3,25 @@ use Rattle.std.proofs.Common.{◌≡◌, inl, inr, ℕ, suc, ◌+◌, ◌<◌, �
 use Rattle.std.proofs.lemmas.List.{length-replicate}
 use Rattle.std.specs.List.{list_all, list_any}
 use Rattle.std.specs.Prelude.{Option, Some, map, option_to_list, replicate, slice_get, ◌==◌, ◌&&◌, ◌||◌}
-use Rattle.ir_base.specs.declared.outcome.Place.{Place}
-use Rattle.rule_uses.specs.Undefined.{params_of}
-use Rattle.rule_uses.specs.Uses.{Use, block_uses, block_values, blocks_uses, incoming_use, incoming_uses, instr_uses, local_of, phi_uses, phi_values, uses_at, values_at}
-use Rattle.ir_laws.proofs.facts.Truth.{equal_numbers, and_first, and_second, holds}
+use Rattle.rule_laws.specs.ir_base.declared.outcome.Place.{Place}
+use Rattle.rule_laws.specs.rule_uses.Undefined.{params_of}
+use Rattle.rule_laws.specs.rule_uses.Uses.{Use, block_uses, block_values, blocks_uses, incoming_use, incoming_uses, instr_uses, local_of, phi_uses, phi_values, uses_at, values_at}
+use Rattle.rule_laws.proofs.ir_laws.facts.Truth.{equal_numbers, and_first, and_second, holds}
 use Rattle.rule_laws.proofs.rules.local_rules.Carried.{Passing, passing}
 use Rattle.rule_laws.proofs.rules.local_rules.Defined.{label_defined}
-use Rattle.ir_laws.proofs.facts.Members.{each_left, each_right}
+use Rattle.rule_laws.proofs.ir_laws.facts.Members.{each_left, each_right}
 use Rattle.rule_laws.proofs.rules.local_rules.Rows.{apart_right}
 use Rattle.rule_laws.proofs.rules.local_rules.Woven.{apart_names}
-use Rattle.ir_laws.proofs.paths.source_rules.Locals.{Apart, in_row, listed_right}
+use Rattle.rule_laws.proofs.ir_laws.paths.source_rules.Locals.{Apart, in_row, listed_right}
 use Rattle.rule_laws.proofs.rules.source_rules.Locals.{block_names, made_by, names_are}
-use Rattle.ir_laws.proofs.facts.Lists.{phi_names, row_of}
+use Rattle.rule_laws.proofs.ir_laws.facts.Lists.{phi_names, row_of}
 use Rattle.pass_proofs.proofs.fetch.rules.Ends.{AllEnds, AreGood, IsGood, blocks_rise, grown_blocks, no_ends}
 use Rattle.pass_proofs.proofs.fetch.rules.Times.{fetches_once}
 use Rattle.pass_proofs.specs.fetch.rules.Fetches.{FetchesFit, HasBase, base_of, fetch_weaving, second_name}
-use Rattle.flow_solver.specs.Paths.{IsListed}
-use Rattle.ir_parts.specs.Contents.{ending_operands, part_labels, part_operands, part_types}
-use Rattle.ir_parts.specs.Locals.{locals_of}
-use Rattle.ir_parts.specs.Parts.{Ending, OfPhi, Part, block_parts, blocks_parts, instr_parts, instr_place, parts_of, phi_parts}
+use Rattle.rule_laws.specs.flow_solver.Paths.{IsListed}
+use Rattle.rule_laws.specs.ir_parts.Contents.{ending_operands, part_labels, part_operands, part_types}
+use Rattle.rule_laws.specs.ir_parts.Locals.{locals_of}
+use Rattle.rule_laws.specs.ir_parts.Parts.{Ending, OfPhi, Part, block_parts, blocks_parts, instr_parts, instr_place, parts_of, phi_parts}
 use Rattle.rule_laws.specs.rules.function_rules.Kept.{KeepsFunctionRules}
 use Rattle.ir_model.specs.Names.{position_of}
 use Rattle.ir_model.specs.declared.instr.Incoming.{Incoming}
@@ -31,13 +31,13 @@ use Rattle.ir_model.specs.declared.module.Block.{Block}
 use Rattle.ir_model.specs.declared.module.Function.{Function}
 use Rattle.ir_model.specs.declared.module.Module.{Module}
 use Rattle.ir_model.specs.declared.operand.Operand.{Operand}
-use Rattle.rule_names.specs.Known.{is_label, is_value, knows_operand, knows_type, names_unknown}
-use Rattle.run_laws.specs.changed.Changed.{Each}
-use Rattle.pass_fetch.specs.Blocks.{ends_of_blocks, next_after_blocks, with_fetches}
-use Rattle.pass_fetch.specs.Fetching.{fetch_of}
-use Rattle.pass_fetch.specs.declared.fetch.Fetch.{Fetch}
+use Rattle.rule_laws.specs.rule_names.Known.{is_label, is_value, knows_operand, knows_type, names_unknown}
+use Rattle.rule_laws.specs.run_laws.changed.Changed.{Each}
+use Rattle.rule_laws.specs.pass_fetch.Blocks.{ends_of_blocks, next_after_blocks, with_fetches}
+use Rattle.rule_laws.specs.pass_fetch.Fetching.{fetch_of}
+use Rattle.rule_laws.specs.pass_fetch.declared.fetch.Fetch.{Fetch}
 use Rattle.rule_laws.proofs.rules.woven_rules.Once.{names_below}
-use Rattle.ir_laws.proofs.paths.woven_rules.Once.{times_none}
+use Rattle.rule_laws.proofs.ir_laws.paths.woven_rules.Once.{times_none}
 use Rattle.rule_laws.specs.rules.woven_rules.Blocks.{times_made}
 use Rattle.rule_laws.specs.rules.woven_rules.Weaving.{IsThere, Weaving}
 

@@ -2,13 +2,13 @@
 use Rattle.std.proofs.Common.{◌≡◌, inl, inr, ⊎_elim, ℕ, ◌+◌, ◌<◌, ◌≤◌, Bool, true, false, List, [], ◌∷◌, ◌++◌, refl, sym, ap, ◌∙◌, subst, arith, append_assoc}
 use Rattle.std.proofs.lemmas.Bool.{lt-ltb}
 use Rattle.std.specs.Prelude.{None, Option, Some, not, pos, nat_lt, ◌&&◌, ◌^◌, if◌then◌else◌}
-use Rattle.rule_uses.specs.Uses.{made_by_instrs}
-use Rattle.ir_laws.proofs.facts.Truth.{itself, and_both}
-use Rattle.ir_laws.proofs.paths.source_rules.Locals.{listed_either, listed_left, listed_right}
+use Rattle.rule_laws.specs.rule_uses.Uses.{made_by_instrs}
+use Rattle.rule_laws.proofs.ir_laws.facts.Truth.{itself, and_both}
+use Rattle.rule_laws.proofs.ir_laws.paths.source_rules.Locals.{listed_either, listed_left, listed_right}
 use Rattle.rule_laws.proofs.rules.source_rules.Locals.{made_by}
 use Rattle.pass_proofs.specs.fetch.rules.Fetches.{AreUnfetched, FitsFetch, FitsTable, LeavesMarks, base_of, fetched_kind}
-use Rattle.flow_solver.specs.Paths.{IsListed}
-use Rattle.ir_parts.specs.Contents.{arg_operands, instr_operands, result_of}
+use Rattle.rule_laws.specs.flow_solver.Paths.{IsListed}
+use Rattle.rule_laws.specs.ir_parts.Contents.{arg_operands, instr_operands, result_of}
 use Rattle.ir_model.specs.Ty.{Ty, int, ptr}
 use Rattle.ir_model.specs.declared.instr.Instr.{Instr}
 use Rattle.ir_model.specs.declared.instr.Case.{Case}
@@ -19,22 +19,22 @@ use Rattle.ir_model.specs.declared.module.TypeItem.{TypeItem}
 use Rattle.ir_model.specs.declared.operand.Arg.{Arg}
 use Rattle.ir_model.specs.declared.operand.Callee.{Callee}
 use Rattle.ir_model.specs.declared.operand.Operand.{Operand}
-use Rattle.rule_names.specs.Known.{knows_type}
-use Rattle.run_laws.specs.changed.Changed.{Each}
-use Rattle.rule_types.specs.Depth.{is_shallow}
-use Rattle.pass_fetch.specs.Fetching.{callee_by, fetched_arg, fetches_of, fetch_into, fetch_of, fetched_args, fetched_callee, fetched_operand, fetches_by, fetches_of_all, next_after, next_after_all, next_by, operand_by}
-use Rattle.pass_fetch.specs.Instrs.{fetched_instr, fetched_term, term_operands, with_fetched}
-use Rattle.pass_fetch.specs.declared.fetch.Fetch.{Fetch}
-use Rattle.rule_values.specs.Fits.{fits_kind, is_scalar}
-use Rattle.rule_values.specs.Kinds.{instr_kind, kind_of}
-use Rattle.rule_values.specs.declared.kinds.Kind.{Kind}
+use Rattle.rule_laws.specs.rule_names.Known.{knows_type}
+use Rattle.rule_laws.specs.run_laws.changed.Changed.{Each}
+use Rattle.rule_laws.specs.rule_types.Depth.{is_shallow}
+use Rattle.rule_laws.specs.pass_fetch.Fetching.{callee_by, fetched_arg, fetches_of, fetch_into, fetch_of, fetched_args, fetched_callee, fetched_operand, fetches_by, fetches_of_all, next_after, next_after_all, next_by, operand_by}
+use Rattle.rule_laws.specs.pass_fetch.Instrs.{fetched_instr, fetched_term, term_operands, with_fetched}
+use Rattle.rule_laws.specs.pass_fetch.declared.fetch.Fetch.{Fetch}
+use Rattle.rule_laws.specs.rule_values.Fits.{fits_kind, is_scalar}
+use Rattle.rule_laws.specs.rule_values.Kinds.{instr_kind, kind_of}
+use Rattle.rule_laws.specs.rule_values.declared.kinds.Kind.{Kind}
 use Rattle.rule_laws.proofs.rules.woven_rules.Pieces.{made_contains, made_joined}
-use Rattle.ir_laws.proofs.facts.Members.{each_all, each_turns}
+use Rattle.rule_laws.proofs.ir_laws.facts.Members.{each_all, each_turns}
 use Rattle.rule_laws.proofs.rules.woven_rules.ValueKinds.{made_grows}
 use Rattle.rule_laws.specs.rules.woven_rules.Blocks.{AreWoven, IsNew, IsPutIn, Kept, Put, Remain, Stays, is_mark}
-use Rattle.ir_laws.specs.facts.woven_rules.Pairs.{Empty, Pair, Pairwise}
+use Rattle.rule_laws.specs.ir_laws.facts.woven_rules.Pairs.{Empty, Pair, Pairwise}
 use Rattle.rule_laws.specs.rules.woven_rules.Parts.{Alloca, Binary, Call, CalleeStays, Cast, Direct, Gep, Icmp, Indirect, InstrStays, Load, Select, Store}
-use Rattle.ir_laws.specs.facts.woven_rules.Parts.{ArgStays, Branch, Jump, Return, ReturnVoid, Switch, TermStays, Unreachable}
+use Rattle.rule_laws.specs.ir_laws.facts.woven_rules.Parts.{ArgStays, Branch, Jump, Return, ReturnVoid, Switch, TermStays, Unreachable}
 use Rattle.rule_laws.specs.rules.woven_rules.Weaving.{Constant, Fetched, IsInPlace, IsKnown, Same, Weaving, goes_in, kinds_with}
 use Rattle.rule_laws.proofs.rules.fetching_rules.Puts.{int_shallow, ptr_shallow}
 

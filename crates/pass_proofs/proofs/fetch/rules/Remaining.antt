@@ -1,12 +1,12 @@
 -- The operands of a function whose operands are fetched: those that aren't fetched, the new names, and the addresses by which they are.
 use Rattle.std.proofs.Common.{◌≡◌, ℕ, ◌≤◌, Bool, List, [], ◌∷◌, ◌++◌, refl, arith}
 use Rattle.std.specs.Prelude.{None, Option, Some, map, pos}
-use Rattle.ir_laws.proofs.facts.Members.{each_behind}
+use Rattle.rule_laws.proofs.ir_laws.facts.Members.{each_behind}
 use Rattle.pass_proofs.proofs.fetch.rules.Ends.{phis_rise}
 use Rattle.pass_proofs.proofs.fetch.rules.Fetched.{block_rises, instrs_rise}
 use Rattle.pass_proofs.proofs.fetch.rules.Puts.{fetch_rises}
 use Rattle.pass_proofs.specs.fetch.rules.Fetches.{base_of}
-use Rattle.ir_parts.specs.Contents.{arg_operands, ending_operands, instr_operands}
+use Rattle.rule_laws.specs.ir_parts.Contents.{arg_operands, ending_operands, instr_operands}
 use Rattle.ir_model.specs.Ty.{Ty}
 use Rattle.ir_model.specs.declared.instr.Case.{Case}
 use Rattle.ir_model.specs.declared.instr.Incoming.{Incoming}
@@ -17,11 +17,11 @@ use Rattle.ir_model.specs.declared.module.Block.{Block}
 use Rattle.ir_model.specs.declared.operand.Arg.{Arg}
 use Rattle.ir_model.specs.declared.operand.Callee.{Callee}
 use Rattle.ir_model.specs.declared.operand.Operand.{Operand}
-use Rattle.run_laws.specs.changed.Changed.{Each}
-use Rattle.pass_fetch.specs.Blocks.{end_at, fetched_blocks, fetched_incoming, fetched_phis, next_after_block, next_after_phi, next_after_phis}
-use Rattle.pass_fetch.specs.Fetching.{callee_by, fetch_into, fetch_of, fetched_args, fetched_operand, fetches_by, fetches_of, fetches_of_all, next_after, operand_by}
-use Rattle.pass_fetch.specs.Instrs.{fetched_instr, fetched_instrs, fetched_term, next_after_instr, next_after_instrs, term_operands, with_fetched}
-use Rattle.pass_fetch.specs.declared.fetch.Fetch.{Fetch}
+use Rattle.rule_laws.specs.run_laws.changed.Changed.{Each}
+use Rattle.rule_laws.specs.pass_fetch.Blocks.{end_at, fetched_blocks, fetched_incoming, fetched_phis, next_after_block, next_after_phi, next_after_phis}
+use Rattle.rule_laws.specs.pass_fetch.Fetching.{callee_by, fetch_into, fetch_of, fetched_args, fetched_operand, fetches_by, fetches_of, fetches_of_all, next_after, operand_by}
+use Rattle.rule_laws.specs.pass_fetch.Instrs.{fetched_instr, fetched_instrs, fetched_term, next_after_instr, next_after_instrs, term_operands, with_fetched}
+use Rattle.rule_laws.specs.pass_fetch.declared.fetch.Fetch.{Fetch}
 
 -- what holds of each operand of a block
 pub record HoldsIn (P : Operand → Type 0) (b : Block) : Type 0 where

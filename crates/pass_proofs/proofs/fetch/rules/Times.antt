@@ -2,26 +2,26 @@
 use Rattle.std.proofs.Common.{◌≡◌, inl, inr, ⊎_elim, ℕ, zero, suc, ◌+◌, ◌<◌, ◌≤◌, Bool, true, false, List, [], ◌∷◌, ◌++◌, refl, sym, ap, ◌∙◌, arith}
 use Rattle.std.proofs.lemmas.Bool.{cases_lt, lt-ltb, ltb-true}
 use Rattle.std.specs.Prelude.{None, Option, Some, map, nat_lt, option_to_list, replicate, slice_set, unwrap_or, ◌==◌}
-use Rattle.rule_uses.specs.Uses.{block_values}
-use Rattle.ir_laws.proofs.facts.Truth.{itself, is_number}
-use Rattle.ir_laws.proofs.facts.Lists.{set_other, phi_names, row_of, times_joined}
-use Rattle.ir_laws.proofs.facts.local_rules.Woven.{other_number}
-use Rattle.ir_laws.proofs.paths.source_rules.Locals.{Apart}
+use Rattle.rule_laws.specs.rule_uses.Uses.{block_values}
+use Rattle.rule_laws.proofs.ir_laws.facts.Truth.{itself, is_number}
+use Rattle.rule_laws.proofs.ir_laws.facts.Lists.{set_other, phi_names, row_of, times_joined}
+use Rattle.rule_laws.proofs.ir_laws.facts.local_rules.Woven.{other_number}
+use Rattle.rule_laws.proofs.ir_laws.paths.source_rules.Locals.{Apart}
 use Rattle.rule_laws.proofs.rules.source_rules.Locals.{block_names, made_by}
-use Rattle.flow_solver.specs.Paths.{IsListed}
-use Rattle.ir_parts.specs.Contents.{instr_operands, result_of}
+use Rattle.rule_laws.specs.flow_solver.Paths.{IsListed}
+use Rattle.rule_laws.specs.ir_parts.Contents.{instr_operands, result_of}
 use Rattle.ir_model.specs.declared.instr.Incoming.{Incoming}
 use Rattle.ir_model.specs.declared.instr.Instr.{Instr}
 use Rattle.ir_model.specs.declared.instr.Phi.{Phi}
 use Rattle.ir_model.specs.declared.module.Block.{Block}
 use Rattle.ir_model.specs.declared.operand.Operand.{Operand}
-use Rattle.pass_fetch.specs.Blocks.{end_at, ends_of_blocks, ends_of_incoming, ends_of_phis, fetched_block, fetched_blocks, fetched_phis, next_after_block, next_after_blocks, next_after_phi, next_after_phis, next_after_phis_by, with_end}
-use Rattle.pass_fetch.specs.Fetching.{fetch_into, fetch_of, fetches_by, fetches_of, fetches_of_all, next_after, next_after_all, next_by}
-use Rattle.pass_fetch.specs.Instrs.{fetched_instr, fetched_instrs, next_after_instr, next_after_instrs, term_operands, with_fetched}
-use Rattle.pass_fetch.specs.declared.fetch.Fetch.{Fetch}
+use Rattle.rule_laws.specs.pass_fetch.Blocks.{end_at, ends_of_blocks, ends_of_incoming, ends_of_phis, fetched_block, fetched_blocks, fetched_phis, next_after_block, next_after_blocks, next_after_phi, next_after_phis, next_after_phis_by, with_end}
+use Rattle.rule_laws.specs.pass_fetch.Fetching.{fetch_into, fetch_of, fetches_by, fetches_of, fetches_of_all, next_after, next_after_all, next_by}
+use Rattle.rule_laws.specs.pass_fetch.Instrs.{fetched_instr, fetched_instrs, next_after_instr, next_after_instrs, term_operands, with_fetched}
+use Rattle.rule_laws.specs.pass_fetch.declared.fetch.Fetch.{Fetch}
 use Rattle.rule_laws.proofs.rules.woven_rules.Once.{times_block}
 use Rattle.rule_laws.specs.rules.woven_rules.Blocks.{times_made}
-use Rattle.ir_laws.specs.facts.woven_rules.Pairs.{one_if, times}
+use Rattle.rule_laws.specs.ir_laws.facts.woven_rules.Pairs.{one_if, times}
 
 pub with_result : (t : List (Option Fetch)) (n : ℕ) (i : Instr) → result_of (with_fetched t n i) ≡ result_of i
 with_result t n (Instr.Binary r op flags ty a b) = refl

@@ -1,22 +1,22 @@
 -- A function whose operands are fetched has the calls by which it is a coroutine, where none of their operands is fetched.
 use Rattle.std.proofs.Common.{◌≡◌, inl, inr, ℕ, zero, suc, ◌+◌, ◌<◌, ◌≤◌, Bool, true, false, List, [], ◌∷◌, ◌++◌, length, refl, sym, ap, ◌∙◌, subst, arith, append_assoc}
 use Rattle.std.specs.Prelude.{Some, None, Option, cond, map, replicate, slice_get, slice_set, unwrap_or, if◌then◌else◌, ◌&&◌}
-use Rattle.rule_shape.specs.Switches.{are_both}
-use Rattle.ir_laws.proofs.facts.Lists.{set_other}
-use Rattle.ir_laws.proofs.facts.Members.{each_joined}
-use Rattle.ir_laws.proofs.facts.local_rules.Woven.{other_number}
+use Rattle.rule_laws.specs.rule_shape.Switches.{are_both}
+use Rattle.rule_laws.proofs.ir_laws.facts.Lists.{set_other}
+use Rattle.rule_laws.proofs.ir_laws.facts.Members.{each_joined}
+use Rattle.rule_laws.proofs.ir_laws.facts.local_rules.Woven.{other_number}
 use Rattle.pass_proofs.proofs.early.path_rules.SavedSwitches.{times_in, times_more}
 use Rattle.pass_proofs.proofs.edges.shape.Uses.{ends_total}
 use Rattle.pass_proofs.proofs.fetch.rules.Ends.{phis_rise}
 use Rattle.pass_proofs.proofs.fetch.rules.Fetched.{block_rises, instrs_rise}
 use Rattle.pass_proofs.proofs.fetch.rules.Puts.{fetch_rises}
 use Rattle.pass_proofs.specs.fetch.rules.Fetches.{AreUnfetched, base_of}
-use Rattle.flow_solver.specs.Paths.{IsListed}
+use Rattle.rule_laws.specs.flow_solver.Paths.{IsListed}
 use Rattle.pass_proofs.proofs.fetch.shape.Held.{IsHeldInstr}
 use Rattle.pass_proofs.proofs.edges.calls.Spared.{AreInstrsOther, AreOther, ArePhisOther, IsOther, IsSpared}
 use Rattle.rule_laws.proofs.rules.shape.Steady.{AreAllOrdered, IsBlockKept, IsPlain, Keeps, LeadsAt, all_put, behind_first, first_leads, row}
-use Rattle.ir_laws.proofs.paths.shape.Steady.{AreOrdered, is_suspend}
-use Rattle.ir_parts.specs.Contents.{arg_operands, callee_operands, ending_operands, instr_operands}
+use Rattle.rule_laws.proofs.ir_laws.paths.shape.Steady.{AreOrdered, is_suspend}
+use Rattle.rule_laws.specs.ir_parts.Contents.{arg_operands, callee_operands, ending_operands, instr_operands}
 use Rattle.ir_model.specs.Names.{is_local}
 use Rattle.ir_model.specs.declared.instr.Incoming.{Incoming}
 use Rattle.ir_model.specs.declared.instr.Instr.{Instr}
@@ -26,12 +26,12 @@ use Rattle.ir_model.specs.declared.module.Block.{Block}
 use Rattle.ir_model.specs.declared.operand.Arg.{Arg}
 use Rattle.ir_model.specs.declared.operand.Callee.{Callee}
 use Rattle.ir_model.specs.declared.operand.Operand.{Operand}
-use Rattle.run_laws.specs.changed.Changed.{Each}
-use Rattle.pass_fetch.specs.Blocks.{end_at, ends_of_blocks, ends_of_incoming, ends_of_phis, fetched_block, fetched_blocks, fetched_incoming, fetched_phis, next_after_block, next_after_phi, next_after_phis, with_end}
-use Rattle.pass_fetch.specs.Fetching.{callee_by, fetch_at, fetch_into, fetch_of, fetched_args, fetched_operand, fetches_by, fetches_of, fetches_of_all, next_after, next_by, operand_by}
-use Rattle.pass_fetch.specs.Instrs.{fetched_instr, fetched_instrs, fetched_term, next_after_instr, next_after_instrs, term_operands, with_fetched}
-use Rattle.pass_fetch.specs.declared.fetch.Fetch.{Fetch}
-use Rattle.ir_laws.specs.facts.woven_rules.Pairs.{Empty, Pair, Pairwise}
+use Rattle.rule_laws.specs.run_laws.changed.Changed.{Each}
+use Rattle.rule_laws.specs.pass_fetch.Blocks.{end_at, ends_of_blocks, ends_of_incoming, ends_of_phis, fetched_block, fetched_blocks, fetched_incoming, fetched_phis, next_after_block, next_after_phi, next_after_phis, with_end}
+use Rattle.rule_laws.specs.pass_fetch.Fetching.{callee_by, fetch_at, fetch_into, fetch_of, fetched_args, fetched_operand, fetches_by, fetches_of, fetches_of_all, next_after, next_by, operand_by}
+use Rattle.rule_laws.specs.pass_fetch.Instrs.{fetched_instr, fetched_instrs, fetched_term, next_after_instr, next_after_instrs, term_operands, with_fetched}
+use Rattle.rule_laws.specs.pass_fetch.declared.fetch.Fetch.{Fetch}
+use Rattle.rule_laws.specs.ir_laws.facts.woven_rules.Pairs.{Empty, Pair, Pairwise}
 use Rattle.rule_laws.specs.rules.woven_shape.Calls.{default_on}
 
 -- ---- what is fetched

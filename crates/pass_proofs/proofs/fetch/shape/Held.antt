@@ -3,19 +3,19 @@ use Rattle.std.proofs.Common.{◌≡◌, ℕ, zero, suc, ◌+◌, Bool, true, fa
 use Rattle.std.specs.List.{list_all}
 use Rattle.std.specs.Prelude.{Some, None, Option, slice_get, if◌then◌else◌, ◌&&◌}
 use Rattle.rule_laws.proofs.rules.counted.PartFacts.{block_passes}
-use Rattle.ir_base.specs.declared.outcome.Place.{Place}
-use Rattle.ir_calls.specs.Calls.{value_of_first}
-use Rattle.rule_shape.specs.OneOfEach.{calls_of, wrong_call}
-use Rattle.ir_laws.proofs.facts.Members.{at_each, each_there}
+use Rattle.rule_laws.specs.ir_base.declared.outcome.Place.{Place}
+use Rattle.rule_laws.specs.ir_calls.Calls.{value_of_first}
+use Rattle.rule_laws.specs.rule_shape.OneOfEach.{calls_of, wrong_call}
+use Rattle.rule_laws.proofs.ir_laws.facts.Members.{at_each, each_there}
 use Rattle.rule_laws.proofs.rules.renamed.Outside.{each_left, each_right}
-use Rattle.ir_laws.proofs.facts.Truth.{and_second, holds}
+use Rattle.rule_laws.proofs.ir_laws.facts.Truth.{and_second, holds}
 use Rattle.pass_proofs.specs.fetch.rules.Fetches.{AreUnfetched, base_of}
 use Rattle.rule_laws.proofs.rules.shape.Ordered.{IsSuspendValue}
 use Rattle.rule_laws.proofs.rules.shape.Steady.{IsAlike}
-use Rattle.ir_laws.proofs.paths.shape.Steady.{is_end}
+use Rattle.rule_laws.proofs.ir_laws.paths.shape.Steady.{is_end}
 use Rattle.pass_proofs.proofs.fetch.shape.Wanted.{IsHeldCall, found_made, held_call}
-use Rattle.ir_parts.specs.Contents.{instr_operands}
-use Rattle.ir_parts.specs.Parts.{OfInstr}
+use Rattle.rule_laws.specs.ir_parts.Contents.{instr_operands}
+use Rattle.rule_laws.specs.ir_parts.Parts.{OfInstr}
 use Rattle.rule_laws.specs.rules.function_rules.Kept.{KeepsFunctionRules}
 use Rattle.ir_model.specs.Calls.{first_result}
 use Rattle.ir_model.specs.Names.{same_intrinsic}
@@ -28,21 +28,21 @@ use Rattle.ir_model.specs.declared.operand.Arg.{Arg}
 use Rattle.ir_model.specs.declared.operand.Callee.{Callee}
 use Rattle.ir_model.specs.declared.operand.Intrinsic.{Intrinsic}
 use Rattle.ir_model.specs.declared.operand.Operand.{Operand}
-use Rattle.ir_paths.specs.Windows.{operand_at}
-use Rattle.run_laws.specs.changed.Changed.{Each}
-use Rattle.rule_types.specs.Signatures.{are_wanted, calls_otherwise, is_result}
-use Rattle.rule_types.specs.Wants.{intrinsic_params, intrinsic_result}
-use Rattle.pass_fetch.specs.Fetching.{callee_by, fetch_at, fetch_of, fetched_args, next_after, operand_by}
-use Rattle.pass_fetch.specs.Instrs.{with_fetched}
-use Rattle.pass_fetch.specs.declared.fetch.Fetch.{Fetch}
-use Rattle.rule_values.specs.Fits.{fits_kind}
-use Rattle.rule_values.specs.Instrs.{fits_called, fits_instr, fits_result, passes}
-use Rattle.rule_values.specs.Kinds.{value_kind}
-use Rattle.rule_values.specs.Values.{breaks_values}
+use Rattle.rule_laws.specs.ir_paths.Windows.{operand_at}
+use Rattle.rule_laws.specs.run_laws.changed.Changed.{Each}
+use Rattle.rule_laws.specs.rule_types.Signatures.{are_wanted, calls_otherwise, is_result}
+use Rattle.rule_laws.specs.rule_types.Wants.{intrinsic_params, intrinsic_result}
+use Rattle.rule_laws.specs.pass_fetch.Fetching.{callee_by, fetch_at, fetch_of, fetched_args, next_after, operand_by}
+use Rattle.rule_laws.specs.pass_fetch.Instrs.{with_fetched}
+use Rattle.rule_laws.specs.pass_fetch.declared.fetch.Fetch.{Fetch}
+use Rattle.rule_laws.specs.rule_values.Fits.{fits_kind}
+use Rattle.rule_laws.specs.rule_values.Instrs.{fits_called, fits_instr, fits_result, passes}
+use Rattle.rule_laws.specs.rule_values.Kinds.{value_kind}
+use Rattle.rule_laws.specs.rule_values.Values.{breaks_values}
 use Rattle.rule_laws.proofs.rules.woven_shape.Found.{made, not_begin, result_made, value_found}
 use Rattle.rule_laws.proofs.rules.woven_shape.Gathered.{to_row}
 use Rattle.rule_laws.proofs.rules.woven_shape.OneOfEach.{IsRight, all_right}
-use Rattle.rule_shape.specs.declared.one_of_each.Calls.{Calls}
+use Rattle.rule_laws.specs.rule_shape.declared.one_of_each.Calls.{Calls}
 use Rattle.rule_laws.specs.rules.woven_shape.Calls.{call_at, calls_in, first_named, is_shaping, leads_block, second_named, shaping_call, shaping_calls}
 
 -- tokens, begin's value and the results of suspends aren't fetched, and nothing is fetched by the results of suspends

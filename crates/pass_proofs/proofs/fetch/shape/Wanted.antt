@@ -3,10 +3,10 @@ use Rattle.std.proofs.Common.{◌≡◌, ℕ, zero, suc, Bool, true, false, List
 use Rattle.std.specs.List.{list_all}
 use Rattle.std.specs.Prelude.{Some, None, Option, option_and_then, slice_get, if◌then◌else◌, ◌&&◌, ◌||◌}
 use Rattle.rule_laws.proofs.rules.counted.PartFacts.{all_at}
-use Rattle.ir_calls.specs.Calls.{is_null, is_value}
-use Rattle.ir_laws.proofs.facts.Truth.{equal_numbers, and_first, and_second}
+use Rattle.rule_laws.specs.ir_calls.Calls.{is_null, is_value}
+use Rattle.rule_laws.proofs.ir_laws.facts.Truth.{equal_numbers, and_first, and_second}
 use Rattle.pass_proofs.specs.fetch.rules.Fetches.{AreUnfetched}
-use Rattle.ir_parts.specs.Contents.{arg_operands}
+use Rattle.rule_laws.specs.ir_parts.Contents.{arg_operands}
 use Rattle.ir_model.specs.Calls.{or_else}
 use Rattle.ir_model.specs.Names.{is_local, same_intrinsic}
 use Rattle.ir_model.specs.Ty.{Ty, token}
@@ -14,18 +14,18 @@ use Rattle.ir_model.specs.declared.operand.Arg.{Arg}
 use Rattle.ir_model.specs.declared.operand.Callee.{Callee}
 use Rattle.ir_model.specs.declared.operand.Intrinsic.{Intrinsic}
 use Rattle.ir_model.specs.declared.operand.Operand.{Operand}
-use Rattle.ir_paths.specs.Windows.{operand_at}
-use Rattle.run_laws.specs.changed.Changed.{Each}
-use Rattle.rule_types.specs.Signatures.{are_wanted}
-use Rattle.rule_types.specs.Wants.{any, intrinsic_params, is_basic, is_token, meets, want}
-use Rattle.rule_types.specs.declared.wants.Basic.{Basic}
-use Rattle.rule_types.specs.declared.wants.Demand.{Demand}
-use Rattle.rule_types.specs.declared.wants.Wanted.{Wanted}
-use Rattle.pass_fetch.specs.Fetching.{fetch_of}
-use Rattle.pass_fetch.specs.declared.fetch.Fetch.{Fetch}
-use Rattle.rule_values.specs.Fits.{fits, fits_arg, fits_kind}
-use Rattle.rule_values.specs.Instrs.{is_passed, passes}
-use Rattle.rule_values.specs.declared.kinds.Kind.{Kind}
+use Rattle.rule_laws.specs.ir_paths.Windows.{operand_at}
+use Rattle.rule_laws.specs.run_laws.changed.Changed.{Each}
+use Rattle.rule_laws.specs.rule_types.Signatures.{are_wanted}
+use Rattle.rule_laws.specs.rule_types.Wants.{any, intrinsic_params, is_basic, is_token, meets, want}
+use Rattle.rule_laws.specs.rule_types.declared.wants.Basic.{Basic}
+use Rattle.rule_laws.specs.rule_types.declared.wants.Demand.{Demand}
+use Rattle.rule_laws.specs.rule_types.declared.wants.Wanted.{Wanted}
+use Rattle.rule_laws.specs.pass_fetch.Fetching.{fetch_of}
+use Rattle.rule_laws.specs.pass_fetch.declared.fetch.Fetch.{Fetch}
+use Rattle.rule_laws.specs.rule_values.Fits.{fits, fits_arg, fits_kind}
+use Rattle.rule_laws.specs.rule_values.Instrs.{is_passed, passes}
+use Rattle.rule_laws.specs.rule_values.declared.kinds.Kind.{Kind}
 use Rattle.rule_laws.proofs.rules.woven_shape.Found.{found, made}
 use Rattle.rule_laws.proofs.rules.woven_shape.OneOfEach.{right_of}
 use Rattle.rule_laws.specs.rules.woven_shape.Calls.{ShapingCall, first_named, is_shaping, second_named}

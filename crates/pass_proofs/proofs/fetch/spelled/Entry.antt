@@ -4,9 +4,9 @@ use Rattle.std.specs.Prelude.{Option}
 use Rattle.ir_model.specs.declared.instr.Instr.{Instr}
 use Rattle.ir_model.specs.declared.module.Block.{Block}
 use Rattle.ir_model.specs.declared.module.Function.{Function}
-use Rattle.ir_laws.specs.facts.spelled.Filled.{HasNoEntryPhis}
-use Rattle.pass_fetch.specs.Blocks.{fetched_blocks, fetched_phis, with_fetches}
-use Rattle.pass_fetch.specs.declared.fetch.Fetch.{Fetch}
+use Rattle.rule_laws.specs.ir_laws.facts.spelled.Filled.{HasNoEntryPhis}
+use Rattle.rule_laws.specs.pass_fetch.Blocks.{fetched_blocks, fetched_phis, with_fetches}
+use Rattle.rule_laws.specs.pass_fetch.declared.fetch.Fetch.{Fetch}
 
 fetched_entry : (t : List (Option Fetch)) (ends : List (List Instr)) (m n : ℕ) (bs : List Block) → HasNoEntryPhis bs → HasNoEntryPhis (fetched_blocks t ends m n bs)
 fetched_entry t ends m n [] h = tt

@@ -1,9 +1,9 @@
 -- Where values are fetched before their uses, a function can still be written.
 use Rattle.std.proofs.Common.{◌≡◌, ℕ, zero, suc, ◌-◌, Bool, true, List, [], ◌∷◌, ◌++◌, length, replicate}
 use Rattle.std.specs.Prelude.{None, Option, Some, slice_get, slice_set}
-use Rattle.text_names.specs.Spelling.{is_name_text}
-use Rattle.ir_laws.proofs.facts.Members.{each_joined, joined_names}
-use Rattle.ir_parts.specs.Contents.{arg_types, ending_types, instr_operands}
+use Rattle.rule_laws.specs.text_names.Spelling.{is_name_text}
+use Rattle.rule_laws.proofs.ir_laws.facts.Members.{each_joined, joined_names}
+use Rattle.rule_laws.specs.ir_parts.Contents.{arg_types, ending_types, instr_operands}
 use Rattle.ir_model.specs.Ty.{Ty}
 use Rattle.ir_model.specs.declared.instr.Incoming.{Incoming}
 use Rattle.ir_model.specs.declared.instr.Instr.{Instr}
@@ -18,11 +18,11 @@ use Rattle.pass_proofs.proofs.fetch.spelled.Names.{all_numbered}
 use Rattle.rule_laws.proofs.texts.spelled.Types.{byte_spelled, word_spelled}
 use Rattle.rule_laws.specs.texts.spelled.Spelled.{IsSpelled}
 use Rattle.rule_laws.specs.rules.spelled.Spelled.{IsSpelledBlock, IsSpelledFunction, IsSpelledInstr, MayStand}
-use Rattle.run_laws.specs.changed.Changed.{Each}
-use Rattle.pass_fetch.specs.Blocks.{end_at, ends_of_blocks, ends_of_incoming, ends_of_phis, fetched_block, fetched_blocks, fetched_phis, next_after_block, next_after_blocks, next_after_phi, next_after_phis, next_after_phis_by, numbered_names, with_end, with_fetches}
-use Rattle.pass_fetch.specs.Fetching.{callee_by, fetch_at, fetch_into, fetch_of, fetched_args, fetches_by, fetches_of, fetches_of_all, next_after}
-use Rattle.pass_fetch.specs.Instrs.{fetched_instr, fetched_instrs, fetched_term, next_after_instr, next_after_instrs, term_operands, with_fetched}
-use Rattle.pass_fetch.specs.declared.fetch.Fetch.{Fetch}
+use Rattle.rule_laws.specs.run_laws.changed.Changed.{Each}
+use Rattle.rule_laws.specs.pass_fetch.Blocks.{end_at, ends_of_blocks, ends_of_incoming, ends_of_phis, fetched_block, fetched_blocks, fetched_phis, next_after_block, next_after_blocks, next_after_phi, next_after_phis, next_after_phis_by, numbered_names, with_end, with_fetches}
+use Rattle.rule_laws.specs.pass_fetch.Fetching.{callee_by, fetch_at, fetch_into, fetch_of, fetched_args, fetches_by, fetches_of, fetches_of_all, next_after}
+use Rattle.rule_laws.specs.pass_fetch.Instrs.{fetched_instr, fetched_instrs, fetched_term, next_after_instr, next_after_instrs, term_operands, with_fetched}
+use Rattle.rule_laws.specs.pass_fetch.declared.fetch.Fetch.{Fetch}
 
 -- ---- lists
 

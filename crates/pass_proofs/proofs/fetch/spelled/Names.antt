@@ -1,11 +1,11 @@
 -- Lemmas on names.
 use Rattle.std.proofs.Common.{◌≡◌, ℕ, zero, suc, true, List, [], ◌∷◌}
-use Rattle.text_names.specs.Spelling.{IsName, is_name_text}
+use Rattle.rule_laws.specs.text_names.Spelling.{IsName, is_name_text}
 use Rattle.ir_model.specs.Names.{numbered}
-use Rattle.run_laws.specs.changed.Changed.{Each}
-use Rattle.pass_fetch.specs.Blocks.{numbered_names}
-use Rattle.ir_laws.proofs.facts.Lists.{numbered_named}
-use Rattle.ir_laws.proofs.facts.Members.{joined_names}
+use Rattle.rule_laws.specs.run_laws.changed.Changed.{Each}
+use Rattle.rule_laws.specs.pass_fetch.Blocks.{numbered_names}
+use Rattle.rule_laws.proofs.ir_laws.facts.Lists.{numbered_named}
+use Rattle.rule_laws.proofs.ir_laws.facts.Members.{joined_names}
 
 pub all_numbered : (word : List ℕ) (k : ℕ) → is_name_text word ≡ true → Each IsName (numbered_names word k)
 all_numbered word zero h = tt

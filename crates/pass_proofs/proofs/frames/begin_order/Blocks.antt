@@ -3,17 +3,17 @@ use Rattle.std.proofs.Common.{◌≡◌, ◌⊎◌, inl, inr, ⊎_elim, ℕ, suc
 use Rattle.std.specs.Prelude.{None, Option, Some, replicate, slice_get, if◌then◌else◌, ◌==◌}
 use Rattle.pass_copies.specs.Uses.{flag_at, is_begin as is_copied_at}
 use Rattle.pass_proofs.proofs.copies.begin_order.Marks.{flag_back, flag_set, flag_stays, none_flagged}
-use Rattle.flow_blocks.proofs.Bounds.{edge_bounded}
-use Rattle.flow_blocks.specs.Edges.{block_edges}
-use Rattle.flow_blocks.specs.Reach.{Edge, IsReached, Start}
-use Rattle.rule_uses.specs.Undefined.{Entry, Next, ReachesWithout, params_of}
-use Rattle.rule_uses.specs.Uses.{phi_values, values_at, values_in}
-use Rattle.ir_laws.proofs.facts.Truth.{equal_numbers, itself}
-use Rattle.ir_laws.proofs.facts.Lists.{get_within, set_length, row_of, flags_length}
+use Rattle.rule_laws.proofs.flow_blocks.Bounds.{edge_bounded}
+use Rattle.rule_laws.specs.flow_blocks.Edges.{block_edges}
+use Rattle.rule_laws.specs.flow_blocks.Reach.{Edge, IsReached, Start}
+use Rattle.rule_laws.specs.rule_uses.Undefined.{Entry, Next, ReachesWithout, params_of}
+use Rattle.rule_laws.specs.rule_uses.Uses.{phi_values, values_at, values_in}
+use Rattle.rule_laws.proofs.ir_laws.facts.Truth.{equal_numbers, itself}
+use Rattle.rule_laws.proofs.ir_laws.facts.Lists.{get_within, set_length, row_of, flags_length}
 use Rattle.rule_laws.proofs.rules.source_rules.Locals.{block_names, own_label}
-use Rattle.ir_laws.proofs.paths.source_rules.Locals.{in_row, listed_right}
-use Rattle.flow_solver.specs.Paths.{IsListed}
-use Rattle.ir_parts.specs.Contents.{result_of}
+use Rattle.rule_laws.proofs.ir_laws.paths.source_rules.Locals.{in_row, listed_right}
+use Rattle.rule_laws.specs.flow_solver.Paths.{IsListed}
+use Rattle.rule_laws.specs.ir_parts.Contents.{result_of}
 use Rattle.rule_laws.specs.rules.function_rules.Kept.{KeepsFunctionRules}
 use Rattle.ir_model.specs.Names.{position_of}
 use Rattle.ir_model.specs.declared.instr.Instr.{Instr}

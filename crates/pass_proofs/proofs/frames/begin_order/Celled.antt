@@ -27,16 +27,16 @@ use Rattle.pass_proofs.proofs.cells.rules.Whole.{is_woven, loads, planned, sound
 use Rattle.pass_proofs.proofs.cells.rules.WovenBlocks.{row_is}
 use Rattle.pass_proofs.specs.cells.rules.Asked.{AreCellsFor}
 use Rattle.pass_proofs.specs.cells.rules.Weaving.{cells_weaving}
-use Rattle.rule_uses.specs.Undefined.{ReachesWithout}
-use Rattle.rule_uses.specs.Uses.{block_values, phi_values, values_at, values_in}
-use Rattle.ir_laws.proofs.facts.Members.{each_behind, each_turns}
+use Rattle.rule_laws.specs.rule_uses.Undefined.{ReachesWithout}
+use Rattle.rule_laws.specs.rule_uses.Uses.{block_values, phi_values, values_at, values_in}
+use Rattle.rule_laws.proofs.ir_laws.facts.Members.{each_behind, each_turns}
 use Rattle.rule_laws.proofs.rules.source_rules.Locals.{made_by}
 use Rattle.pass_proofs.proofs.fetch.rules.Puts.{fetch_rises}
-use Rattle.flow_solver.specs.Paths.{IsListed}
+use Rattle.rule_laws.specs.flow_solver.Paths.{IsListed}
 use Rattle.pass_addresses.specs.Placing.{is_none}
-use Rattle.ir_parts.specs.Contents.{ending_operands, instr_operands, result_of}
+use Rattle.rule_laws.specs.ir_parts.Contents.{ending_operands, instr_operands, result_of}
 use Rattle.rule_laws.specs.rules.function_rules.Kept.{KeepsFunctionRules}
-use Rattle.pass_intrinsics.specs.Shapes.{suspends_of}
+use Rattle.rule_laws.specs.pass_intrinsics.Shapes.{suspends_of}
 use Rattle.ir_model.specs.Names.{position_of}
 use Rattle.ir_model.specs.declared.instr.Incoming.{Incoming}
 use Rattle.ir_model.specs.declared.instr.Instr.{Instr}
@@ -46,21 +46,21 @@ use Rattle.ir_model.specs.declared.module.Function.{Function}
 use Rattle.ir_model.specs.declared.module.Module.{Module}
 use Rattle.ir_model.specs.declared.operand.Operand.{Operand}
 use Rattle.rule_laws.specs.rules.replaced.Splittable.{AreBegun, AreBlocksBegun}
-use Rattle.ir_laws.specs.facts.replaced.Splittable.{asks_begin}
-use Rattle.run_laws.specs.changed.Changed.{Each}
-use Rattle.pass_fetch.specs.Blocks.{end_at, fetched_block, fetched_incoming, fetched_phis, next_after_phi, numbered_names}
-use Rattle.pass_fetch.specs.Fetching.{fetches_of_all, next_after}
-use Rattle.pass_fetch.specs.Instrs.{next_after_instr, next_after_instrs, term_operands, with_fetched}
-use Rattle.pass_fetch.specs.declared.fetch.Fetch.{Fetch}
-use Rattle.pass_cells.specs.Cells.{named_function, with_cells}
-use Rattle.pass_cells.specs.Kept.{entry}
-use Rattle.pass_cells.specs.Moves.{after_again, after_saved, again_values, saved_values}
-use Rattle.pass_cells.specs.Plan.{plan_of}
-use Rattle.pass_cells.specs.Written.{after_one, again_row, distance_behind, distance_alloca, distance_allocas, kept_allocas, link_allocas, row_at, save_row, stored_params, stored_phis, stored_result, written_block, written_instrs}
-use Rattle.pass_cells.specs.declared.plan.KeptValue.{KeptValue}
-use Rattle.pass_cells.specs.declared.plan.Plan.{Plan}
-use Rattle.rule_values.specs.Kinds.{value_kind}
-use Rattle.rule_values.specs.declared.kinds.Kind.{Kind}
+use Rattle.rule_laws.specs.ir_laws.facts.replaced.Splittable.{asks_begin}
+use Rattle.rule_laws.specs.run_laws.changed.Changed.{Each}
+use Rattle.rule_laws.specs.pass_fetch.Blocks.{end_at, fetched_block, fetched_incoming, fetched_phis, next_after_phi, numbered_names}
+use Rattle.rule_laws.specs.pass_fetch.Fetching.{fetches_of_all, next_after}
+use Rattle.rule_laws.specs.pass_fetch.Instrs.{next_after_instr, next_after_instrs, term_operands, with_fetched}
+use Rattle.rule_laws.specs.pass_fetch.declared.fetch.Fetch.{Fetch}
+use Rattle.rule_laws.specs.pass_cells.Cells.{named_function, with_cells}
+use Rattle.rule_laws.specs.pass_cells.Kept.{entry}
+use Rattle.rule_laws.specs.pass_cells.Moves.{after_again, after_saved, again_values, saved_values}
+use Rattle.rule_laws.specs.pass_cells.Plan.{plan_of}
+use Rattle.rule_laws.specs.pass_cells.Written.{after_one, again_row, distance_behind, distance_alloca, distance_allocas, kept_allocas, link_allocas, row_at, save_row, stored_params, stored_phis, stored_result, written_block, written_instrs}
+use Rattle.rule_laws.specs.pass_cells.declared.plan.KeptValue.{KeptValue}
+use Rattle.rule_laws.specs.pass_cells.declared.plan.Plan.{Plan}
+use Rattle.rule_laws.specs.rule_values.Kinds.{value_kind}
+use Rattle.rule_laws.specs.rule_values.declared.kinds.Kind.{Kind}
 use Rattle.rule_laws.proofs.rules.woven_rules.Laid.{valued_old}
 use Rattle.rule_laws.proofs.rules.woven_rules.Once.{names_below}
 use Rattle.rule_laws.proofs.rules.woven_rules.ValueKinds.{old_kind}

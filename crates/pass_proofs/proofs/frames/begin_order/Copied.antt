@@ -9,7 +9,7 @@ use Rattle.pass_copies.specs.Uses.{flag_at, is_access, is_begin, still_before, u
 use Rattle.pass_copies.specs.declared.copying.Copying.{Copying}
 use Rattle.pass_copies.specs.declared.slot.EarlySlot.{EarlySlot}
 use Rattle.pass_proofs.proofs.frames.begin_order.Blocks.{before_told, flagged_here, same_begin}
-use Rattle.ir_laws.proofs.facts.Lists.{flags_length}
+use Rattle.rule_laws.proofs.ir_laws.facts.Lists.{flags_length}
 use Rattle.pass_proofs.proofs.copies.begin_order.Early.{IsLoaded, all_loaded, leads_again, slot_fetched, slot_listed}
 use Rattle.pass_proofs.proofs.addresses.begin_order.Early.{in_frame}
 use Rattle.pass_proofs.proofs.addresses.begin_order.Lists.{AllLeft, IsLeft, IsMore, all_uses, block_has, each_left_well}
@@ -23,13 +23,13 @@ use Rattle.rule_laws.specs.rules.begin_order.Behind.{access_operands, other_oper
 use Rattle.pass_proofs.proofs.copies.rules.KeptCopies.{with_copies_keeps, with_copies_woven}
 use Rattle.pass_proofs.proofs.copies.rules.Slots.{AreNumbered, Cell, IsFrontOf, Temporary, cell_named, front_allocas, front_range, numbered, one_of, temporary_named}
 use Rattle.pass_proofs.specs.copies.rules.Copies.{CopiesFit, copied_slots, copy_weaving}
-use Rattle.rule_uses.specs.Uses.{block_uses, block_values, phi_values, uses_of, values_in}
-use Rattle.ir_laws.proofs.paths.source_rules.Locals.{listed_either, listed_left, listed_right}
+use Rattle.rule_laws.specs.rule_uses.Uses.{block_uses, block_values, phi_values, uses_of, values_in}
+use Rattle.rule_laws.proofs.ir_laws.paths.source_rules.Locals.{listed_either, listed_left, listed_right}
 use Rattle.rule_laws.proofs.rules.source_rules.Locals.{made_by}
 use Rattle.pass_proofs.proofs.fetch.rules.Puts.{fetch_rises}
-use Rattle.flow_solver.specs.Paths.{IsListed}
+use Rattle.rule_laws.specs.flow_solver.Paths.{IsListed}
 use Rattle.pass_addresses.specs.Placing.{is_flagged, stays, without_markers}
-use Rattle.ir_parts.specs.Contents.{ending_operands, instr_operands, result_of}
+use Rattle.rule_laws.specs.ir_parts.Contents.{ending_operands, instr_operands, result_of}
 use Rattle.rule_laws.specs.rules.function_rules.Kept.{KeepsFunctionRules}
 use Rattle.ir_model.specs.declared.instr.Instr.{Instr}
 use Rattle.ir_model.specs.declared.module.Block.{Block}
@@ -37,17 +37,17 @@ use Rattle.ir_model.specs.declared.module.Function.{Function}
 use Rattle.ir_model.specs.declared.module.Module.{Module}
 use Rattle.ir_model.specs.declared.operand.Operand.{Operand}
 use Rattle.pass_frames.specs.Framed.{AreBefore, begin_block}
-use Rattle.run_laws.specs.changed.Changed.{Each}
-use Rattle.pass_fetch.specs.Fetching.{fetch_of, fetches_of_all}
-use Rattle.pass_fetch.specs.Instrs.{fetched_instr, next_after_instr, with_fetched}
-use Rattle.pass_fetch.specs.declared.fetch.Fetch.{Fetch}
-use Rattle.rule_values.specs.Kinds.{value_kind}
-use Rattle.rule_values.specs.declared.kinds.Kind.{Kind}
+use Rattle.rule_laws.specs.run_laws.changed.Changed.{Each}
+use Rattle.rule_laws.specs.pass_fetch.Fetching.{fetch_of, fetches_of_all}
+use Rattle.rule_laws.specs.pass_fetch.Instrs.{fetched_instr, next_after_instr, with_fetched}
+use Rattle.rule_laws.specs.pass_fetch.declared.fetch.Fetch.{Fetch}
+use Rattle.rule_laws.specs.rule_values.Kinds.{value_kind}
+use Rattle.rule_laws.specs.rule_values.declared.kinds.Kind.{Kind}
 use Rattle.rule_laws.proofs.rules.woven_rules.All.{rules_woven}
 use Rattle.rule_laws.proofs.rules.woven_rules.Edges.{incoming_woven}
 use Rattle.rule_laws.proofs.rules.woven_rules.Laid.{valued_old}
 use Rattle.rule_laws.proofs.rules.woven_rules.Once.{names_below}
-use Rattle.ir_laws.proofs.paths.woven_rules.Unbroken.{each_listed, of_listed}
+use Rattle.rule_laws.proofs.ir_laws.paths.woven_rules.Unbroken.{each_listed, of_listed}
 use Rattle.rule_laws.proofs.rules.woven_rules.ValueKinds.{is_result, listed_result, made_grows, old_kind}
 use Rattle.rule_laws.specs.rules.woven_rules.Blocks.{IsWoven}
 use Rattle.rule_laws.specs.rules.woven_rules.Pairs.{AreIncomingOnce}

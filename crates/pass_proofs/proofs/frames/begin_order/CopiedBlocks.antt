@@ -6,10 +6,10 @@ use Rattle.pass_copies.specs.Uses.{flag_at, still_before}
 use Rattle.pass_copies.specs.declared.copying.Copying.{Copying}
 use Rattle.pass_proofs.proofs.fetch.rules.Puts.{fetch_rises}
 use Rattle.pass_addresses.specs.Placing.{stays, turned_block, without_promise_of}
-use Rattle.ir_parts.specs.Contents.{instr_operands}
+use Rattle.rule_laws.specs.ir_parts.Contents.{instr_operands}
 use Rattle.ir_model.specs.declared.instr.Instr.{Instr}
 use Rattle.ir_model.specs.declared.module.Block.{Block}
-use Rattle.pass_fetch.specs.Instrs.{next_after_instr}
+use Rattle.rule_laws.specs.pass_fetch.Instrs.{next_after_instr}
 
 -- ---- blocks of the result
 

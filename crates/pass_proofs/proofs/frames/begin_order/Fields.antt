@@ -12,10 +12,10 @@ use Rattle.pass_proofs.proofs.cells.rules.Plans.{kept_length, kept_numbered}
 use Rattle.pass_proofs.proofs.cells.rules.Totals.{numbered_length}
 use Rattle.pass_proofs.specs.cells.rules.Asked.{AreCellsFor}
 use Rattle.pass_proofs.specs.cells.rules.Weaving.{cells_weaving}
-use Rattle.ir_base.specs.declared.name.Name.{Name}
-use Rattle.ir_laws.proofs.facts.Members.{each_behind}
-use Rattle.ir_laws.proofs.facts.Lists.{get_within}
-use Rattle.ir_parts.specs.Contents.{instr_operands}
+use Rattle.rule_laws.specs.ir_base.declared.name.Name.{Name}
+use Rattle.rule_laws.proofs.ir_laws.facts.Members.{each_behind}
+use Rattle.rule_laws.proofs.ir_laws.facts.Lists.{get_within}
+use Rattle.rule_laws.specs.ir_parts.Contents.{instr_operands}
 use Rattle.rule_laws.specs.rules.function_rules.Kept.{KeepsFunctionRules}
 use Rattle.ir_model.specs.declared.instr.Instr.{Instr}
 use Rattle.ir_model.specs.declared.instr.Phi.{Phi}
@@ -23,18 +23,18 @@ use Rattle.ir_model.specs.declared.module.Function.{Function}
 use Rattle.ir_model.specs.declared.module.Module.{Module}
 use Rattle.ir_model.specs.declared.module.Param.{Param}
 use Rattle.ir_model.specs.declared.operand.Operand.{Operand}
-use Rattle.run_laws.specs.changed.Changed.{Each}
-use Rattle.pass_fetch.specs.Blocks.{numbered_names}
-use Rattle.pass_fetch.specs.Fetching.{fetch_into, fetch_of}
-use Rattle.pass_fetch.specs.declared.fetch.Fetch.{Fetch}
-use Rattle.pass_cells.specs.Cells.{fetch_by, fetch_for, fetches_of, with_own_names}
-use Rattle.pass_cells.specs.Kept.{entry}
-use Rattle.pass_cells.specs.Links.{bases_of, links_from, marks_of, slots_of}
-use Rattle.pass_cells.specs.Plan.{plan_of}
-use Rattle.pass_cells.specs.Written.{stored, stored_at, stored_one, stored_params, stored_phis, stored_result}
-use Rattle.pass_cells.specs.declared.keeping.Keeping.{Keeping}
-use Rattle.pass_cells.specs.declared.plan.KeptValue.{KeptValue}
-use Rattle.pass_cells.specs.declared.plan.Plan.{Plan}
+use Rattle.rule_laws.specs.run_laws.changed.Changed.{Each}
+use Rattle.rule_laws.specs.pass_fetch.Blocks.{numbered_names}
+use Rattle.rule_laws.specs.pass_fetch.Fetching.{fetch_into, fetch_of}
+use Rattle.rule_laws.specs.pass_fetch.declared.fetch.Fetch.{Fetch}
+use Rattle.rule_laws.specs.pass_cells.Cells.{fetch_by, fetch_for, fetches_of, with_own_names}
+use Rattle.rule_laws.specs.pass_cells.Kept.{entry}
+use Rattle.rule_laws.specs.pass_cells.Links.{bases_of, links_from, marks_of, slots_of}
+use Rattle.rule_laws.specs.pass_cells.Plan.{plan_of}
+use Rattle.rule_laws.specs.pass_cells.Written.{stored, stored_at, stored_one, stored_params, stored_phis, stored_result}
+use Rattle.rule_laws.specs.pass_cells.declared.keeping.Keeping.{Keeping}
+use Rattle.rule_laws.specs.pass_cells.declared.plan.KeptValue.{KeptValue}
+use Rattle.rule_laws.specs.pass_cells.declared.plan.Plan.{Plan}
 
 own_names : (names : List Name) (count links : ℕ) → length names + 2 * count ≤ length (with_own_names names count links)
 own_names names count links =

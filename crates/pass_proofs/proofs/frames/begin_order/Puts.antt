@@ -5,15 +5,15 @@ use Rattle.pass_proofs.proofs.fetch.begin_order.Operands.{accesses_of, others_of
 use Rattle.pass_proofs.specs.frames.begin_order.Behind.{AreBehind, MayBeAccessed}
 use Rattle.pass_proofs.specs.addresses.begin_order.Behind.{IsBehind}
 use Rattle.rule_laws.specs.rules.begin_order.Behind.{access_operands}
-use Rattle.ir_laws.proofs.paths.source_rules.Locals.{listed_either, listed_left, listed_right}
+use Rattle.rule_laws.proofs.ir_laws.paths.source_rules.Locals.{listed_either, listed_left, listed_right}
 use Rattle.rule_laws.proofs.rules.source_rules.Locals.{made_by}
-use Rattle.flow_solver.specs.Paths.{IsListed}
-use Rattle.ir_parts.specs.Contents.{instr_operands}
+use Rattle.rule_laws.specs.flow_solver.Paths.{IsListed}
+use Rattle.rule_laws.specs.ir_parts.Contents.{instr_operands}
 use Rattle.ir_model.specs.declared.instr.Instr.{Instr}
 use Rattle.ir_model.specs.declared.module.Function.{Function}
 use Rattle.ir_model.specs.declared.operand.Operand.{Operand}
-use Rattle.run_laws.specs.changed.Changed.{Each}
-use Rattle.ir_laws.proofs.facts.Members.{each_all, each_turns}
+use Rattle.rule_laws.specs.run_laws.changed.Changed.{Each}
+use Rattle.rule_laws.proofs.ir_laws.facts.Members.{each_all, each_turns}
 
 module _ (g : Function) (begin : ℕ) (slots : List Bool) (offsets : List (Option ℕ)) (at : ℕ) where
   abbrev P : List ℕ → Operand → Type 0

@@ -2,27 +2,27 @@
 use Rattle.std.proofs.Common.{◌≡◌, ℕ, ◌+◌, Bool, true, false, List, [], ◌∷◌, ◌++◌, length, sym, subst}
 use Rattle.std.specs.List.{list_all}
 use Rattle.std.specs.Prelude.{None, Some, map, option_to_list, replicate, slice_get, slice_set}
-use Rattle.ir_laws.specs.facts.begin_order.Behind.{AreSizes}
+use Rattle.rule_laws.specs.ir_laws.facts.begin_order.Behind.{AreSizes}
 use Rattle.rule_laws.proofs.rules.counted.PartFacts.{block_passes, signature_passes}
 use Rattle.rule_laws.specs.rules.counted.Widths.{first_other_width, is_of_other_width}
-use Rattle.ir_laws.specs.facts.counted.Widths.{has_width}
-use Rattle.frame_contents.specs.Held.{crossing_values, frame_slots, held_blocks, held_of, held_params}
-use Rattle.frame_contents.specs.declared.contents.Contents.{Contents}
-use Rattle.frame_contents.specs.declared.held.Holding.{Holding}
-use Rattle.ir_laws.proofs.facts.Members.{each_behind, each_there, each_turns}
-use Rattle.ir_laws.proofs.facts.Truth.{and_first, holds}
-use Rattle.ir_base.specs.declared.outcome.Place.{Place}
-use Rattle.ir_parts.specs.Contents.{instr_types}
-use Rattle.ir_parts.specs.Parts.{OfInstr, OfPhi}
+use Rattle.rule_laws.specs.ir_laws.facts.counted.Widths.{has_width}
+use Rattle.rule_laws.specs.frame_contents.Held.{crossing_values, frame_slots, held_blocks, held_of, held_params}
+use Rattle.rule_laws.specs.frame_contents.declared.contents.Contents.{Contents}
+use Rattle.rule_laws.specs.frame_contents.declared.held.Holding.{Holding}
+use Rattle.rule_laws.proofs.ir_laws.facts.Members.{each_behind, each_there, each_turns}
+use Rattle.rule_laws.proofs.ir_laws.facts.Truth.{and_first, holds}
+use Rattle.rule_laws.specs.ir_base.declared.outcome.Place.{Place}
+use Rattle.rule_laws.specs.ir_parts.Contents.{instr_types}
+use Rattle.rule_laws.specs.ir_parts.Parts.{OfInstr, OfPhi}
 use Rattle.ir_model.specs.declared.instr.Instr.{Instr}
 use Rattle.ir_model.specs.declared.instr.Phi.{Phi}
 use Rattle.ir_model.specs.declared.module.Block.{Block}
 use Rattle.ir_model.specs.declared.module.Function.{Function}
 use Rattle.ir_model.specs.declared.module.Module.{Module}
 use Rattle.ir_model.specs.declared.module.Param.{Param}
-use Rattle.ir_paths.specs.Slots.{has_name, promise_of}
+use Rattle.rule_laws.specs.ir_paths.Slots.{has_name, promise_of}
 use Rattle.pass_frames.specs.Tables.{sizes_by_name, with_sizes}
-use Rattle.run_laws.specs.changed.Changed.{Each}
+use Rattle.rule_laws.specs.run_laws.changed.Changed.{Each}
 use Rattle.rule_laws.proofs.frames.begin_order.Sizes.{HasWidths, IsSmall, all_behind, blocks_small, each_set, none_sized, params_small}
 
 all_set : (hs : List Holding) (sizes : List ℕ) → Each IsSmall hs → AreSizes sizes → AreSizes (with_sizes hs sizes)

@@ -3,25 +3,25 @@ use Rattle.std.proofs.Common.{◌≡◌, ◌⊎◌, inl, inr, ⊎_elim, ℕ, zer
 use Rattle.std.specs.Prelude.{None, Option, Some, flat_map, get_or, slice_get, slice_set, if◌then◌else◌, ◌==◌}
 use Rattle.pass_copies.specs.Uses.{flag_at}
 use Rattle.pass_proofs.proofs.copies.begin_order.Marks.{flag_back, flag_set, flag_stays}
-use Rattle.frame_contents.specs.Held.{frame_slots_from, held_blocks, held_instrs, held_params, held_phis, if_result, if_value, is_frame, result_size, slot_held, value_held}
-use Rattle.frame_contents.specs.declared.held.Holding.{Holding}
-use Rattle.ir_laws.proofs.facts.Truth.{equal_numbers}
-use Rattle.ir_laws.proofs.facts.Lists.{set_length}
-use Rattle.ir_laws.proofs.paths.source_rules.Locals.{listed_either, listed_left, listed_right}
-use Rattle.flow_solver.proofs.Lists.{set_cases}
-use Rattle.flow_solver.specs.Paths.{IsListed}
-use Rattle.frame_layout.specs.declared.layout.Layout.{Layout}
-use Rattle.ir_parts.specs.Contents.{result_of}
+use Rattle.rule_laws.specs.frame_contents.Held.{frame_slots_from, held_blocks, held_instrs, held_params, held_phis, if_result, if_value, is_frame, result_size, slot_held, value_held}
+use Rattle.rule_laws.specs.frame_contents.declared.held.Holding.{Holding}
+use Rattle.rule_laws.proofs.ir_laws.facts.Truth.{equal_numbers}
+use Rattle.rule_laws.proofs.ir_laws.facts.Lists.{set_length}
+use Rattle.rule_laws.proofs.ir_laws.paths.source_rules.Locals.{listed_either, listed_left, listed_right}
+use Rattle.rule_laws.proofs.flow_solver.Lists.{set_cases}
+use Rattle.rule_laws.specs.flow_solver.Paths.{IsListed}
+use Rattle.rule_laws.specs.frame_layout.declared.layout.Layout.{Layout}
+use Rattle.rule_laws.specs.ir_parts.Contents.{result_of}
 use Rattle.ir_model.specs.declared.instr.Instr.{Instr}
 use Rattle.ir_model.specs.declared.instr.Phi.{Phi}
 use Rattle.ir_model.specs.declared.module.Block.{Block}
 use Rattle.ir_model.specs.declared.module.Module.{Module}
 use Rattle.ir_model.specs.declared.module.Param.{Param}
-use Rattle.ir_paths.specs.Slots.{allocas_in, has_name}
-use Rattle.frame_classes.specs.declared.class.SlotClass.{SlotClass}
+use Rattle.rule_laws.specs.ir_paths.Slots.{allocas_in, has_name}
+use Rattle.rule_laws.specs.frame_classes.declared.class.SlotClass.{SlotClass}
 use Rattle.pass_frames.specs.Tables.{is_of, is_slot_kind, offset_at, with_field_offset, with_field_offsets, with_slot, with_slot_offset, with_slot_offsets, with_slots}
-use Rattle.pass_cells.specs.Links.{field_name}
-use Rattle.ir_laws.proofs.facts.names_apart.Words.{either as either_name}
+use Rattle.rule_laws.specs.pass_cells.Links.{field_name}
+use Rattle.rule_laws.proofs.ir_laws.facts.names_apart.Words.{either as either_name}
 
 -- ---- flags by class
 

@@ -23,15 +23,15 @@ use Rattle.ir_model.specs.declared.instr.Instr.{Instr}
 use Rattle.ir_model.specs.declared.module.Block.{Block}
 use Rattle.ir_model.specs.declared.module.Function.{Function}
 use Rattle.ir_model.specs.declared.module.Module.{Module}
-use Rattle.ir_paths.specs.Windows.{instr_in}
-use Rattle.ir_paths.specs.declared.point.Point.{Point}
-use Rattle.pass_fetch.specs.Blocks.{with_fetches}
-use Rattle.pass_fetch.specs.declared.fetch.Fetch.{Fetch}
+use Rattle.rule_laws.specs.ir_paths.Windows.{instr_in}
+use Rattle.rule_laws.specs.ir_paths.declared.point.Point.{Point}
+use Rattle.rule_laws.specs.pass_fetch.Blocks.{with_fetches}
+use Rattle.rule_laws.specs.pass_fetch.declared.fetch.Fetch.{Fetch}
 use Rattle.rule_laws.specs.rules.woven_rules.Blocks.{IsWoven}
 use Rattle.rule_laws.specs.rules.woven_rules.Pairs.{AreIncomingOnce}
 use Rattle.rule_laws.specs.rules.woven_rules.Weaving.{Weaving}
 use Rattle.rule_laws.specs.frames.woven_shape.Shaped.{IsShaped, KeepsCalls}
-use Rattle.ir_laws.proofs.paths.crossing.Values.{listed_at}
+use Rattle.rule_laws.proofs.ir_laws.paths.crossing.Values.{listed_at}
 
 -- what lies in the frame is an alloca
 lies_in : (offsets : List (Option ℕ)) (i : Instr) → lies_outside offsets i ≡ false → is_address i ≡ true

@@ -6,22 +6,22 @@ use Rattle.pass_proofs.proofs.cells.crossing.Whole.{nothing_needed, was_needed}
 use Rattle.rule_laws.specs.frames.crossing.Crossed.{IsNothingNeeded}
 use Rattle.rule_laws.proofs.rules.local_rules.Names.{numbers}
 use Rattle.rule_laws.proofs.rules.local_rules.Woven.{apart_names}
-use Rattle.ir_laws.proofs.paths.source_rules.Locals.{Apart}
+use Rattle.rule_laws.proofs.ir_laws.paths.source_rules.Locals.{Apart}
 use Rattle.rule_laws.proofs.rules.source_rules.Locals.{names_are}
 use Rattle.rule_laws.proofs.rules.counted.DefinedKinds.{made_in}
 use Rattle.rule_laws.proofs.rules.counted.Slots.{instr_size}
 use Rattle.rule_laws.proofs.rules.counted.Times.{apart_times}
 use Rattle.rule_laws.proofs.rules.woven_rules.Once.{names_below}
 use Rattle.pass_proofs.specs.cells.rules.Asked.{AreCellsFor}
-use Rattle.ir_laws.specs.facts.woven_rules.Pairs.{times}
-use Rattle.ir_parts.specs.Locals.{locals_of}
+use Rattle.rule_laws.specs.ir_laws.facts.woven_rules.Pairs.{times}
+use Rattle.rule_laws.specs.ir_parts.Locals.{locals_of}
 use Rattle.pass_proofs.specs.cells.rules.Weaving.{cells_weaving}
 use Rattle.pass_proofs.specs.copies.rules.Copies.{CopiesFit, copied_slots, copy_weaving}
-use Rattle.rule_shape.specs.OneOfEach.{wrong_call}
-use Rattle.rule_shape.specs.Switches.{wrong_switch}
-use Rattle.frame_contents.specs.declared.contents.Contents.{Contents}
+use Rattle.rule_laws.specs.rule_shape.OneOfEach.{wrong_call}
+use Rattle.rule_laws.specs.rule_shape.Switches.{wrong_switch}
+use Rattle.rule_laws.specs.frame_contents.declared.contents.Contents.{Contents}
 use Rattle.pass_edges.specs.EdgeBlocks.{with_edge_blocks}
-use Rattle.frame_layout.specs.declared.layout.Layout.{Layout}
+use Rattle.rule_laws.specs.frame_layout.declared.layout.Layout.{Layout}
 use Rattle.pass_proofs.proofs.copies.crossing.Copied.{copies_follow, fronts_apart}
 use Rattle.pass_proofs.proofs.frames.crossing.Ending.{edges_end_first}
 use Rattle.pass_proofs.proofs.frames.crossing.Framed.{addresses_end_first, addresses_frames, addresses_nothing}
@@ -40,20 +40,20 @@ use Rattle.ir_model.specs.declared.instr.Instr.{Instr}
 use Rattle.ir_model.specs.declared.module.Function.{Function}
 use Rattle.ir_model.specs.declared.module.Module.{Module}
 use Rattle.ir_model.specs.declared.operand.Intrinsic.{Intrinsic}
-use Rattle.ir_paths.specs.Windows.{instr_at, is_call_of}
-use Rattle.ir_paths.specs.declared.point.Point.{Point}
-use Rattle.rule_locals.specs.Markers.{made_size, slot_size}
+use Rattle.rule_laws.specs.ir_paths.Windows.{instr_at, is_call_of}
+use Rattle.rule_laws.specs.ir_paths.declared.point.Point.{Point}
+use Rattle.rule_laws.specs.rule_locals.Markers.{made_size, slot_size}
 use Rattle.pass_proofs.proofs.edges.unused_frames.Edges.{unused_where_edges_have_blocks}
 use Rattle.pass_proofs.proofs.early.unused_frames.Flags.{IsFrame}
-use Rattle.ir_laws.proofs.paths.unused.Standing.{stands_at}
+use Rattle.rule_laws.proofs.ir_laws.paths.unused.Standing.{stands_at}
 use Rattle.rule_laws.proofs.frames.unused.Unneeded.{unneeded}
 use Rattle.rule_laws.specs.rules.unused.Unused.{AreFramesUnused}
-use Rattle.frame_classes.specs.declared.class.SlotClass.{SlotClass}
+use Rattle.rule_laws.specs.frame_classes.declared.class.SlotClass.{SlotClass}
 use Rattle.pass_frames.specs.Framed.{begin_block, begin_of, celled, copied, offsets_of, placed}
 use Rattle.pass_frames.specs.Tables.{class_flags, label_flags, sizes_by_name}
-use Rattle.frame_crossing.specs.Crossing.{AreCrossing}
-use Rattle.rule_windows.specs.Outside.{IsFirstOutside}
-use Rattle.rule_windows.specs.Windows.{IsFirstWindow}
+use Rattle.rule_laws.specs.frame_crossing.Crossing.{AreCrossing}
+use Rattle.rule_laws.specs.rule_windows.Outside.{IsFirstOutside}
+use Rattle.rule_laws.specs.rule_windows.Windows.{IsFirstWindow}
 use Rattle.rule_laws.specs.rules.woven_rules.Blocks.{IsWoven}
 use Rattle.rule_laws.specs.rules.woven_rules.Weaving.{Weaving}
 use Rattle.rule_laws.specs.frames.woven_shape.Shaped.{IsShaped, KeepsCalls}

@@ -5,11 +5,11 @@ use Rattle.std.proofs.lemmas.Option.{slice_get-map}
 use Rattle.pass_early.specs.BeginName.{with_begin_name}
 use Rattle.pass_early.specs.Early.{early_function, early_module, early_named}
 use Rattle.pass_proofs.proofs.early.local_rules.Turned.{turned_function}
-use Rattle.frame_layout.specs.declared.layout.Layout.{Layout}
+use Rattle.rule_laws.specs.frame_layout.declared.layout.Layout.{Layout}
 use Rattle.ir_model.specs.declared.module.Function.{Function}
 use Rattle.ir_model.specs.declared.module.Module.{Module}
 use Rattle.pass_proofs.proofs.frames.unnamed.Positions.{Becomes, FramedBy, StandsAs, Unchanged}
-use Rattle.ir_laws.proofs.facts.Truth.{not_both}
+use Rattle.rule_laws.proofs.ir_laws.facts.Truth.{not_both}
 use Rattle.pass_proofs.proofs.early.names.Framed.{early_step}
 use Rattle.pass_proofs.proofs.frames.names_apart.Framed.{framed_step}
 use Rattle.rule_laws.proofs.rules.names_apart.Steps.{IsStep, then_step}

@@ -6,20 +6,20 @@ use Rattle.std.specs.List.{list_any}
 use Rattle.std.proofs.lemmas.Bool.{cases_lt, lt-ltb}
 use Rattle.std.proofs.lemmas.List.{get_or_past}
 use Rattle.std.proofs.lemmas.Nat.{mod_below}
-use Rattle.frame_contents.specs.Frames.{AreLaid, AreLayouts, Coroutine, IsLaid, IsLayout, NoMore, Other}
-use Rattle.frame_contents.specs.Held.{fields_of}
-use Rattle.frame_contents.specs.declared.held.Holding.{Holding}
-use Rattle.frame_placing.proofs.Greatest.{ends_before}
-use Rattle.frame_placing.specs.Ends.{end_of}
-use Rattle.frame_placing.specs.Placings.{IsFrame, chosen_offsets, frame_alignment}
-use Rattle.frame_placing.specs.declared.placing.Placing.{Placing}
-use Rattle.frame_placing.specs.declared.room.Room.{Room}
-use Rattle.flow_solver.specs.Paths.{IsListed}
-use Rattle.frame_layout.specs.Frames.{index_alone}
-use Rattle.frame_layout.specs.Layouts.{IsLayoutBy, index_offset, rooms_of}
-use Rattle.frame_layout.specs.declared.layout.Field.{Field}
-use Rattle.frame_layout.specs.declared.layout.Layout.{Layout}
-use Rattle.frame_layout.specs.declared.layout.Layouts.{Layouts}
+use Rattle.rule_laws.specs.frame_contents.Frames.{AreLaid, AreLayouts, Coroutine, IsLaid, IsLayout, NoMore, Other}
+use Rattle.rule_laws.specs.frame_contents.Held.{fields_of}
+use Rattle.rule_laws.specs.frame_contents.declared.held.Holding.{Holding}
+use Rattle.rule_laws.proofs.frame_placing.Greatest.{ends_before}
+use Rattle.rule_laws.specs.frame_placing.Ends.{end_of}
+use Rattle.rule_laws.specs.frame_placing.Placings.{IsFrame, chosen_offsets, frame_alignment}
+use Rattle.rule_laws.specs.frame_placing.declared.placing.Placing.{Placing}
+use Rattle.rule_laws.specs.frame_placing.declared.room.Room.{Room}
+use Rattle.rule_laws.specs.flow_solver.Paths.{IsListed}
+use Rattle.rule_laws.specs.frame_layout.Frames.{index_alone}
+use Rattle.rule_laws.specs.frame_layout.Layouts.{IsLayoutBy, index_offset, rooms_of}
+use Rattle.rule_laws.specs.frame_layout.declared.layout.Field.{Field}
+use Rattle.rule_laws.specs.frame_layout.declared.layout.Layout.{Layout}
+use Rattle.rule_laws.specs.frame_layout.declared.layout.Layouts.{Layouts}
 use Rattle.rule_laws.specs.frames.suspend_counts.Given.{IsGiven}
 use Rattle.ir_model.specs.declared.module.Function.{Function}
 use Rattle.ir_model.specs.declared.module.Module.{Module}

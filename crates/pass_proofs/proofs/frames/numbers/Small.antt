@@ -1,11 +1,11 @@
 -- Lemmas on small.
 use Rattle.std.proofs.Common.{◌≤◌, length, Ok, Bool}
-use Rattle.frame_contents.specs.Frames.{AreLayouts}
-use Rattle.frame_layout.specs.declared.layout.Layout.{Layout}
-use Rattle.frame_layout.specs.declared.layout.Layouts.{Layouts}
+use Rattle.rule_laws.specs.frame_contents.Frames.{AreLayouts}
+use Rattle.rule_laws.specs.frame_layout.declared.layout.Layout.{Layout}
+use Rattle.rule_laws.specs.frame_layout.declared.layout.Layouts.{Layouts}
 use Rattle.pass_proofs.proofs.frames.numbers.Numbers.{given_bounded}
 use Rattle.rule_laws.specs.frames.suspend_counts.Given.{IsGiven}
-use Rattle.pass_intrinsics.specs.Shapes.{shape_of, suspends_of}
+use Rattle.rule_laws.specs.pass_intrinsics.Shapes.{shape_of, suspends_of}
 use Rattle.ir_model.specs.declared.module.Function.{Function}
 use Rattle.ir_model.specs.declared.module.Module.{Module}
 use Rattle.rule_laws.specs.frames.replaced.Parted.{IsSmall}

@@ -9,7 +9,7 @@ use Rattle.rule_laws.proofs.rules.counted.Types.{is_cell_type}
 use Rattle.pass_proofs.proofs.cells.rules.Whole.{p, planned, sound, w}
 use Rattle.pass_proofs.specs.cells.rules.Asked.{AreCellsFor}
 use Rattle.pass_proofs.specs.cells.rules.Weaving.{cells_weaving}
-use Rattle.ir_laws.proofs.facts.Members.{each_there, each_joined}
+use Rattle.rule_laws.proofs.ir_laws.facts.Members.{each_there, each_joined}
 use Rattle.pass_proofs.specs.edges.rules.Phis.{ArePhisEnteredByJumps}
 use Rattle.pass_proofs.specs.fetch.rules.Fetches.{base_of}
 use Rattle.pass_proofs.proofs.cells.shape.Begin.{begin_unplaced}
@@ -24,9 +24,9 @@ use Rattle.pass_proofs.proofs.edges.calls.Steadily.{AreSteady, entry_no_end, fir
 use Rattle.pass_proofs.proofs.cells.shape.Unneeded.{unplaced}
 use Rattle.pass_proofs.proofs.cells.shape.Written.{AreReturnsClear, all_plain, entry_ends, entry_other, entry_steady, params_other}
 use Rattle.rule_laws.specs.frames.shape.Quiet.{AreReturnsQuiet}
-use Rattle.ir_parts.specs.Contents.{instr_operands}
+use Rattle.rule_laws.specs.ir_parts.Contents.{instr_operands}
 use Rattle.rule_laws.specs.rules.function_rules.Kept.{KeepsFunctionRules}
-use Rattle.pass_intrinsics.specs.Shapes.{suspends_of}
+use Rattle.rule_laws.specs.pass_intrinsics.Shapes.{suspends_of}
 use Rattle.ir_model.specs.Ty.{Ty, int, ptr, token}
 use Rattle.ir_model.specs.declared.instr.Instr.{Instr}
 use Rattle.ir_model.specs.declared.module.Block.{Block}
@@ -34,18 +34,18 @@ use Rattle.ir_model.specs.declared.module.Function.{Function}
 use Rattle.ir_model.specs.declared.module.Module.{Module}
 use Rattle.ir_model.specs.declared.operand.Intrinsic.{Intrinsic}
 use Rattle.ir_model.specs.declared.operand.Operand.{Operand}
-use Rattle.run_laws.specs.changed.Changed.{Each}
-use Rattle.frame_crossing.specs.Crossing.{AreCrossing}
-use Rattle.pass_fetch.specs.Fetching.{fetch_of}
-use Rattle.pass_fetch.specs.declared.fetch.Fetch.{Fetch}
-use Rattle.pass_cells.specs.Cells.{fetch_by, fetch_for, with_cells}
-use Rattle.pass_cells.specs.Kept.{entry}
-use Rattle.pass_cells.specs.Written.{distance_alloca, distance_allocas, entry_blocks, kept_allocas, link_allocas, stored_params}
-use Rattle.pass_cells.specs.declared.plan.KeptValue.{KeptValue}
-use Rattle.pass_cells.specs.declared.plan.Plan.{Plan}
-use Rattle.rule_values.specs.Fits.{fits_kind}
-use Rattle.rule_values.specs.Kinds.{kind_of, value_kind}
-use Rattle.rule_values.specs.declared.kinds.Kind.{Kind}
+use Rattle.rule_laws.specs.run_laws.changed.Changed.{Each}
+use Rattle.rule_laws.specs.frame_crossing.Crossing.{AreCrossing}
+use Rattle.rule_laws.specs.pass_fetch.Fetching.{fetch_of}
+use Rattle.rule_laws.specs.pass_fetch.declared.fetch.Fetch.{Fetch}
+use Rattle.rule_laws.specs.pass_cells.Cells.{fetch_by, fetch_for, with_cells}
+use Rattle.rule_laws.specs.pass_cells.Kept.{entry}
+use Rattle.rule_laws.specs.pass_cells.Written.{distance_alloca, distance_allocas, entry_blocks, kept_allocas, link_allocas, stored_params}
+use Rattle.rule_laws.specs.pass_cells.declared.plan.KeptValue.{KeptValue}
+use Rattle.rule_laws.specs.pass_cells.declared.plan.Plan.{Plan}
+use Rattle.rule_laws.specs.rule_values.Fits.{fits_kind}
+use Rattle.rule_laws.specs.rule_values.Kinds.{kind_of, value_kind}
+use Rattle.rule_laws.specs.rule_values.declared.kinds.Kind.{Kind}
 use Rattle.rule_laws.specs.rules.woven_rules.Weaving.{Weaving}
 use Rattle.rule_laws.specs.rules.woven_shape.Calls.{ShapingCall, calls_of_block}
 use Rattle.rule_laws.specs.frames.woven_shape.Shaped.{IsShaped, KeepsCalls}

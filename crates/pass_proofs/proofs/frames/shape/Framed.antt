@@ -8,18 +8,18 @@ use Rattle.pass_proofs.specs.cells.rules.Asked.{AreCellsFor}
 use Rattle.pass_proofs.specs.cells.rules.Weaving.{cells_weaving}
 use Rattle.pass_proofs.proofs.copies.rules.KeptCopies.{with_copies_woven}
 use Rattle.pass_proofs.specs.copies.rules.Copies.{CopiesFit, copied_slots, copy_weaving}
-use Rattle.rule_shape.specs.OneOfEach.{wrong_call}
-use Rattle.rule_shape.specs.Switches.{wrong_switch}
-use Rattle.frame_contents.specs.declared.contents.Contents.{Contents}
+use Rattle.rule_laws.specs.rule_shape.OneOfEach.{wrong_call}
+use Rattle.rule_laws.specs.rule_shape.Switches.{wrong_switch}
+use Rattle.rule_laws.specs.frame_contents.declared.contents.Contents.{Contents}
 use Rattle.rule_laws.proofs.rules.source_rules.Locals.{own_label}
 use Rattle.pass_proofs.proofs.edges.rules.Kept.{crossing_kept, labels_different, phis_by_jumps, rules_kept, suspend_blocks}
 use Rattle.pass_proofs.specs.edges.rules.Phis.{ArePhisEnteredByJumps}
 use Rattle.rule_laws.specs.frames.rows.Returns.{HaveOwnReturns, return_labels}
 use Rattle.pass_proofs.proofs.edges.shape.Kept.{begin_kept}
 use Rattle.pass_edges.specs.EdgeBlocks.{with_edge_blocks}
-use Rattle.flow_solver.specs.Paths.{IsListed}
+use Rattle.rule_laws.specs.flow_solver.Paths.{IsListed}
 use Rattle.pass_addresses.specs.Placing.{with_frame_addresses}
-use Rattle.frame_layout.specs.declared.layout.Layout.{Layout}
+use Rattle.rule_laws.specs.frame_layout.declared.layout.Layout.{Layout}
 use Rattle.pass_proofs.proofs.frames.shape.Addresses.{addressed_shape}
 use Rattle.pass_proofs.proofs.frames.shape.Cells.{cells_keep, cells_steady}
 use Rattle.pass_proofs.proofs.copies.shape.Copies.{copies_keep}
@@ -31,19 +31,19 @@ use Rattle.rule_laws.specs.frames.shape.Passes.{IsKept}
 use Rattle.pass_proofs.specs.frames.shape.Passes.{PassesFit}
 use Rattle.rule_laws.specs.frames.shape.Quiet.{AreReturnsQuiet}
 use Rattle.rule_laws.specs.rules.function_rules.Kept.{KeepsFunctionRules}
-use Rattle.pass_intrinsics.specs.declared.shape.SuspendPoint.{SuspendPoint}
+use Rattle.rule_laws.specs.pass_intrinsics.declared.shape.SuspendPoint.{SuspendPoint}
 use Rattle.ir_model.specs.Calls.{first_result}
 use Rattle.ir_model.specs.Names.{position_of}
 use Rattle.ir_model.specs.declared.module.Block.{Block}
 use Rattle.ir_model.specs.declared.module.Function.{Function}
 use Rattle.ir_model.specs.declared.module.Module.{Module}
 use Rattle.ir_model.specs.declared.operand.Intrinsic.{Intrinsic}
-use Rattle.frame_classes.specs.declared.class.SlotClass.{SlotClass}
+use Rattle.rule_laws.specs.frame_classes.declared.class.SlotClass.{SlotClass}
 use Rattle.pass_frames.specs.Framed.{begin_block, begin_of, celled, copied, offsets_of, placed}
 use Rattle.pass_frames.specs.Tables.{class_flags, label_flags, sizes_by_name}
-use Rattle.frame_crossing.specs.Crossing.{AreCrossing}
-use Rattle.rule_windows.specs.Outside.{IsFirstOutside}
-use Rattle.rule_windows.specs.Windows.{IsFirstWindow}
+use Rattle.rule_laws.specs.frame_crossing.Crossing.{AreCrossing}
+use Rattle.rule_laws.specs.rule_windows.Outside.{IsFirstOutside}
+use Rattle.rule_laws.specs.rule_windows.Windows.{IsFirstWindow}
 use Rattle.rule_laws.proofs.rules.woven_rules.All.{rules_woven}
 use Rattle.rule_laws.proofs.rules.woven_rules.Edges.{incoming_woven}
 use Rattle.rule_laws.specs.rules.woven_rules.Blocks.{IsWoven}

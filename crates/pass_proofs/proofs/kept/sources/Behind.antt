@@ -1,17 +1,17 @@
 -- What is needed behind a suspend is used behind it in the sense of K7, where what defines the value gives it.
 use Rattle.std.proofs.Common.{◌≡◌, ◌<◌, ◌⊎◌, inl, inr, ℕ, ◌+◌, Bool, true, false, List, [], ◌∷◌, length, Option, Some, None, refl, sym, ap, ◌∙◌, subst, arith}
 use Rattle.std.specs.Prelude.{IsTrue, slice_get, ◌==◌, ◌||◌, if◌then◌else◌}
-use Rattle.rule_uses.specs.Uses.{Use, block_values, local_of, locals_in, phi_values, use_of, uses_of, values_at, values_in}
-use Rattle.ir_laws.proofs.facts.Truth.{equal_numbers, not_equal}
-use Rattle.ir_laws.proofs.facts.Lists.{get_within}
+use Rattle.rule_laws.specs.rule_uses.Uses.{Use, block_values, local_of, locals_in, phi_values, use_of, uses_of, values_at, values_in}
+use Rattle.rule_laws.proofs.ir_laws.facts.Truth.{equal_numbers, not_equal}
+use Rattle.rule_laws.proofs.ir_laws.facts.Lists.{get_within}
 use Rattle.rule_laws.proofs.rules.renamed.Uses.{AreOfBlock, block_edge, instr_use, none_made, of_block, of_phis, three_kinds, use_at}
-use Rattle.ir_laws.proofs.paths.renamed.Uses.{stands_in}
+use Rattle.rule_laws.proofs.ir_laws.paths.renamed.Uses.{stands_in}
 use Rattle.pass_proofs.proofs.early.save_simulation.Suspending.{fetch_at}
-use Rattle.ir_laws.specs.paths.renamed.Regular.{is_call_at, makes}
-use Rattle.ir_laws.specs.facts.renamed.Regular.{is_result, passes}
-use Rattle.flow_solver.specs.Paths.{IsListed}
-use Rattle.ir_parts.specs.Contents.{ending_operands, instr_operands}
-use Rattle.ir_parts.specs.Parts.{instr_place}
+use Rattle.rule_laws.specs.ir_laws.paths.renamed.Regular.{is_call_at, makes}
+use Rattle.rule_laws.specs.ir_laws.facts.renamed.Regular.{is_result, passes}
+use Rattle.rule_laws.specs.flow_solver.Paths.{IsListed}
+use Rattle.rule_laws.specs.ir_parts.Contents.{ending_operands, instr_operands}
+use Rattle.rule_laws.specs.ir_parts.Parts.{instr_place}
 use Rattle.ir_model.specs.Names.{is_local, position_of}
 use Rattle.ir_model.specs.declared.instr.Incoming.{Incoming}
 use Rattle.ir_model.specs.declared.instr.Instr.{Instr}
@@ -21,17 +21,17 @@ use Rattle.ir_model.specs.declared.module.Block.{Block}
 use Rattle.ir_model.specs.declared.module.Function.{Function}
 use Rattle.ir_model.specs.declared.operand.Intrinsic.{Intrinsic}
 use Rattle.ir_model.specs.declared.operand.Operand.{Operand}
-use Rattle.ir_paths.specs.Paths.{targets}
-use Rattle.ir_paths.specs.Windows.{destroy_label, end_block, instr_at, instr_in, is_call_of, resume_label}
-use Rattle.ir_paths.specs.declared.point.Point.{Point}
+use Rattle.rule_laws.specs.ir_paths.Paths.{targets}
+use Rattle.rule_laws.specs.ir_paths.Windows.{destroy_label, end_block, instr_at, instr_in, is_call_of, resume_label}
+use Rattle.rule_laws.specs.ir_paths.declared.point.Point.{Point}
 use Rattle.rule_laws.proofs.rules.sources.Places.{IsEnd, any_local, instr_there, point, term_there}
 use Rattle.pass_proofs.proofs.kept.sources.Places.{branch_there}
 use Rattle.pass_kept_proof.proofs.Read.{end_reads_nothing, listed_by_name, made_phi, read_here}
 use Rattle.pass_kept_proof.specs.Needed.{BranchesTo, IsNeeded, IsNeededBehind, IsNeededOn, PassesBy, enter, given_by, label_of_block, next, phi, phis_at, phis_give, phis_read, read, reads_at}
-use Rattle.run_step.specs.Step.{AtInstr, AtTerm, Fetched, Nowhere, fetch, incoming_from, label_of, phis_of}
-use Rattle.run_laws.specs.changed.Changed.{result_of}
-use Rattle.rule_window_values.specs.Kept.{InBlock, IsUsedBehind, Next as NextBlock, OnEdge as OnOwnEdge, Own, ReachesBehind, TakesFrom, own_blocks, phis_in}
-use Rattle.ir_laws.proofs.paths.source_rules.Behind.{each_listed}
+use Rattle.rule_laws.specs.run_step.Step.{AtInstr, AtTerm, Fetched, Nowhere, fetch, incoming_from, label_of, phis_of}
+use Rattle.rule_laws.specs.run_laws.changed.Changed.{result_of}
+use Rattle.rule_laws.specs.rule_window_values.Kept.{InBlock, IsUsedBehind, Next as NextBlock, OnEdge as OnOwnEdge, Own, ReachesBehind, TakesFrom, own_blocks, phis_in}
+use Rattle.rule_laws.proofs.ir_laws.paths.source_rules.Behind.{each_listed}
 
 -- ---- phis on the suspend's own edges
 

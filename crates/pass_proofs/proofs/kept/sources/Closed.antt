@@ -6,8 +6,8 @@ use Rattle.ir_model.specs.declared.module.Function.{Function}
 use Rattle.ir_model.specs.declared.module.Module.{Module}
 use Rattle.ir_model.specs.declared.operand.Arg.{Arg}
 use Rattle.ir_model.specs.declared.operand.Intrinsic.{Intrinsic}
-use Rattle.ir_paths.specs.Windows.{IsInWindow, is_call_of, suspend_of}
-use Rattle.ir_paths.specs.declared.point.Point.{Point}
+use Rattle.rule_laws.specs.ir_paths.Windows.{IsInWindow, is_call_of, suspend_of}
+use Rattle.rule_laws.specs.ir_paths.declared.point.Point.{Point}
 use Rattle.pass_kept_proof.specs.SuspendRules.{IsCallAt}
 use Rattle.pass_proofs.proofs.kept.sources.Windows.{not_wrong}
 use Rattle.rule_laws.proofs.rules.path_rules.Outside.{NothingOutside, of_outside}
@@ -15,10 +15,10 @@ use Rattle.rule_laws.proofs.rules.sources.Places.{instr_there, term_there}
 use Rattle.rule_laws.specs.rules.function_rules.Kept.{KeepsFunctionRules}
 use Rattle.rule_laws.specs.rules.path_rules.Paths.{KeepsPaths}
 use Rattle.rule_laws.specs.rules.path_rules.Shape.{KeepsShape}
-use Rattle.rule_windows.specs.Outside.{IsFirstOutside, ends_with_it, is_return}
-use Rattle.rule_windows.specs.Sets.{IsAfterEnd, RunsOut}
-use Rattle.rule_windows.specs.Windows.{Call, ends_window, passes}
-use Rattle.run_step.specs.Step.{AtTerm, fetch}
+use Rattle.rule_laws.specs.rule_windows.Outside.{IsFirstOutside, ends_with_it, is_return}
+use Rattle.rule_laws.specs.rule_windows.Sets.{IsAfterEnd, RunsOut}
+use Rattle.rule_laws.specs.rule_windows.Windows.{Call, ends_window, passes}
+use Rattle.rule_laws.specs.run_step.Step.{AtTerm, fetch}
 
 -- ---- calls
 

@@ -1,37 +1,37 @@
 -- Where no use is undefined (rule F2), nothing is read before its definition.
 use Rattle.std.proofs.Common.{◌≡◌, ◌<◌, ◌≤◌, ◌⊎◌, inl, inr, ⊎_elim, ℕ, ◌+◌, Bool, true, false, [], length, Option, Some, None, refl, sym, ap, ◌∙◌, subst, arith}
 use Rattle.std.specs.Prelude.{IsTrue, slice_get, ◌==◌}
-use Rattle.rule_uses.specs.Undefined.{Entry, IsUndefined, Next as NextBlock, ReachesWithout, params_of}
-use Rattle.rule_uses.specs.Uses.{Use, block_values, locals_in, phi_values, use_of, uses_of, values_at, values_in}
-use Rattle.ir_laws.proofs.facts.Members.{at_each, each_there}
-use Rattle.ir_laws.proofs.facts.Truth.{equal_numbers, not_equal, holds}
-use Rattle.ir_laws.proofs.facts.Lists.{get_within}
+use Rattle.rule_laws.specs.rule_uses.Undefined.{Entry, IsUndefined, Next as NextBlock, ReachesWithout, params_of}
+use Rattle.rule_laws.specs.rule_uses.Uses.{Use, block_values, locals_in, phi_values, use_of, uses_of, values_at, values_in}
+use Rattle.rule_laws.proofs.ir_laws.facts.Members.{at_each, each_there}
+use Rattle.rule_laws.proofs.ir_laws.facts.Truth.{equal_numbers, not_equal, holds}
+use Rattle.rule_laws.proofs.ir_laws.facts.Lists.{get_within}
 use Rattle.rule_laws.proofs.rules.renamed.Uses.{AreOfBlock, block_edge, instr_use, none_made, none_undefined, of_block, of_phis, result_spelt, three_kinds, use_at}
-use Rattle.ir_laws.proofs.paths.renamed.Uses.{stands_in}
-use Rattle.ir_laws.specs.facts.renamed.Regular.{is_result, passes}
-use Rattle.ir_laws.specs.paths.renamed.Regular.{makes}
+use Rattle.rule_laws.proofs.ir_laws.paths.renamed.Uses.{stands_in}
+use Rattle.rule_laws.specs.ir_laws.facts.renamed.Regular.{is_result, passes}
+use Rattle.rule_laws.specs.ir_laws.paths.renamed.Regular.{makes}
 use Rattle.rule_laws.proofs.rules.local_rules.Names.{numbers}
 use Rattle.rule_laws.proofs.rules.local_rules.Woven.{apart_names}
-use Rattle.ir_laws.proofs.paths.source_rules.Locals.{Apart}
+use Rattle.rule_laws.proofs.ir_laws.paths.source_rules.Locals.{Apart}
 use Rattle.rule_laws.proofs.rules.source_rules.Locals.{names_are, own_label}
-use Rattle.flow_solver.specs.Paths.{IsListed}
+use Rattle.rule_laws.specs.flow_solver.Paths.{IsListed}
 use Rattle.rule_laws.proofs.rules.counted.DefinedKinds.{kind_of_instr}
 use Rattle.rule_laws.proofs.rules.counted.PartFacts.{block_passes}
 use Rattle.rule_laws.proofs.rules.counted.Times.{apart_times}
 use Rattle.rule_laws.specs.rules.function_rules.Kept.{KeepsFunctionRules}
-use Rattle.ir_laws.specs.facts.woven_rules.Pairs.{times}
-use Rattle.ir_parts.specs.Contents.{ending_operands, instr_operands, result_of as part_result}
-use Rattle.ir_parts.specs.Locals.{locals_of}
-use Rattle.ir_parts.specs.Parts.{OfInstr, instr_place}
+use Rattle.rule_laws.specs.ir_laws.facts.woven_rules.Pairs.{times}
+use Rattle.rule_laws.specs.ir_parts.Contents.{ending_operands, instr_operands, result_of as part_result}
+use Rattle.rule_laws.specs.ir_parts.Locals.{locals_of}
+use Rattle.rule_laws.specs.ir_parts.Parts.{OfInstr, instr_place}
 use Rattle.ir_model.specs.Names.{position_of}
 use Rattle.ir_model.specs.declared.instr.Instr.{Instr}
 use Rattle.ir_model.specs.declared.instr.Terminator.{Terminator}
 use Rattle.ir_model.specs.declared.module.Block.{Block}
 use Rattle.ir_model.specs.declared.module.Function.{Function}
 use Rattle.ir_model.specs.declared.module.Module.{Module}
-use Rattle.ir_paths.specs.Paths.{targets}
-use Rattle.ir_paths.specs.Windows.{instr_at, instr_in}
-use Rattle.ir_paths.specs.declared.point.Point.{Point}
+use Rattle.rule_laws.specs.ir_paths.Paths.{targets}
+use Rattle.rule_laws.specs.ir_paths.Windows.{instr_at, instr_in}
+use Rattle.rule_laws.specs.ir_paths.declared.point.Point.{Point}
 use Rattle.rule_laws.proofs.rules.sources.Places.{any_local, any_param, instr_there, point, term_there}
 use Rattle.pass_proofs.proofs.kept.sources.Places.{branch_there}
 use Rattle.pass_proofs.proofs.kept.sources.Scalars.{IsScalarValue, instr_reads, phis_reads, term_reads}
@@ -39,14 +39,14 @@ use Rattle.pass_proofs.proofs.kept.sources.Tokens.{FitsCallee, IsNoScalar, ungiv
 use Rattle.pass_kept_proof.proofs.Read.{listed_by_name, made_phi, read_here}
 use Rattle.pass_kept_proof.specs.Crossing.{IsDefinite, IsReachedWithout, after_without, along_without, first_without, is_param}
 use Rattle.pass_kept_proof.specs.Needed.{BranchesTo, given_by, label_of_block, phis_at, phis_give, phis_read, reads_at}
-use Rattle.run_step.specs.Step.{AtInstr, AtTerm, Fetched, Nowhere, fetch, label_of, phis_of}
-use Rattle.run_laws.specs.changed.Changed.{Each, result_of}
-use Rattle.frame_crossing.specs.Paths.{used_by}
-use Rattle.rule_types.specs.Signatures.{calls_otherwise, fits_callee}
-use Rattle.rule_values.specs.Instrs.{fits_instr}
-use Rattle.rule_values.specs.Kinds.{instr_kind, value_kind}
-use Rattle.rule_values.specs.Values.{breaks_values, fits_ending, fits_phi}
-use Rattle.ir_base.specs.declared.outcome.Place.{Place}
+use Rattle.rule_laws.specs.run_step.Step.{AtInstr, AtTerm, Fetched, Nowhere, fetch, label_of, phis_of}
+use Rattle.rule_laws.specs.run_laws.changed.Changed.{Each, result_of}
+use Rattle.rule_laws.specs.frame_crossing.Paths.{used_by}
+use Rattle.rule_laws.specs.rule_types.Signatures.{calls_otherwise, fits_callee}
+use Rattle.rule_laws.specs.rule_values.Instrs.{fits_instr}
+use Rattle.rule_laws.specs.rule_values.Kinds.{instr_kind, value_kind}
+use Rattle.rule_laws.specs.rule_values.Values.{breaks_values, fits_ending, fits_phi}
+use Rattle.rule_laws.specs.ir_base.declared.outcome.Place.{Place}
 
 callee_fits : (m : Module) (p : Place) (i : Instr) → calls_otherwise m p (OfInstr i) ≡ false → FitsCallee m i
 callee_fits m p (Instr.Call r must_tail ty callee args) e = holds (fits_callee m ty args callee) e

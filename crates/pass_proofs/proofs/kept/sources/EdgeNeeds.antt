@@ -4,7 +4,7 @@ use Rattle.std.specs.Prelude.{map, slice_get, unwrap_or, ◌==◌, ◌||◌}
 use Rattle.pass_edges.specs.EdgeBlocks.{split_phi, with_edge_blocks}
 use Rattle.pass_edges.specs.Edges.{edges_at, ends_in_suspend, has_phis, phi_flags}
 use Rattle.pass_edges.specs.declared.edge.Edge.{Edge}
-use Rattle.flow_solver.specs.Paths.{IsListed}
+use Rattle.rule_laws.specs.flow_solver.Paths.{IsListed}
 use Rattle.pass_proofs.proofs.edges.paths.Blocks.{get_none, own_number, position_edge, spot}
 use Rattle.pass_proofs.proofs.edges.paths.Edges.{edges_of_block}
 use Rattle.pass_proofs.proofs.edges.paths.Slots.{phi_taken, term_occurs as occurs_split}
@@ -14,24 +14,24 @@ use Rattle.pass_proofs.proofs.edges.rules.EdgeUses.{label_there}
 use Rattle.pass_proofs.proofs.edges.rules.Homes.{edge_from, edge_target, edge_there, own_block, own_there, target_low}
 use Rattle.pass_proofs.proofs.edges.rules.Labels.{label_to_edge}
 use Rattle.pass_proofs.proofs.edges.rules.Standing.{BothInstr, BothNowhere, BothTerm, IsBranch, StandAlike, branch_home, fetch_edge, only_target, place_of_target, stand_alike}
-use Rattle.ir_laws.specs.paths.threads.Labels.{HasNamedLabels}
+use Rattle.rule_laws.specs.ir_laws.paths.threads.Labels.{HasNamedLabels}
 use Rattle.pass_proofs.specs.edges.paths.Labels.{IsSplit}
 use Rattle.pass_proofs.specs.edges.paths.Phis.{AreLabelsOnce}
 use Rattle.pass_proofs.specs.edges.paths.Spots.{moved, table_of}
-use Rattle.ir_laws.specs.facts.branches.MovedState.{IsSwitch}
+use Rattle.rule_laws.specs.ir_laws.facts.branches.MovedState.{IsSwitch}
 use Rattle.ir_model.specs.Names.{is_local, position_of}
 use Rattle.ir_model.specs.declared.instr.Phi.{Phi}
 use Rattle.ir_model.specs.declared.instr.Terminator.{Terminator}
 use Rattle.ir_model.specs.declared.module.Block.{Block}
 use Rattle.ir_model.specs.declared.module.Function.{Function}
-use Rattle.ir_paths.specs.Paths.{targets}
-use Rattle.ir_paths.specs.Windows.{label_at, label_of_term}
-use Rattle.ir_paths.specs.declared.point.Point.{Point}
-use Rattle.flow_facts.proofs.Chained.{listed-name}
+use Rattle.rule_laws.specs.ir_paths.Paths.{targets}
+use Rattle.rule_laws.specs.ir_paths.Windows.{label_at, label_of_term}
+use Rattle.rule_laws.specs.ir_paths.declared.point.Point.{Point}
+use Rattle.rule_laws.proofs.flow_facts.Chained.{listed-name}
 use Rattle.pass_kept_proof.proofs.Read.{listed_by_name}
 use Rattle.pass_kept_proof.specs.Needed.{BranchesTo, IsNeeded, IsNeededBehind, IsNeededOn, PassesBy, enter, label_of_block, next, phi, phis_at, phis_give, phis_read, read, reads_at}
-use Rattle.run_step.specs.Step.{AtInstr, AtTerm, Fetched, Nowhere, fetch, label_of, phis_of}
-use Rattle.frame_crossing.specs.Paths.{BranchesTo as LeadsOn}
+use Rattle.rule_laws.specs.run_step.Step.{AtInstr, AtTerm, Fetched, Nowhere, fetch, label_of, phis_of}
+use Rattle.rule_laws.specs.frame_crossing.Paths.{BranchesTo as LeadsOn}
 
 listed_branch : (label : ℕ) (x : Fetched) → BranchesTo label x → LeadsOn label x
 listed_branch label Nowhere h = h

@@ -3,34 +3,34 @@ use Rattle.std.proofs.Common.{◌≡◌, ◌⊎◌, inl, inr, ⊎_elim, ℕ, ◌
 use Rattle.std.specs.Prelude.{option_map, slice_get, ◌||◌}
 use Rattle.pass_edges.specs.EdgeBlocks.{split_term, with_edge_blocks}
 use Rattle.pass_edges.specs.Edges.{ends_in_suspend, phi_flags}
-use Rattle.ir_laws.proofs.paths.renamed.Uses.{stands_in}
-use Rattle.ir_laws.proofs.paths.expanded.Apart.{same_moved}
+use Rattle.rule_laws.proofs.ir_laws.paths.renamed.Uses.{stands_in}
+use Rattle.rule_laws.proofs.ir_laws.paths.expanded.Apart.{same_moved}
 use Rattle.pass_proofs.proofs.edges.paths.Blocks.{own_number, spot}
 use Rattle.pass_proofs.proofs.edges.paths.Edges.{threads}
-use Rattle.ir_laws.proofs.paths.threads.Threads.{leads_forth, leads_home}
+use Rattle.rule_laws.proofs.ir_laws.paths.threads.Threads.{leads_forth, leads_home}
 use Rattle.pass_proofs.proofs.edges.paths.Windows.{differ, suspend_moved}
 use Rattle.pass_proofs.proofs.edges.rules.Homes.{IsEdge, IsOwn, home, own_block, own_there}
 use Rattle.pass_proofs.proofs.edges.rules.Standing.{instr_home, no_instr, stand_alike}
 use Rattle.pass_proofs.specs.edges.paths.Spots.{moved}
-use Rattle.ir_laws.specs.paths.threads.Threads.{AreAvoidedToo, AreThreads}
-use Rattle.ir_laws.specs.facts.branches.MovedState.{IsSwitch}
+use Rattle.rule_laws.specs.ir_laws.paths.threads.Threads.{AreAvoidedToo, AreThreads}
+use Rattle.rule_laws.specs.ir_laws.facts.branches.MovedState.{IsSwitch}
 use Rattle.pass_proofs.specs.edges.states.MovedState.{KeepsEdges}
 use Rattle.ir_model.specs.declared.instr.Instr.{Instr}
 use Rattle.ir_model.specs.declared.instr.Terminator.{Terminator}
 use Rattle.ir_model.specs.declared.module.Block.{Block}
 use Rattle.ir_model.specs.declared.module.Function.{Function}
 use Rattle.ir_model.specs.declared.operand.Intrinsic.{Intrinsic}
-use Rattle.ir_paths.specs.Paths.{Leads, same_point}
-use Rattle.ir_paths.specs.Windows.{IsInWindow, suspend_of}
-use Rattle.ir_paths.specs.declared.point.Point.{Point}
+use Rattle.rule_laws.specs.ir_paths.Paths.{Leads, same_point}
+use Rattle.rule_laws.specs.ir_paths.Windows.{IsInWindow, suspend_of}
+use Rattle.rule_laws.specs.ir_paths.declared.point.Point.{Point}
 use Rattle.pass_proofs.proofs.kept.sources.EdgeNeeds.{behind_home, edge_phis, own_phis}
 use Rattle.rule_laws.proofs.rules.sources.Places.{IsEnd, instr_there, point, term_there}
 use Rattle.pass_proofs.proofs.kept.sources.Suspends.{switched_by}
 use Rattle.pass_kept_proof.proofs.Rules.{suspend_is_suspend}
 use Rattle.pass_kept_proof.specs.Needed.{IsNeededBehind, given_by, phis_give}
 use Rattle.pass_kept_proof.specs.SuspendRules.{IsCallAt, IsGivenBy, IsPhiAt, IsSwitched, KeepsSuspendRules}
-use Rattle.run_step.specs.Step.{AtInstr, AtTerm, Fetched, Nowhere, fetch, fetch_in, phis_of}
-use Rattle.ir_laws.proofs.paths.path_rules.SavedWindows.{neither}
+use Rattle.rule_laws.specs.run_step.Step.{AtInstr, AtTerm, Fetched, Nowhere, fetch, fetch_in, phis_of}
+use Rattle.rule_laws.proofs.ir_laws.paths.path_rules.SavedWindows.{neither}
 
 split_switch : (flags : List Bool) (resumes : Bool) (n : ℕ) (t : Terminator) → IsSwitch t → IsSwitch (split_term flags resumes n t)
 split_switch flags resumes n (Terminator.Switch arg default cases) is = tt

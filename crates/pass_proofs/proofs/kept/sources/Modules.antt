@@ -1,11 +1,11 @@
 -- Modules whose functions break no rule keep what is asked, and so do what the first pass makes of accepted sources.
 use Rattle.std.proofs.Common.{◌≡◌, ℕ, Bool, true, false, List, Option, Some, None, refl, ℤ}
 use Rattle.std.specs.Prelude.{slice_get, unwrap_or}
-use Rattle.run_agreement.proofs.Compose.{compose_within}
-use Rattle.run_agreement.specs.Agreements.{AgreesWithin}
-use Rattle.ir_base.specs.declared.outcome.Word.{Word}
-use Rattle.run_source.specs.Source.{SourceAt}
-use Rattle.rule_shape.specs.OneOfEach.{wrong_call}
+use Rattle.rule_laws.proofs.run_agreement.Compose.{compose_within}
+use Rattle.rule_laws.specs.run_agreement.Agreements.{AgreesWithin}
+use Rattle.rule_laws.specs.ir_base.declared.outcome.Word.{Word}
+use Rattle.rule_laws.specs.run_source.Source.{SourceAt}
+use Rattle.rule_laws.specs.rule_shape.OneOfEach.{wrong_call}
 use Rattle.pass_early.specs.Early.{early_module}
 use Rattle.pass_proofs.proofs.early.path_rules.Passes.{early_paths, early_shape}
 use Rattle.pass_proofs.proofs.early.sources.Accepted.{accepted_agree}
@@ -16,14 +16,14 @@ use Rattle.rule_laws.specs.rules.path_rules.Shape.{KeepsShape}
 use Rattle.pass_proofs.proofs.early.function_rules.Early.{all_kept}
 use Rattle.rule_laws.proofs.rules.function_rules.Shaped.{all_shaped}
 use Rattle.rule_laws.specs.rules.function_rules.Kept.{AllKeepFunctionRules, KeepsFunctionRules}
-use Rattle.rule_all.specs.Refused.{IsRefused}
-use Rattle.text_grammar.specs.Text.{StandsFor}
+use Rattle.rule_laws.specs.rule_all.Refused.{IsRefused}
+use Rattle.rule_laws.specs.text_grammar.Text.{StandsFor}
 use Rattle.ir_model.specs.Names.{function_at, no_function}
 use Rattle.ir_model.specs.declared.module.Frame.{Frame}
 use Rattle.ir_model.specs.declared.module.Function.{Function}
 use Rattle.ir_model.specs.declared.module.Module.{Module}
 use Rattle.ir_model.specs.declared.operand.Intrinsic.{Intrinsic}
-use Rattle.ir_paths.specs.declared.point.Point.{Point}
+use Rattle.rule_laws.specs.ir_paths.declared.point.Point.{Point}
 use Rattle.pass_proofs.proofs.kept.sources.Definite.{definite}
 use Rattle.pass_proofs.proofs.kept.sources.Names.{StaysInside, none_outside, plain_names, save_inside, suspend_inside}
 use Rattle.pass_proofs.proofs.kept.sources.Windows.{coroutine_keeps}
@@ -32,9 +32,9 @@ use Rattle.pass_kept_proof.specs.Crossing.{AreDefinite, IsDefinite}
 use Rattle.pass_kept_proof.specs.Handed.{HandsOn, HasPlainNames, HavePlainNames}
 use Rattle.pass_kept_proof.specs.Kept.{Keep, KeptAt}
 use Rattle.pass_kept_proof.specs.SuspendRules.{AllKeepSuspendRules, IsCallAt, KeepsSuspendRules}
-use Rattle.text_canonical.proofs.order.Shaped.{text_is_shaped}
-use Rattle.rule_names.specs.declared.stage.Stage.{Stage}
-use Rattle.run_step.specs.Step.{AtInstr, Nowhere}
+use Rattle.rule_laws.proofs.text_canonical.order.Shaped.{text_is_shaped}
+use Rattle.rule_laws.specs.rule_names.declared.stage.Stage.{Stage}
+use Rattle.rule_laws.specs.run_step.Step.{AtInstr, Nowhere}
 
 -- ---- where there is no function
 

@@ -2,27 +2,27 @@
 use Rattle.std.proofs.Common.{◌≡◌, ⊎_elim, ℕ, suc, ◌+◌, Bool, true, false, List, [], ◌∷◌, length, Option, Some, None, refl, sym, ap, ◌∙◌, subst, arith}
 use Rattle.std.specs.List.{list_all, list_any}
 use Rattle.std.specs.Prelude.{option_map, slice_get, unwrap_or, ◌==◌, ◌&&◌, ◌||◌, if◌then◌else◌}
-use Rattle.ir_base.specs.declared.outcome.Place.{Place}
-use Rattle.rule_shape.specs.OneOfEach.{calls_of, is_right_instr, wrong_call}
-use Rattle.rule_shape.specs.declared.one_of_each.Calls.{Calls}
-use Rattle.ir_laws.proofs.facts.Members.{at_each}
-use Rattle.ir_laws.proofs.facts.Truth.{equal_numbers, and_first}
+use Rattle.rule_laws.specs.ir_base.declared.outcome.Place.{Place}
+use Rattle.rule_laws.specs.rule_shape.OneOfEach.{calls_of, is_right_instr, wrong_call}
+use Rattle.rule_laws.specs.rule_shape.declared.one_of_each.Calls.{Calls}
+use Rattle.rule_laws.proofs.ir_laws.facts.Members.{at_each}
+use Rattle.rule_laws.proofs.ir_laws.facts.Truth.{equal_numbers, and_first}
 use Rattle.rule_laws.proofs.rules.renamed.Uses.{result_spelt}
-use Rattle.ir_laws.proofs.paths.renamed.Uses.{stands_in}
+use Rattle.rule_laws.proofs.ir_laws.paths.renamed.Uses.{stands_in}
 use Rattle.pass_proofs.proofs.early.save_simulation.Suspending.{fetch_at}
-use Rattle.ir_laws.specs.facts.renamed.Regular.{passes}
+use Rattle.rule_laws.specs.ir_laws.facts.renamed.Regular.{passes}
 use Rattle.rule_laws.proofs.rules.source_rules.Ends.{end_first}
-use Rattle.ir_laws.proofs.paths.source_rules.Locals.{listed_either}
+use Rattle.rule_laws.proofs.ir_laws.paths.source_rules.Locals.{listed_either}
 use Rattle.rule_laws.proofs.rules.source_rules.Locals.{no_param, no_phi, own_label, same_instr}
 use Rattle.rule_laws.proofs.rules.source_rules.Once.{right_call}
-use Rattle.flow_solver.specs.Paths.{IsListed}
+use Rattle.rule_laws.specs.flow_solver.Paths.{IsListed}
 use Rattle.rule_laws.proofs.frames.counted.Keepable.{FoundBlock, FoundInstr, blocks_found, distinct_listed, params_found}
-use Rattle.ir_laws.proofs.facts.Lists.{FoundParam, FoundPhi}
-use Rattle.ir_laws.proofs.paths.counted.Keepable.{param_listed, phi_listed}
+use Rattle.rule_laws.proofs.ir_laws.facts.Lists.{FoundParam, FoundPhi}
+use Rattle.rule_laws.proofs.ir_laws.paths.counted.Keepable.{param_listed, phi_listed}
 use Rattle.rule_laws.proofs.rules.counted.PartFacts.{block_passes}
 use Rattle.rule_laws.specs.rules.function_rules.Kept.{KeepsFunctionRules}
-use Rattle.ir_parts.specs.Contents.{result_of}
-use Rattle.ir_parts.specs.Parts.{instr_place}
+use Rattle.rule_laws.specs.ir_parts.Contents.{result_of}
+use Rattle.rule_laws.specs.ir_parts.Parts.{instr_place}
 use Rattle.ir_model.specs.Names.{first_where, same_intrinsic}
 use Rattle.ir_model.specs.Ty.{Ty, token}
 use Rattle.ir_model.specs.declared.instr.Instr.{Instr}
@@ -33,24 +33,24 @@ use Rattle.ir_model.specs.declared.module.Module.{Module}
 use Rattle.ir_model.specs.declared.operand.Allocator.{Allocator}
 use Rattle.ir_model.specs.declared.operand.Callee.{Callee}
 use Rattle.ir_model.specs.declared.operand.Intrinsic.{Intrinsic}
-use Rattle.ir_paths.specs.Windows.{end_block, instr_at, instr_in, is_call_of}
+use Rattle.rule_laws.specs.ir_paths.Windows.{end_block, instr_at, instr_in, is_call_of}
 use Rattle.pass_proofs.proofs.kept.sources.Definite.{call_fits, instr_fits}
 use Rattle.rule_laws.proofs.rules.sources.Places.{instr_there, point}
 use Rattle.pass_proofs.proofs.kept.sources.Tokens.{FitsCallee, token_typed}
 use Rattle.pass_kept_proof.specs.Handed.{HasPlainNames}
 use Rattle.pass_kept_proof.specs.Needed.{given_by, given_by_allocator, given_by_intrinsic}
-use Rattle.rule_locals.specs.Intrinsics.{calls_inner, is_inner, misplaces}
-use Rattle.rule_names.specs.declared.stage.Stage.{Stage}
-use Rattle.run_step.specs.Step.{AtInstr, AtTerm, Nowhere, fetch, fetch_in, phis_of}
-use Rattle.run_laws.specs.changed.Changed.{result_of as changed_result}
-use Rattle.frame_crossing.specs.Values.{all_defined, blocks_defined, is_apart, is_token_result, params_defined, values_of}
-use Rattle.rule_types.specs.Signatures.{are_wanted, is_result}
-use Rattle.rule_types.specs.Wants.{allocator_params, allocator_result, intrinsic_params, intrinsic_result}
-use Rattle.rule_types.specs.declared.wants.Basic.{Basic}
-use Rattle.rule_values.specs.Instrs.{fits_called, fits_instr, fits_result, passes as passes_arg}
-use Rattle.rule_values.specs.Kinds.{value_kind}
-use Rattle.rule_values.specs.declared.kinds.Kind.{Kind}
-use Rattle.rule_windows.specs.Points.{phi_count, phis_in}
+use Rattle.rule_laws.specs.rule_locals.Intrinsics.{calls_inner, is_inner, misplaces}
+use Rattle.rule_laws.specs.rule_names.declared.stage.Stage.{Stage}
+use Rattle.rule_laws.specs.run_step.Step.{AtInstr, AtTerm, Nowhere, fetch, fetch_in, phis_of}
+use Rattle.rule_laws.specs.run_laws.changed.Changed.{result_of as changed_result}
+use Rattle.rule_laws.specs.frame_crossing.Values.{all_defined, blocks_defined, is_apart, is_token_result, params_defined, values_of}
+use Rattle.rule_laws.specs.rule_types.Signatures.{are_wanted, is_result}
+use Rattle.rule_laws.specs.rule_types.Wants.{allocator_params, allocator_result, intrinsic_params, intrinsic_result}
+use Rattle.rule_laws.specs.rule_types.declared.wants.Basic.{Basic}
+use Rattle.rule_laws.specs.rule_values.Instrs.{fits_called, fits_instr, fits_result, passes as passes_arg}
+use Rattle.rule_laws.specs.rule_values.Kinds.{value_kind}
+use Rattle.rule_laws.specs.rule_values.declared.kinds.Kind.{Kind}
+use Rattle.rule_laws.specs.rule_windows.Points.{phi_count, phis_in}
 
 -- ---- what isn't set apart is given
 

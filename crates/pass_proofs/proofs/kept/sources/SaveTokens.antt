@@ -3,12 +3,12 @@ use Rattle.std.proofs.Common.{◌≡◌, ◌⊎◌, inl, inr, ℕ, ◌+◌, Bool
 use Rattle.std.proofs.Common.{refl, sym, ap, ◌∙◌, subst, arith}
 use Rattle.std.specs.List.{list_any}
 use Rattle.std.specs.Prelude.{slice_get, map, ◌==◌, ◌&&◌, ◌||◌, option_and_then}
-use Rattle.flow_facts.proofs.Chained.{listed-name}
-use Rattle.flow_points.proofs.Neighbours.{IsBranch, IsInner, edge-cases}
-use Rattle.flow_solver.specs.Paths.{IsListed}
-use Rattle.ir_laws.proofs.facts.Lists.{none_past}
-use Rattle.ir_laws.proofs.facts.Truth.{and_first, and_second, equal_numbers, itself}
-use Rattle.ir_laws.specs.facts.renamed.Regular.{is_result}
+use Rattle.rule_laws.proofs.flow_facts.Chained.{listed-name}
+use Rattle.rule_laws.proofs.flow_points.Neighbours.{IsBranch, IsInner, edge-cases}
+use Rattle.rule_laws.specs.flow_solver.Paths.{IsListed}
+use Rattle.rule_laws.proofs.ir_laws.facts.Lists.{none_past}
+use Rattle.rule_laws.proofs.ir_laws.facts.Truth.{and_first, and_second, equal_numbers, itself}
+use Rattle.rule_laws.specs.ir_laws.facts.renamed.Regular.{is_result}
 use Rattle.ir_model.specs.Names.{is_local, position_of}
 use Rattle.ir_model.specs.declared.instr.Instr.{Instr}
 use Rattle.ir_model.specs.declared.module.Block.{Block}
@@ -18,13 +18,13 @@ use Rattle.ir_model.specs.declared.module.Param.{Param}
 use Rattle.ir_model.specs.declared.operand.Callee.{Callee}
 use Rattle.ir_model.specs.declared.operand.Intrinsic.{Intrinsic}
 use Rattle.ir_model.specs.declared.operand.Operand.{Operand}
-use Rattle.ir_parts.specs.Contents.{instr_operands}
-use Rattle.ir_paths.proofs.Search.{same_point-same}
-use Rattle.ir_paths.specs.Paths.{IsPath, Leads, entry_point, has_point, nexts, same_point, targets}
-use Rattle.ir_paths.specs.Windows.{call_operand, call_result, instr_at, is_call_of, is_suspend_of, points_where}
-use Rattle.ir_paths.specs.Windows.{suspend_of}
-use Rattle.ir_paths.specs.declared.point.Point.{Point}
-use Rattle.frame_crossing.specs.Paths.{used_by}
+use Rattle.rule_laws.specs.ir_parts.Contents.{instr_operands}
+use Rattle.rule_laws.proofs.ir_paths.Search.{same_point-same}
+use Rattle.rule_laws.specs.ir_paths.Paths.{IsPath, Leads, entry_point, has_point, nexts, same_point, targets}
+use Rattle.rule_laws.specs.ir_paths.Windows.{call_operand, call_result, instr_at, is_call_of, is_suspend_of, points_where}
+use Rattle.rule_laws.specs.ir_paths.Windows.{suspend_of}
+use Rattle.rule_laws.specs.ir_paths.declared.point.Point.{Point}
+use Rattle.rule_laws.specs.frame_crossing.Paths.{used_by}
 use Rattle.pass_kept_proof.proofs.Rules.{where_is}
 use Rattle.pass_kept_proof.specs.Crossing.{is_param}
 use Rattle.pass_kept_proof.specs.Needed.{BranchesTo, phis_give}
@@ -37,10 +37,10 @@ use Rattle.pass_proofs.proofs.kept.sources.Windows.{phis_listed}
 use Rattle.rule_laws.proofs.rules.sources.Places.{instr_there}
 use Rattle.rule_laws.proofs.rules.source_rules.Locals.{no_param, no_phi, same_result}
 use Rattle.rule_laws.specs.rules.function_rules.Kept.{KeepsFunctionRules}
-use Rattle.rule_uses.specs.Undefined.{Entry}
-use Rattle.rule_uses.specs.Uses.{locals_in}
-use Rattle.run_laws.specs.changed.Changed.{result_of}
-use Rattle.run_step.specs.Step.{AtInstr, fetch, phis_of}
+use Rattle.rule_laws.specs.rule_uses.Undefined.{Entry}
+use Rattle.rule_laws.specs.rule_uses.Uses.{locals_in}
+use Rattle.rule_laws.specs.run_laws.changed.Changed.{result_of}
+use Rattle.rule_laws.specs.run_step.Step.{AtInstr, fetch, phis_of}
 
 -- ---- points
 
@@ -98,7 +98,7 @@ suspend_uses v (Instr.Call r must_tail ty (Callee.Intrinsic x) []) is e = absurd
 suspend_uses v (Instr.Call r must_tail ty (Callee.Intrinsic x) (a ∷ args)) is e = on a.value e
   where
     on : (o : Operand) → o ≡ Operand.Local v
-        → IsListed v (locals_in (o ∷ Rattle.ir_parts.specs.Contents.arg_operands args))
+        → IsListed v (locals_in (o ∷ Rattle.rule_laws.specs.ir_parts.Contents.arg_operands args))
     on (Operand.Local n) k = let same : n ≡ v = cc in inl (sym same)
     on _ k = absurd (cc)
 suspend_uses v _ is e = absurd (cc)
@@ -198,7 +198,7 @@ module _ (k : ℕ) (m : Module) (f : Function) (rules : KeepsFunctionRules m k f
             in absurd (omega (arith, past, lt))
         inner x (Some i) e =
             let stands : fetch f p.block p.at ≡ AtInstr i = fetch_at f p i
-            (ap (λ (o : Option Block). Rattle.ir_paths.specs.Windows.instr_in o p.at) x.got ∙ e) in
+            (ap (λ (o : Option Block). Rattle.rule_laws.specs.ir_paths.Windows.instr_in o p.at) x.got ∙ e) in
             let next = over_unmade m k f rules v p.block p.at i stands (unmade p i stands other) w in
             (λ (eb : q.block ≡ p.block) (ea : q.at ≡ p.at + 1).
             subst (λ (z : Point). ComesTo z) (λ j. record { block = sym eb j; at = sym ea j }) next) x.same x.next

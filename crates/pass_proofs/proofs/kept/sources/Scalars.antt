@@ -2,9 +2,9 @@
 use Rattle.std.proofs.Common.{◌≡◌, ⊎_elim, ℕ, Bool, true, false, List, [], ◌∷◌, Option, Some, None, refl, ap, ◌∙◌}
 use Rattle.std.specs.List.{list_all}
 use Rattle.std.specs.Prelude.{◌==◌, ◌&&◌, ◌||◌, if◌then◌else◌}
-use Rattle.ir_laws.proofs.facts.Truth.{equal_numbers, and_first, and_second}
-use Rattle.ir_base.specs.declared.ops.CastOp.{CastOp}
-use Rattle.ir_base.specs.declared.ops.Pred.{Pred}
+use Rattle.rule_laws.proofs.ir_laws.facts.Truth.{equal_numbers, and_first, and_second}
+use Rattle.rule_laws.specs.ir_base.declared.ops.CastOp.{CastOp}
+use Rattle.rule_laws.specs.ir_base.declared.ops.Pred.{Pred}
 use Rattle.ir_model.specs.Layout.{same_type}
 use Rattle.ir_model.specs.Names.{is_local}
 use Rattle.ir_model.specs.Ty.{Ty, array, int, named, ptr, structure, token}
@@ -17,21 +17,21 @@ use Rattle.ir_model.specs.declared.operand.Arg.{Arg}
 use Rattle.ir_model.specs.declared.operand.Callee.{Callee}
 use Rattle.ir_model.specs.declared.operand.Intrinsic.{Intrinsic}
 use Rattle.ir_model.specs.declared.operand.Operand.{Operand}
-use Rattle.ir_paths.proofs.Search.{either}
-use Rattle.ir_paths.specs.Slots.{is_in_args, occurs_in_term}
-use Rattle.ir_paths.specs.Windows.{operand_at}
+use Rattle.rule_laws.proofs.ir_paths.Search.{either}
+use Rattle.rule_laws.specs.ir_paths.Slots.{is_in_args, occurs_in_term}
+use Rattle.rule_laws.specs.ir_paths.Windows.{operand_at}
 use Rattle.pass_proofs.proofs.kept.sources.Tokens.{FitsCallee}
 use Rattle.pass_kept_proof.specs.Needed.{phis_read, reads, reads_intrinsic}
-use Rattle.run_step.specs.Step.{incoming_from}
-use Rattle.rule_types.specs.Signatures.{are_wanted, is_result}
-use Rattle.rule_types.specs.Wants.{any, intrinsic_params, intrinsic_result, is_basic, is_int, is_ptr, is_token, meets}
-use Rattle.rule_types.specs.declared.wants.Basic.{Basic}
-use Rattle.rule_types.specs.declared.wants.Wanted.{Wanted}
-use Rattle.rule_values.specs.Fits.{fits, fits_arg, fits_integer, fits_kind, fits_scalar, is_integer, is_scalar, is_tokenless}
-use Rattle.rule_values.specs.Instrs.{both_fit, casts, compares, fits_call, fits_called, fits_instr, fits_result, is_intrinsic, is_narrower, is_passed, passes}
-use Rattle.run_laws.specs.changed.Changed.{Each}
-use Rattle.rule_values.specs.Values.{fits_ending, fits_phi, takes}
-use Rattle.rule_values.specs.declared.kinds.Kind.{Kind}
+use Rattle.rule_laws.specs.run_step.Step.{incoming_from}
+use Rattle.rule_laws.specs.rule_types.Signatures.{are_wanted, is_result}
+use Rattle.rule_laws.specs.rule_types.Wants.{any, intrinsic_params, intrinsic_result, is_basic, is_int, is_ptr, is_token, meets}
+use Rattle.rule_laws.specs.rule_types.declared.wants.Basic.{Basic}
+use Rattle.rule_laws.specs.rule_types.declared.wants.Wanted.{Wanted}
+use Rattle.rule_laws.specs.rule_values.Fits.{fits, fits_arg, fits_integer, fits_kind, fits_scalar, is_integer, is_scalar, is_tokenless}
+use Rattle.rule_laws.specs.rule_values.Instrs.{both_fit, casts, compares, fits_call, fits_called, fits_instr, fits_result, is_intrinsic, is_narrower, is_passed, passes}
+use Rattle.rule_laws.specs.run_laws.changed.Changed.{Each}
+use Rattle.rule_laws.specs.rule_values.Values.{fits_ending, fits_phi, takes}
+use Rattle.rule_laws.specs.rule_values.declared.kinds.Kind.{Kind}
 
 module _ (kinds : ℕ → Option Kind) (v : ℕ) where
   -- v is of an integer type or an address

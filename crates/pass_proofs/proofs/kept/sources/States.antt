@@ -1,16 +1,16 @@
 -- The states of a source that breaks no rule, and those where a resume hands on only what is needed behind it.
 use Rattle.std.proofs.Common.{ℕ, List}
 use Rattle.std.specs.Prelude.{ℤ, None}
-use Rattle.run_agreement.proofs.Costs.{compose_by}
-use Rattle.run_agreement.specs.Costs.{AgreesBy}
-use Rattle.ir_base.specs.declared.outcome.Word.{Word}
-use Rattle.run_source.specs.Source.{given}
+use Rattle.rule_laws.proofs.run_agreement.Costs.{compose_by}
+use Rattle.rule_laws.specs.run_agreement.Costs.{AgreesBy}
+use Rattle.rule_laws.specs.ir_base.declared.outcome.Word.{Word}
+use Rattle.rule_laws.specs.run_source.Source.{given}
 use Rattle.pass_early.specs.Early.{early_module}
 use Rattle.pass_proofs.proofs.edges.sources.States.{accepted_corresponds}
 use Rattle.pass_proofs.specs.edges.simulation.Beside.{IsEarlySplitOf, IsNearlyEarlySplitOf}
 use Rattle.pass_proofs.specs.edges.states.MovedState.{edges_split}
-use Rattle.rule_all.specs.Refused.{IsRefused}
-use Rattle.text_grammar.specs.Text.{StandsFor}
+use Rattle.rule_laws.specs.rule_all.Refused.{IsRefused}
+use Rattle.rule_laws.specs.text_grammar.Text.{StandsFor}
 use Rattle.ir_model.specs.declared.module.Frame.{Frame}
 use Rattle.ir_model.specs.declared.module.Module.{Module}
 use Rattle.pass_proofs.proofs.kept.sources.Whole.{split_keeps}
@@ -20,7 +20,7 @@ use Rattle.pass_kept_proof.specs.Kept.{Keep}
 use Rattle.pass_kept_proof.specs.Machines.{kept_machine, source_machine}
 use Rattle.pass_kept_proof.specs.Related.{HandsOver}
 use Rattle.pass_kept_proof.specs.SuspendRules.{KeepsNeeded}
-use Rattle.rule_names.specs.declared.stage.Stage.{Stage}
+use Rattle.rule_laws.specs.rule_names.declared.stage.Stage.{Stage}
 
 module _ (text : List ℕ) (m : Module) (stands : StandsFor text m) (accepted : IsRefused Stage.Source m None) where
   abbrev split : Module

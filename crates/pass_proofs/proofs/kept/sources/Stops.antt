@@ -3,8 +3,8 @@ use Rattle.std.proofs.Common.{◌≡◌, ◌≤◌, ℕ, ◌+◌, ◌^◌, ◌%�
 use Rattle.std.proofs.Common.{negsuc, pos, refl, sym, ap, ◌∙◌, subst, arith, if◌then◌else◌}
 use Rattle.std.proofs.Math.Nat.{mod-le}
 use Rattle.std.specs.Prelude.{slice_get, ◌==◌, ◌&&◌, ◌||◌, option_map}
-use Rattle.ir_laws.proofs.facts.Truth.{and_first, and_second, equal_numbers}
-use Rattle.ir_laws.specs.facts.renamed.Regular.{passes}
+use Rattle.rule_laws.proofs.ir_laws.facts.Truth.{and_first, and_second, equal_numbers}
+use Rattle.rule_laws.specs.ir_laws.facts.renamed.Regular.{passes}
 use Rattle.ir_model.specs.Names.{is_local, position_of}
 use Rattle.ir_model.specs.Ty.{Ty, array, int, named, ptr, structure, token}
 use Rattle.ir_model.specs.declared.instr.Case.{Case}
@@ -16,22 +16,22 @@ use Rattle.ir_model.specs.declared.module.Module.{Module}
 use Rattle.ir_model.specs.declared.operand.Arg.{Arg}
 use Rattle.ir_model.specs.declared.operand.Intrinsic.{Intrinsic}
 use Rattle.ir_model.specs.declared.operand.Operand.{Operand}
-use Rattle.ir_parts.specs.Locals.{locals_of}
-use Rattle.ir_paths.specs.Paths.{entry_point}
-use Rattle.ir_paths.specs.Windows.{call_result, end_block, instr_at, is_call_of, is_number}
-use Rattle.ir_paths.specs.declared.point.Point.{Point}
+use Rattle.rule_laws.specs.ir_parts.Locals.{locals_of}
+use Rattle.rule_laws.specs.ir_paths.Paths.{entry_point}
+use Rattle.rule_laws.specs.ir_paths.Windows.{call_result, end_block, instr_at, is_call_of, is_number}
+use Rattle.rule_laws.specs.ir_paths.declared.point.Point.{Point}
 use Rattle.pass_kept_proof.specs.SuspendRules.{IsCallAt}
 use Rattle.pass_proofs.proofs.early.save_simulation.Suspending.{fetch_at}
 use Rattle.pass_proofs.proofs.kept.sources.Suspends.{behind_last, own, where_it_is}
 use Rattle.rule_laws.proofs.rules.source_rules.Ends.{end_first}
 use Rattle.rule_laws.proofs.rules.source_rules.Locals.{own_label}
-use Rattle.rule_names.specs.Definitions.{first_twice}
-use Rattle.rule_shape.specs.OneOfEach.{wrong_call}
-use Rattle.rule_shape.specs.Places.{is_the}
-use Rattle.rule_shape.specs.Switches.{are_both, end_label, is_switch_on, wrong_switch}
-use Rattle.run_ints.specs.Numbers.{word_of}
-use Rattle.run_step.specs.Step.{AtInstr, AtTerm, fetch, is_word, target_of}
-use Rattle.run_step.specs.Values.{arg_value, operand_value}
+use Rattle.rule_laws.specs.rule_names.Definitions.{first_twice}
+use Rattle.rule_laws.specs.rule_shape.OneOfEach.{wrong_call}
+use Rattle.rule_laws.specs.rule_shape.Places.{is_the}
+use Rattle.rule_laws.specs.rule_shape.Switches.{are_both, end_label, is_switch_on, wrong_switch}
+use Rattle.rule_laws.specs.run_ints.Numbers.{word_of}
+use Rattle.rule_laws.specs.run_step.Step.{AtInstr, AtTerm, fetch, is_word, target_of}
+use Rattle.rule_laws.specs.run_step.Values.{arg_value, operand_value}
 
 -- ---- the cases
 

@@ -2,16 +2,16 @@
 use Rattle.std.proofs.Common.{◌≡◌, ◌<◌, ◌⊎◌, inl, inr, ℕ, zero, suc, ◌+◌, Bool, true, false, List, [], ◌∷◌, length, Option, Some, None, refl, sym, ap, ◌∙◌, subst, arith}
 use Rattle.std.proofs.lemmas.Bool.{cases_eq}
 use Rattle.std.specs.Prelude.{IsTrue, map, slice_get, ◌==◌, ◌||◌, if◌then◌else◌}
-use Rattle.rule_shape.specs.Switches.{end_label, wrong_switch}
-use Rattle.rule_shape.specs.Uses.{phi_operands}
-use Rattle.rule_uses.specs.Uses.{locals_in}
-use Rattle.ir_laws.proofs.facts.Truth.{equal_numbers, itself}
-use Rattle.ir_laws.proofs.paths.renamed.Uses.{StandsIn, stands_in}
-use Rattle.flow_solver.proofs.Lists.{listed_at}
-use Rattle.flow_solver.specs.Paths.{IsListed}
+use Rattle.rule_laws.specs.rule_shape.Switches.{end_label, wrong_switch}
+use Rattle.rule_laws.specs.rule_shape.Uses.{phi_operands}
+use Rattle.rule_laws.specs.rule_uses.Uses.{locals_in}
+use Rattle.rule_laws.proofs.ir_laws.facts.Truth.{equal_numbers, itself}
+use Rattle.rule_laws.proofs.ir_laws.paths.renamed.Uses.{StandsIn, stands_in}
+use Rattle.rule_laws.proofs.flow_solver.Lists.{listed_at}
+use Rattle.rule_laws.specs.flow_solver.Paths.{IsListed}
 use Rattle.pass_proofs.proofs.edges.rules.CaseLabels.{switch_target}
-use Rattle.ir_laws.specs.facts.branches.MovedState.{IsSwitch}
-use Rattle.ir_parts.specs.Contents.{ending_operands}
+use Rattle.rule_laws.specs.ir_laws.facts.branches.MovedState.{IsSwitch}
+use Rattle.rule_laws.specs.ir_parts.Contents.{ending_operands}
 use Rattle.ir_model.specs.Names.{is_local, position_of}
 use Rattle.ir_model.specs.declared.instr.Incoming.{Incoming}
 use Rattle.ir_model.specs.declared.instr.Instr.{Instr}
@@ -22,18 +22,18 @@ use Rattle.ir_model.specs.declared.module.Function.{Function}
 use Rattle.ir_model.specs.declared.operand.Callee.{Callee}
 use Rattle.ir_model.specs.declared.operand.Intrinsic.{Intrinsic}
 use Rattle.ir_model.specs.declared.operand.Operand.{Operand}
-use Rattle.ir_paths.specs.Paths.{targets}
-use Rattle.ir_paths.specs.Slots.{has_name}
-use Rattle.ir_paths.specs.Windows.{call_result, is_call_of, label_at, label_of_term}
-use Rattle.ir_paths.specs.declared.point.Point.{Point}
+use Rattle.rule_laws.specs.ir_paths.Paths.{targets}
+use Rattle.rule_laws.specs.ir_paths.Slots.{has_name}
+use Rattle.rule_laws.specs.ir_paths.Windows.{call_result, is_call_of, label_at, label_of_term}
+use Rattle.rule_laws.specs.ir_paths.declared.point.Point.{Point}
 use Rattle.rule_laws.proofs.rules.sources.Places.{IsEnd, instr_there, point, term_there}
 use Rattle.pass_kept_proof.proofs.Read.{read_here}
 use Rattle.pass_kept_proof.proofs.Rules.{not_behind}
 use Rattle.pass_kept_proof.specs.Needed.{IsNeededBehind, given_by, phis_at, phis_read, reads_at}
 use Rattle.pass_kept_proof.specs.SuspendRules.{IsCallAt, IsSwitched}
 use Rattle.rule_laws.proofs.rules.uses.Switched.{IsSwitched as IsSuspendSwitched, not_in_instr, not_in_phi, not_switched_on, switched as suspend_switched}
-use Rattle.run_step.specs.Step.{AtInstr, AtTerm, Fetched, Nowhere, fetch, fetch_in, fetch_or, incoming_from, phis_of}
-use Rattle.flow_facts.proofs.Chained.{listed-name}
+use Rattle.rule_laws.specs.run_step.Step.{AtInstr, AtTerm, Fetched, Nowhere, fetch, fetch_in, fetch_or, incoming_from, phis_of}
+use Rattle.rule_laws.proofs.flow_facts.Chained.{listed-name}
 use Rattle.rule_laws.proofs.rules.known_labels.Rules.{is_switch as switch_is}
 
 past : (xs : List Instr) (n : ℕ) → n ≡ length xs → slice_get xs n ≡ None

@@ -1,8 +1,8 @@
 -- What an instruction makes and its step doesn't give is a token (rules Y1 and Y2), so it is of no scalar type.
 use Rattle.std.proofs.Common.{◌≡◌, ℕ, Bool, true, false, List, Option, Some, None, refl, sym, ap, ◌∙◌, subst}
 use Rattle.std.specs.Prelude.{◌==◌, ◌&&◌, if◌then◌else◌}
-use Rattle.ir_laws.proofs.facts.Truth.{and_first}
-use Rattle.ir_parts.specs.Contents.{result_of}
+use Rattle.rule_laws.proofs.ir_laws.facts.Truth.{and_first}
+use Rattle.rule_laws.specs.ir_parts.Contents.{result_of}
 use Rattle.ir_model.specs.Ty.{Ty, array, int, named, ptr, structure, token}
 use Rattle.ir_model.specs.declared.instr.Instr.{Instr}
 use Rattle.ir_model.specs.declared.module.Module.{Module}
@@ -11,11 +11,11 @@ use Rattle.ir_model.specs.declared.operand.Arg.{Arg}
 use Rattle.ir_model.specs.declared.operand.Callee.{Callee}
 use Rattle.ir_model.specs.declared.operand.Intrinsic.{Intrinsic}
 use Rattle.pass_kept_proof.specs.Needed.{given_by, given_by_allocator, given_by_intrinsic}
-use Rattle.rule_types.specs.Signatures.{are_wanted, fits_callee, is_result}
-use Rattle.rule_types.specs.Wants.{allocator_params, allocator_result, intrinsic_params, intrinsic_result}
-use Rattle.rule_values.specs.Fits.{fits_kind, is_scalar}
-use Rattle.rule_values.specs.Kinds.{instr_kind, result_kind}
-use Rattle.rule_values.specs.declared.kinds.Kind.{Kind}
+use Rattle.rule_laws.specs.rule_types.Signatures.{are_wanted, fits_callee, is_result}
+use Rattle.rule_laws.specs.rule_types.Wants.{allocator_params, allocator_result, intrinsic_params, intrinsic_result}
+use Rattle.rule_laws.specs.rule_values.Fits.{fits_kind, is_scalar}
+use Rattle.rule_laws.specs.rule_values.Kinds.{instr_kind, result_kind}
+use Rattle.rule_laws.specs.rule_values.declared.kinds.Kind.{Kind}
 
 -- a kind that is of no integer type and no address
 abbrev pub IsNoScalar : Option Kind → Type 0
@@ -56,7 +56,7 @@ no_result callee None h = other_fits
 no_result callee (Some t) h = absurd (cc)
 
 -- what coro.id and coro.save make
-pub token_typed : (t : Ty) → Rattle.rule_types.specs.Wants.is_token t ≡ true → t ≡ token
+pub token_typed : (t : Ty) → Rattle.rule_laws.specs.rule_types.Wants.is_token t ≡ true → t ≡ token
 token_typed (int w) h = absurd (cc)
 token_typed ptr h = absurd (cc)
 token_typed token h = refl

@@ -2,10 +2,10 @@
 use Rattle.std.proofs.Common.{◌≡◌, ℕ, Bool, true, false, List, Option, Some, None, refl, sym, ap, ◌∙◌}
 use Rattle.std.specs.Prelude.{slice_get, ◌==◌, if◌then◌else◌}
 use Rattle.std.specs.List.{list_all}
-use Rattle.ir_laws.proofs.facts.Members.{at_each}
-use Rattle.ir_laws.proofs.facts.Truth.{and_first, equal_numbers, holds}
-use Rattle.ir_laws.proofs.paths.renamed.Uses.{StandsIn, stands_in}
-use Rattle.ir_laws.specs.facts.counted.Widths.{has_width}
+use Rattle.rule_laws.proofs.ir_laws.facts.Members.{at_each}
+use Rattle.rule_laws.proofs.ir_laws.facts.Truth.{and_first, equal_numbers, holds}
+use Rattle.rule_laws.proofs.ir_laws.paths.renamed.Uses.{StandsIn, stands_in}
+use Rattle.rule_laws.specs.ir_laws.facts.counted.Widths.{has_width}
 use Rattle.ir_model.specs.Ty.{Ty}
 use Rattle.ir_model.specs.declared.instr.Instr.{Instr}
 use Rattle.ir_model.specs.declared.instr.Phi.{Phi}
@@ -17,19 +17,19 @@ use Rattle.ir_model.specs.declared.module.Param.{Param}
 use Rattle.ir_model.specs.declared.operand.Arg.{Arg}
 use Rattle.ir_model.specs.declared.operand.Callee.{Callee}
 use Rattle.ir_model.specs.declared.operand.Operand.{Operand}
-use Rattle.ir_parts.specs.Contents.{instr_types, result_of as part_result}
+use Rattle.rule_laws.specs.ir_parts.Contents.{instr_types, result_of as part_result}
 use Rattle.pass_proofs.proofs.kept.sources.Definite.{call_fits, instr_fits, once, phis_fit, term_fits}
 use Rattle.rule_laws.proofs.rules.counted.DefinedKinds.{kind_of_instr, kind_of_param, kind_of_phi}
 use Rattle.rule_laws.proofs.rules.counted.PartFacts.{block_passes}
 use Rattle.rule_laws.proofs.rules.sources.Places.{instr_there, point, term_there}
 use Rattle.rule_laws.specs.rules.counted.Widths.{first_other_width, is_of_other_width}
 use Rattle.rule_laws.specs.rules.function_rules.Kept.{KeepsFunctionRules}
-use Rattle.rule_types.specs.Signatures.{fits_callee}
-use Rattle.rule_values.specs.Instrs.{fits_instr}
-use Rattle.rule_values.specs.Kinds.{call_kind, instr_kind, kind_if, kind_of, result_kind, value_kind}
-use Rattle.rule_values.specs.Values.{fits_ending, fits_phi}
-use Rattle.rule_values.specs.declared.kinds.Kind.{Kind}
-use Rattle.run_step.specs.Step.{AtInstr, AtTerm, fetch}
+use Rattle.rule_laws.specs.rule_types.Signatures.{fits_callee}
+use Rattle.rule_laws.specs.rule_values.Instrs.{fits_instr}
+use Rattle.rule_laws.specs.rule_values.Kinds.{call_kind, instr_kind, kind_if, kind_of, result_kind, value_kind}
+use Rattle.rule_laws.specs.rule_values.Values.{fits_ending, fits_phi}
+use Rattle.rule_laws.specs.rule_values.declared.kinds.Kind.{Kind}
+use Rattle.rule_laws.specs.run_step.Step.{AtInstr, AtTerm, fetch}
 
 -- ---- what has a kind
 

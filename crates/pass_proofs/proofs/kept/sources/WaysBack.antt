@@ -2,10 +2,10 @@
 use Rattle.std.proofs.Common.{◌≡◌, ◌⊎◌, inl, inr, ℕ, ◌+◌, Bool, true, false, List, [], ◌∷◌, length, Some}
 use Rattle.std.proofs.Common.{refl, sym, ap, ◌∙◌, subst, arith, if◌then◌else◌}
 use Rattle.std.specs.Prelude.{slice_get, map, ◌==◌, ◌&&◌, ◌||◌, negsuc, pos}
-use Rattle.flow_points.proofs.Neighbours.{IsBranch, IsInner, edge-cases}
-use Rattle.flow_solver.specs.Paths.{IsListed}
-use Rattle.frame_slots.proofs.Points.{where_complete}
-use Rattle.ir_laws.proofs.facts.Truth.{and_first, and_second, equal_numbers, itself}
+use Rattle.rule_laws.proofs.flow_points.Neighbours.{IsBranch, IsInner, edge-cases}
+use Rattle.rule_laws.specs.flow_solver.Paths.{IsListed}
+use Rattle.rule_laws.proofs.frame_slots.Points.{where_complete}
+use Rattle.rule_laws.proofs.ir_laws.facts.Truth.{and_first, and_second, equal_numbers, itself}
 use Rattle.ir_model.specs.declared.instr.Case.{Case}
 use Rattle.ir_model.specs.declared.instr.Instr.{Instr}
 use Rattle.ir_model.specs.declared.instr.Terminator.{Terminator}
@@ -16,11 +16,11 @@ use Rattle.ir_model.specs.declared.operand.Arg.{Arg}
 use Rattle.ir_model.specs.declared.operand.Callee.{Callee}
 use Rattle.ir_model.specs.declared.operand.Intrinsic.{Intrinsic}
 use Rattle.ir_model.specs.declared.operand.Operand.{Operand}
-use Rattle.ir_paths.proofs.Search.{same_point-same}
-use Rattle.ir_paths.specs.Paths.{IsPath, Leads, entry_point, has_point, nexts, same_point, targets}
-use Rattle.ir_paths.specs.Windows.{destroy_label, is_call_of, is_number, label_at, label_in, label_of_term}
-use Rattle.ir_paths.specs.Windows.{resume_label, suspend_of}
-use Rattle.ir_paths.specs.declared.point.Point.{Point}
+use Rattle.rule_laws.proofs.ir_paths.Search.{same_point-same}
+use Rattle.rule_laws.specs.ir_paths.Paths.{IsPath, Leads, entry_point, has_point, nexts, same_point, targets}
+use Rattle.rule_laws.specs.ir_paths.Windows.{destroy_label, is_call_of, is_number, label_at, label_in, label_of_term}
+use Rattle.rule_laws.specs.ir_paths.Windows.{resume_label, suspend_of}
+use Rattle.rule_laws.specs.ir_paths.declared.point.Point.{Point}
 use Rattle.pass_kept_proof.proofs.Rules.{suspend_is_suspend}
 use Rattle.pass_kept_proof.specs.SuspendRules.{IsCallAt}
 use Rattle.pass_proofs.proofs.kept.sources.Closed.{not_behind_end, suspend_ends}
@@ -31,9 +31,9 @@ use Rattle.rule_laws.proofs.rules.sources.Places.{IsEnd, instr_there, term_there
 use Rattle.rule_laws.specs.rules.function_rules.Kept.{KeepsFunctionRules}
 use Rattle.rule_laws.specs.rules.path_rules.Paths.{KeepsPaths}
 use Rattle.rule_laws.specs.rules.path_rules.Shape.{KeepsShape}
-use Rattle.rule_shape.specs.Switches.{are_both}
-use Rattle.rule_windows.specs.Windows.{Back, own_edges}
-use Rattle.run_step.specs.Step.{AtInstr, AtTerm, fetch}
+use Rattle.rule_laws.specs.rule_shape.Switches.{are_both}
+use Rattle.rule_laws.specs.rule_windows.Windows.{Back, own_edges}
+use Rattle.rule_laws.specs.run_step.Step.{AtInstr, AtTerm, fetch}
 
 -- ---- the labels of a switch with the cases 0 and 1
 

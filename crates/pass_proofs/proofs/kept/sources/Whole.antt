@@ -1,11 +1,11 @@
 -- What the first pass makes of accepted sources keeps, where edges have blocks, what is asked of values that a resume hands on.
 use Rattle.std.proofs.Common.{◌≡◌, ℕ, Bool, true, false, List, Option, Some, None, refl, sym, ap, ◌∙◌, subst, ℤ}
 use Rattle.std.specs.Prelude.{slice_get, unwrap_or, if◌then◌else◌}
-use Rattle.run_agreement.proofs.Compose.{compose_within}
-use Rattle.run_agreement.specs.Agreements.{AgreesWithin}
-use Rattle.ir_base.specs.declared.outcome.Word.{Word}
-use Rattle.run_source.specs.Source.{SourceAt}
-use Rattle.rule_shape.specs.OneOfEach.{wrong_call}
+use Rattle.rule_laws.proofs.run_agreement.Compose.{compose_within}
+use Rattle.rule_laws.specs.run_agreement.Agreements.{AgreesWithin}
+use Rattle.rule_laws.specs.ir_base.declared.outcome.Word.{Word}
+use Rattle.rule_laws.specs.run_source.Source.{SourceAt}
+use Rattle.rule_laws.specs.rule_shape.OneOfEach.{wrong_call}
 use Rattle.pass_early.specs.Early.{early_module}
 use Rattle.pass_edges.specs.EdgeBlocks.{with_edge_blocks}
 use Rattle.pass_proofs.proofs.early.path_rules.RenamedOperands.{map_was}
@@ -13,8 +13,8 @@ use Rattle.pass_proofs.proofs.edges.rules.Modules.{modules_kept}
 use Rattle.pass_proofs.proofs.edges.sources.Accepted.{accepted_agree_split, accepted_kept}
 use Rattle.pass_proofs.specs.edges.states.MovedState.{Keeps, edge_function, edges_split}
 use Rattle.rule_laws.specs.rules.function_rules.Kept.{AllKeepFunctionRules}
-use Rattle.rule_all.specs.Refused.{IsRefused}
-use Rattle.text_grammar.specs.Text.{StandsFor}
+use Rattle.rule_laws.specs.rule_all.Refused.{IsRefused}
+use Rattle.rule_laws.specs.text_grammar.Text.{StandsFor}
 use Rattle.ir_model.specs.Names.{function_at, no_function}
 use Rattle.ir_model.specs.declared.module.Frame.{Frame}
 use Rattle.ir_model.specs.declared.module.Function.{Function}
@@ -27,7 +27,7 @@ use Rattle.pass_kept_proof.specs.Handed.{HandsOn, HavePlainNames}
 use Rattle.pass_kept_proof.specs.Kept.{Keep, KeptAt}
 use Rattle.pass_kept_proof.specs.SuspendRules.{AllKeepSuspendRules, KeepsSuspendRules}
 use Rattle.pass_proofs.proofs.edges.shape.Kept.{calls_kept}
-use Rattle.rule_names.specs.declared.stage.Stage.{Stage}
+use Rattle.rule_laws.specs.rule_names.declared.stage.Stage.{Stage}
 
 module _ (text : List ℕ) (m : Module) (stands : StandsFor text m) (accepted : IsRefused Stage.Source m None) where
   abbrev m2 : Module

@@ -1,47 +1,47 @@
 -- A coroutine without fault of K2, K3, K6 and K7 keeps what is asked of saves, suspends and windows.
 use Rattle.std.proofs.Common.{◌≡◌, ◌⊎◌, inl, inr, ℕ, suc, Bool, true, false, List, [], ◌∷◌, Option, Some, None, refl, sym, ap, ◌∙◌, subst}
 use Rattle.std.specs.Prelude.{slice_get, map, ◌==◌, ◌||◌}
-use Rattle.rule_shape.specs.OneOfEach.{wrong_call}
-use Rattle.rule_shape.specs.Switches.{wrong_switch}
-use Rattle.ir_laws.proofs.facts.Truth.{equal_numbers}
+use Rattle.rule_laws.specs.rule_shape.OneOfEach.{wrong_call}
+use Rattle.rule_laws.specs.rule_shape.Switches.{wrong_switch}
+use Rattle.rule_laws.proofs.ir_laws.facts.Truth.{equal_numbers}
 use Rattle.rule_laws.proofs.rules.renamed.Outside.{none_breaks}
 use Rattle.rule_laws.proofs.rules.renamed.Uses.{result_spelt}
-use Rattle.ir_laws.proofs.paths.renamed.Uses.{stands_in}
+use Rattle.rule_laws.proofs.ir_laws.paths.renamed.Uses.{stands_in}
 use Rattle.rule_laws.proofs.rules.path_rules.Holding.{of_parts}
 use Rattle.rule_laws.proofs.rules.source_rules.Ends.{end_first}
 use Rattle.rule_laws.proofs.rules.source_rules.Locals.{no_phi, own_label, same_instr}
 use Rattle.rule_laws.specs.rules.path_rules.Paths.{KeepsPaths}
 use Rattle.rule_laws.specs.rules.path_rules.Shape.{KeepsShape}
-use Rattle.flow_solver.specs.Paths.{IsListed}
+use Rattle.rule_laws.specs.flow_solver.Paths.{IsListed}
 use Rattle.rule_laws.specs.rules.function_rules.Kept.{KeepsFunctionRules}
-use Rattle.ir_parts.specs.Locals.{locals_of}
-use Rattle.ir_parts.specs.Parts.{parts_of}
+use Rattle.rule_laws.specs.ir_parts.Locals.{locals_of}
+use Rattle.rule_laws.specs.ir_parts.Parts.{parts_of}
 use Rattle.ir_model.specs.declared.instr.Instr.{Instr}
 use Rattle.ir_model.specs.declared.instr.Phi.{Phi}
 use Rattle.ir_model.specs.declared.module.Block.{Block}
 use Rattle.ir_model.specs.declared.module.Function.{Function}
 use Rattle.ir_model.specs.declared.module.Module.{Module}
 use Rattle.ir_model.specs.declared.operand.Intrinsic.{Intrinsic}
-use Rattle.ir_paths.proofs.Search.{led_to-complete, led_to-sound}
-use Rattle.ir_paths.specs.Paths.{IsPath, Leads, has_point, led_to}
-use Rattle.ir_paths.specs.Windows.{IsInWindow, instr_at, is_call_of, points_where, saves_of, suspend_of}
-use Rattle.ir_paths.specs.declared.point.Point.{Point}
+use Rattle.rule_laws.proofs.ir_paths.Search.{led_to-complete, led_to-sound}
+use Rattle.rule_laws.specs.ir_paths.Paths.{IsPath, Leads, has_point, led_to}
+use Rattle.rule_laws.specs.ir_paths.Windows.{IsInWindow, instr_at, is_call_of, points_where, saves_of, suspend_of}
+use Rattle.rule_laws.specs.ir_paths.declared.point.Point.{Point}
 use Rattle.pass_proofs.proofs.kept.sources.Behind.{used_behind}
-use Rattle.ir_laws.proofs.paths.source_rules.Windows.{only_one}
-use Rattle.ir_laws.proofs.paths.sources.Listed.{pair_listed, point_listed}
+use Rattle.rule_laws.proofs.ir_laws.paths.source_rules.Windows.{only_one}
+use Rattle.rule_laws.proofs.ir_laws.paths.sources.Listed.{pair_listed, point_listed}
 use Rattle.rule_laws.proofs.rules.sources.Places.{instr_there, point}
 use Rattle.pass_proofs.proofs.kept.sources.Suspends.{is_switched, is_unread}
 use Rattle.pass_kept_proof.proofs.Read.{given_result}
 use Rattle.pass_kept_proof.proofs.Rules.{suspend_is_suspend}
 use Rattle.pass_kept_proof.specs.Needed.{IsNeededBehind, given_by, phis_give}
 use Rattle.pass_kept_proof.specs.SuspendRules.{IsCallAt, IsGivenBy, IsPhiAt, KeepsSuspendRules}
-use Rattle.rule_names.specs.Definitions.{first_twice}
-use Rattle.run_step.specs.Step.{AtInstr, AtTerm, Fetched, Nowhere, fetch, phis_of}
-use Rattle.run_laws.specs.changed.Changed.{result_of}
-use Rattle.rule_windows.specs.Points.{place_of}
-use Rattle.rule_windows.specs.Windows.{Between, BreaksSave, BreaksWindow, Call, IsFirstWindow, IsWrong, NoPath, NotOne, ends_window, passes as window_passes, suspends_of}
-use Rattle.rule_window_values.specs.Kept.{AtSuspend, BreaksValue, ByInstr, ByPhi, Inside, IsFirstKept, IsMadeIn, IsUsedBehind, front, phi_results, phis_in}
-use Rattle.ir_laws.proofs.paths.replaced.Known.{of_listed as each_at}
+use Rattle.rule_laws.specs.rule_names.Definitions.{first_twice}
+use Rattle.rule_laws.specs.run_step.Step.{AtInstr, AtTerm, Fetched, Nowhere, fetch, phis_of}
+use Rattle.rule_laws.specs.run_laws.changed.Changed.{result_of}
+use Rattle.rule_laws.specs.rule_windows.Points.{place_of}
+use Rattle.rule_laws.specs.rule_windows.Windows.{Between, BreaksSave, BreaksWindow, Call, IsFirstWindow, IsWrong, NoPath, NotOne, ends_window, passes as window_passes, suspends_of}
+use Rattle.rule_laws.specs.rule_window_values.Kept.{AtSuspend, BreaksValue, ByInstr, ByPhi, Inside, IsFirstKept, IsMadeIn, IsUsedBehind, front, phi_results, phis_in}
+use Rattle.rule_laws.proofs.ir_laws.paths.replaced.Known.{of_listed as each_at}
 use Rattle.rule_laws.proofs.rules.source_rules.Windows.{end_ends}
 
 -- a path that avoids points is a path

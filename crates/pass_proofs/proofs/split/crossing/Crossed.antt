@@ -1,27 +1,27 @@
 -- Where nothing is needed behind suspends, only begin's value, addresses of allocas and tokens cross them.
 use Rattle.std.proofs.Common.{length, ◌≡◌, inl, inr, ⊎_elim, ℕ, Bool, true, false, [], ◌∷◌, ◌≤◌, refl, sym, ap, ◌∙◌, subst}
 use Rattle.std.specs.Prelude.{None, Option, Some, is_some, slice_get, ◌||◌, ◌==◌}
-use Rattle.flow_blocks.specs.Reach.{IsReached}
+use Rattle.rule_laws.specs.flow_blocks.Reach.{IsReached}
 use Rattle.rule_laws.proofs.frames.crossing.Values.{distinct_has}
 use Rattle.rule_laws.specs.frames.crossing.Crossed.{IsNothingNeeded}
 use Rattle.rule_laws.proofs.rules.counted.DefinedKinds.{kind_of_instr, kind_of_param, kind_of_phi, made_in}
 use Rattle.rule_laws.proofs.rules.counted.Slots.{instr_size}
 use Rattle.rule_laws.proofs.rules.counted.Times.{apart_times}
-use Rattle.rule_shape.specs.OneOfEach.{wrong_call}
-use Rattle.rule_shape.specs.Places.{is_the}
-use Rattle.ir_laws.proofs.facts.Truth.{itself}
+use Rattle.rule_laws.specs.rule_shape.OneOfEach.{wrong_call}
+use Rattle.rule_laws.specs.rule_shape.Places.{is_the}
+use Rattle.rule_laws.proofs.ir_laws.facts.Truth.{itself}
 use Rattle.rule_laws.proofs.rules.local_rules.Names.{numbers}
 use Rattle.rule_laws.proofs.rules.local_rules.Woven.{apart_names}
-use Rattle.ir_parts.specs.Locals.{locals_of}
-use Rattle.ir_laws.proofs.paths.source_rules.Locals.{Apart, listed_left, listed_right}
+use Rattle.rule_laws.specs.ir_parts.Locals.{locals_of}
+use Rattle.rule_laws.proofs.ir_laws.paths.source_rules.Locals.{Apart, listed_left, listed_right}
 use Rattle.rule_laws.proofs.rules.source_rules.Locals.{names_are, own_label}
-use Rattle.flow_solver.specs.Paths.{IsListed}
+use Rattle.rule_laws.specs.flow_solver.Paths.{IsListed}
 use Rattle.rule_laws.proofs.frames.needed.Made.{ABegin, AFrame, AToken, AnAlloca, IsApartFor, apart_for, block_defined, instr_defined, param_defined, param_found, phi_defined, phi_found, token_fits}
 use Rattle.rule_laws.specs.frames.needed.Crossed.{AreFramesUnneeded}
 use Rattle.rule_laws.proofs.rules.shape.Begin.{begin_result}
 use Rattle.rule_laws.proofs.rules.shape.Beginning.{begins_made}
 use Rattle.rule_laws.proofs.rules.shape.Stands.{begin_stands}
-use Rattle.ir_parts.specs.Contents.{result_of}
+use Rattle.rule_laws.specs.ir_parts.Contents.{result_of}
 use Rattle.rule_laws.specs.rules.function_rules.Kept.{KeepsFunctionRules}
 use Rattle.ir_model.specs.Calls.{first_result}
 use Rattle.ir_model.specs.Names.{position_of}
@@ -33,21 +33,21 @@ use Rattle.ir_model.specs.declared.module.Function.{Function}
 use Rattle.ir_model.specs.declared.module.Module.{Module}
 use Rattle.ir_model.specs.declared.module.Param.{Param}
 use Rattle.ir_model.specs.declared.operand.Intrinsic.{Intrinsic}
-use Rattle.ir_paths.specs.Windows.{instr_at, instr_in, is_call_of}
-use Rattle.ir_paths.specs.declared.point.Point.{Point}
-use Rattle.rule_locals.specs.Markers.{slot_size}
-use Rattle.run_step.specs.Step.{AtInstr, fetch_in, fetch_or}
+use Rattle.rule_laws.specs.ir_paths.Windows.{instr_at, instr_in, is_call_of}
+use Rattle.rule_laws.specs.ir_paths.declared.point.Point.{Point}
+use Rattle.rule_laws.specs.rule_locals.Markers.{slot_size}
+use Rattle.rule_laws.specs.run_step.Step.{AtInstr, fetch_in, fetch_or}
 use Rattle.pass_proofs.proofs.split.uses.Started.{led_reached}
 use Rattle.pass_proofs.specs.split.rules.Reached.{IsLedTo}
 use Rattle.rule_laws.specs.frames.replaced.Splittable.{may_cross}
-use Rattle.frame_crossing.specs.Crossing.{suspends_of}
-use Rattle.frame_crossing.specs.Paths.{ByInstr, ByParam, ByPhi, IsDefinedBefore, IsNeededBehind, phis_in}
-use Rattle.frame_crossing.specs.Values.{all_defined, blocks_defined, is_apart, is_token, params_defined}
-use Rattle.rule_values.specs.Fits.{fits_kind}
-use Rattle.rule_values.specs.declared.kinds.Kind.{Kind}
-use Rattle.rule_values.specs.Kinds.{value_kind}
+use Rattle.rule_laws.specs.frame_crossing.Crossing.{suspends_of}
+use Rattle.rule_laws.specs.frame_crossing.Paths.{ByInstr, ByParam, ByPhi, IsDefinedBefore, IsNeededBehind, phis_in}
+use Rattle.rule_laws.specs.frame_crossing.Values.{all_defined, blocks_defined, is_apart, is_token, params_defined}
+use Rattle.rule_laws.specs.rule_values.Fits.{fits_kind}
+use Rattle.rule_laws.specs.rule_values.declared.kinds.Kind.{Kind}
+use Rattle.rule_laws.specs.rule_values.Kinds.{value_kind}
 use Rattle.rule_laws.proofs.rules.woven_rules.ValueKinds.{phis_listed}
-use Rattle.ir_laws.specs.facts.woven_rules.Pairs.{times}
+use Rattle.rule_laws.specs.ir_laws.facts.woven_rules.Pairs.{times}
 
 module _ (m : Module) (k : ℕ) (g : Function) (rules : KeepsFunctionRules m k g) where
   once : (n : ℕ) → times n (numbers g) ≤ 1

@@ -3,36 +3,36 @@ use Rattle.std.proofs.Common.{◌≡◌, inl, inr, ⊎_elim, ℕ, zero, suc, ◌
 use Rattle.std.proofs.lemmas.Bool.{cases_lt}
 use Rattle.std.specs.List.{list_any}
 use Rattle.std.specs.Prelude.{None, Option, Some, map, not, option_to_list, slice_get, ◌&&◌, ◌||◌}
-use Rattle.flow_blocks.specs.Edges.{block_edges, edges_of_blocks}
-use Rattle.flow_blocks.specs.Reach.{Edge, IsReached, Start}
+use Rattle.rule_laws.specs.flow_blocks.Edges.{block_edges, edges_of_blocks}
+use Rattle.rule_laws.specs.flow_blocks.Reach.{Edge, IsReached, Start}
 use Rattle.rule_laws.proofs.frames.crossing.Defined.{switch_leads}
 use Rattle.rule_laws.proofs.frames.crossing.Entries.{none_enters, not_entered}
 use Rattle.rule_laws.proofs.frames.crossing.NewUses.{new_unneeded}
 use Rattle.rule_laws.proofs.frames.crossing.Paths.{point_found, point_there}
 use Rattle.rule_laws.proofs.frames.crossing.Values.{old_value}
 use Rattle.pass_proofs.proofs.early.unused_frames.Flags.{IsFrame}
-use Rattle.ir_laws.proofs.paths.unused.Standing.{stands_at}
+use Rattle.rule_laws.proofs.ir_laws.paths.unused.Standing.{stands_at}
 use Rattle.rule_laws.specs.frames.crossing.Crossed.{IsNothingNeeded}
-use Rattle.ir_laws.specs.facts.crossing.Crossed.{is_switch}
+use Rattle.rule_laws.specs.ir_laws.facts.crossing.Crossed.{is_switch}
 use Rattle.rule_laws.specs.frames.needed.Crossed.{AreFramesUnneeded}
-use Rattle.rule_uses.specs.Undefined.{params_of}
-use Rattle.rule_uses.specs.Uses.{block_values, local_of, locals_in, made_by_phis, phi_values, values_at}
+use Rattle.rule_laws.specs.rule_uses.Undefined.{params_of}
+use Rattle.rule_laws.specs.rule_uses.Uses.{block_values, local_of, locals_in, made_by_phis, phi_values, values_at}
 use Rattle.rule_laws.proofs.rules.local_rules.Names.{numbers}
 use Rattle.rule_laws.proofs.rules.source_rules.Locals.{block_names, made_by}
-use Rattle.ir_laws.proofs.paths.source_rules.Locals.{in_row, listed_either, listed_left, listed_right}
-use Rattle.ir_laws.proofs.facts.Lists.{phi_names, row_of}
+use Rattle.rule_laws.proofs.ir_laws.paths.source_rules.Locals.{in_row, listed_either, listed_left, listed_right}
+use Rattle.rule_laws.proofs.ir_laws.facts.Lists.{phi_names, row_of}
 use Rattle.rule_laws.proofs.rules.counted.DefinedKinds.{made_in}
 use Rattle.pass_proofs.proofs.edges.rules.EdgeUses.{label_there}
 use Rattle.pass_proofs.proofs.edges.rules.Switched.{switched}
-use Rattle.flow_solver.specs.Paths.{IsListed}
+use Rattle.rule_laws.specs.flow_solver.Paths.{IsListed}
 use Rattle.rule_laws.proofs.frames.needed.Follows.{Follows, IsBlockLike, IsLike, IsTermLike, needed_from}
 use Rattle.rule_laws.proofs.frames.needed.Others.{IsOther, frame_other, value_other}
 use Rattle.pass_proofs.proofs.split.crossing.Ways.{IsWay, comes_from, leads_same, way_end, way_position, woven_ways}
 use Rattle.pass_proofs.proofs.edges.calls.Fetched.{call_suspends}
 use Rattle.rule_laws.proofs.frames.shape.Points.{HasPoint, point_there as suspend_there}
-use Rattle.ir_parts.specs.Contents.{ending_operands, result_of}
+use Rattle.rule_laws.specs.ir_parts.Contents.{ending_operands, result_of}
 use Rattle.rule_laws.specs.rules.function_rules.Kept.{KeepsFunctionRules}
-use Rattle.pass_intrinsics.specs.Shapes.{suspends_of as suspend_points}
+use Rattle.rule_laws.specs.pass_intrinsics.Shapes.{suspends_of as suspend_points}
 use Rattle.ir_model.specs.Names.{position_of}
 use Rattle.ir_model.specs.Ty.{Ty}
 use Rattle.ir_model.specs.declared.instr.Incoming.{Incoming}
@@ -45,26 +45,26 @@ use Rattle.ir_model.specs.declared.operand.Arg.{Arg}
 use Rattle.ir_model.specs.declared.operand.Callee.{Callee}
 use Rattle.ir_model.specs.declared.operand.Intrinsic.{Intrinsic}
 use Rattle.ir_model.specs.declared.operand.Operand.{Operand}
-use Rattle.ir_paths.specs.Windows.{instr_at, instr_in, is_call_of, label_at, label_of_term}
-use Rattle.ir_paths.specs.declared.point.Point.{Point}
+use Rattle.rule_laws.specs.ir_paths.Windows.{instr_at, instr_in, is_call_of, label_at, label_of_term}
+use Rattle.rule_laws.specs.ir_paths.declared.point.Point.{Point}
 use Rattle.rule_laws.specs.frames.replaced.Splittable.{HasOwnEdges, IsLedToBy}
-use Rattle.frame_crossing.specs.Crossing.{suspends_of}
-use Rattle.frame_crossing.specs.EdgeUses.{blocks_uses, edge_use, incoming_uses, phis_uses, uses_by}
-use Rattle.frame_crossing.specs.Paths.{IsNeededBehind, IsNeededFrom, phis_at, phis_in}
-use Rattle.frame_crossing.specs.Values.{values_of}
-use Rattle.frame_crossing.specs.declared.edge_use.EdgeUse.{EdgeUse}
+use Rattle.rule_laws.specs.frame_crossing.Crossing.{suspends_of}
+use Rattle.rule_laws.specs.frame_crossing.EdgeUses.{blocks_uses, edge_use, incoming_uses, phis_uses, uses_by}
+use Rattle.rule_laws.specs.frame_crossing.Paths.{IsNeededBehind, IsNeededFrom, phis_at, phis_in}
+use Rattle.rule_laws.specs.frame_crossing.Values.{values_of}
+use Rattle.rule_laws.specs.frame_crossing.declared.edge_use.EdgeUse.{EdgeUse}
 use Rattle.rule_laws.proofs.rules.woven_rules.Once.{names_below}
 use Rattle.rule_laws.proofs.rules.woven_rules.Operands.{term_pairs}
-use Rattle.ir_laws.proofs.paths.woven_rules.Unbroken.{of_listed}
+use Rattle.rule_laws.proofs.ir_laws.paths.woven_rules.Unbroken.{of_listed}
 use Rattle.rule_laws.proofs.rules.woven_rules.Uses.{same_made}
 use Rattle.rule_laws.proofs.rules.woven_rules.ValueKinds.{none_new}
 use Rattle.rule_laws.specs.rules.woven_rules.Blocks.{AreWovenBlocks, Done, Gone, IsPutIn, IsWoven, IsWovenBlock, Kept, MayGo, NoBlock, OneBlock, Put, Remain, Stays, Unpromised, WeavesAll, may_stand}
-use Rattle.ir_laws.specs.facts.woven_rules.Pairs.{Empty, Pair, Pairwise}
+use Rattle.rule_laws.specs.ir_laws.facts.woven_rules.Pairs.{Empty, Pair, Pairwise}
 use Rattle.rule_laws.specs.rules.woven_rules.Parts.{Call, Direct, IncomingStays, Indirect, InstrStays, PhiStays}
 use Rattle.rule_laws.specs.rules.woven_rules.Weaving.{Fetched, IsInPlace, Same, Weaving}
 use Rattle.rule_laws.specs.frames.woven_shape.Shaped.{IsShaped, KeepsCalls}
-use Rattle.ir_laws.proofs.paths.crossing.NewUses.{some_local}
-use Rattle.ir_laws.proofs.paths.needed.Steps.{label_same}
+use Rattle.rule_laws.proofs.ir_laws.paths.crossing.NewUses.{some_local}
+use Rattle.rule_laws.proofs.ir_laws.paths.needed.Steps.{label_same}
 
 -- ---- instructions that pass a test
 

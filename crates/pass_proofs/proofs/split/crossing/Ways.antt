@@ -3,11 +3,11 @@ use Rattle.std.proofs.Common.{◌≡◌, ℕ, zero, suc, ◌+◌, Bool, true, fa
 use Rattle.std.specs.List.{list_any}
 use Rattle.std.specs.Prelude.{Some, if◌then◌else◌, map, option_map, slice_get, unwrap_or, ◌||◌, ◌==◌}
 use Rattle.pass_split.specs.Reached.{entry_of, targets_at, targets_in}
-use Rattle.rule_uses.specs.Uses.{block_values}
-use Rattle.flow_solver.specs.Paths.{IsListed}
+use Rattle.rule_laws.specs.rule_uses.Uses.{block_values}
+use Rattle.rule_laws.specs.flow_solver.Paths.{IsListed}
 use Rattle.pass_proofs.specs.split.crossing.Ended.{AreEndedFirst}
-use Rattle.pass_intrinsics.specs.Shapes.{suspends_of}
-use Rattle.pass_intrinsics.specs.declared.shape.SuspendPoint.{SuspendPoint}
+use Rattle.rule_laws.specs.pass_intrinsics.Shapes.{suspends_of}
+use Rattle.rule_laws.specs.pass_intrinsics.declared.shape.SuspendPoint.{SuspendPoint}
 use Rattle.ir_model.specs.Names.{first_where, position_of, same_intrinsic}
 use Rattle.ir_model.specs.declared.instr.Instr.{Instr}
 use Rattle.ir_model.specs.declared.instr.Terminator.{Terminator}
@@ -17,14 +17,14 @@ use Rattle.ir_model.specs.declared.module.Module.{Module}
 use Rattle.ir_model.specs.declared.operand.Callee.{Callee}
 use Rattle.ir_model.specs.declared.operand.Intrinsic.{Intrinsic}
 use Rattle.ir_model.specs.declared.operand.Operand.{Operand}
-use Rattle.ir_paths.specs.Paths.{targets}
-use Rattle.ir_paths.specs.Windows.{end_block, is_call_of}
+use Rattle.rule_laws.specs.ir_paths.Paths.{targets}
+use Rattle.rule_laws.specs.ir_paths.Windows.{end_block, is_call_of}
 use Rattle.pass_proofs.specs.split.rules.Reached.{Edge, Entry, IsLedTo}
 use Rattle.rule_laws.specs.frames.replaced.Splittable.{Across, Here, LeadsToReturn, is_return}
-use Rattle.frame_crossing.specs.Paths.{IsOutside}
+use Rattle.rule_laws.specs.frame_crossing.Paths.{IsOutside}
 use Rattle.rule_laws.specs.rules.woven_rules.Blocks.{AreWovenBlocks, IsWoven, NoBlock, OneBlock}
-use Rattle.ir_laws.specs.facts.woven_rules.Pairs.{Empty, Pair, Pairwise}
-use Rattle.ir_laws.specs.facts.woven_rules.Parts.{Branch, Jump, Return, ReturnVoid, Switch, TermStays, Unreachable}
+use Rattle.rule_laws.specs.ir_laws.facts.woven_rules.Pairs.{Empty, Pair, Pairwise}
+use Rattle.rule_laws.specs.ir_laws.facts.woven_rules.Parts.{Branch, Jump, Return, ReturnVoid, Switch, TermStays, Unreachable}
 use Rattle.rule_laws.specs.rules.woven_rules.Weaving.{IsInPlace, Weaving}
 use Rattle.rule_laws.proofs.frames.woven_shape.Shaped.{suspends_kept}
 use Rattle.rule_laws.specs.rules.woven_shape.Calls.{ShapingCall, call_at, calls_in, calls_of_block, is_shaping, shaping_call}

@@ -1,14 +1,14 @@
 -- Allocas in the pieces of blocks: where those of a block stand first, none stands behind the first piece.
 use Rattle.std.proofs.Common.{◌≡◌, ℕ, ◌+◌, Bool, true, false, List, [], ◌∷◌, ◌++◌, refl, sym, ap, ◌∙◌, subst}
 use Rattle.std.specs.Prelude.{None, Option, Some, filter, ℤ, if◌then◌else◌}
-use Rattle.pass_front.specs.Front.{is_alloca, is_no_alloca}
+use Rattle.rule_laws.specs.pass_front.Front.{is_alloca, is_no_alloca}
 use Rattle.pass_split.specs.Pieces.{begins_again}
-use Rattle.flow_solver.specs.Paths.{IsListed}
-use Rattle.pass_intrinsics.specs.Cuts.{cut_at, goes_on}
-use Rattle.pass_intrinsics.specs.Lowered.{lowered, lowered_call, names_taken, number_of_save, save_or_none, set_address, set_number, set_truth, done_test}
-use Rattle.pass_intrinsics.specs.declared.cuts.Cut.{Cut}
-use Rattle.pass_intrinsics.specs.declared.shape.Part.{Part}
-use Rattle.pass_intrinsics.specs.declared.shape.Shape.{Shape}
+use Rattle.rule_laws.specs.flow_solver.Paths.{IsListed}
+use Rattle.rule_laws.specs.pass_intrinsics.Cuts.{cut_at, goes_on}
+use Rattle.rule_laws.specs.pass_intrinsics.Lowered.{lowered, lowered_call, names_taken, number_of_save, save_or_none, set_address, set_number, set_truth, done_test}
+use Rattle.rule_laws.specs.pass_intrinsics.declared.cuts.Cut.{Cut}
+use Rattle.rule_laws.specs.pass_intrinsics.declared.shape.Part.{Part}
+use Rattle.rule_laws.specs.pass_intrinsics.declared.shape.Shape.{Shape}
 use Rattle.ir_model.specs.declared.instr.Instr.{Instr}
 use Rattle.ir_model.specs.declared.instr.Phi.{Phi}
 use Rattle.ir_model.specs.declared.instr.Terminator.{Terminator}
@@ -17,11 +17,11 @@ use Rattle.ir_model.specs.declared.operand.Arg.{Arg}
 use Rattle.ir_model.specs.declared.operand.Callee.{Callee}
 use Rattle.ir_model.specs.declared.operand.Intrinsic.{Intrinsic}
 use Rattle.ir_model.specs.declared.operand.Operand.{Operand}
-use Rattle.ir_laws.proofs.facts.Members.{each_joined}
+use Rattle.rule_laws.proofs.ir_laws.facts.Members.{each_joined}
 use Rattle.pass_proofs.proofs.split.edges.Pieces.{HasHead, head_is}
-use Rattle.ir_laws.proofs.paths.replaced.Known.{of_listed}
+use Rattle.rule_laws.proofs.ir_laws.paths.replaced.Known.{of_listed}
 use Rattle.pass_proofs.specs.split.rules.Pieced.{ArePieces, BeginsAgain, Ends, Marks, Returns, Stays, Suspends, Transfers, in_front}
-use Rattle.run_laws.specs.changed.Changed.{Each}
+use Rattle.rule_laws.specs.run_laws.changed.Changed.{Each}
 
 abbrev pub IsNoAlloca : Instr → Type 0
 IsNoAlloca i = is_alloca i ≡ false

@@ -1,22 +1,22 @@
 -- What the labels of a part ask of the function that is cut.
 use Rattle.std.proofs.Common.{◌≡◌, ◌⊎◌, inl, inr, ℕ, ◌<◌, List, length, true, arith}
 use Rattle.std.specs.Prelude.{map}
-use Rattle.rule_shape.specs.Suspends.{is_suspend}
+use Rattle.rule_laws.specs.rule_shape.Suspends.{is_suspend}
 use Rattle.pass_split.specs.Pieces.{pieced_phi, stop_label}
 use Rattle.pass_split.specs.declared.origin.Origin.{Origin}
-use Rattle.ir_laws.proofs.facts.Lists.{row_of}
-use Rattle.flow_solver.specs.Paths.{IsListed}
-use Rattle.pass_intrinsics.specs.Shapes.{back_label, begun_label, done_label, entry_label, none_label, pass_label, saved_label}
-use Rattle.pass_intrinsics.specs.declared.shape.Part.{Part}
-use Rattle.pass_intrinsics.specs.declared.shape.Shape.{Shape}
-use Rattle.pass_intrinsics.specs.declared.shape.SuspendPoint.{SuspendPoint}
+use Rattle.rule_laws.proofs.ir_laws.facts.Lists.{row_of}
+use Rattle.rule_laws.specs.flow_solver.Paths.{IsListed}
+use Rattle.rule_laws.specs.pass_intrinsics.Shapes.{back_label, begun_label, done_label, entry_label, none_label, pass_label, saved_label}
+use Rattle.rule_laws.specs.pass_intrinsics.declared.shape.Part.{Part}
+use Rattle.rule_laws.specs.pass_intrinsics.declared.shape.Shape.{Shape}
+use Rattle.rule_laws.specs.pass_intrinsics.declared.shape.SuspendPoint.{SuspendPoint}
 use Rattle.ir_model.specs.declared.instr.Instr.{Instr}
 use Rattle.ir_model.specs.declared.module.Block.{Block}
 use Rattle.ir_model.specs.declared.module.Function.{Function}
-use Rattle.ir_paths.specs.Paths.{targets}
+use Rattle.rule_laws.specs.ir_paths.Paths.{targets}
 use Rattle.pass_proofs.proofs.split.edges.Pieces.{block_marks, labels}
 use Rattle.pass_proofs.specs.split.rules.Pieced.{ArePieces}
-use Rattle.ir_laws.specs.paths.woven_rules.Pairs.{AreDifferent}
+use Rattle.rule_laws.specs.ir_laws.paths.woven_rules.Pairs.{AreDifferent}
 
 -- the labels behind begin, behind the save of a suspend, and of the block of a resume right before a suspend
 pub data IsMark (s : Shape) (v : ℕ) : Type 0 where

@@ -3,34 +3,34 @@ use Rattle.std.proofs.Common.{List, [], ap, false, inl, inr, subst, sym, true, �
 use Rattle.std.specs.List.{list_all, list_any}
 use Rattle.std.specs.Prelude.{Option, Some, filter, not, slice_get, ◌&&◌}
 use Rattle.rule_laws.proofs.rules.renamed.Switches.{none_part}
-use Rattle.ir_laws.proofs.facts.Truth.{and_first, and_second, holds}
+use Rattle.rule_laws.proofs.ir_laws.facts.Truth.{and_first, and_second, holds}
 use Rattle.rule_laws.proofs.rules.path_rules.Holding.{of_parts}
-use Rattle.rule_phis.specs.Edges.{breaks_edges, differs, fits_edges, has, incoming_labels, into_block, is_empty, leads, predecessors}
-use Rattle.flow_solver.specs.Paths.{IsListed}
-use Rattle.frame_layout.specs.declared.layout.Layout.{Layout}
-use Rattle.ir_parts.specs.Parts.{parts_of}
-use Rattle.pass_intrinsics.specs.Shapes.{has_end, shape_of, suspends_of}
-use Rattle.pass_intrinsics.specs.declared.shape.Part.{Part}
-use Rattle.pass_intrinsics.specs.declared.shape.Shape.{Shape}
-use Rattle.pass_intrinsics.specs.declared.shape.SuspendPoint.{SuspendPoint}
+use Rattle.rule_laws.specs.rule_phis.Edges.{breaks_edges, differs, fits_edges, has, incoming_labels, into_block, is_empty, leads, predecessors}
+use Rattle.rule_laws.specs.flow_solver.Paths.{IsListed}
+use Rattle.rule_laws.specs.frame_layout.declared.layout.Layout.{Layout}
+use Rattle.rule_laws.specs.ir_parts.Parts.{parts_of}
+use Rattle.rule_laws.specs.pass_intrinsics.Shapes.{has_end, shape_of, suspends_of}
+use Rattle.rule_laws.specs.pass_intrinsics.declared.shape.Part.{Part}
+use Rattle.rule_laws.specs.pass_intrinsics.declared.shape.Shape.{Shape}
+use Rattle.rule_laws.specs.pass_intrinsics.declared.shape.SuspendPoint.{SuspendPoint}
 use Rattle.ir_model.specs.declared.instr.Phi.{Phi}
 use Rattle.ir_model.specs.declared.module.Block.{Block}
 use Rattle.ir_model.specs.declared.module.Function.{Function}
 use Rattle.ir_model.specs.declared.module.Module.{Module}
-use Rattle.ir_paths.specs.Paths.{targets}
-use Rattle.ir_laws.proofs.paths.edges.Lists.{one_numbered, to_filtered}
-use Rattle.ir_laws.proofs.paths.uses.Paths.{place_of}
+use Rattle.rule_laws.specs.ir_paths.Paths.{targets}
+use Rattle.rule_laws.proofs.ir_laws.paths.edges.Lists.{one_numbered, to_filtered}
+use Rattle.rule_laws.proofs.ir_laws.paths.uses.Paths.{place_of}
 use Rattle.pass_proofs.proofs.split.edges.Pieces.{HasNoSuspend}
-use Rattle.ir_laws.proofs.facts.Numbers.{label_of}
+use Rattle.rule_laws.proofs.ir_laws.facts.Numbers.{label_of}
 use Rattle.pass_proofs.proofs.split.edges.Rules.{begins_with_end, end_is, labels_different, stopped, stopped_targets, the_end}
-use Rattle.ir_laws.proofs.paths.counted.PartFacts.{all_listed as all_there}
+use Rattle.rule_laws.proofs.ir_laws.paths.counted.PartFacts.{all_listed as all_there}
 use Rattle.rule_laws.proofs.frames.edges.Shaped.{has_point_of, point_home}
 use Rattle.rule_laws.proofs.rules.known_labels.Rules.{labels_spelt as targets_are}
-use Rattle.ir_laws.proofs.paths.replaced.Known.{listed_mapped, of_listed}
+use Rattle.rule_laws.proofs.ir_laws.paths.replaced.Known.{listed_mapped, of_listed}
 use Rattle.rule_laws.specs.frames.replaced.Splittable.{HasOwnEdges}
 use Rattle.pass_proofs.specs.split.rules.Splittable.{IsSplittable}
-use Rattle.ir_laws.specs.paths.woven_rules.Pairs.{AreDifferent}
-use Rattle.ir_laws.proofs.paths.edges.Entered.{IsPredecessor}
+use Rattle.rule_laws.specs.ir_laws.paths.woven_rules.Pairs.{AreDifferent}
+use Rattle.rule_laws.proofs.ir_laws.paths.edges.Entered.{IsPredecessor}
 use Rattle.rule_laws.proofs.rules.edges.Entered.{from_predecessors, has_listed, listed_has}
 
 pub leads_to : (label : ℕ) (d : Block) → IsListed label (targets d.term) → leads label d ≡ true

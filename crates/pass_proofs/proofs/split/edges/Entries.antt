@@ -5,17 +5,17 @@ use Rattle.pass_split.specs.Parts.{done_block, entry_block, is_entered, or_zero,
 use Rattle.pass_split.specs.Pieces.{going_on, pieced_phi, redirected, stop_label}
 use Rattle.pass_split.specs.Reached.{entry_of, is_flagged, kept_block, kept_blocks, reached, targets_at, targets_in}
 use Rattle.pass_split.specs.declared.origin.Origin.{Origin}
-use Rattle.rule_uses.specs.Undefined.{Entry as WithoutEntry}
-use Rattle.rule_uses.specs.Uses.{made_by_phis, phi_values}
-use Rattle.ir_laws.proofs.facts.Truth.{equal_numbers}
-use Rattle.ir_laws.proofs.facts.Lists.{get_within}
-use Rattle.flow_solver.specs.Paths.{IsListed}
-use Rattle.frame_layout.specs.declared.layout.Layout.{Layout}
-use Rattle.pass_intrinsics.specs.Cuts.{goes_on}
-use Rattle.pass_intrinsics.specs.Shapes.{back_label, done_label, entry_label, has_end, is_end, none_label, shape_of}
-use Rattle.pass_intrinsics.specs.declared.shape.Part.{Part}
-use Rattle.pass_intrinsics.specs.declared.shape.Shape.{Shape}
-use Rattle.pass_intrinsics.specs.declared.shape.SuspendPoint.{SuspendPoint}
+use Rattle.rule_laws.specs.rule_uses.Undefined.{Entry as WithoutEntry}
+use Rattle.rule_laws.specs.rule_uses.Uses.{made_by_phis, phi_values}
+use Rattle.rule_laws.proofs.ir_laws.facts.Truth.{equal_numbers}
+use Rattle.rule_laws.proofs.ir_laws.facts.Lists.{get_within}
+use Rattle.rule_laws.specs.flow_solver.Paths.{IsListed}
+use Rattle.rule_laws.specs.frame_layout.declared.layout.Layout.{Layout}
+use Rattle.rule_laws.specs.pass_intrinsics.Cuts.{goes_on}
+use Rattle.rule_laws.specs.pass_intrinsics.Shapes.{back_label, done_label, entry_label, has_end, is_end, none_label, shape_of}
+use Rattle.rule_laws.specs.pass_intrinsics.declared.shape.Part.{Part}
+use Rattle.rule_laws.specs.pass_intrinsics.declared.shape.Shape.{Shape}
+use Rattle.rule_laws.specs.pass_intrinsics.declared.shape.SuspendPoint.{SuspendPoint}
 use Rattle.ir_model.specs.Names.{first_where, position_of}
 use Rattle.ir_model.specs.declared.instr.Instr.{Instr}
 use Rattle.ir_model.specs.declared.instr.Phi.{Phi}
@@ -25,14 +25,14 @@ use Rattle.ir_model.specs.declared.module.Function.{Function}
 use Rattle.ir_model.specs.declared.module.Module.{Module}
 use Rattle.ir_model.specs.declared.operand.Callee.{Callee}
 use Rattle.ir_model.specs.declared.operand.Intrinsic.{Intrinsic}
-use Rattle.ir_paths.specs.Paths.{targets}
+use Rattle.rule_laws.specs.ir_paths.Paths.{targets}
 use Rattle.pass_proofs.proofs.split.edges.Cuttable.{Begun, HasBlock, IsCuttable, IsMark, IsPiece, Passed, Saved, mark_not_old, no_back, no_done, no_none}
 use Rattle.pass_proofs.proofs.split.edges.Entered.{entry_alone}
 use Rattle.pass_proofs.proofs.split.edges.Labels.{IsPartBlock, OfBack, OfDone, OfEntry, OfNone, OfPiece, are_cut, is_mark, part_home, whole}
 use Rattle.pass_proofs.proofs.split.edges.Led.{AsBefore, AtTheEnd, FromBack, FromDone, FromPiece, LeadsOld, LeadsOut, jumps_to, leads_old}
-use Rattle.ir_laws.proofs.paths.edges.Lists.{listed_at, one_numbered}
+use Rattle.rule_laws.proofs.ir_laws.paths.edges.Lists.{listed_at, one_numbered}
 use Rattle.pass_proofs.proofs.split.edges.Pieces.{EndsAs, HasHead, Never, Return, Stop, ToMark, Whole, block_marks, head_is, labels}
-use Rattle.ir_laws.proofs.facts.Numbers.{label_of}
+use Rattle.rule_laws.proofs.ir_laws.facts.Numbers.{label_of}
 use Rattle.pass_proofs.proofs.split.edges.Rules.{begins_with_end, end_is, labels_different, returned_target, stopped, the_end}
 use Rattle.rule_laws.proofs.frames.edges.Shaped.{point_home}
 use Rattle.pass_proofs.proofs.split.edges.Sources.{cuttable}
@@ -42,7 +42,7 @@ use Rattle.pass_proofs.specs.split.rules.Pieced.{ArePiecesOf, NoBlock, OneBlock}
 use Rattle.pass_proofs.specs.split.rules.Reached.{Entry}
 use Rattle.rule_laws.specs.rules.replaced.Splittable.{AreBegun, AreBlocksBegun}
 use Rattle.pass_proofs.specs.split.rules.Splittable.{IsSplittable}
-use Rattle.ir_laws.specs.facts.replaced.Splittable.{asks_begin}
+use Rattle.rule_laws.specs.ir_laws.facts.replaced.Splittable.{asks_begin}
 
 -- ---- where edges lead to new labels
 

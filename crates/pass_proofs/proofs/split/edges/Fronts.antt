@@ -2,34 +2,34 @@
 use Rattle.std.proofs.Common.{◌≡◌, ◌⊎◌, inl, inr, ⊎_elim, ℕ, suc, ◌+◌, true, false, List, [], ◌∷◌, ◌++◌, length, refl, sym, ap, ◌∙◌, subst, arith}
 use Rattle.std.specs.Prelude.{Some, filter, map, not, slice_get}
 use Rattle.pass_split.specs.Parts.{origins_for}
-use Rattle.pass_front.specs.Front.{allocas_first, is_alloca, is_no_alloca, with_allocas_first}
+use Rattle.rule_laws.specs.pass_front.Front.{allocas_first, is_alloca, is_no_alloca, with_allocas_first}
 use Rattle.pass_split.specs.Pieces.{pieced_phi}
-use Rattle.ir_laws.proofs.facts.Members.{each_there}
+use Rattle.rule_laws.proofs.ir_laws.facts.Members.{each_there}
 use Rattle.rule_laws.proofs.rules.renamed.Switches.{none_part}
-use Rattle.ir_laws.proofs.facts.local_rules.Woven.{other_number}
+use Rattle.rule_laws.proofs.ir_laws.facts.local_rules.Woven.{other_number}
 use Rattle.rule_laws.proofs.rules.path_rules.Holding.{of_parts}
-use Rattle.flow_solver.specs.Paths.{IsListed}
-use Rattle.frame_layout.specs.declared.layout.Layout.{Layout}
-use Rattle.ir_parts.specs.Parts.{instr_place, parts_of}
-use Rattle.pass_intrinsics.specs.Cuts.{goes_on}
-use Rattle.pass_intrinsics.specs.Shapes.{shape_of}
-use Rattle.pass_intrinsics.specs.declared.shape.Part.{Part}
-use Rattle.pass_intrinsics.specs.declared.shape.Shape.{Shape}
+use Rattle.rule_laws.specs.flow_solver.Paths.{IsListed}
+use Rattle.rule_laws.specs.frame_layout.declared.layout.Layout.{Layout}
+use Rattle.rule_laws.specs.ir_parts.Parts.{instr_place, parts_of}
+use Rattle.rule_laws.specs.pass_intrinsics.Cuts.{goes_on}
+use Rattle.rule_laws.specs.pass_intrinsics.Shapes.{shape_of}
+use Rattle.rule_laws.specs.pass_intrinsics.declared.shape.Part.{Part}
+use Rattle.rule_laws.specs.pass_intrinsics.declared.shape.Shape.{Shape}
 use Rattle.ir_model.specs.declared.instr.Instr.{Instr}
 use Rattle.ir_model.specs.declared.instr.Phi.{Phi}
 use Rattle.ir_model.specs.declared.module.Block.{Block}
 use Rattle.ir_model.specs.declared.module.Function.{Function}
 use Rattle.ir_model.specs.declared.module.Module.{Module}
-use Rattle.rule_locals.specs.Entries.{allocates_late}
-use Rattle.rule_locals.specs.Instrs.{on_instr}
+use Rattle.rule_laws.specs.rule_locals.Entries.{allocates_late}
+use Rattle.rule_laws.specs.rule_locals.Instrs.{on_instr}
 use Rattle.pass_proofs.proofs.split.edges.Allocas.{HasFront, HasNoAlloca, IsNoAlloca, all_allocas, front_pieces, no_allocas, none_allocas, still_none}
 use Rattle.pass_proofs.proofs.split.edges.Cuttable.{IsCuttable, IsPiece}
 use Rattle.pass_proofs.proofs.split.edges.Labels.{whole}
-use Rattle.ir_laws.proofs.paths.uses.Paths.{place_of}
+use Rattle.rule_laws.proofs.ir_laws.paths.uses.Paths.{place_of}
 use Rattle.pass_proofs.proofs.split.edges.Pieces.{HasHead, head_is}
-use Rattle.ir_laws.proofs.facts.Numbers.{label_of}
+use Rattle.rule_laws.proofs.ir_laws.facts.Numbers.{label_of}
 use Rattle.pass_proofs.proofs.split.edges.Sources.{cuttable}
-use Rattle.ir_laws.proofs.paths.replaced.Known.{of_listed}
+use Rattle.rule_laws.proofs.ir_laws.paths.replaced.Known.{of_listed}
 use Rattle.pass_proofs.specs.split.rules.Splittable.{IsSplittable}
 
 -- ---- the rule, instruction by instruction

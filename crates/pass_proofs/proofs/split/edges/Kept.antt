@@ -6,38 +6,38 @@ use Rattle.pass_split.specs.Parts.{origins_for, part_names}
 use Rattle.pass_split.specs.Pieces.{comes_from, incoming_from, pieced_incoming, pieced_phi}
 use Rattle.pass_split.specs.Reached.{is_flagged, kept_block, kept_phi, pruned, reached}
 use Rattle.pass_split.specs.declared.origin.Origin.{Origin}
-use Rattle.ir_laws.proofs.facts.Truth.{itself, and_both}
-use Rattle.ir_laws.proofs.facts.local_rules.Woven.{other_number}
+use Rattle.rule_laws.proofs.ir_laws.facts.Truth.{itself, and_both}
+use Rattle.rule_laws.proofs.ir_laws.facts.local_rules.Woven.{other_number}
 use Rattle.rule_laws.proofs.rules.path_rules.Holding.{part_none, to_parts}
-use Rattle.rule_phis.proofs.SameOperands.{decided}
-use Rattle.rule_phis.specs.Edges.{breaks_edges, differs, first_wrong_edge, fits_edges, has, incoming_labels, into_block, is_empty, predecessors}
-use Rattle.rule_phis.specs.Operands.{same_operand}
-use Rattle.flow_solver.specs.Paths.{IsListed}
-use Rattle.frame_layout.specs.declared.layout.Layout.{Layout}
-use Rattle.ir_parts.specs.Parts.{parts_of}
-use Rattle.pass_intrinsics.specs.Shapes.{shape_of}
-use Rattle.pass_intrinsics.specs.declared.shape.Part.{Part}
-use Rattle.pass_intrinsics.specs.declared.shape.Shape.{Shape}
+use Rattle.rule_laws.proofs.rule_phis.SameOperands.{decided}
+use Rattle.rule_laws.specs.rule_phis.Edges.{breaks_edges, differs, first_wrong_edge, fits_edges, has, incoming_labels, into_block, is_empty, predecessors}
+use Rattle.rule_laws.specs.rule_phis.Operands.{same_operand}
+use Rattle.rule_laws.specs.flow_solver.Paths.{IsListed}
+use Rattle.rule_laws.specs.frame_layout.declared.layout.Layout.{Layout}
+use Rattle.rule_laws.specs.ir_parts.Parts.{parts_of}
+use Rattle.rule_laws.specs.pass_intrinsics.Shapes.{shape_of}
+use Rattle.rule_laws.specs.pass_intrinsics.declared.shape.Part.{Part}
+use Rattle.rule_laws.specs.pass_intrinsics.declared.shape.Shape.{Shape}
 use Rattle.ir_model.specs.declared.instr.Incoming.{Incoming}
 use Rattle.ir_model.specs.declared.instr.Phi.{Phi}
 use Rattle.ir_model.specs.declared.module.Block.{Block}
 use Rattle.ir_model.specs.declared.module.Function.{Function}
 use Rattle.ir_model.specs.declared.module.Module.{Module}
-use Rattle.ir_paths.specs.Paths.{targets}
+use Rattle.rule_laws.specs.ir_paths.Paths.{targets}
 use Rattle.pass_proofs.proofs.split.edges.Cuttable.{IsCuttable, IsPiece}
 use Rattle.pass_proofs.proofs.split.edges.Entered.{IsEntered, entered, to_predecessors}
 use Rattle.rule_laws.proofs.rules.edges.Entered.{from_predecessors, has_listed}
 use Rattle.pass_proofs.proofs.split.edges.Entries.{entry_flagged, entry_unled, first_block, first_kept}
 use Rattle.pass_proofs.proofs.split.edges.Labels.{IsPartBlock, OfBack, OfDone, OfEntry, OfNone, OfPiece, one_home, part_home, phis_of_piece, whole}
 use Rattle.pass_proofs.proofs.split.edges.Led.{led_is_named, named_is_led}
-use Rattle.ir_laws.proofs.paths.edges.Lists.{all_of, from_chosen, from_filtered, from_mapped, listed_at, to_chosen, to_filtered}
+use Rattle.rule_laws.proofs.ir_laws.paths.edges.Lists.{all_of, from_chosen, from_filtered, from_mapped, listed_at, to_chosen, to_filtered}
 use Rattle.pass_proofs.proofs.split.edges.Pieces.{block_marks, phis_of}
-use Rattle.ir_laws.proofs.facts.Numbers.{label_of}
+use Rattle.rule_laws.proofs.ir_laws.facts.Numbers.{label_of}
 use Rattle.pass_proofs.proofs.split.edges.Sources.{cuttable, pruned_part}
-use Rattle.ir_laws.proofs.paths.replaced.Known.{listed_mapped}
+use Rattle.rule_laws.proofs.ir_laws.paths.replaced.Known.{listed_mapped}
 use Rattle.pass_proofs.specs.split.rules.Parted.{IsPartOf}
 use Rattle.pass_proofs.specs.split.rules.Splittable.{IsSplittable}
-use Rattle.ir_laws.specs.paths.woven_rules.Pairs.{AreDifferent}
+use Rattle.rule_laws.specs.ir_laws.paths.woven_rules.Pairs.{AreDifferent}
 
 -- ---- phis
 

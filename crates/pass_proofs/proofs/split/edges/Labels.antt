@@ -5,27 +5,27 @@ use Rattle.pass_split.specs.Parts.{back_block, back_blocks, done_block, entry_bl
 use Rattle.pass_split.specs.Pieces.{next_after, pieced_phi, pieces_of}
 use Rattle.pass_split.specs.Reached.{reached}
 use Rattle.pass_split.specs.declared.origin.Origin.{Origin}
-use Rattle.ir_laws.proofs.paths.source_rules.Locals.{listed_either, listed_left, listed_right}
-use Rattle.ir_laws.proofs.facts.Lists.{row_of, times_joined}
-use Rattle.flow_solver.specs.Paths.{IsListed}
-use Rattle.pass_intrinsics.specs.Cuts.{goes_on}
-use Rattle.pass_intrinsics.specs.Shapes.{back_label, done_label, entry_label, first_name, none_label}
-use Rattle.pass_intrinsics.specs.declared.shape.Part.{Part}
-use Rattle.pass_intrinsics.specs.declared.shape.Shape.{Shape}
-use Rattle.pass_intrinsics.specs.declared.shape.SuspendPoint.{SuspendPoint}
+use Rattle.rule_laws.proofs.ir_laws.paths.source_rules.Locals.{listed_either, listed_left, listed_right}
+use Rattle.rule_laws.proofs.ir_laws.facts.Lists.{row_of, times_joined}
+use Rattle.rule_laws.specs.flow_solver.Paths.{IsListed}
+use Rattle.rule_laws.specs.pass_intrinsics.Cuts.{goes_on}
+use Rattle.rule_laws.specs.pass_intrinsics.Shapes.{back_label, done_label, entry_label, first_name, none_label}
+use Rattle.rule_laws.specs.pass_intrinsics.declared.shape.Part.{Part}
+use Rattle.rule_laws.specs.pass_intrinsics.declared.shape.Shape.{Shape}
+use Rattle.rule_laws.specs.pass_intrinsics.declared.shape.SuspendPoint.{SuspendPoint}
 use Rattle.ir_model.specs.declared.module.Block.{Block}
 use Rattle.ir_model.specs.declared.module.Function.{Function}
 use Rattle.pass_proofs.proofs.split.edges.Cuttable.{Begun, HasPieces, IsCuttable, IsMark, IsPiece, IsPieceLabel, Passed, Saved, no_back, no_done, no_entry, no_none}
-use Rattle.ir_laws.proofs.paths.edges.Lists.{as_apart, as_different, from_mapped, joined_different, listed_times, one_numbered, same_element, to_row}
+use Rattle.rule_laws.proofs.ir_laws.paths.edges.Lists.{as_apart, as_different, from_mapped, joined_different, listed_times, one_numbered, same_element, to_row}
 use Rattle.pass_proofs.proofs.split.edges.Pieces.{block_marks, blocks_times, first_piece, labels, labels_joined, piece_label, piece_phis}
-use Rattle.ir_laws.proofs.facts.Numbers.{label_of}
+use Rattle.rule_laws.proofs.ir_laws.facts.Numbers.{label_of}
 use Rattle.pass_proofs.proofs.split.rules.Cutting.{cut_blocks}
-use Rattle.ir_laws.proofs.paths.replaced.Known.{listed_mapped}
+use Rattle.rule_laws.proofs.ir_laws.paths.replaced.Known.{listed_mapped}
 use Rattle.pass_proofs.specs.split.rules.Pieced.{ArePieces, ArePiecesOf, NoBlock, OneBlock}
 use Rattle.rule_laws.proofs.rules.woven_rules.Once.{apart_once, once_apart}
-use Rattle.ir_laws.proofs.paths.woven_rules.Once.{times_listed}
-use Rattle.ir_laws.specs.paths.woven_rules.Pairs.{AreDifferent}
-use Rattle.ir_laws.specs.facts.woven_rules.Pairs.{times}
+use Rattle.rule_laws.proofs.ir_laws.paths.woven_rules.Once.{times_listed}
+use Rattle.rule_laws.specs.ir_laws.paths.woven_rules.Pairs.{AreDifferent}
+use Rattle.rule_laws.specs.ir_laws.facts.woven_rules.Pairs.{times}
 
 -- ---- the pieces of blocks
 

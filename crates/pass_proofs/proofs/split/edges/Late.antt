@@ -1,41 +1,41 @@
 -- The allocas of a part stand in its entry block (F3).
 use Rattle.std.proofs.Common.{◌≡◌, ◌⊎◌, inl, inr, ℕ, zero, suc, ◌+◌, ◌<◌, Bool, true, false, List, [], ◌∷◌, length, refl, sym, ap, ◌∙◌, subst}
 use Rattle.std.specs.Prelude.{None, Some, filter, map, slice_get, if◌then◌else◌}
-use Rattle.ir_base.specs.declared.outcome.Place.{Place}
+use Rattle.rule_laws.specs.ir_base.declared.outcome.Place.{Place}
 use Rattle.pass_split.specs.Parts.{origins_for, part_names}
-use Rattle.pass_front.specs.Front.{is_alloca}
+use Rattle.rule_laws.specs.pass_front.Front.{is_alloca}
 use Rattle.pass_split.specs.Reached.{is_flagged, kept_block, kept_blocks, pruned, reached}
 use Rattle.rule_laws.proofs.rules.path_rules.Holding.{part_none, to_parts}
-use Rattle.flow_solver.specs.Paths.{IsListed}
-use Rattle.frame_layout.specs.declared.layout.Layout.{Layout}
-use Rattle.ir_parts.specs.Parts.{instr_place, parts_of}
-use Rattle.pass_intrinsics.specs.Cuts.{goes_on}
-use Rattle.pass_intrinsics.specs.Shapes.{shape_of}
-use Rattle.pass_intrinsics.specs.declared.shape.Part.{Part}
-use Rattle.pass_intrinsics.specs.declared.shape.Shape.{Shape}
+use Rattle.rule_laws.specs.flow_solver.Paths.{IsListed}
+use Rattle.rule_laws.specs.frame_layout.declared.layout.Layout.{Layout}
+use Rattle.rule_laws.specs.ir_parts.Parts.{instr_place, parts_of}
+use Rattle.rule_laws.specs.pass_intrinsics.Cuts.{goes_on}
+use Rattle.rule_laws.specs.pass_intrinsics.Shapes.{shape_of}
+use Rattle.rule_laws.specs.pass_intrinsics.declared.shape.Part.{Part}
+use Rattle.rule_laws.specs.pass_intrinsics.declared.shape.Shape.{Shape}
 use Rattle.ir_model.specs.declared.instr.Instr.{Instr}
 use Rattle.ir_model.specs.declared.module.Block.{Block}
 use Rattle.ir_model.specs.declared.module.Function.{Function}
 use Rattle.ir_model.specs.declared.module.Module.{Module}
-use Rattle.ir_paths.specs.Paths.{targets}
-use Rattle.rule_locals.specs.Entries.{allocates_late, first_late_alloca}
-use Rattle.rule_locals.specs.Instrs.{on_instr}
+use Rattle.rule_laws.specs.ir_paths.Paths.{targets}
+use Rattle.rule_laws.specs.rule_locals.Entries.{allocates_late, first_late_alloca}
+use Rattle.rule_laws.specs.rule_locals.Instrs.{on_instr}
 use Rattle.pass_proofs.proofs.split.edges.Cuttable.{IsCuttable, IsPieceLabel, no_entry}
 use Rattle.pass_proofs.proofs.split.edges.Entries.{IsEntryLabel, OfLater, OfRamp, edge_from, entry_flagged, entry_is, first_block, first_unled, mark_from}
 use Rattle.pass_proofs.proofs.split.edges.Fronts.{first_has, ramp_has}
 use Rattle.pass_proofs.proofs.split.edges.Kept.{kept_home}
 use Rattle.pass_proofs.proofs.split.edges.Labels.{IsPartBlock, OfBack, OfDone, OfEntry, OfNone, OfPiece, is_mark, label_of_piece, one_home, part_different, part_home, whole}
-use Rattle.ir_laws.proofs.paths.edges.Lists.{from_filtered, from_mapped, listed_at}
+use Rattle.rule_laws.proofs.ir_laws.paths.edges.Lists.{from_filtered, from_mapped, listed_at}
 use Rattle.pass_proofs.proofs.split.edges.Pieces.{block_marks, labels}
-use Rattle.ir_laws.proofs.facts.Numbers.{label_of}
+use Rattle.rule_laws.proofs.ir_laws.facts.Numbers.{label_of}
 use Rattle.pass_proofs.proofs.split.edges.Returns.{entry_label_is}
 use Rattle.pass_proofs.proofs.split.edges.Sources.{cuttable, pruned_part}
-use Rattle.ir_laws.proofs.paths.replaced.Known.{listed_mapped}
+use Rattle.rule_laws.proofs.ir_laws.paths.replaced.Known.{listed_mapped}
 use Rattle.pass_proofs.proofs.split.rules.Reached.{flagged_is_led}
 use Rattle.pass_proofs.specs.split.rules.Parted.{IsPartOf}
 use Rattle.pass_proofs.specs.split.rules.Reached.{Edge, Entry, IsLedTo}
 use Rattle.pass_proofs.specs.split.rules.Splittable.{IsSplittable}
-use Rattle.ir_laws.specs.paths.woven_rules.Pairs.{AreDifferent}
+use Rattle.rule_laws.specs.ir_laws.paths.woven_rules.Pairs.{AreDifferent}
 
 -- ---- the rule, instruction by instruction
 

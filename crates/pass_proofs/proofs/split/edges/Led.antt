@@ -1,37 +1,37 @@
 -- Which blocks of a part lead to a block with phis: the pieces in which blocks of the function end that lead there.
 use Rattle.std.proofs.Common.{Bool, List, ap, arith, false, inl, inr, refl, subst, sym, true, ℕ, ⊎_elim, ◌<◌, ◌∙◌, ◌≡◌, ◌≤◌, ◌⊎◌}
 use Rattle.std.specs.Prelude.{Some, if◌then◌else◌, slice_get, ◌==◌}
-use Rattle.rule_shape.specs.Suspends.{is_suspend}
+use Rattle.rule_laws.specs.rule_shape.Suspends.{is_suspend}
 use Rattle.pass_split.specs.Parts.{done_block, or_zero, origins_for}
 use Rattle.pass_split.specs.Pieces.{comes_from, going_on, origin_in, redirected, redirected_term, stop_label}
 use Rattle.pass_split.specs.Reached.{reached}
 use Rattle.pass_split.specs.declared.origin.Origin.{Origin}
-use Rattle.ir_laws.proofs.facts.Truth.{equal_numbers}
-use Rattle.rule_phis.specs.Edges.{incoming_labels}
-use Rattle.flow_solver.specs.Paths.{IsListed}
-use Rattle.frame_layout.specs.declared.layout.Layout.{Layout}
-use Rattle.pass_intrinsics.specs.Cuts.{goes_on}
-use Rattle.pass_intrinsics.specs.Shapes.{back_label, done_label, none_label, shape_of}
-use Rattle.pass_intrinsics.specs.declared.shape.Part.{Part}
-use Rattle.pass_intrinsics.specs.declared.shape.Shape.{Shape}
-use Rattle.pass_intrinsics.specs.declared.shape.SuspendPoint.{SuspendPoint}
+use Rattle.rule_laws.proofs.ir_laws.facts.Truth.{equal_numbers}
+use Rattle.rule_laws.specs.rule_phis.Edges.{incoming_labels}
+use Rattle.rule_laws.specs.flow_solver.Paths.{IsListed}
+use Rattle.rule_laws.specs.frame_layout.declared.layout.Layout.{Layout}
+use Rattle.rule_laws.specs.pass_intrinsics.Cuts.{goes_on}
+use Rattle.rule_laws.specs.pass_intrinsics.Shapes.{back_label, done_label, none_label, shape_of}
+use Rattle.rule_laws.specs.pass_intrinsics.declared.shape.Part.{Part}
+use Rattle.rule_laws.specs.pass_intrinsics.declared.shape.Shape.{Shape}
+use Rattle.rule_laws.specs.pass_intrinsics.declared.shape.SuspendPoint.{SuspendPoint}
 use Rattle.ir_model.specs.declared.instr.Instr.{Instr}
 use Rattle.ir_model.specs.declared.instr.Phi.{Phi}
 use Rattle.ir_model.specs.declared.instr.Terminator.{Terminator}
 use Rattle.ir_model.specs.declared.module.Block.{Block}
 use Rattle.ir_model.specs.declared.module.Function.{Function}
 use Rattle.ir_model.specs.declared.module.Module.{Module}
-use Rattle.ir_paths.specs.Paths.{targets}
+use Rattle.rule_laws.specs.ir_paths.Paths.{targets}
 use Rattle.pass_proofs.proofs.split.edges.Cuttable.{IsCuttable, IsPiece}
 use Rattle.pass_proofs.proofs.split.edges.Entered.{IsEntered, no_point}
 use Rattle.pass_proofs.proofs.split.edges.Labels.{IsPartBlock, OfBack, OfDone, OfEntry, OfNone, OfPiece, block_pieces, mark_is_new, part_home, whole}
-use Rattle.ir_laws.proofs.paths.edges.Lists.{listed_at}
+use Rattle.rule_laws.proofs.ir_laws.paths.edges.Lists.{listed_at}
 use Rattle.pass_proofs.proofs.split.edges.Origins.{comes_from_piece, going, origin_there}
 use Rattle.pass_proofs.proofs.split.edges.Pieces.{EndsAs, HasNoSuspend, Never, Return, Stop, ToMark, Whole, block_marks, labels, piece_label, whole_piece}
-use Rattle.ir_laws.proofs.facts.Numbers.{label_of}
+use Rattle.rule_laws.proofs.ir_laws.facts.Numbers.{label_of}
 use Rattle.pass_proofs.proofs.split.edges.Sources.{cuttable}
 use Rattle.pass_proofs.proofs.split.edges.Targets.{goes_on_label, index_target, not_redirected, piece_ends, redirected_target, to_redirected}
-use Rattle.ir_laws.proofs.paths.replaced.Known.{listed_mapped}
+use Rattle.rule_laws.proofs.ir_laws.paths.replaced.Known.{listed_mapped}
 use Rattle.pass_proofs.specs.split.rules.Splittable.{IsSplittable}
 
 -- a jump leads to its label alone

@@ -1,34 +1,34 @@
 -- No mark of a coroutine stands twice: it has one begin, each save has a suspend of its own, and each suspend a token of its own.
 use Rattle.std.proofs.Common.{Bool, List, [], ap, append-nil, append_assoc, arith, false, inl, inr, length, refl, subst, suc, sym, true, zero, ℕ, ⊎_elim, ◌++◌, ◌+◌, ◌∙◌, ◌∷◌, ◌≡◌, ◌⊎◌}
 use Rattle.std.specs.Prelude.{None, Option, Some, flat_map, if◌then◌else◌, option_to_list, replicate, slice_get}
-use Rattle.ir_laws.proofs.facts.Lists.{row_of, set_at}
+use Rattle.rule_laws.proofs.ir_laws.facts.Lists.{row_of, set_at}
 use Rattle.rule_laws.proofs.rules.source_rules.Locals.{same_result}
 use Rattle.rule_laws.proofs.rules.source_rules.Once.{one_begin}
-use Rattle.flow_solver.specs.Paths.{IsListed}
-use Rattle.frame_layout.specs.declared.layout.Layout.{Layout}
-use Rattle.pass_intrinsics.specs.Cuts.{cut_at, goes_on, marks_save, next_suspend, token_in, transfers}
-use Rattle.pass_intrinsics.specs.Lowered.{number_at, number_of_save}
-use Rattle.pass_intrinsics.specs.Shapes.{begun_label, pass_label, save_of, saved_label, saves_of, shape_of, suspends_of, with_save, with_saves, with_suspend, with_suspends_by, with_suspends_in}
-use Rattle.pass_intrinsics.specs.declared.cuts.Cut.{Cut}
-use Rattle.pass_intrinsics.specs.declared.shape.Part.{Part}
-use Rattle.pass_intrinsics.specs.declared.shape.Shape.{Shape}
-use Rattle.pass_intrinsics.specs.declared.shape.SuspendPoint.{SuspendPoint}
+use Rattle.rule_laws.specs.flow_solver.Paths.{IsListed}
+use Rattle.rule_laws.specs.frame_layout.declared.layout.Layout.{Layout}
+use Rattle.rule_laws.specs.pass_intrinsics.Cuts.{cut_at, goes_on, marks_save, next_suspend, token_in, transfers}
+use Rattle.rule_laws.specs.pass_intrinsics.Lowered.{number_at, number_of_save}
+use Rattle.rule_laws.specs.pass_intrinsics.Shapes.{begun_label, pass_label, save_of, saved_label, saves_of, shape_of, suspends_of, with_save, with_saves, with_suspend, with_suspends_by, with_suspends_in}
+use Rattle.rule_laws.specs.pass_intrinsics.declared.cuts.Cut.{Cut}
+use Rattle.rule_laws.specs.pass_intrinsics.declared.shape.Part.{Part}
+use Rattle.rule_laws.specs.pass_intrinsics.declared.shape.Shape.{Shape}
+use Rattle.rule_laws.specs.pass_intrinsics.declared.shape.SuspendPoint.{SuspendPoint}
 use Rattle.ir_model.specs.declared.instr.Instr.{Instr}
 use Rattle.ir_model.specs.declared.module.Block.{Block}
 use Rattle.ir_model.specs.declared.module.Function.{Function}
 use Rattle.ir_model.specs.declared.module.Module.{Module}
 use Rattle.ir_model.specs.declared.operand.Callee.{Callee}
 use Rattle.ir_model.specs.declared.operand.Intrinsic.{Intrinsic}
-use Rattle.ir_paths.specs.Windows.{instr_at, instr_in, is_call_of}
-use Rattle.ir_paths.specs.declared.point.Point.{Point}
+use Rattle.rule_laws.specs.ir_paths.Windows.{instr_at, instr_in, is_call_of}
+use Rattle.rule_laws.specs.ir_paths.declared.point.Point.{Point}
 use Rattle.pass_proofs.proofs.split.edges.Cuttable.{Begun as BegunMark, IsMark, Passed as PassedMark, Saved as SavedMark}
-use Rattle.ir_laws.proofs.paths.edges.Lists.{different_rows, different_there, from_row, listed_at, same_place, to_row}
+use Rattle.rule_laws.proofs.ir_laws.paths.edges.Lists.{different_rows, different_there, from_row, listed_at, same_place, to_row}
 use Rattle.pass_proofs.proofs.split.edges.Pieces.{block_marks, mark_of, site_marks, sites}
 use Rattle.rule_laws.proofs.frames.replaced.Saves.{all_one, saves_below}
 use Rattle.pass_proofs.specs.split.rules.Splittable.{IsSplittable}
 use Rattle.rule_laws.specs.frames.replaced.Splittable.{token_taken, tokens_taken}
-use Rattle.run_laws.specs.changed.Changed.{result_of}
-use Rattle.ir_laws.specs.paths.woven_rules.Pairs.{AreDifferent}
+use Rattle.rule_laws.specs.run_laws.changed.Changed.{result_of}
+use Rattle.rule_laws.specs.ir_laws.paths.woven_rules.Pairs.{AreDifferent}
 
 -- ---- what makes a mark
 

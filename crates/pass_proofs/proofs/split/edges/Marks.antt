@@ -1,20 +1,20 @@
 -- The markers of a part name its allocas, with their sizes (K13).
 use Rattle.std.proofs.Common.{◌≡◌, ℕ, suc, Bool, true, false, List, [], ◌∷◌, ◌++◌, refl, sym, ap, ◌∙◌, subst, arith}
 use Rattle.std.specs.Prelude.{None, Option, Some, filter, map, not, slice_get, ◌&&◌, ◌==◌, if◌then◌else◌}
-use Rattle.ir_base.specs.declared.outcome.Place.{Place}
+use Rattle.rule_laws.specs.ir_base.declared.outcome.Place.{Place}
 use Rattle.pass_split.specs.Parts.{done_block, entry_block, origins_for, part_names}
-use Rattle.pass_front.specs.Front.{allocas_first, allocas_of, is_alloca, is_no_alloca}
+use Rattle.rule_laws.specs.pass_front.Front.{allocas_first, allocas_of, is_alloca, is_no_alloca}
 use Rattle.pass_split.specs.Pieces.{pieced_phi}
 use Rattle.pass_split.specs.declared.origin.Origin.{Origin}
 use Rattle.pass_split.specs.Reached.{is_flagged, kept_block, kept_blocks, pruned, reached}
 use Rattle.rule_laws.proofs.rules.local_rules.Fitting.{either, no_either}
-use Rattle.ir_laws.proofs.facts.Truth.{holds}
-use Rattle.flow_solver.specs.Paths.{IsListed}
-use Rattle.frame_layout.specs.declared.layout.Layout.{Layout}
-use Rattle.ir_parts.specs.Parts.{parts_of}
-use Rattle.pass_intrinsics.specs.Shapes.{shape_of}
-use Rattle.pass_intrinsics.specs.declared.shape.Part.{Part}
-use Rattle.pass_intrinsics.specs.declared.shape.Shape.{Shape}
+use Rattle.rule_laws.proofs.ir_laws.facts.Truth.{holds}
+use Rattle.rule_laws.specs.flow_solver.Paths.{IsListed}
+use Rattle.rule_laws.specs.frame_layout.declared.layout.Layout.{Layout}
+use Rattle.rule_laws.specs.ir_parts.Parts.{parts_of}
+use Rattle.rule_laws.specs.pass_intrinsics.Shapes.{shape_of}
+use Rattle.rule_laws.specs.pass_intrinsics.declared.shape.Part.{Part}
+use Rattle.rule_laws.specs.pass_intrinsics.declared.shape.Shape.{Shape}
 use Rattle.ir_model.specs.Ty.{Ty}
 use Rattle.ir_model.specs.declared.instr.Instr.{Instr}
 use Rattle.ir_model.specs.declared.module.Block.{Block}
@@ -23,9 +23,9 @@ use Rattle.ir_model.specs.declared.module.Module.{Module}
 use Rattle.ir_model.specs.declared.operand.Arg.{Arg}
 use Rattle.ir_model.specs.declared.operand.Intrinsic.{Intrinsic}
 use Rattle.ir_model.specs.declared.operand.Operand.{Operand}
-use Rattle.rule_locals.specs.Instrs.{on_instr}
-use Rattle.rule_locals.specs.Markers.{block_size, first_other_mark, is_marker, made_size, marks, marks_otherwise, marks_size, marks_slot, slot_size}
-use Rattle.ir_locals.specs.Tables.{first_in, or_first}
+use Rattle.rule_laws.specs.rule_locals.Instrs.{on_instr}
+use Rattle.rule_laws.specs.rule_locals.Markers.{block_size, first_other_mark, is_marker, made_size, marks, marks_otherwise, marks_size, marks_slot, slot_size}
+use Rattle.rule_laws.specs.ir_locals.Tables.{first_in, or_first}
 use Rattle.pass_proofs.proofs.split.edges.Allocas.{HasFront, HasNoAlloca, IsAnAlloca, IsNoAlloca, all_allocas, front_pieces, no_allocas}
 use Rattle.pass_proofs.proofs.split.edges.Entries.{entry_flagged}
 use Rattle.pass_proofs.proofs.split.edges.Fronts.{own_allocas, own_front}
@@ -40,8 +40,8 @@ use Rattle.pass_proofs.specs.split.rules.Parted.{IsPartOf}
 use Rattle.pass_proofs.specs.split.rules.Pieced.{ArePiecesOf, NoBlock, OneBlock}
 use Rattle.rule_laws.specs.frames.replaced.Replaced.{Address, Calls, Loads, Number, Replaces, StoresCleanup, StoresDestroy, StoresIndex, StoresNull, StoresResume, Tests, Truth}
 use Rattle.pass_proofs.specs.split.rules.Splittable.{IsSplittable}
-use Rattle.run_laws.specs.changed.Changed.{Each}
-use Rattle.rule_types.specs.Signatures.{calls_otherwise}
+use Rattle.rule_laws.specs.run_laws.changed.Changed.{Each}
+use Rattle.rule_laws.specs.rule_types.Signatures.{calls_otherwise}
 
 -- ---- sizes of slots
 

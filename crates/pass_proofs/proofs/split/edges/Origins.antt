@@ -5,18 +5,18 @@ use Rattle.std.specs.Prelude.{None, Some, if◌then◌else◌, replicate, slice_
 use Rattle.pass_split.specs.Parts.{origins_for}
 use Rattle.pass_split.specs.Pieces.{after_cut, begins_again, comes_from, origin_after, origin_in, origins_by, suspend_origins}
 use Rattle.pass_split.specs.declared.origin.Origin.{Origin}
-use Rattle.ir_laws.proofs.facts.Lists.{set_here, set_length, set_other}
-use Rattle.flow_solver.specs.Paths.{IsListed}
-use Rattle.pass_intrinsics.specs.Cuts.{cut_at}
-use Rattle.pass_intrinsics.specs.declared.cuts.Cut.{Cut}
-use Rattle.pass_intrinsics.specs.declared.shape.Part.{Part}
-use Rattle.pass_intrinsics.specs.declared.shape.Shape.{Shape}
-use Rattle.pass_intrinsics.specs.declared.shape.SuspendPoint.{SuspendPoint}
+use Rattle.rule_laws.proofs.ir_laws.facts.Lists.{set_here, set_length, set_other}
+use Rattle.rule_laws.specs.flow_solver.Paths.{IsListed}
+use Rattle.rule_laws.specs.pass_intrinsics.Cuts.{cut_at}
+use Rattle.rule_laws.specs.pass_intrinsics.declared.cuts.Cut.{Cut}
+use Rattle.rule_laws.specs.pass_intrinsics.declared.shape.Part.{Part}
+use Rattle.rule_laws.specs.pass_intrinsics.declared.shape.Shape.{Shape}
+use Rattle.rule_laws.specs.pass_intrinsics.declared.shape.SuspendPoint.{SuspendPoint}
 use Rattle.ir_model.specs.declared.instr.Instr.{Instr}
 use Rattle.ir_model.specs.declared.module.Block.{Block}
 use Rattle.ir_model.specs.declared.module.Function.{Function}
 use Rattle.pass_proofs.proofs.split.edges.Pieces.{labels, nowhere_stays}
-use Rattle.ir_laws.specs.paths.woven_rules.Pairs.{AreDifferent}
+use Rattle.rule_laws.specs.ir_laws.paths.woven_rules.Pairs.{AreDifferent}
 
 module _ (s : Shape) (part : Part) where
   abbrev origin_of : Block → Origin

@@ -1,13 +1,13 @@
 -- Lemmas on own labels.
 use Rattle.std.proofs.Common.{true, ℕ, ◌≡◌}
 use Rattle.std.specs.Prelude.{None}
-use Rattle.frame_layout.specs.declared.layout.Layout.{Layout}
-use Rattle.ir_parts.specs.Parts.{first_part, parts_of}
-use Rattle.pass_intrinsics.specs.Shapes.{shape_of}
-use Rattle.pass_intrinsics.specs.declared.shape.Part.{Part}
+use Rattle.rule_laws.specs.frame_layout.declared.layout.Layout.{Layout}
+use Rattle.rule_laws.specs.ir_parts.Parts.{first_part, parts_of}
+use Rattle.rule_laws.specs.pass_intrinsics.Shapes.{shape_of}
+use Rattle.rule_laws.specs.pass_intrinsics.declared.shape.Part.{Part}
 use Rattle.ir_model.specs.declared.module.Function.{Function}
 use Rattle.ir_model.specs.declared.module.Module.{Module}
-use Rattle.rule_names.specs.Known.{is_label}
+use Rattle.rule_laws.specs.rule_names.Known.{is_label}
 use Rattle.pass_proofs.proofs.split.edges.Kept.{part_edges_kept}
 use Rattle.pass_proofs.proofs.split.edges.Laws.{parts_lead_within}
 use Rattle.rule_laws.specs.rules.replaced.Instructions.{names_lost}

@@ -1,31 +1,31 @@
 -- The labels of the pieces of a block, and how they end.
 use Rattle.std.proofs.Common.{Bool, List, [], ap, arith, false, inl, inr, refl, subst, sym, true, ℕ, ⊎_elim, ◌++◌, ◌+◌, ◌∙◌, ◌∷◌, ◌≡◌, ◌≤◌, ◌⊎◌}
 use Rattle.std.specs.Prelude.{None, Option, Some, if◌then◌else◌, map, ◌==◌}
-use Rattle.rule_shape.specs.Suspends.{is_suspend}
+use Rattle.rule_laws.specs.rule_shape.Suspends.{is_suspend}
 use Rattle.pass_split.specs.Pieces.{after_cut, begins_again, origin_after, origin_in, pieced_phi, redirected_term, stop_label}
 use Rattle.pass_split.specs.declared.origin.Origin.{Origin}
-use Rattle.ir_laws.proofs.paths.source_rules.Locals.{listed_left, listed_right}
-use Rattle.ir_laws.proofs.facts.Lists.{row_of, times_joined}
-use Rattle.flow_solver.specs.Paths.{IsListed}
-use Rattle.pass_intrinsics.specs.Cuts.{cut_at, cut_call, goes_on, marks_save, next_suspend, token_in, transfers}
-use Rattle.pass_intrinsics.specs.Lowered.{lowered, names_taken, number_of_save}
-use Rattle.pass_intrinsics.specs.Shapes.{pass_label}
-use Rattle.pass_intrinsics.specs.declared.cuts.Cut.{Cut}
-use Rattle.pass_intrinsics.specs.declared.shape.Part.{Part}
-use Rattle.pass_intrinsics.specs.declared.shape.Shape.{Shape}
+use Rattle.rule_laws.proofs.ir_laws.paths.source_rules.Locals.{listed_left, listed_right}
+use Rattle.rule_laws.proofs.ir_laws.facts.Lists.{row_of, times_joined}
+use Rattle.rule_laws.specs.flow_solver.Paths.{IsListed}
+use Rattle.rule_laws.specs.pass_intrinsics.Cuts.{cut_at, cut_call, goes_on, marks_save, next_suspend, token_in, transfers}
+use Rattle.rule_laws.specs.pass_intrinsics.Lowered.{lowered, names_taken, number_of_save}
+use Rattle.rule_laws.specs.pass_intrinsics.Shapes.{pass_label}
+use Rattle.rule_laws.specs.pass_intrinsics.declared.cuts.Cut.{Cut}
+use Rattle.rule_laws.specs.pass_intrinsics.declared.shape.Part.{Part}
+use Rattle.rule_laws.specs.pass_intrinsics.declared.shape.Shape.{Shape}
 use Rattle.ir_model.specs.declared.instr.Instr.{Instr}
 use Rattle.ir_model.specs.declared.instr.Phi.{Phi}
 use Rattle.ir_model.specs.declared.instr.Terminator.{Terminator}
 use Rattle.ir_model.specs.declared.module.Block.{Block}
 use Rattle.ir_model.specs.declared.operand.Callee.{Callee}
 use Rattle.ir_model.specs.declared.operand.Intrinsic.{Intrinsic}
-use Rattle.ir_laws.proofs.paths.replaced.Known.{listed_mapped}
+use Rattle.rule_laws.proofs.ir_laws.paths.replaced.Known.{listed_mapped}
 use Rattle.pass_proofs.proofs.split.rules.Parted.{cut_returns, cut_transfers}
 use Rattle.pass_proofs.specs.split.rules.Pieced.{ArePieces, ArePiecesOf, BeginsAgain, Ends, Marks, NoBlock, OneBlock, Returns, Stays, Suspends, Transfers, in_front}
-use Rattle.run_laws.specs.changed.Changed.{Each}
-use Rattle.ir_laws.proofs.facts.Members.{each_turns}
-use Rattle.ir_laws.specs.facts.woven_rules.Pairs.{one_if, times}
-use Rattle.ir_laws.proofs.facts.Numbers.{label_of}
+use Rattle.rule_laws.specs.run_laws.changed.Changed.{Each}
+use Rattle.rule_laws.proofs.ir_laws.facts.Members.{each_turns}
+use Rattle.rule_laws.specs.ir_laws.facts.woven_rules.Pairs.{one_if, times}
+use Rattle.rule_laws.proofs.ir_laws.facts.Numbers.{label_of}
 
 -- ---- marks: the labels at which further pieces begin
 

@@ -1,21 +1,21 @@
 -- A part that goes on behind a suspend returns nothing: behind a suspend of a coroutine the end comes before a return, and there the part has ended.
 use Rattle.std.proofs.Common.{Bool, List, ap, arith, false, inl, inr, length, refl, subst, sym, true, ℕ, ⊎_elim, ◌+◌, ◌<◌, ◌∙◌, ◌∷◌, ◌≡◌, ◌≤◌, ◌⊎◌}
 use Rattle.std.specs.Prelude.{None, Option, Some, if◌then◌else◌, map, option_map, slice_get}
-use Rattle.ir_base.specs.declared.outcome.Place.{Place}
+use Rattle.rule_laws.specs.ir_base.declared.outcome.Place.{Place}
 use Rattle.pass_split.specs.Parts.{goes_on_at, is_entered, or_zero, origins_for, part_names}
 use Rattle.pass_split.specs.Pieces.{begins_again, going_on, pieced_phi, redirected, redirected_term, stop_label}
 use Rattle.pass_split.specs.Reached.{entry_of, is_flagged, pruned, reached}
 use Rattle.rule_laws.proofs.rules.path_rules.Holding.{part_none, to_parts}
 use Rattle.rule_laws.proofs.rules.source_rules.Locals.{own_label}
-use Rattle.flow_solver.specs.Paths.{IsListed}
-use Rattle.frame_layout.specs.declared.layout.Layout.{Layout}
-use Rattle.ir_parts.specs.Parts.{Ending, instr_place, parts_of}
-use Rattle.pass_intrinsics.specs.Cuts.{cut_at, goes_on}
-use Rattle.pass_intrinsics.specs.Shapes.{back_label, entry_label, has_end, is_end, shape_of}
-use Rattle.pass_intrinsics.specs.declared.cuts.Cut.{Cut}
-use Rattle.pass_intrinsics.specs.declared.shape.Part.{Part}
-use Rattle.pass_intrinsics.specs.declared.shape.Shape.{Shape}
-use Rattle.pass_intrinsics.specs.declared.shape.SuspendPoint.{SuspendPoint}
+use Rattle.rule_laws.specs.flow_solver.Paths.{IsListed}
+use Rattle.rule_laws.specs.frame_layout.declared.layout.Layout.{Layout}
+use Rattle.rule_laws.specs.ir_parts.Parts.{Ending, instr_place, parts_of}
+use Rattle.rule_laws.specs.pass_intrinsics.Cuts.{cut_at, goes_on}
+use Rattle.rule_laws.specs.pass_intrinsics.Shapes.{back_label, entry_label, has_end, is_end, shape_of}
+use Rattle.rule_laws.specs.pass_intrinsics.declared.cuts.Cut.{Cut}
+use Rattle.rule_laws.specs.pass_intrinsics.declared.shape.Part.{Part}
+use Rattle.rule_laws.specs.pass_intrinsics.declared.shape.Shape.{Shape}
+use Rattle.rule_laws.specs.pass_intrinsics.declared.shape.SuspendPoint.{SuspendPoint}
 use Rattle.ir_model.specs.Names.{position_of}
 use Rattle.ir_model.specs.declared.instr.Instr.{Instr}
 use Rattle.ir_model.specs.declared.instr.Phi.{Phi}
@@ -26,17 +26,17 @@ use Rattle.ir_model.specs.declared.module.Module.{Module}
 use Rattle.ir_model.specs.declared.operand.Arg.{Arg}
 use Rattle.ir_model.specs.declared.operand.Callee.{Callee}
 use Rattle.ir_model.specs.declared.operand.Intrinsic.{Intrinsic}
-use Rattle.ir_paths.specs.Paths.{targets}
-use Rattle.ir_paths.specs.Windows.{end_block}
+use Rattle.rule_laws.specs.ir_paths.Paths.{targets}
+use Rattle.rule_laws.specs.ir_paths.Windows.{end_block}
 use Rattle.pass_proofs.proofs.split.edges.Cuttable.{Begun, IsCuttable, IsPiece, IsPieceLabel, Passed, Saved, no_back, no_done, no_entry, no_none}
 use Rattle.pass_proofs.proofs.split.edges.Entries.{IsEntryLabel, IsTargetKind, OfLater, OfRamp, ToAMark, ToBack, ToDone, ToNone, ToOld, edge_from, entry_is, entry_listed, first_block, found_passes, known_low, target_kind}
 use Rattle.pass_proofs.proofs.split.edges.Kept.{kept_home}
 use Rattle.pass_proofs.proofs.split.edges.Labels.{IsPartBlock, OfBack, OfDone, OfEntry, OfNone, OfPiece, is_mark, label_of_piece, mark_is_new, one_home, part_home, whole}
 use Rattle.pass_proofs.proofs.split.edges.Led.{jumps_to}
-use Rattle.ir_laws.proofs.paths.edges.Lists.{listed_at}
-use Rattle.ir_laws.proofs.paths.uses.Paths.{place_of}
+use Rattle.rule_laws.proofs.ir_laws.paths.edges.Lists.{listed_at}
+use Rattle.rule_laws.proofs.ir_laws.paths.uses.Paths.{place_of}
 use Rattle.pass_proofs.proofs.split.edges.Pieces.{EndsAs, Never, Return, Stop, ToMark, Whole, block_marks, labels}
-use Rattle.ir_laws.proofs.facts.Numbers.{label_of}
+use Rattle.rule_laws.proofs.ir_laws.facts.Numbers.{label_of}
 use Rattle.pass_proofs.proofs.split.edges.Rules.{begins_with_end, end_is, the_end}
 use Rattle.rule_laws.proofs.frames.edges.Shaped.{ends_here, has_end_any, same_end}
 use Rattle.pass_proofs.proofs.split.edges.Sources.{cuttable, pruned_part}
@@ -48,7 +48,7 @@ use Rattle.pass_proofs.specs.split.rules.Reached.{Edge, Entry, IsLedTo}
 use Rattle.rule_laws.specs.rules.replaced.Returns.{ReturnsNothing, gives_value}
 use Rattle.rule_laws.specs.frames.replaced.Splittable.{Across, Here, LeadsToReturn, is_return}
 use Rattle.pass_proofs.specs.split.rules.Splittable.{IsSplittable}
-use Rattle.frame_crossing.specs.Paths.{IsOutside}
+use Rattle.rule_laws.specs.frame_crossing.Paths.{IsOutside}
 
 -- ---- the end's block in a part that goes on
 

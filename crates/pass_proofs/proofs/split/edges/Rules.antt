@@ -2,26 +2,26 @@
 use Rattle.std.proofs.Common.{Bool, List, ap, arith, false, inl, inr, length, refl, subst, sym, true, ℕ, ⊎_elim, ◌+◌, ◌<◌, ◌∙◌, ◌≡◌, ◌⊎◌}
 use Rattle.std.specs.List.{list_all}
 use Rattle.std.specs.Prelude.{None, Option, Some, if◌then◌else◌, not, slice_get, unwrap_or, ◌&&◌, ◌==◌, ◌||◌}
-use Rattle.rule_shape.specs.OneOfEach.{is_missing}
-use Rattle.rule_shape.specs.Places.{is_the}
-use Rattle.rule_shape.specs.Suspends.{is_suspend}
-use Rattle.rule_shape.specs.Switches.{are_both, breaks_switch, end_label as switch_end, is_last, is_switch_on, is_switched, is_switched_in}
-use Rattle.rule_uses.specs.Undefined.{params_of}
-use Rattle.ir_laws.proofs.facts.Truth.{equal_numbers, and_first, and_second, holds, second_no as or_second_out}
+use Rattle.rule_laws.specs.rule_shape.OneOfEach.{is_missing}
+use Rattle.rule_laws.specs.rule_shape.Places.{is_the}
+use Rattle.rule_laws.specs.rule_shape.Suspends.{is_suspend}
+use Rattle.rule_laws.specs.rule_shape.Switches.{are_both, breaks_switch, end_label as switch_end, is_last, is_switch_on, is_switched, is_switched_in}
+use Rattle.rule_laws.specs.rule_uses.Undefined.{params_of}
+use Rattle.rule_laws.proofs.ir_laws.facts.Truth.{equal_numbers, and_first, and_second, holds, second_no as or_second_out}
 use Rattle.rule_laws.proofs.rules.renamed.Switches.{none_part}
-use Rattle.ir_laws.proofs.paths.renamed.Uses.{stands_in}
+use Rattle.rule_laws.proofs.ir_laws.paths.renamed.Uses.{stands_in}
 use Rattle.rule_laws.proofs.rules.local_rules.Defined.{label_defined}
 use Rattle.rule_laws.proofs.rules.path_rules.Holding.{of_parts}
 use Rattle.rule_laws.proofs.rules.source_rules.Locals.{block_names, own_label}
-use Rattle.ir_laws.proofs.paths.source_rules.Locals.{listed_right}
-use Rattle.ir_laws.proofs.facts.Lists.{row_of}
+use Rattle.rule_laws.proofs.ir_laws.paths.source_rules.Locals.{listed_right}
+use Rattle.rule_laws.proofs.ir_laws.facts.Lists.{row_of}
 use Rattle.rule_laws.proofs.rules.source_rules.Once.{first_call_at, none_missing, right_call, there_is}
-use Rattle.flow_solver.specs.Paths.{IsListed}
-use Rattle.frame_layout.specs.declared.layout.Layout.{Layout}
-use Rattle.ir_parts.specs.Contents.{ending_labels, part_labels, part_operands, part_types}
-use Rattle.ir_parts.specs.Parts.{Ending, first_part, instr_place, parts_of}
-use Rattle.pass_intrinsics.specs.Shapes.{has_end, shape_of, suspends_of}
-use Rattle.pass_intrinsics.specs.declared.shape.SuspendPoint.{SuspendPoint}
+use Rattle.rule_laws.specs.flow_solver.Paths.{IsListed}
+use Rattle.rule_laws.specs.frame_layout.declared.layout.Layout.{Layout}
+use Rattle.rule_laws.specs.ir_parts.Contents.{ending_labels, part_labels, part_operands, part_types}
+use Rattle.rule_laws.specs.ir_parts.Parts.{Ending, first_part, instr_place, parts_of}
+use Rattle.rule_laws.specs.pass_intrinsics.Shapes.{has_end, shape_of, suspends_of}
+use Rattle.rule_laws.specs.pass_intrinsics.declared.shape.SuspendPoint.{SuspendPoint}
 use Rattle.ir_model.specs.Names.{is_local, position_of}
 use Rattle.ir_model.specs.declared.instr.Case.{Case}
 use Rattle.ir_model.specs.declared.instr.Instr.{Instr}
@@ -31,24 +31,24 @@ use Rattle.ir_model.specs.declared.module.Function.{Function}
 use Rattle.ir_model.specs.declared.module.Module.{Module}
 use Rattle.ir_model.specs.declared.operand.Arg.{Arg}
 use Rattle.ir_model.specs.declared.operand.Intrinsic.{Intrinsic}
-use Rattle.ir_paths.specs.Paths.{targets}
-use Rattle.ir_paths.specs.Windows.{call_result, instr_in, label_of_term}
-use Rattle.ir_paths.specs.declared.point.Point.{Point}
-use Rattle.rule_names.specs.Known.{is_label, is_value, knows_called, knows_operand, knows_type, names_unknown}
+use Rattle.rule_laws.specs.ir_paths.Paths.{targets}
+use Rattle.rule_laws.specs.ir_paths.Windows.{call_result, instr_in, label_of_term}
+use Rattle.rule_laws.specs.ir_paths.declared.point.Point.{Point}
+use Rattle.rule_laws.specs.rule_names.Known.{is_label, is_value, knows_called, knows_operand, knows_type, names_unknown}
 use Rattle.pass_proofs.proofs.split.edges.Cuttable.{HasBlock}
-use Rattle.ir_laws.proofs.paths.edges.Lists.{listed_at, numbers_different, to_row}
-use Rattle.ir_laws.proofs.paths.uses.Paths.{place_of}
-use Rattle.ir_laws.proofs.facts.Numbers.{label_of}
+use Rattle.rule_laws.proofs.ir_laws.paths.edges.Lists.{listed_at, numbers_different, to_row}
+use Rattle.rule_laws.proofs.ir_laws.paths.uses.Paths.{place_of}
+use Rattle.rule_laws.proofs.ir_laws.facts.Numbers.{label_of}
 use Rattle.pass_proofs.proofs.split.edges.Pieces.{labels}
 use Rattle.rule_laws.proofs.frames.edges.Shaped.{BeginsWithEnd, IsEndIn, begins_with, case_targets, end_at, end_is_call, first_end, has_end_at, is_there, label_in_targets, no_phi, point_home, right_end, same_end}
-use Rattle.ir_laws.proofs.paths.counted.PartFacts.{all_listed as all_there}
-use Rattle.ir_laws.proofs.paths.edges.Shaped.{any_there}
+use Rattle.rule_laws.proofs.ir_laws.paths.counted.PartFacts.{all_listed as all_there}
+use Rattle.rule_laws.proofs.ir_laws.paths.edges.Shaped.{any_there}
 use Rattle.rule_laws.proofs.rules.known_labels.Rules.{labels_spelt as targets_are}
 use Rattle.rule_laws.specs.rules.function_rules.Kept.{KeepsFunctionRules}
 use Rattle.pass_proofs.specs.split.rules.Splittable.{IsSplittable}
-use Rattle.rule_windows.specs.Points.{phi_count, phis_in}
+use Rattle.rule_laws.specs.rule_windows.Points.{phi_count, phis_in}
 use Rattle.rule_laws.proofs.rules.woven_rules.Once.{names_below}
-use Rattle.ir_laws.specs.paths.woven_rules.Pairs.{AreDifferent}
+use Rattle.rule_laws.specs.ir_laws.paths.woven_rules.Pairs.{AreDifferent}
 
 -- a block that ends with the switch of a suspend, whose default is the end
 pub record IsStopped (b : Block) (end : ℕ) : Type 0 where

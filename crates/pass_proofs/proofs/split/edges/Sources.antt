@@ -3,10 +3,10 @@ use Rattle.std.proofs.Common.{ap, refl, sym, ℕ, ◌≡◌}
 use Rattle.pass_split.specs.Parts.{given_ramp_of, later_part, origins_for, part_names, ramp_of}
 use Rattle.pass_split.specs.Pieces.{stop_label}
 use Rattle.pass_split.specs.Reached.{pruned}
-use Rattle.frame_layout.specs.declared.layout.Layout.{Layout}
-use Rattle.pass_intrinsics.specs.Shapes.{shape_of}
-use Rattle.pass_intrinsics.specs.declared.shape.Part.{Part}
-use Rattle.pass_intrinsics.specs.declared.shape.Shape.{Shape}
+use Rattle.rule_laws.specs.frame_layout.declared.layout.Layout.{Layout}
+use Rattle.rule_laws.specs.pass_intrinsics.Shapes.{shape_of}
+use Rattle.rule_laws.specs.pass_intrinsics.declared.shape.Part.{Part}
+use Rattle.rule_laws.specs.pass_intrinsics.declared.shape.Shape.{Shape}
 use Rattle.ir_model.specs.declared.module.Function.{Function}
 use Rattle.ir_model.specs.declared.module.Module.{Module}
 use Rattle.pass_proofs.proofs.split.edges.Cuttable.{IsCuttable}

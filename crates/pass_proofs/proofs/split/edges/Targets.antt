@@ -1,33 +1,33 @@
 -- The edges of a part before blocks are left out lead to its blocks, and its labels are positions of its table of names.
 use Rattle.std.proofs.Common.{Bool, List, [], ap, arith, false, inl, inr, length, length-append, refl, subst, suc, sym, true, zero, ℕ, ⊎_elim, ◌*◌, ◌++◌, ◌+◌, ◌<◌, ◌∙◌, ◌∷◌, ◌≡◌, ◌⊎◌}
 use Rattle.std.specs.Prelude.{None, Option, Some, if◌then◌else◌, map, slice_get, slice_set, unwrap_or, ◌-◌, ◌==◌}
-use Rattle.ir_base.specs.declared.name.Name.{Name}
+use Rattle.rule_laws.specs.ir_base.declared.name.Name.{Name}
 use Rattle.pass_split.specs.Parts.{back_block, case_of, cases_from, done_block, entry_term, frame_mark, instr_names, is_entered, mark_names, names_of, none_block, or_zero, origins_for, part_names, suspend_names}
 use Rattle.pass_split.specs.Pieces.{going_on, next_after, pieced_phi, redirected, redirected_case, redirected_term, stop_label}
 use Rattle.pass_split.specs.Reached.{entry_of, reached, targets_in}
-use Rattle.ir_laws.proofs.facts.Lists.{get_within, set_length}
-use Rattle.flow_solver.specs.Paths.{IsListed}
-use Rattle.pass_intrinsics.specs.Cuts.{goes_on}
-use Rattle.pass_intrinsics.specs.Shapes.{back_label, done_label, entry_label, first_name, none_label}
-use Rattle.pass_intrinsics.specs.declared.shape.Part.{Part}
-use Rattle.pass_intrinsics.specs.declared.shape.Shape.{Shape}
-use Rattle.pass_intrinsics.specs.declared.shape.SuspendPoint.{SuspendPoint}
+use Rattle.rule_laws.proofs.ir_laws.facts.Lists.{get_within, set_length}
+use Rattle.rule_laws.specs.flow_solver.Paths.{IsListed}
+use Rattle.rule_laws.specs.pass_intrinsics.Cuts.{goes_on}
+use Rattle.rule_laws.specs.pass_intrinsics.Shapes.{back_label, done_label, entry_label, first_name, none_label}
+use Rattle.rule_laws.specs.pass_intrinsics.declared.shape.Part.{Part}
+use Rattle.rule_laws.specs.pass_intrinsics.declared.shape.Shape.{Shape}
+use Rattle.rule_laws.specs.pass_intrinsics.declared.shape.SuspendPoint.{SuspendPoint}
 use Rattle.ir_model.specs.Names.{position_of}
 use Rattle.ir_model.specs.declared.instr.Case.{Case}
 use Rattle.ir_model.specs.declared.instr.Terminator.{Terminator}
 use Rattle.ir_model.specs.declared.module.Block.{Block}
 use Rattle.ir_model.specs.declared.module.Function.{Function}
-use Rattle.ir_paths.specs.Paths.{targets}
+use Rattle.rule_laws.specs.ir_paths.Paths.{targets}
 use Rattle.pass_proofs.proofs.split.edges.Cuttable.{HasBlock, IsCuttable, IsPiece}
 use Rattle.pass_proofs.proofs.split.edges.Labels.{IsPartBlock, OfBack, OfDone, OfEntry, OfNone, OfPiece, done_there, is_mark, label_of_piece, label_there, mark_low, none_there, part_different, part_home, suspend_there, whole}
-use Rattle.ir_laws.proofs.paths.edges.Lists.{first_is, from_mapped, listed_at}
-use Rattle.ir_laws.proofs.paths.woven_rules.Unbroken.{each_listed as listed_each}
+use Rattle.rule_laws.proofs.ir_laws.paths.edges.Lists.{first_is, from_mapped, listed_at}
+use Rattle.rule_laws.proofs.ir_laws.paths.woven_rules.Unbroken.{each_listed as listed_each}
 use Rattle.pass_proofs.proofs.split.edges.Pieces.{EndsAs, Never, PieceEnds, Return, Stop, ToMark, Whole, labels, pieces_end}
-use Rattle.ir_laws.proofs.facts.Numbers.{label_of}
-use Rattle.ir_laws.proofs.paths.replaced.Known.{of_listed}
+use Rattle.rule_laws.proofs.ir_laws.facts.Numbers.{label_of}
+use Rattle.rule_laws.proofs.ir_laws.paths.replaced.Known.{of_listed}
 use Rattle.pass_proofs.specs.split.rules.Reached.{HasOwnBlocks, HasTabledLabels, IsTabled}
-use Rattle.run_laws.specs.changed.Changed.{Each}
-use Rattle.ir_laws.specs.paths.woven_rules.Pairs.{AreDifferent}
+use Rattle.rule_laws.specs.run_laws.changed.Changed.{Each}
+use Rattle.rule_laws.specs.ir_laws.paths.woven_rules.Pairs.{AreDifferent}
 
 -- ---- terminators
 

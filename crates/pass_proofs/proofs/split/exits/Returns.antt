@@ -3,15 +3,15 @@ use Rattle.std.proofs.Common.{◌≡◌, inl, inr, ⊎_elim, ℕ, true, false, L
 use Rattle.std.specs.Prelude.{slice_get}
 use Rattle.pass_split.specs.Reached.{entry_of, targets_in}
 use Rattle.pass_proofs.proofs.edges.rules.EdgeUses.{label_there}
-use Rattle.flow_solver.specs.Paths.{IsListed}
+use Rattle.rule_laws.specs.flow_solver.Paths.{IsListed}
 use Rattle.ir_model.specs.Names.{position_of}
 use Rattle.ir_model.specs.declared.module.Block.{Block}
 use Rattle.ir_model.specs.declared.module.Function.{Function}
-use Rattle.ir_paths.specs.Paths.{targets}
+use Rattle.rule_laws.specs.ir_paths.Paths.{targets}
 use Rattle.pass_proofs.specs.split.rules.Reached.{Edge, Entry, IsLedTo}
 use Rattle.rule_laws.specs.frames.replaced.Splittable.{Across, Here, LeadsToReturn, is_return}
-use Rattle.frame_crossing.specs.Paths.{IsOutside}
-use Rattle.ir_laws.proofs.paths.threaded.Threads.{IsBlockOver, IsMovedBlock, IsOver, LeadsBack, Moves, between, ended}
+use Rattle.rule_laws.specs.frame_crossing.Paths.{IsOutside}
+use Rattle.rule_laws.proofs.ir_laws.paths.threaded.Threads.{IsBlockOver, IsMovedBlock, IsOver, LeadsBack, Moves, between, ended}
 use Rattle.rule_laws.proofs.rules.threaded.Threads.{IsThreaded}
 
 same_block : (f : Function) (k : ℕ) (b c : Block) → slice_get f.blocks k ≡ Some b → slice_get f.blocks k ≡ Some c → b ≡ c

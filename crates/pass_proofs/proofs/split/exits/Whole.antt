@@ -1,22 +1,22 @@
 -- A coroutine stays as splitting asks when blocks are put on edges that leave windows.
 use Rattle.std.proofs.Common.{◌≡◌, inl, inr, ⊎_elim, ℕ, true, ◌||◌, List, [], ◌∷◌, ◌++◌, ◌+◌, None, Option, Some, ap, length, refl, subst, sym, ◌∙◌}
 use Rattle.std.specs.Prelude.{flat_map, is_some, slice_get}
-use Rattle.rule_shape.specs.Places.{is_the}
-use Rattle.rule_shape.specs.Switches.{wrong_switch}
+use Rattle.rule_laws.specs.rule_shape.Places.{is_the}
+use Rattle.rule_laws.specs.rule_shape.Switches.{wrong_switch}
 use Rattle.pass_split.specs.Reached.{entry_of}
-use Rattle.ir_laws.proofs.paths.renamed.Outside.{where_pass}
-use Rattle.ir_laws.specs.facts.renamed.Regular.{passes}
+use Rattle.rule_laws.proofs.ir_laws.paths.renamed.Outside.{where_pass}
+use Rattle.rule_laws.specs.ir_laws.facts.renamed.Regular.{passes}
 use Rattle.rule_laws.proofs.rules.source_rules.Locals.{own_label}
 use Rattle.pass_proofs.proofs.edges.rules.CaseLabels.{switch_target}
 use Rattle.pass_proofs.proofs.edges.rules.Switched.{switched}
 use Rattle.pass_proofs.specs.edges.rules.Phis.{ArePhisEnteredByJumps}
 use Rattle.pass_proofs.specs.edges.rules.Returns.{AreSwitched}
 use Rattle.pass_edges.specs.Edges.{ends_in_suspend}
-use Rattle.ir_laws.specs.facts.branches.MovedState.{IsSwitch}
-use Rattle.flow_solver.specs.Paths.{IsListed}
+use Rattle.rule_laws.specs.ir_laws.facts.branches.MovedState.{IsSwitch}
+use Rattle.rule_laws.specs.flow_solver.Paths.{IsListed}
 use Rattle.rule_laws.specs.rules.function_rules.Kept.{KeepsFunctionRules}
-use Rattle.pass_intrinsics.specs.Shapes.{suspends_of}
-use Rattle.pass_intrinsics.specs.declared.shape.SuspendPoint.{SuspendPoint}
+use Rattle.rule_laws.specs.pass_intrinsics.Shapes.{suspends_of}
+use Rattle.rule_laws.specs.pass_intrinsics.declared.shape.SuspendPoint.{SuspendPoint}
 use Rattle.ir_model.specs.Names.{position_of}
 use Rattle.ir_model.specs.Ty.{token}
 use Rattle.ir_model.specs.declared.instr.Instr.{Instr}
@@ -25,20 +25,20 @@ use Rattle.ir_model.specs.declared.module.Block.{Block}
 use Rattle.ir_model.specs.declared.module.Function.{Function}
 use Rattle.ir_model.specs.declared.module.Module.{Module}
 use Rattle.ir_model.specs.declared.operand.Intrinsic.{Intrinsic}
-use Rattle.ir_paths.specs.Paths.{targets}
-use Rattle.ir_paths.specs.Windows.{instr_at, instr_in, is_call_of, label_at, label_of_term}
-use Rattle.ir_paths.specs.declared.point.Point.{Point}
-use Rattle.frame_slots.proofs.Points.{where_complete}
+use Rattle.rule_laws.specs.ir_paths.Paths.{targets}
+use Rattle.rule_laws.specs.ir_paths.Windows.{instr_at, instr_in, is_call_of, label_at, label_of_term}
+use Rattle.rule_laws.specs.ir_paths.declared.point.Point.{Point}
+use Rattle.rule_laws.proofs.frame_slots.Points.{where_complete}
 use Rattle.pass_proofs.specs.split.rules.Reached.{IsLedTo}
 use Rattle.rule_laws.specs.frames.replaced.Splittable.{IsEndedFirst, is_return, may_cross, token_taken}
 use Rattle.pass_proofs.specs.split.rules.Splittable.{IsSplittable}
-use Rattle.frame_crossing.specs.Crossing.{suspends_of as suspend_points}
-use Rattle.frame_crossing.specs.Paths.{IsDefinedBefore, IsNeededBehind, IsNeededFrom, IsOutside}
-use Rattle.rule_values.specs.Fits.{fits_kind}
+use Rattle.rule_laws.specs.frame_crossing.Crossing.{suspends_of as suspend_points}
+use Rattle.rule_laws.specs.frame_crossing.Paths.{IsDefinedBefore, IsNeededBehind, IsNeededFrom, IsOutside}
+use Rattle.rule_laws.specs.rule_values.Fits.{fits_kind}
 use Rattle.pass_exits.specs.ExitBlocks.{blocks_by, exit_blocks, exit_term, with_exit_blocks, with_exits}
 use Rattle.pass_exits.specs.Exits.{block_exits}
-use Rattle.pass_front.specs.Front.{allocas_first, with_allocas_first}
-use Rattle.ir_laws.specs.paths.woven_rules.Pairs.{AreDifferent}
+use Rattle.rule_laws.specs.pass_front.Front.{allocas_first, with_allocas_first}
+use Rattle.rule_laws.specs.ir_laws.paths.woven_rules.Pairs.{AreDifferent}
 use Rattle.rule_laws.proofs.frames.threaded.Crossing.{defined_home, needed_from_home}
 use Rattle.pass_proofs.proofs.exits.rules.Ends.{end_moved}
 use Rattle.pass_proofs.proofs.exits.rules.Kept.{all_begun, incoming_once, phis_moved, rules_kept}
@@ -49,9 +49,9 @@ use Rattle.pass_proofs.proofs.edges.exit_rules.Shape.{suspend_is}
 use Rattle.pass_proofs.proofs.exits.rules.Shape.{suspend_term}
 use Rattle.pass_proofs.proofs.exits.rules.Suspends.{HasOrigin, edges_stay, label_listed, origin, same_suspends, suspend_ends}
 use Rattle.pass_proofs.proofs.exits.rules.Threaded.{moves, own_position, threaded}
-use Rattle.ir_laws.proofs.paths.threaded.Threads.{IsBlockOver, IsMovedBlock, ended}
+use Rattle.rule_laws.proofs.ir_laws.paths.threaded.Threads.{IsBlockOver, IsMovedBlock, ended}
 use Rattle.rule_laws.proofs.rules.threaded.Threads.{IsThreaded}
-use Rattle.ir_laws.proofs.paths.threaded.Whole.{has_listed, listed_has}
+use Rattle.rule_laws.proofs.ir_laws.paths.threaded.Whole.{has_listed, listed_has}
 use Rattle.pass_proofs.proofs.exits.rules.Whole.{calls_kept, same_begin, switches_kept}
 
 -- ---- the coroutine

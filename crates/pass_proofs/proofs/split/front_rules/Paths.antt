@@ -2,15 +2,15 @@
 use Rattle.std.proofs.Common.{◌≡◌, ℕ, zero, suc, List, [], ◌∷◌, ap, refl, sym, subst, ◌∙◌}
 use Rattle.std.specs.Prelude.{slice_get}
 use Rattle.pass_split.specs.Reached.{entry_of, targets_at, targets_in}
-use Rattle.flow_solver.specs.Paths.{IsListed}
-use Rattle.pass_front.specs.Front.{with_allocas_first, with_front_allocas}
+use Rattle.rule_laws.specs.flow_solver.Paths.{IsListed}
+use Rattle.rule_laws.specs.pass_front.Front.{with_allocas_first, with_front_allocas}
 use Rattle.ir_model.specs.Names.{position_of}
 use Rattle.ir_model.specs.declared.instr.Terminator.{Terminator}
 use Rattle.ir_model.specs.declared.module.Block.{Block}
 use Rattle.ir_model.specs.declared.module.Function.{Function}
-use Rattle.ir_paths.specs.Paths.{targets}
-use Rattle.ir_laws.proofs.facts.Numbers.{same_term}
-use Rattle.ir_laws.proofs.facts.Lists.{source_of}
+use Rattle.rule_laws.specs.ir_paths.Paths.{targets}
+use Rattle.rule_laws.proofs.ir_laws.facts.Numbers.{same_term}
+use Rattle.rule_laws.proofs.ir_laws.facts.Lists.{source_of}
 use Rattle.rule_laws.proofs.frames.front_rules.Shape.{same_suspends}
 use Rattle.rule_laws.proofs.rules.front_rules.Uses.{same_position}
 use Rattle.pass_proofs.specs.split.crossing.Ended.{AreEndedFirst}

@@ -3,19 +3,19 @@ use Rattle.std.proofs.Common.{false, ◌++◌, refl}
 use Rattle.std.proofs.lemmas.Bool.{or_parts}
 use Rattle.std.specs.Prelude.{not, option_to_list}
 use Rattle.pass_split.specs.Parts.{split_functions, split_module}
-use Rattle.frame_layout.specs.declared.layout.Layouts.{Layouts}
+use Rattle.rule_laws.specs.frame_layout.declared.layout.Layouts.{Layouts}
 use Rattle.ir_model.specs.Names.{declaration_named, function_named, global_named}
 use Rattle.ir_model.specs.declared.module.Module.{Module}
-use Rattle.rule_names.specs.Reserved.{is_part, is_reserved}
-use Rattle.rule_names.specs.declared.stage.Stage.{Stage}
+use Rattle.rule_laws.specs.rule_names.Reserved.{is_part, is_reserved}
+use Rattle.rule_laws.specs.rule_names.declared.stage.Stage.{Stage}
 use Rattle.rule_laws.proofs.rules.plain_rules.Once.{is_once}
 use Rattle.rule_laws.specs.rules.plain_rules.Items.{AreNamesFree, KeepsItemRules}
 use Rattle.rule_laws.proofs.frames.same_names.Kept.{knows_name_kept}
 use Rattle.pass_proofs.proofs.split.names.Parts.{has_parts, made_is_new, name_is_made, stands_named}
-use Rattle.ir_laws.specs.facts.same_names.Short.{HaveShortNames}
-use Rattle.rule_types.specs.Limits.{all_fit, is_past}
-use Rattle.rule_types.specs.Depth.{is_shallow}
-use Rattle.ir_laws.proofs.facts.Truth.{out_of_both}
+use Rattle.rule_laws.specs.ir_laws.facts.same_names.Short.{HaveShortNames}
+use Rattle.rule_laws.specs.rule_types.Limits.{all_fit, is_past}
+use Rattle.rule_laws.specs.rule_types.Depth.{is_shallow}
+use Rattle.rule_laws.proofs.ir_laws.facts.Truth.{out_of_both}
 use Rattle.rule_laws.proofs.rules.same_names.Items.{items_kept, new}
 
 module _ (ls : Layouts) (m : Module) (h : KeepsItemRules Stage.Source m) (short : HaveShortNames m) where

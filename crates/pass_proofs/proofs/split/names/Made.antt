@@ -4,12 +4,12 @@ use Rattle.std.proofs.lemmas.List.{map-append}
 use Rattle.std.specs.Prelude.{map, if◌then◌else◌}
 use Rattle.pass_split.specs.Given.{has_given_call}
 use Rattle.pass_split.specs.Parts.{first_layout, layouts_after, marked_parts, plain_of, plain_shape, split_function, split_functions}
-use Rattle.frame_layout.specs.declared.layout.Layout.{Layout}
+use Rattle.rule_laws.specs.frame_layout.declared.layout.Layout.{Layout}
 use Rattle.ir_model.specs.declared.module.Function.{Function}
 use Rattle.ir_model.specs.declared.module.Module.{Module}
 use Rattle.pass_exits.specs.ExitBlocks.{with_exit_blocks}
 use Rattle.rule_laws.proofs.rules.same_names.Made.{all_names, made_names, part_suffixes}
-use Rattle.rule_names.specs.Reserved.{part_name}
+use Rattle.rule_laws.specs.rule_names.Reserved.{part_name}
 
 names_split : (l : Layout) (given : Bool) (f : Function) → map (λ g. g.name) (split_function l given f) ≡ made_names given f
 names_split l given f = on f.coroutine given

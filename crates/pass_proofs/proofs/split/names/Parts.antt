@@ -4,30 +4,30 @@ use Rattle.std.proofs.lemmas.List.{map-append}
 use Rattle.std.proofs.lemmas.Bool.{or_parts}
 use Rattle.std.proofs.lemmas.Option.{slice_get-map}
 use Rattle.std.specs.Prelude.{codes, is_some, map, option_map, slice_get, if◌then◌else◌, ◌||◌}
-use Rattle.ir_base.specs.declared.name.Name.{Name}
+use Rattle.rule_laws.specs.ir_base.declared.name.Name.{Name}
 use Rattle.pass_split.specs.Given.{has_given_call}
 use Rattle.pass_split.specs.Parts.{first_layout, layouts_after, marked_parts, plain_of, plain_shape, split_function, split_functions, split_module}
-use Rattle.ir_laws.proofs.facts.Lists.{first_same, StandsIn, none_found, nothing_found, of_first, of_second}
-use Rattle.frame_layout.specs.declared.layout.Layout.{Layout}
-use Rattle.frame_layout.specs.declared.layout.Layouts.{Layouts}
+use Rattle.rule_laws.proofs.ir_laws.facts.Lists.{first_same, StandsIn, none_found, nothing_found, of_first, of_second}
+use Rattle.rule_laws.specs.frame_layout.declared.layout.Layout.{Layout}
+use Rattle.rule_laws.specs.frame_layout.declared.layout.Layouts.{Layouts}
 use Rattle.ir_model.specs.Names.{declaration_named, first_where, function_named, global_named, noalloc_of, same_name}
 use Rattle.ir_model.specs.Ty.{Ty, ptr}
 use Rattle.ir_model.specs.declared.module.Function.{Function}
 use Rattle.ir_model.specs.declared.module.Module.{Module}
 use Rattle.ir_model.specs.declared.module.Param.{Param}
-use Rattle.ir_tables.proofs.Tables.{same_name-same}
-use Rattle.rule_names.specs.Reserved.{is_part, is_reserved, part_name}
-use Rattle.rule_names.specs.declared.stage.Stage.{Stage}
+use Rattle.rule_laws.proofs.ir_tables.Tables.{same_name-same}
+use Rattle.rule_laws.specs.rule_names.Reserved.{is_part, is_reserved, part_name}
+use Rattle.rule_laws.specs.rule_names.declared.stage.Stage.{Stage}
 use Rattle.rule_laws.proofs.rules.plain_rules.Once.{once_at}
 use Rattle.rule_laws.specs.rules.plain_rules.Items.{KeepsItemRules}
-use Rattle.ir_laws.proofs.facts.same_names.Lists.{found, what_is_found}
+use Rattle.rule_laws.proofs.ir_laws.facts.same_names.Lists.{found, what_is_found}
 use Rattle.rule_laws.proofs.rules.same_names.Made.{IsFree, IsMade, IsMadeIn, Own, Part, all_distinct, all_names, cleanup_of, destroy_of, free_name, made_in, not_part, resume_of}
 use Rattle.pass_proofs.proofs.split.names.Made.{all_names_split}
-use Rattle.ir_laws.proofs.facts.Truth.{differ}
+use Rattle.rule_laws.proofs.ir_laws.facts.Truth.{differ}
 use Rattle.rule_laws.proofs.rules.same_names.Spellings.{IsSuffix, OfCleanup, OfDestroy, OfNoalloc, OfResume, never_same}
 use Rattle.rule_laws.proofs.rules.same_names.Unreserved.{part_is_free}
 use Rattle.rule_laws.specs.frames.same_names.Parts.{HasPart, HasPartsOf, HasSignature}
-use Rattle.ir_laws.specs.facts.same_names.Short.{HaveShortNames}
+use Rattle.rule_laws.specs.ir_laws.facts.same_names.Short.{HaveShortNames}
 use Rattle.pass_exits.specs.ExitBlocks.{with_exit_blocks}
 use Rattle.pass_proofs.specs.split.names.Sources.{HasGivenParts}
 

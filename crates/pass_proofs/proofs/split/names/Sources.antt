@@ -3,11 +3,11 @@ use Rattle.std.proofs.Common.{◌≡◌, ⊎_elim, ℕ, suc, List, [], ◌∷◌
 use Rattle.std.specs.Prelude.{slice_get}
 use Rattle.pass_split.specs.Given.{has_given_call}
 use Rattle.pass_split.specs.Parts.{first_layout, layouts_after, split_function, split_functions, split_module}
-use Rattle.frame_layout.specs.declared.layout.Layout.{Layout}
-use Rattle.frame_layout.specs.declared.layout.Layouts.{Layouts}
+use Rattle.rule_laws.specs.frame_layout.declared.layout.Layout.{Layout}
+use Rattle.rule_laws.specs.frame_layout.declared.layout.Layouts.{Layouts}
 use Rattle.ir_model.specs.declared.module.Function.{Function}
 use Rattle.ir_model.specs.declared.module.Module.{Module}
-use Rattle.ir_laws.proofs.facts.Lists.{of_both}
+use Rattle.rule_laws.proofs.ir_laws.facts.Lists.{of_both}
 use Rattle.pass_proofs.specs.split.names.Sources.{ComesFrom}
 
 -- the same of a list of functions

@@ -1,14 +1,14 @@
 -- The names of the parts of a coroutine are all different.
 use Rattle.std.proofs.Common.{◌≡◌, ℕ, zero, suc, ◌≤◌, ◌^◌, true, List, [], ◌∷◌, ◌++◌, length, refl, sym, subst, arith}
 use Rattle.std.specs.Prelude.{codes, slice_set}
-use Rattle.ir_base.specs.declared.name.Name.{Name}
+use Rattle.rule_laws.specs.ir_base.declared.name.Name.{Name}
 use Rattle.pass_split.specs.Parts.{back_name, begun_mark, done_mark, entry_mark, frame_mark, given_mark, index_mark, instr_names, mark_names, none_mark, pass_name, saved_name, slot_mark, suspend_names}
 use Rattle.ir_model.specs.Names.{numbered}
 use Rattle.pass_exits.specs.ExitBlocks.{exit_names}
 use Rattle.pass_exits.specs.declared.exit.Exit.{Exit}
-use Rattle.ir_laws.proofs.facts.Members.{each_behind, each_turns, different_behind, different_set, each_both, each_set}
-use Rattle.run_laws.specs.changed.Changed.{Each}
-use Rattle.ir_laws.proofs.facts.Lists.{AreDifferent, tested, row, rows}
+use Rattle.rule_laws.proofs.ir_laws.facts.Members.{each_behind, each_turns, different_behind, different_set, each_both, each_set}
+use Rattle.rule_laws.specs.run_laws.changed.Changed.{Each}
+use Rattle.rule_laws.proofs.ir_laws.facts.Lists.{AreDifferent, tested, row, rows}
 use Rattle.pass_proofs.proofs.exits.names.Exits.{IsExitName, are_exit_names, exit_is_no_back, exits_new}
 use Rattle.rule_laws.proofs.rules.names_apart.Numbered.{digit_words, numbers_new, rows_new}
 use Rattle.rule_laws.proofs.rules.names_apart.Words.{AreNew, are_all_unlike, are_own, is_other, more_words, new_behind, own_begins, table_behind, table_different, table_words, words_never_both}

@@ -4,18 +4,18 @@ use Rattle.std.specs.Prelude.{Some, slice_get, if◌then◌else◌}
 use Rattle.pass_split.specs.Given.{has_given_call}
 use Rattle.pass_split.specs.Parts.{first_layout, given_parts, layouts_after, marked_parts, names_of, origins_for, part_names, plain_of, plain_shape, split_function, split_functions}
 use Rattle.pass_split.specs.Pieces.{next_after}
-use Rattle.frame_layout.specs.declared.layout.Layout.{Layout}
-use Rattle.pass_intrinsics.specs.Shapes.{first_name, shape_of}
-use Rattle.pass_intrinsics.specs.declared.shape.Part.{Part}
-use Rattle.pass_intrinsics.specs.declared.shape.Shape.{Shape}
+use Rattle.rule_laws.specs.frame_layout.declared.layout.Layout.{Layout}
+use Rattle.rule_laws.specs.pass_intrinsics.Shapes.{first_name, shape_of}
+use Rattle.rule_laws.specs.pass_intrinsics.declared.shape.Part.{Part}
+use Rattle.rule_laws.specs.pass_intrinsics.declared.shape.Shape.{Shape}
 use Rattle.ir_model.specs.declared.module.Function.{Function}
 use Rattle.ir_model.specs.declared.module.Module.{Module}
 use Rattle.pass_exits.specs.ExitBlocks.{with_exit_blocks}
 use Rattle.pass_exits.specs.Exits.{exits_of}
-use Rattle.ir_laws.proofs.facts.Members.{at_each, each_behind}
-use Rattle.run_laws.specs.changed.Changed.{Each}
+use Rattle.rule_laws.proofs.ir_laws.facts.Members.{at_each, each_behind}
+use Rattle.rule_laws.specs.run_laws.changed.Changed.{Each}
 use Rattle.pass_proofs.proofs.split.names_apart.Steps.{part_apart, part_longer, plain_apart}
-use Rattle.ir_laws.specs.facts.names_apart.Apart.{AreApart}
+use Rattle.rule_laws.specs.ir_laws.facts.names_apart.Apart.{AreApart}
 use Rattle.rule_laws.specs.rules.names_apart.Words.{AreFew, IsSplitTable, IsTableOf, framed_words}
 
 -- the names of the function are different, where they are few

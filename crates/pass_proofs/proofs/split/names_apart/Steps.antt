@@ -4,19 +4,19 @@ use Rattle.std.specs.Prelude.{codes, slice_set}
 use Rattle.std.proofs.lemmas.List.{length-append}
 use Rattle.std.proofs.Math.ListN.{length-set}
 use Rattle.pass_copies.specs.Slots.{early_name, slot_names, where_name}
-use Rattle.ir_base.specs.declared.name.Name.{Name}
+use Rattle.rule_laws.specs.ir_base.declared.name.Name.{Name}
 use Rattle.pass_split.specs.Parts.{frame_mark, instr_names, mark_names, suspend_names}
 use Rattle.pass_edges.specs.EdgeBlocks.{edge_names}
-use Rattle.pass_fetch.specs.Blocks.{numbered_names}
-use Rattle.pass_cells.specs.Cells.{with_own_names}
+use Rattle.rule_laws.specs.pass_fetch.Blocks.{numbered_names}
+use Rattle.rule_laws.specs.pass_cells.Cells.{with_own_names}
 use Rattle.pass_exits.specs.ExitBlocks.{exit_names}
 use Rattle.pass_exits.specs.declared.exit.Exit.{Exit}
-use Rattle.ir_laws.proofs.facts.Lists.{AreDifferent, row, rows, rows_longer}
-use Rattle.ir_laws.proofs.facts.Members.{apart_from}
+use Rattle.rule_laws.proofs.ir_laws.facts.Lists.{AreDifferent, row, rows, rows_longer}
+use Rattle.rule_laws.proofs.ir_laws.facts.Members.{apart_from}
 use Rattle.rule_laws.proofs.rules.names_apart.Numbered.{are_right, digit_words, numbers_new, rows_new}
 use Rattle.pass_proofs.proofs.split.names_apart.Parts.{numbers_are, parts_different, suspends_are}
 use Rattle.rule_laws.proofs.rules.names_apart.Words.{AreNew, are_all_unlike, are_own}
-use Rattle.ir_laws.specs.facts.names_apart.Apart.{AreApart}
+use Rattle.rule_laws.specs.ir_laws.facts.names_apart.Apart.{AreApart}
 use Rattle.rule_laws.specs.rules.names_apart.Words.{AreFew, IsTableOf, cell_words, copy_words, early_words, edge_words, framed_words}
 use Rattle.rule_laws.proofs.rules.names_apart.Steps.{IsStep, append_step, then_step, word_new}
 use Rattle.pass_proofs.proofs.exits.rules.Names.{names_length as exits_length}

@@ -2,21 +2,21 @@
 use Rattle.std.proofs.Common.{◌≡◌, ℕ, ◌≤◌, Bool, true, false, List, [], ◌∷◌, ◌++◌, refl, arith}
 use Rattle.std.specs.List.{cons_option, list_all}
 use Rattle.std.specs.Prelude.{Option, None, Some, filter, filter_map, pos, slice_get, if◌then◌else◌}
-use Rattle.ir_base.specs.declared.outcome.Place.{Place}
+use Rattle.rule_laws.specs.ir_base.declared.outcome.Place.{Place}
 use Rattle.pass_split.specs.Parts.{done_block, entry_instrs, entry_term, given_ramp_of, later_head, later_part, origins_for, plain_of, ramp_of}
-use Rattle.pass_front.specs.Front.{allocas_of, is_alloca}
+use Rattle.rule_laws.specs.pass_front.Front.{allocas_of, is_alloca}
 use Rattle.pass_split.specs.Pieces.{begins_again, comes_from, incoming_from, pieced_incoming, pieced_phi, pieces_of, next_after, redirected_term}
 use Rattle.pass_split.specs.Reached.{is_flagged, kept_phi, pruned, reached}
 use Rattle.pass_split.specs.declared.origin.Origin.{Origin}
-use Rattle.ir_laws.proofs.facts.Members.{each_joined, each_turns}
+use Rattle.rule_laws.proofs.ir_laws.facts.Members.{each_joined, each_turns}
 use Rattle.rule_laws.proofs.rules.local_rules.Carried.{none_of, passing}
-use Rattle.ir_laws.proofs.facts.Truth.{and_both, and_first, and_second}
-use Rattle.ir_parts.specs.Parts.{Ending, Head, OfInstr, OfPhi, Part as FunctionPart, Signature, first_part, function_place, parts_of}
-use Rattle.pass_intrinsics.specs.Cuts.{goes_on}
-use Rattle.pass_intrinsics.specs.Lowered.{address, lowered}
-use Rattle.pass_intrinsics.specs.Shapes.{first_name, index_bytes, index_name, slot_name}
-use Rattle.pass_intrinsics.specs.declared.shape.Part.{Part}
-use Rattle.pass_intrinsics.specs.declared.shape.Shape.{Shape}
+use Rattle.rule_laws.proofs.ir_laws.facts.Truth.{and_both, and_first, and_second}
+use Rattle.rule_laws.specs.ir_parts.Parts.{Ending, Head, OfInstr, OfPhi, Part as FunctionPart, Signature, first_part, function_place, parts_of}
+use Rattle.rule_laws.specs.pass_intrinsics.Cuts.{goes_on}
+use Rattle.rule_laws.specs.pass_intrinsics.Lowered.{address, lowered}
+use Rattle.rule_laws.specs.pass_intrinsics.Shapes.{first_name, index_bytes, index_name, slot_name}
+use Rattle.rule_laws.specs.pass_intrinsics.declared.shape.Part.{Part}
+use Rattle.rule_laws.specs.pass_intrinsics.declared.shape.Shape.{Shape}
 use Rattle.ir_model.specs.Ty.{int}
 use Rattle.ir_model.specs.TypeView.{bits_of}
 use Rattle.ir_model.specs.declared.instr.Incoming.{Incoming}
@@ -30,7 +30,7 @@ use Rattle.pass_proofs.proofs.split.rules.Cutting.{cut_blocks}
 use Rattle.pass_proofs.proofs.split.rules.Parted.{AreEnds, blocks_all as pieces_of_all, done_all, head_all, kept_all}
 use Rattle.rule_laws.proofs.rules.replaced.Passed.{AllPassingBlock, IsAll, Passes, PassesAll, PassingBlock, blocks_all, blocks_pass}
 use Rattle.pass_proofs.specs.split.rules.Parted.{IsCleanup, IsDestroy, IsGivenRamp, IsPartOf, IsRamp, IsResume}
-use Rattle.run_laws.specs.changed.Changed.{Each}
+use Rattle.rule_laws.specs.run_laws.changed.Changed.{Each}
 
 -- ---- phis: some operands go, and the labels of the others change
 

@@ -3,17 +3,17 @@ use Rattle.std.proofs.Common.{◌≡◌, inl, ℕ, ◌+◌, List, [], ◌∷◌,
 use Rattle.std.proofs.lemmas.List.{map-append}
 use Rattle.std.specs.Prelude.{map, ◌==◌}
 use Rattle.pass_split.specs.Parts.{given_params}
-use Rattle.rule_uses.specs.Undefined.{params_of}
-use Rattle.flow_solver.specs.Paths.{IsListed}
-use Rattle.pass_intrinsics.specs.Shapes.{given_name}
-use Rattle.pass_intrinsics.specs.declared.shape.Shape.{Shape}
+use Rattle.rule_laws.specs.rule_uses.Undefined.{params_of}
+use Rattle.rule_laws.specs.flow_solver.Paths.{IsListed}
+use Rattle.rule_laws.specs.pass_intrinsics.Shapes.{given_name}
+use Rattle.rule_laws.specs.pass_intrinsics.declared.shape.Shape.{Shape}
 use Rattle.ir_model.specs.Ty.{ptr}
 use Rattle.ir_model.specs.declared.module.Function.{Function}
 use Rattle.ir_model.specs.declared.module.Param.{Param}
-use Rattle.ir_laws.proofs.facts.Lists.{times_joined}
-use Rattle.ir_laws.proofs.facts.local_rules.Woven.{other_number}
-use Rattle.ir_laws.proofs.paths.source_rules.Locals.{listed_left, listed_right}
-use Rattle.ir_laws.specs.facts.woven_rules.Pairs.{one_if, times}
+use Rattle.rule_laws.proofs.ir_laws.facts.Lists.{times_joined}
+use Rattle.rule_laws.proofs.ir_laws.facts.local_rules.Woven.{other_number}
+use Rattle.rule_laws.proofs.ir_laws.paths.source_rules.Locals.{listed_left, listed_right}
+use Rattle.rule_laws.specs.ir_laws.facts.woven_rules.Pairs.{one_if, times}
 
 -- they are the function's, and the address
 pub given_params_are : (s : Shape) (f : Function) → map (λ (p : Param). p.name) (given_params s f) ≡ params_of f ++ given_name s ∷ []

@@ -4,21 +4,21 @@ use Rattle.std.proofs.lemmas.List.{map-append}
 use Rattle.std.proofs.lemmas.List.Folds.{list_all-append}
 use Rattle.std.specs.List.{list_all}
 use Rattle.std.specs.Prelude.{None, Option, Some, is_some, map, not, option_to_list, slice_get, ◌||◌}
-use Rattle.ir_base.specs.declared.name.Name.{Name}
-use Rattle.ir_base.specs.declared.outcome.Place.{Place}
+use Rattle.rule_laws.specs.ir_base.declared.name.Name.{Name}
+use Rattle.rule_laws.specs.ir_base.declared.outcome.Place.{Place}
 use Rattle.pass_split.specs.Parts.{given_ramp_of, plain_of, plain_shape}
 use Rattle.pass_split.specs.Reached.{pruned}
 use Rattle.rule_laws.proofs.rules.local_rules.Carried.{none_of, passing}
 use Rattle.rule_laws.proofs.rules.local_rules.Fitting.{either, no_either}
-use Rattle.ir_laws.proofs.facts.Truth.{and_both, first_no, holds, second_no}
-use Rattle.frame_layout.specs.declared.layout.Layout.{Layout}
-use Rattle.ir_parts.specs.Contents.{part_types}
-use Rattle.ir_parts.specs.Parts.{OfInstr, Part as FunctionPart, Signature, first_part, parts_of}
+use Rattle.rule_laws.proofs.ir_laws.facts.Truth.{and_both, first_no, holds, second_no}
+use Rattle.rule_laws.specs.frame_layout.declared.layout.Layout.{Layout}
+use Rattle.rule_laws.specs.ir_parts.Contents.{part_types}
+use Rattle.rule_laws.specs.ir_parts.Parts.{OfInstr, Part as FunctionPart, Signature, first_part, parts_of}
 use Rattle.rule_laws.specs.rules.function_rules.Kept.{KeepsFunctionRules}
-use Rattle.pass_intrinsics.specs.Lowered.{number_of_save}
-use Rattle.pass_intrinsics.specs.Shapes.{given_name, shape_of}
-use Rattle.pass_intrinsics.specs.declared.shape.Part.{Part}
-use Rattle.pass_intrinsics.specs.declared.shape.Shape.{Shape}
+use Rattle.rule_laws.specs.pass_intrinsics.Lowered.{number_of_save}
+use Rattle.rule_laws.specs.pass_intrinsics.Shapes.{given_name, shape_of}
+use Rattle.rule_laws.specs.pass_intrinsics.declared.shape.Part.{Part}
+use Rattle.rule_laws.specs.pass_intrinsics.declared.shape.Shape.{Shape}
 use Rattle.ir_model.specs.Names.{declaration_named, global_named}
 use Rattle.ir_model.specs.Ty.{Ty, ptr}
 use Rattle.ir_model.specs.declared.instr.Instr.{Instr}
@@ -28,13 +28,13 @@ use Rattle.ir_model.specs.declared.module.Param.{Param}
 use Rattle.ir_model.specs.declared.operand.Arg.{Arg}
 use Rattle.ir_model.specs.declared.operand.Callee.{Callee}
 use Rattle.ir_model.specs.declared.operand.Intrinsic.{Intrinsic}
-use Rattle.rule_locals.specs.Calls.{calls_closed}
-use Rattle.rule_locals.specs.Extents.{breaks_extents}
-use Rattle.rule_locals.specs.Instrs.{on_instr}
-use Rattle.rule_locals.specs.Intrinsics.{calls_inner, is_inner, misplaces}
-use Rattle.rule_locals.specs.Transfers.{breaks_transfers}
-use Rattle.rule_names.specs.Known.{is_label, is_value, knows_name, knows_type, names_unknown}
-use Rattle.rule_names.specs.declared.stage.Stage.{Stage}
+use Rattle.rule_laws.specs.rule_locals.Calls.{calls_closed}
+use Rattle.rule_laws.specs.rule_locals.Extents.{breaks_extents}
+use Rattle.rule_laws.specs.rule_locals.Instrs.{on_instr}
+use Rattle.rule_laws.specs.rule_locals.Intrinsics.{calls_inner, is_inner, misplaces}
+use Rattle.rule_laws.specs.rule_locals.Transfers.{breaks_transfers}
+use Rattle.rule_laws.specs.rule_names.Known.{is_label, is_value, knows_name, knows_type, names_unknown}
+use Rattle.rule_laws.specs.rule_names.declared.stage.Stage.{Stage}
 use Rattle.rule_laws.specs.frames.same_names.Parts.{HasPart, HasPartsOf}
 use Rattle.pass_proofs.proofs.split.rules.Carried.{Carries, part_carried, plain_carried}
 use Rattle.rule_laws.proofs.rules.replaced.Known.{called_before, types_before}
@@ -45,10 +45,10 @@ use Rattle.rule_laws.proofs.frames.replaced.Modules.{all_known}
 use Rattle.rule_laws.proofs.frames.replaced.Saves.{saves_below}
 use Rattle.rule_laws.specs.rules.replaced.Instructions.{KeepsRulesOfInstructions, names_strange}
 use Rattle.pass_proofs.specs.split.rules.Parted.{IsCleanup, IsDestroy, IsGivenRamp, IsPartOf, IsRamp, IsResume}
-use Rattle.run_laws.specs.changed.Changed.{Each}
-use Rattle.rule_types.specs.Depth.{is_shallow}
-use Rattle.rule_types.specs.Limits.{all_fit, breaks_limits, is_block_past}
-use Rattle.rule_types.specs.Signatures.{calls_otherwise}
+use Rattle.rule_laws.specs.run_laws.changed.Changed.{Each}
+use Rattle.rule_laws.specs.rule_types.Depth.{is_shallow}
+use Rattle.rule_laws.specs.rule_types.Limits.{all_fit, breaks_limits, is_block_past}
+use Rattle.rule_laws.specs.rule_types.Signatures.{calls_otherwise}
 
 part_there : (n : Module) (x : Name) → HasPart n x → knows_name n x ≡ true
 part_there n x h = ap (λ (o : Option ℕ). is_some o || (is_some (declaration_named n x) || is_some (global_named n x))) h.signature.is_named

@@ -2,19 +2,19 @@
 use Rattle.std.proofs.Common.{◌≡◌, ℕ, ◌+◌, ◌<◌, Bool, true, false, List, [], ◌∷◌, ◌++◌, length, refl, sym, ap, ◌∙◌, subst}
 use Rattle.std.specs.List.{list_all}
 use Rattle.std.specs.Prelude.{Option, Some, map, not, pos, if◌then◌else◌, ◌&&◌, ◌||◌}
-use Rattle.ir_base.specs.declared.ops.BinOp.{BinOp}
-use Rattle.ir_base.specs.declared.outcome.Place.{Place}
+use Rattle.rule_laws.specs.ir_base.declared.ops.BinOp.{BinOp}
+use Rattle.rule_laws.specs.ir_base.declared.outcome.Place.{Place}
 use Rattle.pass_split.specs.Parts.{case_of, cases_from, entry_term, is_entered}
 use Rattle.pass_split.specs.Pieces.{redirected_term}
 use Rattle.rule_laws.proofs.rules.local_rules.Fitting.{either}
-use Rattle.ir_laws.proofs.facts.Truth.{and_both, first_no, second_no}
-use Rattle.ir_parts.specs.Contents.{arg_operands, ending_operands, ending_types, instr_operands, instr_types, part_labels, part_operands, part_types}
-use Rattle.ir_parts.specs.Parts.{Ending, OfInstr, OfPhi, Part as FunctionPart}
-use Rattle.pass_intrinsics.specs.Lowered.{address, call_pointer, load_pointer, lowered, no_flags, number_arg, number_of_save, store_pointer, truth_of}
-use Rattle.pass_intrinsics.specs.Shapes.{index_bytes}
-use Rattle.pass_intrinsics.specs.declared.shape.Part.{Part}
-use Rattle.pass_intrinsics.specs.declared.shape.Shape.{Shape}
-use Rattle.pass_intrinsics.specs.declared.shape.SuspendPoint.{SuspendPoint}
+use Rattle.rule_laws.proofs.ir_laws.facts.Truth.{and_both, first_no, second_no}
+use Rattle.rule_laws.specs.ir_parts.Contents.{arg_operands, ending_operands, ending_types, instr_operands, instr_types, part_labels, part_operands, part_types}
+use Rattle.rule_laws.specs.ir_parts.Parts.{Ending, OfInstr, OfPhi, Part as FunctionPart}
+use Rattle.rule_laws.specs.pass_intrinsics.Lowered.{address, call_pointer, load_pointer, lowered, no_flags, number_arg, number_of_save, store_pointer, truth_of}
+use Rattle.rule_laws.specs.pass_intrinsics.Shapes.{index_bytes}
+use Rattle.rule_laws.specs.pass_intrinsics.declared.shape.Part.{Part}
+use Rattle.rule_laws.specs.pass_intrinsics.declared.shape.Shape.{Shape}
+use Rattle.rule_laws.specs.pass_intrinsics.declared.shape.SuspendPoint.{SuspendPoint}
 use Rattle.ir_model.specs.Ty.{Ty, int}
 use Rattle.ir_model.specs.TypeView.{bits_of}
 use Rattle.ir_model.specs.declared.instr.Case.{Case}
@@ -25,18 +25,18 @@ use Rattle.ir_model.specs.declared.operand.Arg.{Arg}
 use Rattle.ir_model.specs.declared.operand.Callee.{Callee}
 use Rattle.ir_model.specs.declared.operand.Intrinsic.{Intrinsic}
 use Rattle.ir_model.specs.declared.operand.Operand.{Operand}
-use Rattle.rule_locals.specs.Intrinsics.{is_inner}
-use Rattle.rule_names.specs.Known.{knows_address, knows_called, knows_name, knows_operand, knows_type, names_unknown}
+use Rattle.rule_laws.specs.rule_locals.Intrinsics.{is_inner}
+use Rattle.rule_laws.specs.rule_names.Known.{knows_address, knows_called, knows_name, knows_operand, knows_type, names_unknown}
 use Rattle.rule_laws.specs.frames.same_names.Parts.{HasPartsOf}
 use Rattle.pass_proofs.proofs.split.rules.Carried.{Carries}
 use Rattle.pass_proofs.proofs.split.rules.Local.{Lowers, Replaced, Same, lowers, same_term_operands, same_term_types}
 use Rattle.rule_laws.proofs.frames.replaced.Modules.{address_known, all_known, callee_known}
 use Rattle.rule_laws.specs.rules.replaced.Instructions.{names_strange}
 use Rattle.rule_laws.specs.frames.replaced.Replaced.{Address, Calls, First, Frame, Given, IsPointer, Loads, NoFrame, Number, OfParameter, Replaces, Second, StoresCleanup, StoresDestroy, StoresIndex, StoresNull, StoresResume, Tests, Truth}
-use Rattle.run_laws.specs.changed.Changed.{Each}
-use Rattle.rule_types.specs.Signatures.{calls_otherwise}
-use Rattle.ir_laws.proofs.facts.Members.{all_pass, each_passes, each_turns}
-use Rattle.ir_laws.proofs.paths.replaced.Known.{listed_mapped, of_listed}
+use Rattle.rule_laws.specs.run_laws.changed.Changed.{Each}
+use Rattle.rule_laws.specs.rule_types.Signatures.{calls_otherwise}
+use Rattle.rule_laws.proofs.ir_laws.facts.Members.{all_pass, each_passes, each_turns}
+use Rattle.rule_laws.proofs.ir_laws.paths.replaced.Known.{listed_mapped, of_listed}
 use Rattle.rule_laws.proofs.rules.replaced.Known.{called_before, operands_before, types_before}
 
 -- ---- lists

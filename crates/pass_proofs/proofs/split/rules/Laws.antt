@@ -2,14 +2,14 @@
 use Rattle.std.proofs.Common.{◌≡◌, ℕ, true, false}
 use Rattle.std.specs.Prelude.{None, Some, slice_get}
 use Rattle.pass_split.specs.Parts.{plain_of, plain_shape}
-use Rattle.frame_layout.specs.declared.layout.Layout.{Layout}
+use Rattle.rule_laws.specs.frame_layout.declared.layout.Layout.{Layout}
 use Rattle.rule_laws.specs.rules.function_rules.Kept.{KeepsFunctionRules}
-use Rattle.pass_intrinsics.specs.Cuts.{goes_on}
-use Rattle.pass_intrinsics.specs.Shapes.{shape_of}
-use Rattle.pass_intrinsics.specs.declared.shape.Part.{Part}
+use Rattle.rule_laws.specs.pass_intrinsics.Cuts.{goes_on}
+use Rattle.rule_laws.specs.pass_intrinsics.Shapes.{shape_of}
+use Rattle.rule_laws.specs.pass_intrinsics.declared.shape.Part.{Part}
 use Rattle.ir_model.specs.declared.module.Function.{Function}
 use Rattle.ir_model.specs.declared.module.Module.{Module}
-use Rattle.rule_names.specs.Known.{first_unknown}
+use Rattle.rule_laws.specs.rule_names.Known.{first_unknown}
 use Rattle.rule_laws.specs.frames.same_names.Parts.{HasPart, HasPartsOf}
 use Rattle.pass_proofs.proofs.split.rules.Instructions.{parts_kept, plain_kept}
 use Rattle.rule_laws.proofs.rules.replaced.Locals.{all_names_known}
@@ -19,7 +19,7 @@ use Rattle.pass_proofs.specs.split.rules.Parted.{IsPartOf}
 use Rattle.rule_laws.specs.frames.replaced.Parted.{IsSmall}
 use Rattle.rule_laws.specs.rules.replaced.Returns.{ReturnsNothing}
 use Rattle.pass_proofs.specs.split.rules.Splittable.{IsSplittable}
-use Rattle.rule_values.specs.Values.{first_wrong_value}
+use Rattle.rule_laws.specs.rule_values.Values.{first_wrong_value}
 
 pub parts_named : (m n : Module) (k l : ℕ) (layout : Layout) (part : Part) (begin : ℕ) (f g : Function) → HasPartsOf m n → slice_get m.functions k ≡ Some f → IsSplittable m k f begin → IsSmall (shape_of f layout) → IsPartOf (shape_of f layout) f part g → (part ≡ Part.GivenRamp → HasPart n (shape_of f layout).cleanup_name) → KnowsItsLocals l g → (goes_on part ≡ true → ReturnsNothing l g) → (first_unknown n l g ≡ None) × (first_wrong_value n l g ≡ None)
 parts_named m n k l layout part begin f g h stands splittable small is given own returns =

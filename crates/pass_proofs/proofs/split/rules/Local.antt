@@ -2,18 +2,18 @@
 use Rattle.std.proofs.Common.{◌≡◌, inl, inr, ⊎_elim, ℕ, ◌+◌, ◌<◌, ◌≤◌, Bool, true, false, List, [], ◌∷◌, ◌++◌, length, refl, sym, ap, ◌∙◌, subst, arith}
 use Rattle.std.proofs.lemmas.Bool.{le-leb, leb-true}
 use Rattle.std.specs.Prelude.{None, Option, Some, map, nat_le, not, if◌then◌else◌, ◌&&◌, ◌||◌}
-use Rattle.ir_base.specs.declared.outcome.Place.{Place}
+use Rattle.rule_laws.specs.ir_base.declared.outcome.Place.{Place}
 use Rattle.pass_split.specs.Parts.{case_of, cases_from, entry_term, is_entered}
 use Rattle.pass_split.specs.Pieces.{redirected_case, redirected_term}
 use Rattle.rule_laws.proofs.rules.local_rules.Fitting.{either}
-use Rattle.ir_laws.proofs.facts.Truth.{and_both, and_first, and_second, holds, first_no, second_no}
-use Rattle.ir_parts.specs.Contents.{ending_operands, ending_types, instr_types}
-use Rattle.ir_parts.specs.Parts.{Ending, OfInstr, OfPhi}
-use Rattle.pass_intrinsics.specs.Lowered.{lowered, number_of_save}
-use Rattle.pass_intrinsics.specs.Shapes.{index_bytes}
-use Rattle.pass_intrinsics.specs.declared.shape.Part.{Part}
-use Rattle.pass_intrinsics.specs.declared.shape.Shape.{Shape}
-use Rattle.pass_intrinsics.specs.declared.shape.SuspendPoint.{SuspendPoint}
+use Rattle.rule_laws.proofs.ir_laws.facts.Truth.{and_both, and_first, and_second, holds, first_no, second_no}
+use Rattle.rule_laws.specs.ir_parts.Contents.{ending_operands, ending_types, instr_types}
+use Rattle.rule_laws.specs.ir_parts.Parts.{Ending, OfInstr, OfPhi}
+use Rattle.rule_laws.specs.pass_intrinsics.Lowered.{lowered, number_of_save}
+use Rattle.rule_laws.specs.pass_intrinsics.Shapes.{index_bytes}
+use Rattle.rule_laws.specs.pass_intrinsics.declared.shape.Part.{Part}
+use Rattle.rule_laws.specs.pass_intrinsics.declared.shape.Shape.{Shape}
+use Rattle.rule_laws.specs.pass_intrinsics.declared.shape.SuspendPoint.{SuspendPoint}
 use Rattle.ir_model.specs.Layout.{size_of}
 use Rattle.ir_model.specs.Ty.{Ty, int, ptr}
 use Rattle.ir_model.specs.TypeView.{bits_of}
@@ -27,22 +27,22 @@ use Rattle.ir_model.specs.declared.operand.Arg.{Arg}
 use Rattle.ir_model.specs.declared.operand.Callee.{Callee}
 use Rattle.ir_model.specs.declared.operand.Intrinsic.{Intrinsic}
 use Rattle.ir_model.specs.declared.operand.Operand.{Operand}
-use Rattle.rule_locals.specs.Calls.{calls_closed, is_closed}
-use Rattle.rule_locals.specs.Extents.{breaks_extents, is_aligned, is_sized}
-use Rattle.rule_locals.specs.Instrs.{on_instr}
-use Rattle.rule_locals.specs.Transfers.{breaks_transfers, may_transfer}
-use Rattle.rule_names.specs.Known.{knows_callee}
-use Rattle.rule_names.specs.declared.stage.Stage.{Stage}
+use Rattle.rule_laws.specs.rule_locals.Calls.{calls_closed, is_closed}
+use Rattle.rule_laws.specs.rule_locals.Extents.{breaks_extents, is_aligned, is_sized}
+use Rattle.rule_laws.specs.rule_locals.Instrs.{on_instr}
+use Rattle.rule_laws.specs.rule_locals.Transfers.{breaks_transfers, may_transfer}
+use Rattle.rule_laws.specs.rule_names.Known.{knows_callee}
+use Rattle.rule_laws.specs.rule_names.declared.stage.Stage.{Stage}
 use Rattle.rule_laws.specs.frames.same_names.Parts.{HasPartsOf}
 use Rattle.pass_proofs.proofs.split.rules.Carried.{Carries, index_instrs}
 use Rattle.rule_laws.proofs.frames.replaced.Modules.{callee_fits, closed_there, depths_there, extents_there}
 use Rattle.rule_laws.proofs.frames.replaced.Replaced.{IsKeptOne, replaced}
 use Rattle.rule_laws.specs.frames.replaced.Replaced.{Address, Calls, Loads, Number, Replaces, StoresCleanup, StoresDestroy, StoresIndex, StoresNull, StoresResume, Tests, Truth}
-use Rattle.run_laws.specs.changed.Changed.{Each}
-use Rattle.rule_types.specs.Depth.{is_shallow}
-use Rattle.rule_types.specs.Limits.{all_fit, breaks_limits, is_block_past}
-use Rattle.rule_types.specs.Signatures.{calls_otherwise}
-use Rattle.ir_laws.proofs.facts.Members.{each_turns}
+use Rattle.rule_laws.specs.run_laws.changed.Changed.{Each}
+use Rattle.rule_laws.specs.rule_types.Depth.{is_shallow}
+use Rattle.rule_laws.specs.rule_types.Limits.{all_fit, breaks_limits, is_block_past}
+use Rattle.rule_laws.specs.rule_types.Signatures.{calls_otherwise}
+use Rattle.rule_laws.proofs.ir_laws.facts.Members.{each_turns}
 use Rattle.rule_laws.proofs.rules.fetching_rules.Puts.{int_shallow as shallow_int, ptr_shallow as shallow_ptr}
 
 -- ---- what is lowered in the place of an instruction that is of the types of its callee

@@ -4,24 +4,24 @@ use Rattle.std.proofs.Math.Nat.{mod-eq_of_lt}
 use Rattle.std.proofs.lemmas.Bool.{leb-true, lt-ltb}
 use Rattle.std.specs.List.{list_all}
 use Rattle.std.specs.Prelude.{None, Option, Some, map, nat_le, not, pos, unwrap_or, ◌&&◌, ◌||◌, ◌==◌, if◌then◌else◌}
-use Rattle.ir_base.specs.declared.outcome.Place.{Place}
+use Rattle.rule_laws.specs.ir_base.declared.outcome.Place.{Place}
 use Rattle.pass_split.specs.Parts.{case_of, cases_from, entry_term, is_entered, plain_shape}
-use Rattle.ir_laws.proofs.facts.Members.{at_each}
-use Rattle.ir_laws.proofs.facts.Truth.{itself, and_both}
+use Rattle.rule_laws.proofs.ir_laws.facts.Members.{at_each}
+use Rattle.rule_laws.proofs.ir_laws.facts.Truth.{itself, and_both}
 use Rattle.pass_proofs.proofs.early.renaming.Rules.{begin_by}
-use Rattle.ir_laws.proofs.paths.renamed.Uses.{stands_in}
+use Rattle.rule_laws.proofs.ir_laws.paths.renamed.Uses.{stands_in}
 use Rattle.rule_laws.proofs.rules.local_rules.Names.{numbers}
 use Rattle.pass_proofs.proofs.early.local_rules.ValueKinds.{kind_made}
 use Rattle.rule_laws.proofs.rules.local_rules.ValueKinds.{kind_none}
-use Rattle.ir_laws.proofs.facts.local_rules.Woven.{other_number}
-use Rattle.ir_laws.proofs.paths.source_rules.Locals.{Apart}
+use Rattle.rule_laws.proofs.ir_laws.facts.local_rules.Woven.{other_number}
+use Rattle.rule_laws.proofs.ir_laws.paths.source_rules.Locals.{Apart}
 use Rattle.rule_laws.specs.rules.source_rules.Named.{HasTabledLocals}
-use Rattle.frame_layout.specs.declared.layout.Layout.{Layout}
-use Rattle.ir_parts.specs.Parts.{OfInstr, Part as FunctionPart}
-use Rattle.pass_intrinsics.specs.Shapes.{first_name, given_name, index_name, index_width, shape_of, slot_name, suspends_of}
-use Rattle.pass_intrinsics.specs.declared.shape.Part.{Part}
-use Rattle.pass_intrinsics.specs.declared.shape.Shape.{Shape}
-use Rattle.pass_intrinsics.specs.declared.shape.SuspendPoint.{SuspendPoint}
+use Rattle.rule_laws.specs.frame_layout.declared.layout.Layout.{Layout}
+use Rattle.rule_laws.specs.ir_parts.Parts.{OfInstr, Part as FunctionPart}
+use Rattle.rule_laws.specs.pass_intrinsics.Shapes.{first_name, given_name, index_name, index_width, shape_of, slot_name, suspends_of}
+use Rattle.rule_laws.specs.pass_intrinsics.declared.shape.Part.{Part}
+use Rattle.rule_laws.specs.pass_intrinsics.declared.shape.Shape.{Shape}
+use Rattle.rule_laws.specs.pass_intrinsics.declared.shape.SuspendPoint.{SuspendPoint}
 use Rattle.ir_model.specs.Calls.{first_result}
 use Rattle.ir_model.specs.Ty.{Ty, int}
 use Rattle.ir_model.specs.TypeView.{bits_of}
@@ -30,21 +30,21 @@ use Rattle.ir_model.specs.declared.ir_type.IntWidth.{IntWidth}
 use Rattle.ir_model.specs.declared.module.Function.{Function}
 use Rattle.ir_model.specs.declared.module.Module.{Module}
 use Rattle.ir_model.specs.declared.operand.Intrinsic.{Intrinsic}
-use Rattle.ir_paths.specs.declared.point.Point.{Point}
-use Rattle.rule_locals.specs.Instrs.{on_instr}
-use Rattle.rule_locals.specs.Intrinsics.{calls_inner}
-use Rattle.ir_locals.specs.Tables.{or_first}
+use Rattle.rule_laws.specs.ir_paths.declared.point.Point.{Point}
+use Rattle.rule_laws.specs.rule_locals.Instrs.{on_instr}
+use Rattle.rule_laws.specs.rule_locals.Intrinsics.{calls_inner}
+use Rattle.rule_laws.specs.ir_locals.Tables.{or_first}
 use Rattle.pass_proofs.proofs.split.rules.PartKinds.{AreNewKinds}
 use Rattle.rule_laws.proofs.rules.replaced.Passed.{Passes, PassingBlock}
 use Rattle.rule_laws.specs.frames.replaced.Kinds.{kinds_with, part_kind, plain_kind}
 use Rattle.rule_laws.specs.frames.replaced.Parted.{IsSmall}
-use Rattle.run_laws.specs.changed.Changed.{Each}
-use Rattle.rule_types.specs.Signatures.{calls_otherwise}
-use Rattle.rule_values.specs.Fits.{fits_kind, is_literal}
-use Rattle.rule_values.specs.Kinds.{value_kind}
-use Rattle.rule_values.specs.Switches.{any_twice, case_word, fits_case, has_word}
-use Rattle.rule_values.specs.Values.{fits_ending}
-use Rattle.rule_values.specs.declared.kinds.Kind.{Kind}
+use Rattle.rule_laws.specs.run_laws.changed.Changed.{Each}
+use Rattle.rule_laws.specs.rule_types.Signatures.{calls_otherwise}
+use Rattle.rule_laws.specs.rule_values.Fits.{fits_kind, is_literal}
+use Rattle.rule_laws.specs.rule_values.Kinds.{value_kind}
+use Rattle.rule_laws.specs.rule_values.Switches.{any_twice, case_word, fits_case, has_word}
+use Rattle.rule_laws.specs.rule_values.Values.{fits_ending}
+use Rattle.rule_laws.specs.rule_values.declared.kinds.Kind.{Kind}
 use Rattle.rule_laws.proofs.rules.local_rules.Followed.{begin_ptr as begin_makes}
 use Rattle.rule_laws.proofs.rules.woven_rules.Once.{names_below as numbers_below}
 

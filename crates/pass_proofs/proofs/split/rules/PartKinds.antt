@@ -1,14 +1,14 @@
 -- What the values of the functions are that a function becomes: old ones are what they were, new ones are what is told of them.
 use Rattle.std.proofs.Common.{◌≡◌, ◌⊎◌, inl, inr, ℕ, ◌+◌, ◌<◌, ◌≤◌, Bool, true, false, List, [], ◌∷◌, length, refl, sym, ap, ◌∙◌, subst, arith}
 use Rattle.std.specs.Prelude.{Option, Some}
-use Rattle.ir_base.specs.declared.outcome.Place.{Place}
+use Rattle.rule_laws.specs.ir_base.declared.outcome.Place.{Place}
 use Rattle.rule_laws.proofs.rules.local_rules.Fitting.{either}
-use Rattle.ir_parts.specs.Parts.{OfInstr, Part as FunctionPart}
-use Rattle.pass_intrinsics.specs.Cuts.{goes_on}
-use Rattle.pass_intrinsics.specs.Lowered.{lowered, number_of_save}
-use Rattle.pass_intrinsics.specs.Shapes.{given_name, index_name, slot_name}
-use Rattle.pass_intrinsics.specs.declared.shape.Part.{Part}
-use Rattle.pass_intrinsics.specs.declared.shape.Shape.{Shape}
+use Rattle.rule_laws.specs.ir_parts.Parts.{OfInstr, Part as FunctionPart}
+use Rattle.rule_laws.specs.pass_intrinsics.Cuts.{goes_on}
+use Rattle.rule_laws.specs.pass_intrinsics.Lowered.{lowered, number_of_save}
+use Rattle.rule_laws.specs.pass_intrinsics.Shapes.{given_name, index_name, slot_name}
+use Rattle.rule_laws.specs.pass_intrinsics.declared.shape.Part.{Part}
+use Rattle.rule_laws.specs.pass_intrinsics.declared.shape.Shape.{Shape}
 use Rattle.ir_model.specs.Ty.{Ty}
 use Rattle.ir_model.specs.TypeView.{bits_of}
 use Rattle.ir_model.specs.declared.instr.Instr.{Instr}
@@ -20,19 +20,19 @@ use Rattle.ir_model.specs.declared.module.Module.{Module}
 use Rattle.ir_model.specs.declared.operand.Arg.{Arg}
 use Rattle.ir_model.specs.declared.operand.Callee.{Callee}
 use Rattle.ir_model.specs.declared.operand.Intrinsic.{Intrinsic}
-use Rattle.rule_locals.specs.Intrinsics.{is_inner}
+use Rattle.rule_laws.specs.rule_locals.Intrinsics.{is_inner}
 use Rattle.pass_proofs.proofs.split.rules.Carried.{Becomes}
 use Rattle.rule_laws.proofs.rules.replaced.OwnKinds.{MakesIn, PhiMakesIn, kind_made_by, or_some}
 use Rattle.pass_proofs.proofs.split.rules.Local.{Lowers, Replaced, Same, lowers}
-use Rattle.ir_laws.proofs.facts.Truth.{first_no, second_no}
+use Rattle.rule_laws.proofs.ir_laws.facts.Truth.{first_no, second_no}
 use Rattle.rule_laws.proofs.rules.replaced.Passed.{IsAll, Passes}
 use Rattle.rule_laws.specs.frames.replaced.Kinds.{kinds_with}
 use Rattle.rule_laws.specs.frames.replaced.Replaced.{Address, Calls, Loads, New, Number, OfFrame, OfResult, Replaces, StoresCleanup, StoresDestroy, StoresIndex, StoresNull, StoresResume, Tests, Truth}
-use Rattle.run_laws.specs.changed.Changed.{Each}
-use Rattle.rule_types.specs.Signatures.{calls_otherwise}
-use Rattle.rule_values.specs.Kinds.{kind_of, result_kind, value_kind}
-use Rattle.rule_values.specs.declared.kinds.Kind.{Kind}
-use Rattle.ir_laws.proofs.facts.Members.{each_turns}
+use Rattle.rule_laws.specs.run_laws.changed.Changed.{Each}
+use Rattle.rule_laws.specs.rule_types.Signatures.{calls_otherwise}
+use Rattle.rule_laws.specs.rule_values.Kinds.{kind_of, result_kind, value_kind}
+use Rattle.rule_laws.specs.rule_values.declared.kinds.Kind.{Kind}
+use Rattle.rule_laws.proofs.ir_laws.facts.Members.{each_turns}
 
 -- what is said of blocks twice
 pub both_all : (Q A : Phi → Type 0) (P B : Instr → Type 0) (T C : Terminator → Type 0) (bs : List Block) → Each (IsAll Q P T) bs → Each (IsAll A B C) bs → Each (IsAll Q (λ (i : Instr). P i × B i) T) bs

@@ -3,20 +3,20 @@ use Rattle.std.proofs.Common.{◌≡◌, ◌⊎◌, inl, inr, ℕ, ◌+◌, ◌<
 use Rattle.std.proofs.lemmas.Bool.{lt-ltb}
 use Rattle.std.specs.List.{list_all}
 use Rattle.std.specs.Prelude.{ℤ, None, Option, Some, is_some, map, nat_lt, not, pos, ◌&&◌}
-use Rattle.ir_base.specs.declared.outcome.Place.{Place}
+use Rattle.rule_laws.specs.ir_base.declared.outcome.Place.{Place}
 use Rattle.pass_split.specs.Parts.{entry_term}
 use Rattle.pass_split.specs.Pieces.{redirected_case, redirected_term}
 use Rattle.rule_laws.proofs.rules.local_rules.Defined.{value_defined}
 use Rattle.rule_laws.proofs.rules.local_rules.Fitting.{either}
-use Rattle.ir_laws.proofs.facts.Truth.{and_both, and_first, and_second, holds, first_no, second_no}
-use Rattle.flow_solver.specs.Paths.{IsListed}
-use Rattle.ir_parts.specs.Contents.{arg_operands, ending_operands, instr_operands, part_operands}
-use Rattle.ir_parts.specs.Parts.{Ending, Head, OfInstr, OfPhi, Part as FunctionPart}
-use Rattle.pass_intrinsics.specs.Cuts.{goes_on}
-use Rattle.pass_intrinsics.specs.Lowered.{address, lowered, number_of_save}
-use Rattle.pass_intrinsics.specs.Shapes.{index_bytes, index_name, slot_name}
-use Rattle.pass_intrinsics.specs.declared.shape.Part.{Part}
-use Rattle.pass_intrinsics.specs.declared.shape.Shape.{Shape}
+use Rattle.rule_laws.proofs.ir_laws.facts.Truth.{and_both, and_first, and_second, holds, first_no, second_no}
+use Rattle.rule_laws.specs.flow_solver.Paths.{IsListed}
+use Rattle.rule_laws.specs.ir_parts.Contents.{arg_operands, ending_operands, instr_operands, part_operands}
+use Rattle.rule_laws.specs.ir_parts.Parts.{Ending, Head, OfInstr, OfPhi, Part as FunctionPart}
+use Rattle.rule_laws.specs.pass_intrinsics.Cuts.{goes_on}
+use Rattle.rule_laws.specs.pass_intrinsics.Lowered.{address, lowered, number_of_save}
+use Rattle.rule_laws.specs.pass_intrinsics.Shapes.{index_bytes, index_name, slot_name}
+use Rattle.rule_laws.specs.pass_intrinsics.declared.shape.Part.{Part}
+use Rattle.rule_laws.specs.pass_intrinsics.declared.shape.Shape.{Shape}
 use Rattle.ir_model.specs.Ty.{Ty, int, ptr}
 use Rattle.ir_model.specs.TypeView.{bits_of}
 use Rattle.ir_model.specs.declared.instr.Case.{Case}
@@ -30,11 +30,11 @@ use Rattle.ir_model.specs.declared.operand.Arg.{Arg}
 use Rattle.ir_model.specs.declared.operand.Callee.{Callee}
 use Rattle.ir_model.specs.declared.operand.Intrinsic.{Intrinsic}
 use Rattle.ir_model.specs.declared.operand.Operand.{Operand}
-use Rattle.ir_locals.specs.Tables.{or_first}
-use Rattle.rule_names.specs.Known.{is_label, is_value, knows_operand, names_unknown}
+use Rattle.rule_laws.specs.ir_locals.Tables.{or_first}
+use Rattle.rule_laws.specs.rule_names.Known.{is_label, is_value, knows_operand, names_unknown}
 use Rattle.rule_laws.specs.frames.same_names.Parts.{HasPartsOf}
 use Rattle.pass_proofs.proofs.split.rules.Carried.{Carries, IsPhiOf}
-use Rattle.ir_laws.proofs.paths.replaced.Known.{listed_mapped, of_listed}
+use Rattle.rule_laws.proofs.ir_laws.paths.replaced.Known.{listed_mapped, of_listed}
 use Rattle.rule_laws.proofs.rules.replaced.Known.{operands_before}
 use Rattle.pass_proofs.proofs.split.rules.Local.{Lowers, Replaced, Same, lowers}
 use Rattle.rule_laws.proofs.frames.replaced.Modules.{instr_there}
@@ -42,16 +42,16 @@ use Rattle.pass_proofs.proofs.split.rules.PartKinds.{AreNewKinds}
 use Rattle.rule_laws.specs.frames.replaced.Kinds.{kinds_with}
 use Rattle.rule_laws.specs.frames.replaced.Parted.{IsSmall}
 use Rattle.rule_laws.specs.frames.replaced.Replaced.{Address, BackToFrame, Calls, First, Frame, Given, IsDistance, IsPointer, Loads, NoFrame, Nothing, Number, OfDestroy, OfIndex, OfParameter, OfPromise, Replaces, Second, StoresCleanup, StoresDestroy, StoresIndex, StoresNull, StoresResume, Tests, Truth}
-use Rattle.run_laws.specs.changed.Changed.{Each}
-use Rattle.rule_types.specs.Signatures.{calls_otherwise}
-use Rattle.rule_values.specs.Fits.{fits, fits_arg, fits_integer, fits_kind, is_literal, is_scalar}
-use Rattle.rule_values.specs.Instrs.{fits_call, fits_called, fits_instr, fits_result, is_passed, passes}
-use Rattle.rule_values.specs.Kinds.{value_kind}
-use Rattle.rule_values.specs.Switches.{any_twice, bits_in, case_word, fits_case}
-use Rattle.rule_values.specs.Values.{breaks_values, fits_ending, fits_part, fits_phi, takes}
-use Rattle.rule_values.specs.declared.kinds.Kind.{Kind}
+use Rattle.rule_laws.specs.run_laws.changed.Changed.{Each}
+use Rattle.rule_laws.specs.rule_types.Signatures.{calls_otherwise}
+use Rattle.rule_laws.specs.rule_values.Fits.{fits, fits_arg, fits_integer, fits_kind, is_literal, is_scalar}
+use Rattle.rule_laws.specs.rule_values.Instrs.{fits_call, fits_called, fits_instr, fits_result, is_passed, passes}
+use Rattle.rule_laws.specs.rule_values.Kinds.{value_kind}
+use Rattle.rule_laws.specs.rule_values.Switches.{any_twice, bits_in, case_word, fits_case}
+use Rattle.rule_laws.specs.rule_values.Values.{breaks_values, fits_ending, fits_part, fits_phi, takes}
+use Rattle.rule_laws.specs.rule_values.declared.kinds.Kind.{Kind}
 use Rattle.rule_laws.proofs.rules.woven_rules.Alike.{IsAlike, Local as AlikeLocal, Other as AlikeOther, fits_alike, instr_alike, term_alike}
-use Rattle.ir_laws.proofs.facts.Members.{each_passes, each_turns}
+use Rattle.rule_laws.proofs.ir_laws.facts.Members.{each_passes, each_turns}
 use Rattle.rule_laws.proofs.rules.woven_rules.Operands.{instr_itself, term_itself}
 use Rattle.rule_laws.proofs.rules.replaced.PartValues.{is_return, misfits}
 

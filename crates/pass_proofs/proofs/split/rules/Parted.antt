@@ -5,13 +5,13 @@ use Rattle.pass_split.specs.Parts.{back_blocks, done_block, entry_instrs, entry_
 use Rattle.pass_split.specs.Pieces.{begins_again, pieced_phi, redirected_term}
 use Rattle.pass_split.specs.Reached.{is_flagged, kept_block, kept_blocks, kept_phi, reached}
 use Rattle.pass_split.specs.declared.origin.Origin.{Origin}
-use Rattle.ir_laws.proofs.facts.Members.{each_joined, each_filtered, each_mapped}
-use Rattle.pass_intrinsics.specs.Cuts.{cut_at, cut_call, goes_on, marks_save, next_suspend, transfers}
-use Rattle.pass_intrinsics.specs.Lowered.{lowered, names_taken, number_of_save}
-use Rattle.pass_intrinsics.specs.declared.cuts.Cut.{Cut}
-use Rattle.pass_intrinsics.specs.declared.shape.Part.{Part}
-use Rattle.pass_intrinsics.specs.declared.shape.Shape.{Shape}
-use Rattle.pass_intrinsics.specs.declared.shape.SuspendPoint.{SuspendPoint}
+use Rattle.rule_laws.proofs.ir_laws.facts.Members.{each_joined, each_filtered, each_mapped}
+use Rattle.rule_laws.specs.pass_intrinsics.Cuts.{cut_at, cut_call, goes_on, marks_save, next_suspend, transfers}
+use Rattle.rule_laws.specs.pass_intrinsics.Lowered.{lowered, names_taken, number_of_save}
+use Rattle.rule_laws.specs.pass_intrinsics.declared.cuts.Cut.{Cut}
+use Rattle.rule_laws.specs.pass_intrinsics.declared.shape.Part.{Part}
+use Rattle.rule_laws.specs.pass_intrinsics.declared.shape.Shape.{Shape}
+use Rattle.rule_laws.specs.pass_intrinsics.declared.shape.SuspendPoint.{SuspendPoint}
 use Rattle.ir_model.specs.declared.instr.Instr.{Instr}
 use Rattle.ir_model.specs.declared.instr.Phi.{Phi}
 use Rattle.ir_model.specs.declared.instr.Terminator.{Terminator}
@@ -21,7 +21,7 @@ use Rattle.ir_model.specs.declared.operand.Callee.{Callee}
 use Rattle.ir_model.specs.declared.operand.Intrinsic.{Intrinsic}
 use Rattle.rule_laws.proofs.rules.replaced.Passed.{IsAll}
 use Rattle.pass_proofs.specs.split.rules.Pieced.{ArePieces, ArePiecesOf, BeginsAgain, Ends, Marks, NoBlock, OneBlock, Returns, Stays, Suspends, Transfers}
-use Rattle.run_laws.specs.changed.Changed.{Each}
+use Rattle.rule_laws.specs.run_laws.changed.Changed.{Each}
 
 -- ---- where a block ends with a return, the part goes on behind a suspend
 

@@ -2,15 +2,15 @@
 use Rattle.std.proofs.Common.{◌≡◌, ℕ, true, sym, ap, ◌∙◌, subst}
 use Rattle.std.specs.Prelude.{filter, slice_get}
 use Rattle.pass_split.specs.Reached.{is_flagged, kept_block, pruned, reached, targets_at, targets_in}
-use Rattle.flow_solver.specs.Paths.{IsListed}
+use Rattle.rule_laws.specs.flow_solver.Paths.{IsListed}
 use Rattle.ir_model.specs.declared.module.Block.{Block}
 use Rattle.ir_model.specs.declared.module.Function.{Function}
-use Rattle.ir_paths.specs.Paths.{targets}
-use Rattle.ir_laws.proofs.paths.replaced.Known.{listed_mapped}
+use Rattle.rule_laws.specs.ir_paths.Paths.{targets}
+use Rattle.rule_laws.proofs.ir_laws.paths.replaced.Known.{listed_mapped}
 use Rattle.pass_proofs.proofs.split.rules.Reached.{flagged_is_led, led_is_flagged}
 use Rattle.pass_proofs.specs.split.rules.Reached.{Edge, HasOwnBlocks, HasTabledLabels}
-use Rattle.ir_laws.proofs.paths.edges.Lists.{from_filtered, from_mapped, to_filtered}
-use Rattle.ir_laws.proofs.paths.uses.Paths.{place_of}
+use Rattle.rule_laws.proofs.ir_laws.paths.edges.Lists.{from_filtered, from_mapped, to_filtered}
+use Rattle.rule_laws.proofs.ir_laws.paths.uses.Paths.{place_of}
 
 -- ---- blocks that stay
 

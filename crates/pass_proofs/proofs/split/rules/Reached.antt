@@ -2,15 +2,15 @@
 use Rattle.std.proofs.Common.{◌≡◌, ◌⊎◌, inl, inr, ⊎_elim, ℕ, zero, suc, ◌+◌, ◌<◌, ◌≤◌, Bool, true, false, List, [], ◌∷◌, length, refl, sym, ap, ◌∙◌, subst, arith}
 use Rattle.std.specs.Prelude.{None, Option, Some, replicate, slice_get, slice_set, if◌then◌else◌}
 use Rattle.pass_split.specs.Reached.{edges_of, entry_of, flag_or_false, flagged_within, is_flagged, piled, reached, targets_at, targets_in, todo_after}
-use Rattle.ir_laws.proofs.facts.Lists.{set_here, set_length, set_other, found_label}
-use Rattle.flow_solver.specs.Paths.{IsListed}
+use Rattle.rule_laws.proofs.ir_laws.facts.Lists.{set_here, set_length, set_other, found_label}
+use Rattle.rule_laws.specs.flow_solver.Paths.{IsListed}
 use Rattle.ir_model.specs.Names.{position_of}
 use Rattle.ir_model.specs.declared.module.Block.{Block}
 use Rattle.ir_model.specs.declared.module.Function.{Function}
-use Rattle.ir_paths.specs.Paths.{targets}
+use Rattle.rule_laws.specs.ir_paths.Paths.{targets}
 use Rattle.pass_proofs.specs.split.rules.Reached.{Edge, Entry, HasTabledLabels, IsLedTo, IsTabled}
-use Rattle.run_laws.specs.changed.Changed.{Each}
-use Rattle.ir_laws.proofs.facts.Truth.{is_number}
+use Rattle.rule_laws.specs.run_laws.changed.Changed.{Each}
+use Rattle.rule_laws.proofs.ir_laws.facts.Truth.{is_number}
 
 -- ---- flags
 

@@ -3,23 +3,23 @@ use Rattle.std.proofs.Common.{◌≡◌, ◌⊎◌, inl, inr, ℕ, Bool, true, f
 use Rattle.std.proofs.lemmas.List.Folds.{list_all-append}
 use Rattle.std.specs.List.{list_all}
 use Rattle.std.specs.Prelude.{None, Option, Some, is_some, not, ◌&&◌, ◌||◌}
-use Rattle.ir_base.specs.declared.outcome.Place.{Place}
+use Rattle.rule_laws.specs.ir_base.declared.outcome.Place.{Place}
 use Rattle.pass_split.specs.Parts.{given_params, plain_of, plain_shape}
 use Rattle.rule_laws.proofs.rules.local_rules.Carried.{passing}
 use Rattle.rule_laws.proofs.rules.local_rules.Fitting.{either, no_either}
 use Rattle.rule_laws.proofs.rules.local_rules.Names.{numbers}
-use Rattle.ir_laws.proofs.facts.Truth.{and_both, and_first, and_second, holds, first_no}
+use Rattle.rule_laws.proofs.ir_laws.facts.Truth.{and_both, and_first, and_second, holds, first_no}
 use Rattle.rule_laws.proofs.rules.local_rules.Woven.{apart_names}
-use Rattle.ir_laws.proofs.paths.source_rules.Locals.{Apart}
+use Rattle.rule_laws.proofs.ir_laws.paths.source_rules.Locals.{Apart}
 use Rattle.rule_laws.proofs.rules.source_rules.Locals.{names_are}
-use Rattle.frame_layout.specs.declared.layout.Layout.{Layout}
-use Rattle.ir_parts.specs.Locals.{locals_of}
-use Rattle.ir_parts.specs.Parts.{Ending, OfInstr, OfPhi, Part as FunctionPart, Signature, first_part, function_place, parts_of}
+use Rattle.rule_laws.specs.frame_layout.declared.layout.Layout.{Layout}
+use Rattle.rule_laws.specs.ir_parts.Locals.{locals_of}
+use Rattle.rule_laws.specs.ir_parts.Parts.{Ending, OfInstr, OfPhi, Part as FunctionPart, Signature, first_part, function_place, parts_of}
 use Rattle.rule_laws.specs.rules.function_rules.Kept.{KeepsFunctionRules}
-use Rattle.pass_intrinsics.specs.Cuts.{goes_on}
-use Rattle.pass_intrinsics.specs.Shapes.{first_name, given_name, shape_of}
-use Rattle.pass_intrinsics.specs.declared.shape.Part.{Part}
-use Rattle.pass_intrinsics.specs.declared.shape.Shape.{Shape}
+use Rattle.rule_laws.specs.pass_intrinsics.Cuts.{goes_on}
+use Rattle.rule_laws.specs.pass_intrinsics.Shapes.{first_name, given_name, shape_of}
+use Rattle.rule_laws.specs.pass_intrinsics.declared.shape.Part.{Part}
+use Rattle.rule_laws.specs.pass_intrinsics.declared.shape.Shape.{Shape}
 use Rattle.ir_model.specs.Calls.{first_result}
 use Rattle.ir_model.specs.Ty.{Ty, ptr}
 use Rattle.ir_model.specs.declared.instr.Instr.{Instr}
@@ -29,10 +29,10 @@ use Rattle.ir_model.specs.declared.module.Function.{Function}
 use Rattle.ir_model.specs.declared.module.Module.{Module}
 use Rattle.ir_model.specs.declared.module.Param.{Param}
 use Rattle.ir_model.specs.declared.operand.Intrinsic.{Intrinsic}
-use Rattle.rule_locals.specs.Instrs.{on_instr}
-use Rattle.rule_locals.specs.Intrinsics.{calls_inner, misplaces}
-use Rattle.rule_names.specs.Known.{first_unknown, is_label, is_value, names_unknown}
-use Rattle.rule_names.specs.declared.stage.Stage.{Stage}
+use Rattle.rule_laws.specs.rule_locals.Instrs.{on_instr}
+use Rattle.rule_laws.specs.rule_locals.Intrinsics.{calls_inner, misplaces}
+use Rattle.rule_laws.specs.rule_names.Known.{first_unknown, is_label, is_value, names_unknown}
+use Rattle.rule_laws.specs.rule_names.declared.stage.Stage.{Stage}
 use Rattle.rule_laws.specs.frames.same_names.Parts.{HasPartsOf}
 use Rattle.pass_proofs.proofs.split.rules.Carried.{part_all, part_carried, plain_all, plain_carried}
 use Rattle.pass_proofs.proofs.split.rules.Instructions.{no_saves}
@@ -48,12 +48,12 @@ use Rattle.rule_laws.specs.frames.replaced.Kinds.{kinds_with, part_kind, plain_k
 use Rattle.pass_proofs.specs.split.rules.Parted.{IsCleanup, IsDestroy, IsGivenRamp, IsPartOf, IsRamp, IsResume}
 use Rattle.rule_laws.specs.frames.replaced.Parted.{IsSmall}
 use Rattle.rule_laws.specs.rules.replaced.Returns.{ReturnsNothing}
-use Rattle.run_laws.specs.changed.Changed.{Each}
-use Rattle.rule_types.specs.Signatures.{calls_otherwise}
-use Rattle.rule_values.specs.Kinds.{kind_of, value_kind}
-use Rattle.rule_values.specs.Values.{breaks_values, first_wrong_value, fits_signature, has_scalar, is_scalar_or_void}
-use Rattle.rule_values.specs.declared.kinds.Kind.{Kind}
-use Rattle.ir_laws.proofs.facts.Members.{each_joined, each_turns}
+use Rattle.rule_laws.specs.run_laws.changed.Changed.{Each}
+use Rattle.rule_laws.specs.rule_types.Signatures.{calls_otherwise}
+use Rattle.rule_laws.specs.rule_values.Kinds.{kind_of, value_kind}
+use Rattle.rule_laws.specs.rule_values.Values.{breaks_values, first_wrong_value, fits_signature, has_scalar, is_scalar_or_void}
+use Rattle.rule_laws.specs.rule_values.declared.kinds.Kind.{Kind}
+use Rattle.rule_laws.proofs.ir_laws.facts.Members.{each_joined, each_turns}
 
 -- ---- what is asked of the function
 

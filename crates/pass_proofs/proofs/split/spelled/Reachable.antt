@@ -6,15 +6,15 @@ use Rattle.pass_split.specs.Parts.{done_block, origins_for, part_blocks, part_na
 use Rattle.pass_split.specs.Pieces.{next_after, pieced_phi, pieces_of}
 use Rattle.pass_split.specs.Reached.{is_flagged, kept_block, kept_phi, pruned, reached}
 use Rattle.pass_split.specs.declared.origin.Origin.{Origin}
-use Rattle.rule_phis.specs.Edges.{fits_edges, has, predecessors}
-use Rattle.ir_laws.proofs.facts.Truth.{and_first}
-use Rattle.flow_solver.specs.Paths.{IsListed}
-use Rattle.frame_layout.specs.declared.layout.Layout.{Layout}
-use Rattle.ir_laws.proofs.paths.woven_rules.Unbroken.{each_listed}
-use Rattle.pass_intrinsics.specs.Lowered.{names_taken}
-use Rattle.pass_intrinsics.specs.Shapes.{first_name, shape_of}
-use Rattle.pass_intrinsics.specs.declared.shape.Part.{Part}
-use Rattle.pass_intrinsics.specs.declared.shape.Shape.{Shape}
+use Rattle.rule_laws.specs.rule_phis.Edges.{fits_edges, has, predecessors}
+use Rattle.rule_laws.proofs.ir_laws.facts.Truth.{and_first}
+use Rattle.rule_laws.specs.flow_solver.Paths.{IsListed}
+use Rattle.rule_laws.specs.frame_layout.declared.layout.Layout.{Layout}
+use Rattle.rule_laws.proofs.ir_laws.paths.woven_rules.Unbroken.{each_listed}
+use Rattle.rule_laws.specs.pass_intrinsics.Lowered.{names_taken}
+use Rattle.rule_laws.specs.pass_intrinsics.Shapes.{first_name, shape_of}
+use Rattle.rule_laws.specs.pass_intrinsics.declared.shape.Part.{Part}
+use Rattle.rule_laws.specs.pass_intrinsics.declared.shape.Shape.{Shape}
 use Rattle.ir_model.specs.Names.{position_of}
 use Rattle.ir_model.specs.declared.instr.Incoming.{Incoming}
 use Rattle.ir_model.specs.declared.instr.Instr.{Instr}
@@ -23,24 +23,24 @@ use Rattle.ir_model.specs.declared.instr.Terminator.{Terminator}
 use Rattle.ir_model.specs.declared.module.Block.{Block}
 use Rattle.ir_model.specs.declared.module.Function.{Function}
 use Rattle.ir_model.specs.declared.module.Module.{Module}
-use Rattle.ir_paths.specs.Paths.{targets}
+use Rattle.rule_laws.specs.ir_paths.Paths.{targets}
 use Rattle.pass_proofs.proofs.split.edges.Cuttable.{IsCuttable}
 use Rattle.pass_proofs.proofs.split.edges.Entered.{to_predecessors}
 use Rattle.pass_proofs.proofs.split.edges.Entries.{edge_from, entry_flagged, entry_listed}
 use Rattle.pass_proofs.proofs.split.edges.Kept.{IsKept, kept_home, kept_phi_fits, kept_there}
 use Rattle.pass_proofs.proofs.split.edges.Labels.{done_there, whole}
-use Rattle.ir_laws.proofs.paths.edges.Lists.{listed_at}
-use Rattle.ir_laws.proofs.paths.uses.Paths.{place_of}
+use Rattle.rule_laws.proofs.ir_laws.paths.edges.Lists.{listed_at}
+use Rattle.rule_laws.proofs.ir_laws.paths.uses.Paths.{place_of}
 use Rattle.pass_proofs.proofs.split.edges.Sources.{cuttable, pruned_part}
 use Rattle.pass_proofs.proofs.split.edges.Targets.{part_own, part_tabled}
 use Rattle.pass_proofs.proofs.split.rules.Cutting.{cut_blocks}
 use Rattle.pass_proofs.proofs.split.rules.Reached.{flagged_is_led, led_is_flagged}
-use Rattle.ir_laws.specs.facts.spelled.Filled.{HasFilledPhis, HasNoEntryPhis, IsFilled}
+use Rattle.rule_laws.specs.ir_laws.facts.spelled.Filled.{HasFilledPhis, HasNoEntryPhis, IsFilled}
 use Rattle.pass_proofs.specs.split.rules.Parted.{IsPartOf}
 use Rattle.pass_proofs.specs.split.rules.Pieced.{ArePieces, ArePiecesOf, BeginsAgain, Ends, Marks, NoBlock, OneBlock, Returns, Stays, Suspends, Transfers}
 use Rattle.pass_proofs.specs.split.rules.Reached.{Edge, Entry, IsLedTo}
 use Rattle.pass_proofs.specs.split.rules.Splittable.{IsSplittable}
-use Rattle.run_laws.specs.changed.Changed.{Each}
+use Rattle.rule_laws.specs.run_laws.changed.Changed.{Each}
 
 -- ---- the first piece has the phis of its block
 

@@ -1,19 +1,19 @@
 -- The parts of a coroutine can be written where it can, and so can a function that is no coroutine, once it is turned.
 use Rattle.std.proofs.Common.{ℕ, zero, suc, ℤ, pos, ◌+◌, ◌-◌, Bool, true, false, List, [], ◌∷◌, ◌++◌, length, refl, sym, subst, arith}
 use Rattle.std.specs.Prelude.{None, Option, Some, codes, if◌then◌else◌, map, slice_get, slice_set}
-use Rattle.ir_base.specs.declared.name.Name.{Name}
-use Rattle.text_names.specs.Spelling.{IsName}
+use Rattle.rule_laws.specs.ir_base.declared.name.Name.{Name}
+use Rattle.rule_laws.specs.text_names.Spelling.{IsName}
 use Rattle.pass_split.specs.Parts.{back_name, begun_mark, case_of, cases_from, done_mark, entry_mark, frame_mark, given_mark, given_ramp_of, index_mark, instr_names, is_entered, later_part, mark_names, names_of, names_of_suspend, none_mark, origins_for, part_names, pass_name, plain_of, plain_shape, ramp_of, saved_name, slot_mark, suspend_names}
 use Rattle.pass_split.specs.Pieces.{next_after}
 use Rattle.pass_split.specs.Reached.{pruned}
-use Rattle.frame_layout.specs.declared.layout.Layout.{Layout}
-use Rattle.ir_laws.proofs.facts.Members.{each_joined, each_turns, joined_names}
-use Rattle.ir_parts.specs.Contents.{ending_types}
-use Rattle.pass_intrinsics.specs.Lowered.{address, allocates, begin_memory, begin_stores, call_pointer, destroy_call, destroyed_by, done_test, freed_by, is_final_at, load_pointer, lowered, number_of_save, operand_at, resume_call, resumed_by, save_or_none, set_address, set_number, set_truth, store_pointer, truth_of}
-use Rattle.pass_intrinsics.specs.Shapes.{first_name, given_name, shape_of}
-use Rattle.pass_intrinsics.specs.declared.shape.Part.{Part}
-use Rattle.pass_intrinsics.specs.declared.shape.Shape.{Shape}
-use Rattle.pass_intrinsics.specs.declared.shape.SuspendPoint.{SuspendPoint}
+use Rattle.rule_laws.specs.frame_layout.declared.layout.Layout.{Layout}
+use Rattle.rule_laws.proofs.ir_laws.facts.Members.{each_joined, each_turns, joined_names}
+use Rattle.rule_laws.specs.ir_parts.Contents.{ending_types}
+use Rattle.rule_laws.specs.pass_intrinsics.Lowered.{address, allocates, begin_memory, begin_stores, call_pointer, destroy_call, destroyed_by, done_test, freed_by, is_final_at, load_pointer, lowered, number_of_save, operand_at, resume_call, resumed_by, save_or_none, set_address, set_number, set_truth, store_pointer, truth_of}
+use Rattle.rule_laws.specs.pass_intrinsics.Shapes.{first_name, given_name, shape_of}
+use Rattle.rule_laws.specs.pass_intrinsics.declared.shape.Part.{Part}
+use Rattle.rule_laws.specs.pass_intrinsics.declared.shape.Shape.{Shape}
+use Rattle.rule_laws.specs.pass_intrinsics.declared.shape.SuspendPoint.{SuspendPoint}
 use Rattle.ir_model.specs.Names.{numbered}
 use Rattle.ir_model.specs.Ty.{Ty, int, ptr}
 use Rattle.ir_model.specs.declared.instr.Instr.{Instr}
@@ -26,7 +26,7 @@ use Rattle.ir_model.specs.declared.operand.Arg.{Arg}
 use Rattle.ir_model.specs.declared.operand.Callee.{Callee}
 use Rattle.ir_model.specs.declared.operand.Intrinsic.{Intrinsic}
 use Rattle.ir_model.specs.declared.operand.Operand.{Operand}
-use Rattle.ir_laws.proofs.facts.Lists.{numbered_named}
+use Rattle.rule_laws.proofs.ir_laws.facts.Lists.{numbered_named}
 use Rattle.rule_laws.proofs.frames.spelled.Names.{part_named}
 use Rattle.rule_laws.proofs.texts.spelled.Types.{byte_spelled, ptr_spelled, short_spelled, truth_spelled, width_spelled, word_spelled}
 use Rattle.pass_proofs.proofs.split.rules.Carried.{Becomes, part_all, plain_all}
@@ -35,7 +35,7 @@ use Rattle.rule_laws.proofs.rules.replaced.Passed.{IsAll}
 use Rattle.rule_laws.specs.texts.spelled.Spelled.{IsSpelled}
 use Rattle.rule_laws.specs.rules.spelled.Spelled.{IsSpelledBlock, IsSpelledFunction, IsSpelledInstr}
 use Rattle.pass_proofs.specs.split.rules.Parted.{IsCleanup, IsDestroy, IsGivenRamp, IsPartOf, IsRamp, IsResume}
-use Rattle.run_laws.specs.changed.Changed.{Each}
+use Rattle.rule_laws.specs.run_laws.changed.Changed.{Each}
 
 -- ---- the names of a coroutine's parts
 

@@ -1,29 +1,29 @@
 -- What the parts of a coroutine define are positions of their tables of names, and so is what a function that is no coroutine defines once it is turned.
 use Rattle.std.proofs.Common.{◌≡◌, ⊎_elim, inl, inr, ℕ, ◌+◌, ◌-◌, ◌<◌, ◌≤◌, Bool, true, false, List, [], ◌∷◌, ◌++◌, length, length-append, refl, sym, ap, subst, arith}
 use Rattle.std.specs.Prelude.{None, Option, Some, filter, if◌then◌else◌, map}
-use Rattle.ir_base.specs.declared.name.Name.{Name}
+use Rattle.rule_laws.specs.ir_base.declared.name.Name.{Name}
 use Rattle.pass_split.specs.Parts.{back_blocks, done_block, given_ramp_of, head_blocks, instr_names, later_head, later_part, origins_for, part_blocks, part_names, plain_of, plain_shape, ramp_of}
-use Rattle.pass_front.specs.Front.{allocas_of, is_alloca}
+use Rattle.rule_laws.specs.pass_front.Front.{allocas_of, is_alloca}
 use Rattle.pass_split.specs.Pieces.{is_begin, next_after, pieced_phi, pieces_of}
 use Rattle.pass_split.specs.Reached.{is_flagged, kept_block, kept_blocks, kept_phi, pruned, reached}
 use Rattle.pass_split.specs.declared.origin.Origin.{Origin}
-use Rattle.rule_uses.specs.Undefined.{params_of}
-use Rattle.ir_laws.proofs.facts.Members.{each_joined, each_filtered}
+use Rattle.rule_laws.specs.rule_uses.Undefined.{params_of}
+use Rattle.rule_laws.proofs.ir_laws.facts.Members.{each_joined, each_filtered}
 use Rattle.rule_laws.proofs.rules.local_rules.Names.{numbers}
 use Rattle.rule_laws.proofs.rules.source_rules.Locals.{block_names, made_by}
-use Rattle.ir_laws.proofs.paths.source_rules.Locals.{listed_either, listed_left, listed_right}
-use Rattle.ir_laws.proofs.facts.Lists.{phi_names, row_of}
+use Rattle.rule_laws.proofs.ir_laws.paths.source_rules.Locals.{listed_either, listed_left, listed_right}
+use Rattle.rule_laws.proofs.ir_laws.facts.Lists.{phi_names, row_of}
 use Rattle.rule_laws.specs.rules.source_rules.Named.{HasTabledLocals}
-use Rattle.flow_solver.specs.Paths.{IsListed}
-use Rattle.frame_layout.specs.declared.layout.Layout.{Layout}
+use Rattle.rule_laws.specs.flow_solver.Paths.{IsListed}
+use Rattle.rule_laws.specs.frame_layout.declared.layout.Layout.{Layout}
 use Rattle.rule_laws.proofs.rules.function_rules.Tabled.{tabled_by}
 use Rattle.rule_laws.proofs.rules.woven_rules.Once.{names_below}
-use Rattle.pass_intrinsics.specs.Cuts.{goes_on}
-use Rattle.pass_intrinsics.specs.Lowered.{lowered, names_for, names_taken, number_of_save, save_or_none}
-use Rattle.pass_intrinsics.specs.Shapes.{first_name, given_name, index_name, shape_of, slot_name}
-use Rattle.pass_intrinsics.specs.declared.shape.Part.{Part}
-use Rattle.pass_intrinsics.specs.declared.shape.Shape.{Shape}
-use Rattle.pass_intrinsics.specs.declared.shape.SuspendPoint.{SuspendPoint}
+use Rattle.rule_laws.specs.pass_intrinsics.Cuts.{goes_on}
+use Rattle.rule_laws.specs.pass_intrinsics.Lowered.{lowered, names_for, names_taken, number_of_save, save_or_none}
+use Rattle.rule_laws.specs.pass_intrinsics.Shapes.{first_name, given_name, index_name, shape_of, slot_name}
+use Rattle.rule_laws.specs.pass_intrinsics.declared.shape.Part.{Part}
+use Rattle.rule_laws.specs.pass_intrinsics.declared.shape.Shape.{Shape}
+use Rattle.rule_laws.specs.pass_intrinsics.declared.shape.SuspendPoint.{SuspendPoint}
 use Rattle.ir_model.specs.Ty.{Ty}
 use Rattle.ir_model.specs.declared.instr.Instr.{Instr}
 use Rattle.ir_model.specs.declared.instr.Phi.{Phi}
@@ -34,7 +34,7 @@ use Rattle.ir_model.specs.declared.module.Module.{Module}
 use Rattle.ir_model.specs.declared.operand.Arg.{Arg}
 use Rattle.ir_model.specs.declared.operand.Callee.{Callee}
 use Rattle.ir_model.specs.declared.operand.Intrinsic.{Intrinsic}
-use Rattle.ir_laws.proofs.paths.edges.Lists.{listed_at}
+use Rattle.rule_laws.proofs.ir_laws.paths.edges.Lists.{listed_at}
 use Rattle.pass_proofs.proofs.split.edges.Targets.{instr_names_long, names_are_long, tabled_label}
 use Rattle.pass_proofs.proofs.split.uses.Assembled.{ok}
 use Rattle.pass_proofs.proofs.split.uses.Rules.{begin_named, begin_there}
@@ -47,7 +47,7 @@ use Rattle.pass_proofs.proofs.split.rules.Parted.{rises}
 use Rattle.pass_proofs.specs.split.rules.Parted.{IsCleanup, IsDestroy, IsGivenRamp, IsPartOf, IsRamp, IsResume}
 use Rattle.pass_proofs.specs.split.rules.Pieced.{ArePieces, ArePiecesOf, BeginsAgain, Ends, Marks, NoBlock, OneBlock, Returns, Stays, Suspends, Transfers}
 use Rattle.pass_proofs.specs.split.rules.Splittable.{IsSplittable}
-use Rattle.run_laws.specs.changed.Changed.{Each}
+use Rattle.rule_laws.specs.run_laws.changed.Changed.{Each}
 
 module _ (limit : ℕ) where
   -- what an instruction makes is below the limit

@@ -5,17 +5,17 @@ use Rattle.pass_split.specs.Parts.{back_blocks, done_block, head_blocks, later_h
 use Rattle.pass_split.specs.Pieces.{comes_from, going_on, origin_in}
 use Rattle.pass_split.specs.Reached.{is_flagged, kept_block, kept_blocks, reached}
 use Rattle.pass_split.specs.declared.origin.Origin.{Origin}
-use Rattle.ir_laws.proofs.paths.source_rules.Locals.{Apart, in_row, listed_right}
+use Rattle.rule_laws.proofs.ir_laws.paths.source_rules.Locals.{Apart, in_row, listed_right}
 use Rattle.rule_laws.proofs.rules.source_rules.Locals.{block_names, own_label}
-use Rattle.ir_laws.proofs.facts.Lists.{row_of, label_found}
-use Rattle.rule_uses.specs.Undefined.{params_of}
-use Rattle.flow_solver.specs.Paths.{IsListed}
-use Rattle.frame_layout.specs.declared.layout.Layout.{Layout}
-use Rattle.pass_intrinsics.specs.Cuts.{goes_on}
-use Rattle.pass_intrinsics.specs.Shapes.{first_name, shape_of, suspends_of}
-use Rattle.pass_intrinsics.specs.declared.shape.Part.{Part}
-use Rattle.pass_intrinsics.specs.declared.shape.Shape.{Shape}
-use Rattle.pass_intrinsics.specs.declared.shape.SuspendPoint.{SuspendPoint}
+use Rattle.rule_laws.proofs.ir_laws.facts.Lists.{row_of, label_found}
+use Rattle.rule_laws.specs.rule_uses.Undefined.{params_of}
+use Rattle.rule_laws.specs.flow_solver.Paths.{IsListed}
+use Rattle.rule_laws.specs.frame_layout.declared.layout.Layout.{Layout}
+use Rattle.rule_laws.specs.pass_intrinsics.Cuts.{goes_on}
+use Rattle.rule_laws.specs.pass_intrinsics.Shapes.{first_name, shape_of, suspends_of}
+use Rattle.rule_laws.specs.pass_intrinsics.declared.shape.Part.{Part}
+use Rattle.rule_laws.specs.pass_intrinsics.declared.shape.Shape.{Shape}
+use Rattle.rule_laws.specs.pass_intrinsics.declared.shape.SuspendPoint.{SuspendPoint}
 use Rattle.ir_model.specs.Names.{position_of}
 use Rattle.ir_model.specs.declared.instr.Incoming.{Incoming}
 use Rattle.ir_model.specs.declared.instr.Phi.{Phi}
@@ -26,16 +26,16 @@ use Rattle.pass_proofs.proofs.split.edges.Cuttable.{HasBlock, IsCuttable}
 use Rattle.pass_proofs.proofs.split.edges.Labels.{part_different}
 use Rattle.pass_proofs.proofs.split.edges.Sources.{cuttable}
 use Rattle.pass_proofs.proofs.split.uses.Groups.{block_at_group, groups, has_pieces, pieces_joined}
-use Rattle.ir_laws.proofs.paths.uses.Groups.{joined, one_source, pieces_apart, source_of as group_of, source_there}
+use Rattle.rule_laws.proofs.ir_laws.paths.uses.Groups.{joined, one_source, pieces_apart, source_of as group_of, source_there}
 use Rattle.pass_proofs.proofs.split.uses.Origins.{from_piece, no_suspends, suspend_there}
 use Rattle.pass_proofs.proofs.split.uses.Paths.{IsPieced, listed_found}
-use Rattle.ir_laws.proofs.paths.uses.Paths.{place_of, there_listed}
+use Rattle.rule_laws.proofs.ir_laws.paths.uses.Paths.{place_of, there_listed}
 use Rattle.rule_laws.proofs.frames.uses.PhiEdges.{phi_source}
 use Rattle.pass_proofs.proofs.split.uses.Rules.{phi_plain, told}
 use Rattle.pass_proofs.proofs.split.uses.Sources.{NoSuspends}
-use Rattle.ir_laws.proofs.facts.uses.Sources.{label_of}
+use Rattle.rule_laws.proofs.ir_laws.facts.uses.Sources.{label_of}
 use Rattle.pass_proofs.proofs.split.uses.Walk.{IsCutUp}
-use Rattle.ir_laws.proofs.paths.replaced.Known.{of_listed}
+use Rattle.rule_laws.proofs.ir_laws.paths.replaced.Known.{of_listed}
 use Rattle.rule_laws.specs.frames.replaced.Splittable.{HasOwnEdges}
 use Rattle.pass_proofs.specs.split.rules.Splittable.{IsSplittable}
 use Rattle.rule_laws.proofs.rules.woven_rules.Once.{names_below}

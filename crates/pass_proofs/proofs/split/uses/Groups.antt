@@ -3,14 +3,14 @@ use Rattle.std.proofs.Common.{◌≡◌, ℕ, zero, suc, List, [], ◌∷◌, �
 use Rattle.std.specs.Prelude.{Some, map, slice_get}
 use Rattle.pass_split.specs.Pieces.{all_pieces, pieced_phi, pieces_of, piecing_of}
 use Rattle.pass_split.specs.declared.origin.Origin.{Origin}
-use Rattle.ir_laws.proofs.paths.source_rules.Locals.{Apart}
-use Rattle.pass_intrinsics.specs.declared.shape.Part.{Part}
-use Rattle.pass_intrinsics.specs.declared.shape.Shape.{Shape}
+use Rattle.rule_laws.proofs.ir_laws.paths.source_rules.Locals.{Apart}
+use Rattle.rule_laws.specs.pass_intrinsics.declared.shape.Part.{Part}
+use Rattle.rule_laws.specs.pass_intrinsics.declared.shape.Shape.{Shape}
 use Rattle.ir_model.specs.declared.module.Block.{Block}
 use Rattle.pass_proofs.proofs.split.uses.Sources.{HasPieces, IsFirst, first_piece}
 use Rattle.pass_proofs.proofs.split.rules.Cutting.{cut_block}
 use Rattle.pass_proofs.specs.split.rules.Pieced.{ArePieces}
-use Rattle.ir_laws.proofs.paths.uses.Groups.{joined, labels}
+use Rattle.rule_laws.proofs.ir_laws.paths.uses.Groups.{joined, labels}
 
 -- the pieces of each block
 abbrev pub groups : Shape → Part → List Origin → ℕ → List Block → List (List Block)

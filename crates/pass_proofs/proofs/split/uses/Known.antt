@@ -5,18 +5,18 @@ use Rattle.std.specs.Prelude.{None, Option, Some, filter, is_some, map, not, opt
 use Rattle.pass_split.specs.Reached.{entry_of, is_flagged, kept_block, kept_blocks, kept_phi, pruned, reached}
 use Rattle.rule_laws.proofs.rules.counted.Lists.{made_grows}
 use Rattle.rule_laws.proofs.rules.counted.Members.{made_either}
-use Rattle.rule_uses.specs.Undefined.{Entry as EntryBlock, Next, ReachesWithout, params_of}
-use Rattle.rule_uses.specs.Uses.{block_values, local_of, locals_in, made_by_instrs, made_by_phis, phi_values, values_at, values_in}
-use Rattle.ir_laws.proofs.facts.Lists.{get_within, phi_names, row_of, label_found}
-use Rattle.ir_laws.proofs.facts.Truth.{itself}
+use Rattle.rule_laws.specs.rule_uses.Undefined.{Entry as EntryBlock, Next, ReachesWithout, params_of}
+use Rattle.rule_laws.specs.rule_uses.Uses.{block_values, local_of, locals_in, made_by_instrs, made_by_phis, phi_values, values_at, values_in}
+use Rattle.rule_laws.proofs.ir_laws.facts.Lists.{get_within, phi_names, row_of, label_found}
+use Rattle.rule_laws.proofs.ir_laws.facts.Truth.{itself}
 use Rattle.rule_laws.proofs.rules.renamed.Uses.{block_edge}
 use Rattle.rule_laws.proofs.rules.local_rules.Carried.{none_of}
 use Rattle.rule_laws.proofs.rules.local_rules.Defined.{label_defined, value_defined}
-use Rattle.ir_laws.proofs.paths.source_rules.Locals.{listed_either, listed_right}
+use Rattle.rule_laws.proofs.ir_laws.paths.source_rules.Locals.{listed_either, listed_right}
 use Rattle.rule_laws.proofs.rules.source_rules.Locals.{made_by}
-use Rattle.flow_solver.specs.Paths.{IsListed}
-use Rattle.ir_parts.specs.Contents.{ending_labels, ending_operands, instr_operands, result_of}
-use Rattle.ir_parts.specs.Parts.{OfInstr, OfPhi, parts_of}
+use Rattle.rule_laws.specs.flow_solver.Paths.{IsListed}
+use Rattle.rule_laws.specs.ir_parts.Contents.{ending_labels, ending_operands, instr_operands, result_of}
+use Rattle.rule_laws.specs.ir_parts.Parts.{OfInstr, OfPhi, parts_of}
 use Rattle.ir_model.specs.Names.{first_where, position_of}
 use Rattle.ir_model.specs.declared.instr.Incoming.{Incoming}
 use Rattle.ir_model.specs.declared.instr.Instr.{Instr}
@@ -25,24 +25,24 @@ use Rattle.ir_model.specs.declared.module.Block.{Block}
 use Rattle.ir_model.specs.declared.module.Function.{Function}
 use Rattle.ir_model.specs.declared.module.Param.{Param}
 use Rattle.ir_model.specs.declared.operand.Operand.{Operand}
-use Rattle.ir_paths.specs.Paths.{targets}
-use Rattle.ir_locals.specs.Tables.{first_in, or_first}
-use Rattle.rule_names.specs.Known.{is_label, is_value}
+use Rattle.rule_laws.specs.ir_paths.Paths.{targets}
+use Rattle.rule_laws.specs.ir_locals.Tables.{first_in, or_first}
+use Rattle.rule_laws.specs.rule_names.Known.{is_label, is_value}
 use Rattle.rule_laws.proofs.rules.uses.Fine.{IsUnusedIn}
-use Rattle.ir_laws.proofs.paths.edges.Lists.{from_filtered, to_filtered, all_of as all_true}
-use Rattle.ir_laws.proofs.paths.uses.Paths.{from_mapped, place_of, there_listed}
+use Rattle.rule_laws.proofs.ir_laws.paths.edges.Lists.{from_filtered, to_filtered, all_of as all_true}
+use Rattle.rule_laws.proofs.ir_laws.paths.uses.Paths.{from_mapped, place_of, there_listed}
 use Rattle.pass_proofs.proofs.split.uses.Paths.{listed_found}
 use Rattle.rule_laws.proofs.rules.uses.Unused.{IsUnused}
-use Rattle.ir_laws.proofs.paths.replaced.Known.{listed_mapped}
+use Rattle.rule_laws.proofs.ir_laws.paths.replaced.Known.{listed_mapped}
 use Rattle.rule_laws.proofs.rules.replaced.OwnKinds.{made_itself}
 use Rattle.rule_laws.proofs.rules.replaced.Passed.{AllPassingBlock, PassesAll, blocks_all}
 use Rattle.pass_proofs.proofs.split.rules.Pruned.{kept_targets}
 use Rattle.pass_proofs.proofs.split.rules.Reached.{flagged_is_led, led_is_flagged}
 use Rattle.rule_laws.specs.rules.replaced.Instructions.{KnowsItsLocals, is_there, names_lost}
 use Rattle.pass_proofs.specs.split.rules.Reached.{Edge, Entry, HasOwnBlocks, HasTabledLabels, IsLedTo}
-use Rattle.rule_values.specs.Kinds.{block_kind, instr_kind, kind_if, kind_of, param_kind, phi_kind}
-use Rattle.rule_values.specs.declared.kinds.Kind.{Kind}
-use Rattle.ir_laws.proofs.paths.woven_rules.Unbroken.{each_listed as each_of}
+use Rattle.rule_laws.specs.rule_values.Kinds.{block_kind, instr_kind, kind_if, kind_of, param_kind, phi_kind}
+use Rattle.rule_laws.specs.rule_values.declared.kinds.Kind.{Kind}
+use Rattle.rule_laws.proofs.ir_laws.paths.woven_rules.Unbroken.{each_listed as each_of}
 use Rattle.rule_laws.proofs.rules.known_labels.Rules.{labels_spelt as labels_same}
 use Rattle.pass_proofs.proofs.split.crossing.Ending.{block_there as target_in}
 

@@ -1,24 +1,24 @@
 -- The parts that go on behind a suspend make what they use.
 use Rattle.std.proofs.Common.{◌≡◌, inl, inr, ⊎_elim, ℕ, zero, suc, ◌+◌, Bool, true, false, List, [], ◌∷◌, ◌++◌, refl, sym, ap, ◌∙◌, subst, arith}
 use Rattle.std.specs.Prelude.{Some, filter, if◌then◌else◌, map, pos, slice_get}
-use Rattle.ir_base.specs.declared.name.Name.{Name}
+use Rattle.rule_laws.specs.ir_base.declared.name.Name.{Name}
 use Rattle.pass_split.specs.Parts.{back_block, back_blocks, case_of, cases_from, done_block, entry_block, entry_instrs, is_entered, later_head, later_part, none_block, or_zero, origins_for}
-use Rattle.pass_front.specs.Front.{allocas_of, is_alloca}
+use Rattle.rule_laws.specs.pass_front.Front.{allocas_of, is_alloca}
 use Rattle.pass_split.specs.Pieces.{going_on}
 use Rattle.pass_split.specs.Reached.{is_flagged, kept_block, kept_blocks, pruned, reached}
 use Rattle.pass_split.specs.declared.origin.Origin.{Origin}
-use Rattle.rule_uses.specs.Undefined.{params_of}
-use Rattle.rule_uses.specs.Uses.{locals_in, made_by_instrs}
+use Rattle.rule_laws.specs.rule_uses.Undefined.{params_of}
+use Rattle.rule_laws.specs.rule_uses.Uses.{locals_in, made_by_instrs}
 use Rattle.rule_laws.proofs.rules.source_rules.Locals.{made_by}
-use Rattle.ir_laws.proofs.facts.Lists.{row_of, label_found}
-use Rattle.flow_solver.specs.Paths.{IsListed}
-use Rattle.frame_layout.specs.declared.layout.Layout.{Layout}
-use Rattle.pass_intrinsics.specs.Cuts.{goes_on}
-use Rattle.pass_intrinsics.specs.Lowered.{address}
-use Rattle.pass_intrinsics.specs.Shapes.{back_label, first_name, index_bytes, index_name, none_label, shape_of, slot_name}
-use Rattle.pass_intrinsics.specs.declared.shape.Part.{Part}
-use Rattle.pass_intrinsics.specs.declared.shape.Shape.{Shape}
-use Rattle.pass_intrinsics.specs.declared.shape.SuspendPoint.{SuspendPoint}
+use Rattle.rule_laws.proofs.ir_laws.facts.Lists.{row_of, label_found}
+use Rattle.rule_laws.specs.flow_solver.Paths.{IsListed}
+use Rattle.rule_laws.specs.frame_layout.declared.layout.Layout.{Layout}
+use Rattle.rule_laws.specs.pass_intrinsics.Cuts.{goes_on}
+use Rattle.rule_laws.specs.pass_intrinsics.Lowered.{address}
+use Rattle.rule_laws.specs.pass_intrinsics.Shapes.{back_label, first_name, index_bytes, index_name, none_label, shape_of, slot_name}
+use Rattle.rule_laws.specs.pass_intrinsics.declared.shape.Part.{Part}
+use Rattle.rule_laws.specs.pass_intrinsics.declared.shape.Shape.{Shape}
+use Rattle.rule_laws.specs.pass_intrinsics.declared.shape.SuspendPoint.{SuspendPoint}
 use Rattle.ir_model.specs.Names.{position_of}
 use Rattle.ir_model.specs.Ty.{int}
 use Rattle.ir_model.specs.TypeView.{bits_of}
@@ -36,13 +36,13 @@ use Rattle.pass_proofs.proofs.split.uses.Groups.{groups}
 use Rattle.rule_laws.proofs.frames.uses.LaterQuiet.{IsQuietAt, IsQuietFrom, later_quiet}
 use Rattle.rule_laws.proofs.rules.uses.RampMade.{no_operands}
 use Rattle.pass_proofs.proofs.split.uses.Paths.{Comes, IsPieced, end_unused, listed_found, phi_unused, unused}
-use Rattle.ir_laws.proofs.paths.uses.Paths.{there_listed}
+use Rattle.rule_laws.proofs.ir_laws.paths.uses.Paths.{there_listed}
 use Rattle.rule_laws.proofs.rules.uses.Plain.{IsPlain}
 use Rattle.rule_laws.proofs.frames.uses.Lowering.{ComesBy, OfBegin, OfGiven, OfOperand}
 use Rattle.rule_laws.proofs.frames.uses.Quiet.{IsQuiet}
 use Rattle.pass_proofs.proofs.split.uses.Rules.{begin_named}
-use Rattle.ir_laws.proofs.paths.uses.Sources.{IsIn}
-use Rattle.ir_laws.proofs.facts.Numbers.{Source}
+use Rattle.rule_laws.proofs.ir_laws.paths.uses.Sources.{IsIn}
+use Rattle.rule_laws.proofs.ir_laws.facts.Numbers.{Source}
 use Rattle.pass_proofs.proofs.split.uses.Started.{none_needed}
 use Rattle.rule_laws.proofs.rules.uses.Unused.{IsUnused}
 use Rattle.rule_laws.proofs.frames.uses.Unused.{joined_made, row_made, still_made, unused_joined}

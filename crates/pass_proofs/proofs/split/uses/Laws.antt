@@ -1,26 +1,26 @@
 -- The parts of a coroutine make what they use, name their own locals, and define each once.
 use Rattle.std.proofs.Common.{◌≡◌, inl, ℕ, ◌+◌, ◌≤◌, Bool, true, List, [], ◌∷◌, ◌++◌, refl, sym, ap, ◌∙◌, subst, arith}
 use Rattle.std.specs.Prelude.{None, Some, map, slice_get, if◌then◌else◌, ◌==◌}
-use Rattle.ir_base.specs.declared.name.Name.{Name}
+use Rattle.rule_laws.specs.ir_base.declared.name.Name.{Name}
 use Rattle.pass_split.specs.Parts.{back_blocks, done_block, entry_block, given_params, given_ramp_of, head_blocks, later_head, later_part, none_block, origins_for, part_blocks, part_names, ramp_of}
 use Rattle.pass_split.specs.Pieces.{pieces_of}
 use Rattle.pass_split.specs.Reached.{entry_of, is_flagged, pruned, reached}
 use Rattle.pass_split.specs.declared.origin.Origin.{Origin}
-use Rattle.rule_uses.specs.Undefined.{IsFirstUndefined, params_of}
-use Rattle.rule_uses.specs.Uses.{uses_of}
-use Rattle.flow_solver.specs.Paths.{IsListed}
-use Rattle.frame_layout.specs.declared.layout.Layout.{Layout}
-use Rattle.ir_parts.specs.Locals.{locals_of}
-use Rattle.pass_intrinsics.specs.Cuts.{goes_on}
-use Rattle.pass_intrinsics.specs.Shapes.{first_name, given_name, shape_of}
-use Rattle.pass_intrinsics.specs.declared.shape.Part.{Part}
-use Rattle.pass_intrinsics.specs.declared.shape.Shape.{Shape}
+use Rattle.rule_laws.specs.rule_uses.Undefined.{IsFirstUndefined, params_of}
+use Rattle.rule_laws.specs.rule_uses.Uses.{uses_of}
+use Rattle.rule_laws.specs.flow_solver.Paths.{IsListed}
+use Rattle.rule_laws.specs.frame_layout.declared.layout.Layout.{Layout}
+use Rattle.rule_laws.specs.ir_parts.Locals.{locals_of}
+use Rattle.rule_laws.specs.pass_intrinsics.Cuts.{goes_on}
+use Rattle.rule_laws.specs.pass_intrinsics.Shapes.{first_name, given_name, shape_of}
+use Rattle.rule_laws.specs.pass_intrinsics.declared.shape.Part.{Part}
+use Rattle.rule_laws.specs.pass_intrinsics.declared.shape.Shape.{Shape}
 use Rattle.ir_model.specs.Names.{noalloc_of}
 use Rattle.ir_model.specs.declared.module.Block.{Block}
 use Rattle.ir_model.specs.declared.module.Function.{Function}
 use Rattle.ir_model.specs.declared.module.Module.{Module}
 use Rattle.ir_model.specs.declared.module.Param.{Param}
-use Rattle.rule_names.specs.Definitions.{first_twice}
+use Rattle.rule_laws.specs.rule_names.Definitions.{first_twice}
 use Rattle.pass_proofs.proofs.split.edges.Entries.{first_unled}
 use Rattle.pass_proofs.proofs.split.edges.Targets.{part_own, part_tabled}
 use Rattle.pass_proofs.proofs.split.uses.Assembled.{ok, pieced}
@@ -40,7 +40,7 @@ use Rattle.pass_proofs.specs.split.rules.Parted.{IsCleanup, IsDestroy, IsGivenRa
 use Rattle.pass_proofs.specs.split.rules.Reached.{Entry}
 use Rattle.pass_proofs.specs.split.rules.Splittable.{IsSplittable}
 use Rattle.pass_proofs.proofs.split.rules.GivenParams.{address_given, given_times, others_same, param_kept}
-use Rattle.ir_laws.specs.facts.woven_rules.Pairs.{times}
+use Rattle.rule_laws.specs.ir_laws.facts.woven_rules.Pairs.{times}
 
 -- ---- the ramps
 

@@ -3,15 +3,15 @@ use Rattle.std.proofs.Common.{◌≡◌, ◌⊎◌, inl, inr, ℕ, zero, suc, �
 use Rattle.std.specs.Prelude.{None, Option, Some, map, option_to_list, ◌==◌, if◌then◌else◌}
 use Rattle.pass_split.specs.Pieces.{begins_again, pass_block, pieced_phi, redirected_term, stop_label}
 use Rattle.pass_split.specs.declared.origin.Origin.{Origin}
-use Rattle.ir_laws.proofs.facts.Truth.{itself, is_number}
-use Rattle.ir_laws.proofs.facts.local_rules.Woven.{other_number}
+use Rattle.rule_laws.proofs.ir_laws.facts.Truth.{itself, is_number}
+use Rattle.rule_laws.proofs.ir_laws.facts.local_rules.Woven.{other_number}
 use Rattle.rule_laws.proofs.rules.source_rules.Locals.{made_by}
-use Rattle.ir_laws.proofs.facts.Lists.{phi_names, row_of, times_joined}
-use Rattle.ir_parts.specs.Contents.{result_of}
-use Rattle.pass_intrinsics.specs.Lowered.{lowered, names_taken, number_of_save, save_or_none}
-use Rattle.pass_intrinsics.specs.Shapes.{pass_label}
-use Rattle.pass_intrinsics.specs.declared.shape.Part.{Part}
-use Rattle.pass_intrinsics.specs.declared.shape.Shape.{Shape}
+use Rattle.rule_laws.proofs.ir_laws.facts.Lists.{phi_names, row_of, times_joined}
+use Rattle.rule_laws.specs.ir_parts.Contents.{result_of}
+use Rattle.rule_laws.specs.pass_intrinsics.Lowered.{lowered, names_taken, number_of_save, save_or_none}
+use Rattle.rule_laws.specs.pass_intrinsics.Shapes.{pass_label}
+use Rattle.rule_laws.specs.pass_intrinsics.declared.shape.Part.{Part}
+use Rattle.rule_laws.specs.pass_intrinsics.declared.shape.Shape.{Shape}
 use Rattle.ir_model.specs.Ty.{Ty}
 use Rattle.ir_model.specs.declared.instr.Instr.{Instr}
 use Rattle.ir_model.specs.declared.instr.Phi.{Phi}
@@ -20,10 +20,10 @@ use Rattle.ir_model.specs.declared.module.Block.{Block}
 use Rattle.ir_model.specs.declared.operand.Arg.{Arg}
 use Rattle.ir_model.specs.declared.operand.Callee.{Callee}
 use Rattle.ir_model.specs.declared.operand.Intrinsic.{Intrinsic}
-use Rattle.ir_paths.specs.Windows.{is_call_of}
+use Rattle.rule_laws.specs.ir_paths.Windows.{is_call_of}
 use Rattle.pass_proofs.specs.split.rules.Pieced.{ArePieces, ArePiecesOf, BeginsAgain, Ends, Marks, NoBlock, OneBlock, Returns, Stays, Suspends, Transfers}
-use Rattle.run_laws.specs.changed.Changed.{Each}
-use Rattle.ir_laws.specs.facts.woven_rules.Pairs.{one_if, times}
+use Rattle.rule_laws.specs.run_laws.changed.Changed.{Each}
+use Rattle.rule_laws.specs.ir_laws.facts.woven_rules.Pairs.{one_if, times}
 
 -- so many names from one on
 abbrev pub fresh : ℕ → ℕ → List ℕ

@@ -3,18 +3,18 @@ use Rattle.std.proofs.Common.{◌≡◌, ◌⊎◌, inl, inr, ℕ, ◌+◌, ◌<
 use Rattle.std.specs.Prelude.{filter, map, if◌then◌else◌}
 use Rattle.pass_split.specs.Pieces.{begins_again}
 use Rattle.pass_split.specs.Reached.{is_flagged, kept_block, kept_blocks, kept_phi}
-use Rattle.rule_uses.specs.Undefined.{params_of}
+use Rattle.rule_laws.specs.rule_uses.Undefined.{params_of}
 use Rattle.rule_laws.proofs.rules.local_rules.Names.{numbers}
 use Rattle.rule_laws.proofs.rules.local_rules.Woven.{apart_names}
-use Rattle.ir_laws.proofs.paths.source_rules.Locals.{Apart}
+use Rattle.rule_laws.proofs.ir_laws.paths.source_rules.Locals.{Apart}
 use Rattle.rule_laws.proofs.rules.source_rules.Locals.{block_names, made_by, names_are}
-use Rattle.ir_laws.proofs.facts.Lists.{phi_names, row_of, times_joined}
-use Rattle.flow_solver.specs.Paths.{IsListed}
-use Rattle.frame_layout.specs.declared.layout.Layout.{Layout}
-use Rattle.ir_parts.specs.Locals.{locals_of}
-use Rattle.pass_intrinsics.specs.Shapes.{first_name, shape_of}
-use Rattle.pass_intrinsics.specs.declared.shape.Part.{Part}
-use Rattle.pass_intrinsics.specs.declared.shape.Shape.{Shape}
+use Rattle.rule_laws.proofs.ir_laws.facts.Lists.{phi_names, row_of, times_joined}
+use Rattle.rule_laws.specs.flow_solver.Paths.{IsListed}
+use Rattle.rule_laws.specs.frame_layout.declared.layout.Layout.{Layout}
+use Rattle.rule_laws.specs.ir_parts.Locals.{locals_of}
+use Rattle.rule_laws.specs.pass_intrinsics.Shapes.{first_name, shape_of}
+use Rattle.rule_laws.specs.pass_intrinsics.declared.shape.Part.{Part}
+use Rattle.rule_laws.specs.pass_intrinsics.declared.shape.Shape.{Shape}
 use Rattle.ir_model.specs.declared.instr.Instr.{Instr}
 use Rattle.ir_model.specs.declared.instr.Phi.{Phi}
 use Rattle.ir_model.specs.declared.module.Block.{Block}
@@ -25,15 +25,15 @@ use Rattle.pass_proofs.proofs.split.edges.Labels.{mark_low}
 use Rattle.pass_proofs.proofs.split.edges.Pieces.{block_marks}
 use Rattle.pass_proofs.proofs.split.uses.Assembled.{ok}
 use Rattle.pass_proofs.proofs.split.uses.Names.{NamesFrame, kept_made, kept_values, one_more, values, values_of}
-use Rattle.ir_laws.proofs.paths.uses.Paths.{place_of}
+use Rattle.rule_laws.proofs.ir_laws.paths.uses.Paths.{place_of}
 use Rattle.pass_proofs.proofs.split.uses.Rules.{begin_result}
-use Rattle.ir_laws.proofs.facts.uses.Sources.{label_of}
+use Rattle.rule_laws.proofs.ir_laws.facts.uses.Sources.{label_of}
 use Rattle.pass_proofs.specs.split.rules.Splittable.{IsSplittable}
-use Rattle.run_laws.specs.changed.Changed.{Each}
+use Rattle.rule_laws.specs.run_laws.changed.Changed.{Each}
 use Rattle.rule_laws.proofs.rules.woven_rules.Once.{apart_once, names_below}
-use Rattle.ir_laws.proofs.paths.woven_rules.Once.{times_none}
-use Rattle.ir_laws.specs.facts.woven_rules.Pairs.{times}
-use Rattle.ir_laws.proofs.paths.woven_rules.Unbroken.{each_listed as each_of}
+use Rattle.rule_laws.proofs.ir_laws.paths.woven_rules.Once.{times_none}
+use Rattle.rule_laws.specs.ir_laws.facts.woven_rules.Pairs.{times}
+use Rattle.rule_laws.proofs.ir_laws.paths.woven_rules.Unbroken.{each_listed as each_of}
 
 module _ (v : ℕ) where
   abbrev pub labelled : List Block → ℕ

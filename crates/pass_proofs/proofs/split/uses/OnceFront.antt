@@ -2,30 +2,30 @@
 use Rattle.std.proofs.Common.{◌≡◌, inl, inr, ℕ, suc, ◌+◌, ◌<◌, ◌≤◌, Bool, true, false, List, [], ◌∷◌, length, refl, sym, ap, ◌∙◌, subst, arith}
 use Rattle.std.specs.Prelude.{Option, Some, filter, map, option_to_list, slice_get, ◌==◌, if◌then◌else◌}
 use Rattle.pass_split.specs.Parts.{back_block, back_blocks}
-use Rattle.pass_front.specs.Front.{is_alloca}
+use Rattle.rule_laws.specs.pass_front.Front.{is_alloca}
 use Rattle.pass_split.specs.Pieces.{begins_again}
-use Rattle.ir_laws.proofs.facts.local_rules.Woven.{other_number}
-use Rattle.ir_laws.proofs.paths.source_rules.Locals.{in_row}
+use Rattle.rule_laws.proofs.ir_laws.facts.local_rules.Woven.{other_number}
+use Rattle.rule_laws.proofs.ir_laws.paths.source_rules.Locals.{in_row}
 use Rattle.rule_laws.proofs.rules.source_rules.Locals.{made_by}
-use Rattle.ir_laws.proofs.facts.Lists.{row_of, times_joined}
-use Rattle.flow_solver.specs.Paths.{IsListed}
-use Rattle.ir_parts.specs.Contents.{result_of}
-use Rattle.pass_intrinsics.specs.Cuts.{goes_on}
-use Rattle.pass_intrinsics.specs.Shapes.{back_label}
-use Rattle.pass_intrinsics.specs.declared.shape.Part.{Part}
-use Rattle.pass_intrinsics.specs.declared.shape.Shape.{Shape}
-use Rattle.pass_intrinsics.specs.declared.shape.SuspendPoint.{SuspendPoint}
+use Rattle.rule_laws.proofs.ir_laws.facts.Lists.{row_of, times_joined}
+use Rattle.rule_laws.specs.flow_solver.Paths.{IsListed}
+use Rattle.rule_laws.specs.ir_parts.Contents.{result_of}
+use Rattle.rule_laws.specs.pass_intrinsics.Cuts.{goes_on}
+use Rattle.rule_laws.specs.pass_intrinsics.Shapes.{back_label}
+use Rattle.rule_laws.specs.pass_intrinsics.declared.shape.Part.{Part}
+use Rattle.rule_laws.specs.pass_intrinsics.declared.shape.Shape.{Shape}
+use Rattle.rule_laws.specs.pass_intrinsics.declared.shape.SuspendPoint.{SuspendPoint}
 use Rattle.ir_model.specs.declared.instr.Instr.{Instr}
 use Rattle.ir_model.specs.declared.module.Block.{Block}
 use Rattle.ir_model.specs.declared.operand.Callee.{Callee}
 use Rattle.ir_model.specs.declared.operand.Intrinsic.{Intrinsic}
-use Rattle.ir_paths.specs.Windows.{is_call_of}
+use Rattle.rule_laws.specs.ir_paths.Windows.{is_call_of}
 use Rattle.pass_proofs.proofs.split.uses.Names.{kept_made, one_more, values}
 use Rattle.pass_proofs.proofs.split.uses.Once.{dropped, dropped_made, labelled}
-use Rattle.ir_laws.proofs.paths.uses.Paths.{place_of}
-use Rattle.ir_laws.proofs.facts.uses.Sources.{label_of}
-use Rattle.ir_laws.proofs.paths.woven_rules.Once.{times_listed, times_none}
-use Rattle.ir_laws.specs.facts.woven_rules.Pairs.{one_if, times}
+use Rattle.rule_laws.proofs.ir_laws.paths.uses.Paths.{place_of}
+use Rattle.rule_laws.proofs.ir_laws.facts.uses.Sources.{label_of}
+use Rattle.rule_laws.proofs.ir_laws.paths.woven_rules.Once.{times_listed, times_none}
+use Rattle.rule_laws.specs.ir_laws.facts.woven_rules.Pairs.{one_if, times}
 use Rattle.pass_proofs.proofs.split.edges.Allocas.{alloca_goes_on as again_no_alloca}
 
 pub begin_again : (part : Part) (i : Instr) → goes_on part ≡ true → is_call_of Intrinsic.CoroBegin i ≡ true → begins_again part i ≡ true

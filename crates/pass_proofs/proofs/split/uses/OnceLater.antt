@@ -2,30 +2,30 @@
 use Rattle.std.proofs.Common.{◌≡◌, ◌⊎◌, inl, inr, ℕ, ◌+◌, ◌<◌, ◌≤◌, Bool, true, false, List, [], ◌∷◌, ◌++◌, length, refl, sym, ap, ◌∙◌, subst, arith}
 use Rattle.std.proofs.lemmas.Bool.{cases_lt}
 use Rattle.std.specs.Prelude.{None, Some, filter, map, slice_get, ◌==◌}
-use Rattle.ir_base.specs.declared.name.Name.{Name}
+use Rattle.rule_laws.specs.ir_base.declared.name.Name.{Name}
 use Rattle.pass_split.specs.Parts.{back_blocks, done_block, entry_block, later_head, later_part, none_block, origins_for, part_blocks}
-use Rattle.pass_front.specs.Front.{allocas_of, is_alloca}
+use Rattle.rule_laws.specs.pass_front.Front.{allocas_of, is_alloca}
 use Rattle.pass_split.specs.Pieces.{all_pieces, next_after, pieced_phi, pieces_of, piecing_of}
 use Rattle.pass_split.specs.Reached.{is_flagged, pruned, reached}
 use Rattle.pass_split.specs.declared.origin.Origin.{Origin}
-use Rattle.rule_uses.specs.Undefined.{params_of}
-use Rattle.ir_laws.proofs.facts.Truth.{equal_numbers, is_number}
+use Rattle.rule_laws.specs.rule_uses.Undefined.{params_of}
+use Rattle.rule_laws.proofs.ir_laws.facts.Truth.{equal_numbers, is_number}
 use Rattle.rule_laws.proofs.rules.local_rules.Names.{numbers}
 use Rattle.rule_laws.proofs.rules.source_rules.Locals.{block_names, made_by}
-use Rattle.ir_laws.proofs.facts.Lists.{phi_names, row_of, times_joined}
-use Rattle.flow_solver.specs.Paths.{IsListed}
-use Rattle.frame_layout.specs.declared.layout.Layout.{Layout}
-use Rattle.ir_parts.specs.Locals.{locals_of}
-use Rattle.pass_intrinsics.specs.Cuts.{goes_on}
-use Rattle.pass_intrinsics.specs.Shapes.{back_label, done_label, entry_label, first_name, index_name, none_label, shape_of, slot_name}
-use Rattle.pass_intrinsics.specs.declared.shape.Part.{Part}
-use Rattle.pass_intrinsics.specs.declared.shape.Shape.{Shape}
+use Rattle.rule_laws.proofs.ir_laws.facts.Lists.{phi_names, row_of, times_joined}
+use Rattle.rule_laws.specs.flow_solver.Paths.{IsListed}
+use Rattle.rule_laws.specs.frame_layout.declared.layout.Layout.{Layout}
+use Rattle.rule_laws.specs.ir_parts.Locals.{locals_of}
+use Rattle.rule_laws.specs.pass_intrinsics.Cuts.{goes_on}
+use Rattle.rule_laws.specs.pass_intrinsics.Shapes.{back_label, done_label, entry_label, first_name, index_name, none_label, shape_of, slot_name}
+use Rattle.rule_laws.specs.pass_intrinsics.declared.shape.Part.{Part}
+use Rattle.rule_laws.specs.pass_intrinsics.declared.shape.Shape.{Shape}
 use Rattle.ir_model.specs.declared.instr.Instr.{Instr}
 use Rattle.ir_model.specs.declared.module.Block.{Block}
 use Rattle.ir_model.specs.declared.module.Function.{Function}
 use Rattle.ir_model.specs.declared.module.Module.{Module}
-use Rattle.ir_paths.specs.Paths.{targets}
-use Rattle.rule_names.specs.Definitions.{first_twice}
+use Rattle.rule_laws.specs.ir_paths.Paths.{targets}
+use Rattle.rule_laws.specs.rule_names.Definitions.{first_twice}
 use Rattle.pass_proofs.proofs.split.edges.Cuttable.{Begun, IsCuttable, IsMark, Passed, Saved}
 use Rattle.pass_proofs.proofs.split.edges.Entries.{ComesFrom, IsMarkFrom, edge_from, entry_listed, mark_from}
 use Rattle.pass_proofs.proofs.split.edges.Labels.{is_mark, label_of_piece, one_home, part_different}
@@ -35,19 +35,19 @@ use Rattle.pass_proofs.proofs.split.uses.Once.{blocks_kept, dropped, kept, kept_
 use Rattle.rule_laws.proofs.rules.uses.Once.{none_twice_by}
 use Rattle.pass_proofs.proofs.split.uses.OnceFront.{allocas_kept, backs_empty, begin_again, dropped_there, no_back, not_it, one_most}
 use Rattle.pass_proofs.proofs.split.uses.Rules.{begin_named, begin_there}
-use Rattle.ir_laws.proofs.facts.uses.Sources.{label_of}
+use Rattle.rule_laws.proofs.ir_laws.facts.uses.Sources.{label_of}
 use Rattle.pass_proofs.proofs.split.rules.Carried.{index_instrs}
 use Rattle.pass_proofs.proofs.split.rules.Cutting.{cut_block, cut_blocks}
-use Rattle.ir_laws.proofs.paths.replaced.Known.{listed_mapped}
+use Rattle.rule_laws.proofs.ir_laws.paths.replaced.Known.{listed_mapped}
 use Rattle.pass_proofs.proofs.split.rules.Parted.{rises}
 use Rattle.pass_proofs.proofs.split.rules.Reached.{flagged_is_led}
 use Rattle.pass_proofs.specs.split.rules.Pieced.{ArePieces, ArePiecesOf}
 use Rattle.pass_proofs.specs.split.rules.Reached.{Edge, Entry, IsLedTo}
 use Rattle.pass_proofs.specs.split.rules.Splittable.{IsSplittable}
-use Rattle.run_laws.specs.changed.Changed.{Each}
+use Rattle.rule_laws.specs.run_laws.changed.Changed.{Each}
 use Rattle.rule_laws.proofs.rules.woven_rules.Once.{apart_once}
-use Rattle.ir_laws.proofs.paths.woven_rules.Once.{times_listed, times_none}
-use Rattle.ir_laws.specs.facts.woven_rules.Pairs.{one_if, times}
+use Rattle.rule_laws.proofs.ir_laws.paths.woven_rules.Once.{times_listed, times_none}
+use Rattle.rule_laws.specs.ir_laws.facts.woven_rules.Pairs.{one_if, times}
 
 module _ (m : Module) (k : ℕ) (f : Function) (begin : ℕ) (split : IsSplittable m k f begin) (layout : Layout) (part : Part) (later : goes_on part ≡ true) (name : Name) (cuts : IsCuttable (shape_of f layout) part f) (framed : Each (λ (b : Block). Each (NamesFrame (shape_of f layout) part) b.instrs) f.blocks) (no_marks : (v : ℕ) → (v < (shape_of f layout).base) ⊎ (first_name (shape_of f layout) ≤ v) → times v (row_of (block_marks (shape_of f layout) part) f.blocks) ≡ 0) (b0 : Block) (bs : List Block) (is_first : f.blocks ≡ b0 ∷ bs) (unled : (c : Block) → IsListed c (part_blocks (shape_of f layout) part f (origins_for (shape_of f layout) part f)) → IsListed b0.label (targets c.term) → ⊥) where
   abbrev s : Shape

@@ -2,27 +2,27 @@
 use Rattle.std.proofs.Common.{◌≡◌, ◌⊎◌, ⊎_elim, inl, inr, ℕ, ◌+◌, ◌<◌, ◌≤◌, Bool, false, List, [], ◌∷◌, ◌++◌, sym, ap, ◌∙◌, subst, arith}
 use Rattle.std.proofs.lemmas.Bool.{cases_lt}
 use Rattle.std.specs.Prelude.{None, map, ◌==◌, if◌then◌else◌}
-use Rattle.ir_base.specs.declared.name.Name.{Name}
+use Rattle.rule_laws.specs.ir_base.declared.name.Name.{Name}
 use Rattle.pass_split.specs.Parts.{done_block, later_head, origins_for, part_blocks, ramp_part}
 use Rattle.pass_split.specs.Pieces.{next_after, pieces_of}
 use Rattle.pass_split.specs.Reached.{pruned, reached}
 use Rattle.pass_split.specs.declared.origin.Origin.{Origin}
-use Rattle.rule_uses.specs.Undefined.{params_of}
+use Rattle.rule_laws.specs.rule_uses.Undefined.{params_of}
 use Rattle.rule_laws.proofs.rules.local_rules.Names.{numbers}
-use Rattle.ir_laws.proofs.facts.local_rules.Woven.{other_number}
+use Rattle.rule_laws.proofs.ir_laws.facts.local_rules.Woven.{other_number}
 use Rattle.rule_laws.proofs.rules.source_rules.Locals.{block_names}
-use Rattle.ir_laws.proofs.facts.Lists.{row_of, times_joined}
-use Rattle.frame_layout.specs.declared.layout.Layout.{Layout}
-use Rattle.ir_parts.specs.Locals.{locals_of}
-use Rattle.pass_intrinsics.specs.Cuts.{goes_on}
-use Rattle.pass_intrinsics.specs.Shapes.{done_label, first_name, given_name, shape_of}
-use Rattle.pass_intrinsics.specs.declared.shape.Part.{Part}
-use Rattle.pass_intrinsics.specs.declared.shape.Shape.{Shape}
+use Rattle.rule_laws.proofs.ir_laws.facts.Lists.{row_of, times_joined}
+use Rattle.rule_laws.specs.frame_layout.declared.layout.Layout.{Layout}
+use Rattle.rule_laws.specs.ir_parts.Locals.{locals_of}
+use Rattle.rule_laws.specs.pass_intrinsics.Cuts.{goes_on}
+use Rattle.rule_laws.specs.pass_intrinsics.Shapes.{done_label, first_name, given_name, shape_of}
+use Rattle.rule_laws.specs.pass_intrinsics.declared.shape.Part.{Part}
+use Rattle.rule_laws.specs.pass_intrinsics.declared.shape.Shape.{Shape}
 use Rattle.ir_model.specs.declared.module.Block.{Block}
 use Rattle.ir_model.specs.declared.module.Function.{Function}
 use Rattle.ir_model.specs.declared.module.Module.{Module}
 use Rattle.ir_model.specs.declared.module.Param.{Param}
-use Rattle.rule_names.specs.Definitions.{first_twice}
+use Rattle.rule_laws.specs.rule_names.Definitions.{first_twice}
 use Rattle.pass_proofs.proofs.split.edges.Cuttable.{Begun, IsMark, Passed, Saved}
 use Rattle.pass_proofs.proofs.split.edges.Labels.{part_different}
 use Rattle.pass_proofs.proofs.split.edges.Pieces.{block_marks, blocks_times}
@@ -30,13 +30,13 @@ use Rattle.pass_proofs.proofs.split.uses.Assembled.{ok}
 use Rattle.pass_proofs.proofs.split.uses.Names.{blocks_within, fresh, fresh_low, fresh_once, one_more, values, values_joined}
 use Rattle.pass_proofs.proofs.split.uses.Once.{blocks_kept, frames, kept_most, labelled, labels_both, names_split, no_mark, no_marks, none_new, own_once}
 use Rattle.rule_laws.proofs.rules.uses.Once.{none_twice_by}
-use Rattle.ir_laws.proofs.facts.uses.Sources.{label_of}
-use Rattle.ir_laws.proofs.facts.Truth.{is_number}
+use Rattle.rule_laws.proofs.ir_laws.facts.uses.Sources.{label_of}
+use Rattle.rule_laws.proofs.ir_laws.facts.Truth.{is_number}
 use Rattle.pass_proofs.proofs.split.rules.Cutting.{cut_blocks}
 use Rattle.pass_proofs.specs.split.rules.Pieced.{ArePiecesOf}
 use Rattle.pass_proofs.specs.split.rules.Splittable.{IsSplittable}
 use Rattle.rule_laws.proofs.rules.woven_rules.Once.{apart_once}
-use Rattle.ir_laws.specs.facts.woven_rules.Pairs.{one_if, times}
+use Rattle.rule_laws.specs.ir_laws.facts.woven_rules.Pairs.{one_if, times}
 
 module _ (m : Module) (k : ℕ) (f : Function) (begin : ℕ) (split : IsSplittable m k f begin) (layout : Layout) (part : Part) (first : goes_on part ≡ false) (name : Name) (params : List Param) (same_params : (v : ℕ) → (v ≡ given_name (shape_of f layout) → ⊥) → times v (params_of (ramp_part (shape_of f layout) part name params f)) ≡ times v (params_of f)) (one_given : times (given_name (shape_of f layout)) (params_of (ramp_part (shape_of f layout) part name params f)) ≤ 1) where
   abbrev s : Shape

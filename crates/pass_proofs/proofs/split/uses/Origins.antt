@@ -3,14 +3,14 @@ use Rattle.std.proofs.Common.{◌≡◌, ◌⊎◌, inl, inr, ⊎_elim, ℕ, zer
 use Rattle.std.specs.Prelude.{None, Option, Some, replicate, slice_get, slice_set, ◌==◌, if◌then◌else◌}
 use Rattle.pass_split.specs.Pieces.{comes_from, going_on, if_same, origin_in, origins_by, origins_of, suspend_origins}
 use Rattle.pass_split.specs.declared.origin.Origin.{Origin}
-use Rattle.ir_laws.proofs.facts.Truth.{equal_numbers}
-use Rattle.ir_laws.proofs.facts.Lists.{get_within, set_here, set_length, set_at as set_or}
-use Rattle.ir_laws.proofs.paths.source_rules.Locals.{listed_left, listed_right}
-use Rattle.flow_solver.specs.Paths.{IsListed}
-use Rattle.pass_intrinsics.specs.Shapes.{back_label, suspends_of, with_suspend, with_suspends_by, with_suspends_in}
-use Rattle.pass_intrinsics.specs.declared.shape.Part.{Part}
-use Rattle.pass_intrinsics.specs.declared.shape.Shape.{Shape}
-use Rattle.pass_intrinsics.specs.declared.shape.SuspendPoint.{SuspendPoint}
+use Rattle.rule_laws.proofs.ir_laws.facts.Truth.{equal_numbers}
+use Rattle.rule_laws.proofs.ir_laws.facts.Lists.{get_within, set_here, set_length, set_at as set_or}
+use Rattle.rule_laws.proofs.ir_laws.paths.source_rules.Locals.{listed_left, listed_right}
+use Rattle.rule_laws.specs.flow_solver.Paths.{IsListed}
+use Rattle.rule_laws.specs.pass_intrinsics.Shapes.{back_label, suspends_of, with_suspend, with_suspends_by, with_suspends_in}
+use Rattle.rule_laws.specs.pass_intrinsics.declared.shape.Part.{Part}
+use Rattle.rule_laws.specs.pass_intrinsics.declared.shape.Shape.{Shape}
+use Rattle.rule_laws.specs.pass_intrinsics.declared.shape.SuspendPoint.{SuspendPoint}
 use Rattle.ir_model.specs.declared.instr.Instr.{Instr}
 use Rattle.ir_model.specs.declared.module.Block.{Block}
 use Rattle.ir_model.specs.declared.module.Function.{Function}

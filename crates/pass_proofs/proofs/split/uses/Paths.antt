@@ -7,14 +7,14 @@ use Rattle.pass_split.specs.Parts.{done_block}
 use Rattle.pass_split.specs.Pieces.{comes_from, incoming_from, origin_in, pieced_incoming, pieced_phi}
 use Rattle.pass_split.specs.Reached.{is_flagged, kept_block, kept_phi, pruned, reached}
 use Rattle.pass_split.specs.declared.origin.Origin.{Origin}
-use Rattle.rule_uses.specs.Undefined.{Entry, Next, ReachesWithout}
-use Rattle.rule_uses.specs.Uses.{block_values, locals_in, made_by_instrs, made_by_phis, phi_values, values_at, values_in}
-use Rattle.ir_laws.proofs.facts.Truth.{itself}
+use Rattle.rule_laws.specs.rule_uses.Undefined.{Entry, Next, ReachesWithout}
+use Rattle.rule_laws.specs.rule_uses.Uses.{block_values, locals_in, made_by_instrs, made_by_phis, phi_values, values_at, values_in}
+use Rattle.rule_laws.proofs.ir_laws.facts.Truth.{itself}
 use Rattle.rule_laws.proofs.rules.source_rules.Locals.{found_in}
-use Rattle.flow_solver.specs.Paths.{IsListed}
-use Rattle.ir_parts.specs.Contents.{ending_operands}
-use Rattle.pass_intrinsics.specs.declared.shape.Part.{Part}
-use Rattle.pass_intrinsics.specs.declared.shape.Shape.{Shape}
+use Rattle.rule_laws.specs.flow_solver.Paths.{IsListed}
+use Rattle.rule_laws.specs.ir_parts.Contents.{ending_operands}
+use Rattle.rule_laws.specs.pass_intrinsics.declared.shape.Part.{Part}
+use Rattle.rule_laws.specs.pass_intrinsics.declared.shape.Shape.{Shape}
 use Rattle.ir_model.specs.Names.{position_of}
 use Rattle.ir_model.specs.declared.instr.Incoming.{Incoming}
 use Rattle.ir_model.specs.declared.instr.Instr.{Instr}
@@ -23,20 +23,20 @@ use Rattle.ir_model.specs.declared.instr.Terminator.{Terminator}
 use Rattle.ir_model.specs.declared.module.Block.{Block}
 use Rattle.ir_model.specs.declared.module.Function.{Function}
 use Rattle.ir_model.specs.declared.operand.Operand.{Operand}
-use Rattle.ir_paths.specs.Paths.{targets}
+use Rattle.rule_laws.specs.ir_paths.Paths.{targets}
 use Rattle.rule_laws.proofs.rules.uses.Plain.{IsPlain}
 use Rattle.rule_laws.proofs.frames.uses.Lowering.{ComesBy}
 use Rattle.rule_laws.proofs.frames.uses.Quiet.{IsQuiet}
-use Rattle.ir_laws.proofs.paths.uses.Sources.{IsIn}
+use Rattle.rule_laws.proofs.ir_laws.paths.uses.Sources.{IsIn}
 use Rattle.pass_proofs.proofs.split.uses.Sources.{NoSuspends, piece_there}
-use Rattle.ir_laws.proofs.facts.Numbers.{Source}
+use Rattle.rule_laws.proofs.ir_laws.facts.Numbers.{Source}
 use Rattle.rule_laws.proofs.rules.uses.Unused.{IsUnused}
 use Rattle.pass_proofs.proofs.split.uses.Walk.{IsCutUp, IsLeft, IsWalked, enter}
-use Rattle.ir_laws.proofs.paths.replaced.Known.{listed_mapped}
+use Rattle.rule_laws.proofs.ir_laws.paths.replaced.Known.{listed_mapped}
 use Rattle.pass_proofs.specs.split.rules.Pieced.{ArePieces, BeginsAgain, Ends, Marks, Returns, Stays, Suspends, Transfers}
-use Rattle.ir_laws.proofs.facts.Lists.{label_found}
-use Rattle.ir_laws.proofs.paths.edges.Lists.{from_filtered, to_filtered}
-use Rattle.ir_laws.proofs.paths.uses.Paths.{from_mapped, place_of, there_listed}
+use Rattle.rule_laws.proofs.ir_laws.facts.Lists.{label_found}
+use Rattle.rule_laws.proofs.ir_laws.paths.edges.Lists.{from_filtered, to_filtered}
+use Rattle.rule_laws.proofs.ir_laws.paths.uses.Paths.{from_mapped, place_of, there_listed}
 
 -- a block that is listed is found by its label, or another with that label
 pub listed_found : (g : Function) (c : Block) → IsListed c g.blocks → (b : Block) × (slice_get g.blocks (position_of g c.label) ≡ Some b)

@@ -1,17 +1,17 @@
 -- A ramp makes what it uses.
 use Rattle.std.proofs.Common.{◌≡◌, inl, ℕ, Bool, true, false, List, [], ◌∷◌, ◌++◌, refl, sym, ap, ◌∙◌, subst}
 use Rattle.std.specs.Prelude.{Some, slice_get, if◌then◌else◌}
-use Rattle.ir_base.specs.declared.name.Name.{Name}
+use Rattle.rule_laws.specs.ir_base.declared.name.Name.{Name}
 use Rattle.pass_split.specs.Parts.{done_block, head_blocks, later_head, origins_for, ramp_part}
 use Rattle.pass_split.specs.Reached.{entry_of, is_flagged, kept_block, kept_blocks, pruned, reached}
-use Rattle.rule_uses.specs.Undefined.{Entry as EntryBlock, ReachesWithout, params_of}
-use Rattle.flow_solver.specs.Paths.{IsListed}
-use Rattle.frame_layout.specs.declared.layout.Layout.{Layout}
+use Rattle.rule_laws.specs.rule_uses.Undefined.{Entry as EntryBlock, ReachesWithout, params_of}
+use Rattle.rule_laws.specs.flow_solver.Paths.{IsListed}
+use Rattle.rule_laws.specs.frame_layout.declared.layout.Layout.{Layout}
 use Rattle.pass_split.specs.declared.origin.Origin.{Origin}
-use Rattle.pass_intrinsics.specs.Cuts.{goes_on}
-use Rattle.pass_intrinsics.specs.Shapes.{first_name, given_name, shape_of}
-use Rattle.pass_intrinsics.specs.declared.shape.Part.{Part}
-use Rattle.pass_intrinsics.specs.declared.shape.Shape.{Shape}
+use Rattle.rule_laws.specs.pass_intrinsics.Cuts.{goes_on}
+use Rattle.rule_laws.specs.pass_intrinsics.Shapes.{first_name, given_name, shape_of}
+use Rattle.rule_laws.specs.pass_intrinsics.declared.shape.Part.{Part}
+use Rattle.rule_laws.specs.pass_intrinsics.declared.shape.Shape.{Shape}
 use Rattle.ir_model.specs.declared.instr.Instr.{Instr}
 use Rattle.ir_model.specs.declared.module.Block.{Block}
 use Rattle.ir_model.specs.declared.module.Function.{Function}
@@ -21,7 +21,7 @@ use Rattle.pass_proofs.proofs.split.edges.Targets.{part_tabled}
 use Rattle.pass_proofs.proofs.split.uses.Assembled.{blocks_grouped, first_kept, ok, pieced}
 use Rattle.rule_laws.proofs.rules.uses.Fine.{IsUnusedIn}
 use Rattle.pass_proofs.proofs.split.uses.Groups.{groups}
-use Rattle.ir_laws.proofs.paths.uses.Groups.{joined}
+use Rattle.rule_laws.proofs.ir_laws.paths.uses.Groups.{joined}
 use Rattle.rule_laws.proofs.rules.uses.RampMade.{ramp_made}
 use Rattle.pass_proofs.proofs.split.uses.Paths.{Comes, IsPieced, end_unused, phi_unused, unused}
 use Rattle.rule_laws.proofs.rules.uses.Plain.{IsPlain}
@@ -30,7 +30,7 @@ use Rattle.rule_laws.proofs.frames.uses.Quiet.{IsQuiet}
 use Rattle.rule_laws.proofs.rules.uses.RampQuiet.{IsMade}
 use Rattle.rule_laws.proofs.frames.uses.RampQuiet.{Without, ramp_quiet}
 use Rattle.pass_proofs.proofs.split.uses.Rules.{begin_named, begin_plain}
-use Rattle.ir_laws.proofs.facts.Numbers.{Source}
+use Rattle.rule_laws.proofs.ir_laws.facts.Numbers.{Source}
 use Rattle.pass_proofs.proofs.split.uses.Walk.{AtFront, enter}
 use Rattle.pass_proofs.proofs.split.rules.Reached.{led_is_flagged}
 use Rattle.pass_proofs.specs.split.rules.Reached.{Entry}

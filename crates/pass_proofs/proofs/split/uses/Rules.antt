@@ -3,25 +3,25 @@ use Rattle.std.proofs.Common.{◌≡◌, ◌⊎◌, inl, inr, ℕ, suc, ◌+◌,
 use Rattle.std.specs.List.{list_all}
 use Rattle.std.specs.Prelude.{None, Option, Some, map, option_to_list, slice_get, unwrap_or, if◌then◌else◌}
 use Rattle.rule_laws.proofs.rules.counted.PartFacts.{InstrPasses, PhiPasses, block_passes}
-use Rattle.ir_laws.proofs.paths.counted.PartFacts.{all_listed}
-use Rattle.rule_shape.specs.Switches.{end_label}
-use Rattle.rule_shape.specs.Uses.{phi_operands}
-use Rattle.rule_uses.specs.Uses.{local_of, locals_in}
+use Rattle.rule_laws.proofs.ir_laws.paths.counted.PartFacts.{all_listed}
+use Rattle.rule_laws.specs.rule_shape.Switches.{end_label}
+use Rattle.rule_laws.specs.rule_shape.Uses.{phi_operands}
+use Rattle.rule_laws.specs.rule_uses.Uses.{local_of, locals_in}
 use Rattle.rule_laws.proofs.rules.renamed.Uses.{result_spelt}
 use Rattle.rule_laws.proofs.rules.local_rules.Names.{numbers}
-use Rattle.ir_laws.proofs.facts.Truth.{and_first, and_second, holds, is_number}
+use Rattle.rule_laws.proofs.ir_laws.facts.Truth.{and_first, and_second, holds, is_number}
 use Rattle.rule_laws.proofs.rules.local_rules.Woven.{apart_names}
-use Rattle.ir_laws.proofs.paths.source_rules.Locals.{Apart, listed_right}
+use Rattle.rule_laws.proofs.ir_laws.paths.source_rules.Locals.{Apart, listed_right}
 use Rattle.rule_laws.proofs.rules.source_rules.Locals.{names_are, same_instr}
 use Rattle.rule_laws.proofs.rules.source_rules.Once.{one_begin}
-use Rattle.flow_solver.specs.Paths.{IsListed}
-use Rattle.frame_layout.specs.declared.layout.Layout.{Layout}
-use Rattle.ir_parts.specs.Contents.{ending_operands, instr_operands, result_of}
-use Rattle.ir_parts.specs.Locals.{locals_of}
-use Rattle.ir_parts.specs.Parts.{OfInstr}
-use Rattle.pass_intrinsics.specs.Shapes.{shape_of}
-use Rattle.pass_intrinsics.specs.declared.shape.Part.{Part}
-use Rattle.pass_intrinsics.specs.declared.shape.Shape.{Shape}
+use Rattle.rule_laws.specs.flow_solver.Paths.{IsListed}
+use Rattle.rule_laws.specs.frame_layout.declared.layout.Layout.{Layout}
+use Rattle.rule_laws.specs.ir_parts.Contents.{ending_operands, instr_operands, result_of}
+use Rattle.rule_laws.specs.ir_parts.Locals.{locals_of}
+use Rattle.rule_laws.specs.ir_parts.Parts.{OfInstr}
+use Rattle.rule_laws.specs.pass_intrinsics.Shapes.{shape_of}
+use Rattle.rule_laws.specs.pass_intrinsics.declared.shape.Part.{Part}
+use Rattle.rule_laws.specs.pass_intrinsics.declared.shape.Shape.{Shape}
 use Rattle.ir_model.specs.Calls.{first_result_by, first_result_in, or_else, result_of_call}
 use Rattle.ir_model.specs.Names.{same_intrinsic}
 use Rattle.ir_model.specs.Ty.{Ty}
@@ -35,26 +35,26 @@ use Rattle.ir_model.specs.declared.module.Module.{Module}
 use Rattle.ir_model.specs.declared.operand.Callee.{Callee}
 use Rattle.ir_model.specs.declared.operand.Intrinsic.{Intrinsic}
 use Rattle.ir_model.specs.declared.operand.Operand.{Operand}
-use Rattle.ir_paths.specs.Windows.{instr_at, instr_in, is_call_of}
-use Rattle.ir_paths.specs.declared.point.Point.{Point}
+use Rattle.rule_laws.specs.ir_paths.Windows.{instr_at, instr_in, is_call_of}
+use Rattle.rule_laws.specs.ir_paths.declared.point.Point.{Point}
 use Rattle.rule_laws.proofs.frames.uses.Lowering.{IsRuled, ruled_lowered}
-use Rattle.ir_laws.proofs.paths.uses.Paths.{place_of, there_listed}
+use Rattle.rule_laws.proofs.ir_laws.paths.uses.Paths.{place_of, there_listed}
 use Rattle.rule_laws.proofs.rules.uses.Plain.{FitsScalar, IsPlain, ending_scalar, is_plain_kind, scalar_local}
 use Rattle.rule_laws.proofs.frames.uses.Quiet.{AreTold, suspends}
 use Rattle.pass_proofs.proofs.split.uses.Sources.{NoSuspends}
 use Rattle.rule_laws.proofs.rules.uses.Switched.{IsSwitched, is_switch_then, not_in_instr, not_in_phi, not_switched_on, suspend_result, switched}
-use Rattle.ir_laws.proofs.paths.replaced.Known.{of_listed}
+use Rattle.rule_laws.proofs.ir_laws.paths.replaced.Known.{of_listed}
 use Rattle.rule_laws.proofs.rules.replaced.OwnKinds.{MakesIn, PhiMakesIn, kind_made_by, own_kinds}
 use Rattle.rule_laws.proofs.rules.replaced.Passed.{IsAll}
 use Rattle.rule_laws.proofs.rules.replaced.Replaced.{is_the_ptr}
 use Rattle.pass_proofs.specs.split.rules.Splittable.{IsSplittable}
-use Rattle.rule_types.specs.Signatures.{are_wanted, calls_otherwise, is_result}
-use Rattle.rule_types.specs.Wants.{intrinsic_params}
-use Rattle.rule_types.specs.declared.wants.Basic.{Basic}
-use Rattle.rule_values.specs.Fits.{fits, is_scalar}
-use Rattle.rule_values.specs.Instrs.{fits_instr}
-use Rattle.rule_values.specs.Kinds.{result_kind, value_kind}
-use Rattle.rule_values.specs.Values.{breaks_values, fits_ending, fits_phi, takes}
+use Rattle.rule_laws.specs.rule_types.Signatures.{are_wanted, calls_otherwise, is_result}
+use Rattle.rule_laws.specs.rule_types.Wants.{intrinsic_params}
+use Rattle.rule_laws.specs.rule_types.declared.wants.Basic.{Basic}
+use Rattle.rule_laws.specs.rule_values.Fits.{fits, is_scalar}
+use Rattle.rule_laws.specs.rule_values.Instrs.{fits_instr}
+use Rattle.rule_laws.specs.rule_values.Kinds.{result_kind, value_kind}
+use Rattle.rule_laws.specs.rule_values.Values.{breaks_values, fits_ending, fits_phi, takes}
 
 -- ---- a call of an intrinsic with a result
 

@@ -1,24 +1,24 @@
 -- Behind a suspend that is reached nothing is needed but what may cross it.
 use Rattle.std.proofs.Common.{◌≡◌, ◌⊎◌, inl, inr, ℕ, suc, Bool, true, false, List, [], ◌∷◌, refl, sym, ap, ◌∙◌, subst}
 use Rattle.std.specs.Prelude.{None, Option, Some, filter, is_some, not, option_to_list, slice_get, ◌==◌, ◌||◌, if◌then◌else◌}
-use Rattle.flow_blocks.specs.Reach.{Edge as ReachEdge, IsReached, Start}
+use Rattle.rule_laws.specs.flow_blocks.Reach.{Edge as ReachEdge, IsReached, Start}
 use Rattle.rule_laws.proofs.frames.crossing.Defined.{defined_before}
 use Rattle.rule_laws.proofs.frames.crossing.Paths.{point_there}
 use Rattle.rule_laws.proofs.rules.counted.PartFacts.{InstrPasses, block_passes}
-use Rattle.ir_base.specs.declared.outcome.Place.{Place}
-use Rattle.rule_shape.specs.Places.{is_the}
-use Rattle.pass_front.specs.Front.{allocas_of, is_alloca}
+use Rattle.rule_laws.specs.ir_base.declared.outcome.Place.{Place}
+use Rattle.rule_laws.specs.rule_shape.Places.{is_the}
+use Rattle.rule_laws.specs.pass_front.Front.{allocas_of, is_alloca}
 use Rattle.pass_split.specs.Reached.{entry_of}
-use Rattle.ir_laws.proofs.facts.Truth.{equal_numbers}
+use Rattle.rule_laws.proofs.ir_laws.facts.Truth.{equal_numbers}
 use Rattle.rule_laws.proofs.rules.renamed.Uses.{block_edge}
-use Rattle.ir_laws.proofs.paths.source_rules.Locals.{listed_left, listed_right}
+use Rattle.rule_laws.proofs.ir_laws.paths.source_rules.Locals.{listed_left, listed_right}
 use Rattle.rule_laws.proofs.rules.source_rules.Locals.{made_by, own_label}
-use Rattle.ir_laws.proofs.facts.Lists.{row_of}
-use Rattle.flow_solver.specs.Paths.{IsListed}
-use Rattle.ir_parts.specs.Contents.{result_of}
+use Rattle.rule_laws.proofs.ir_laws.facts.Lists.{row_of}
+use Rattle.rule_laws.specs.flow_solver.Paths.{IsListed}
+use Rattle.rule_laws.specs.ir_parts.Contents.{result_of}
 use Rattle.rule_laws.specs.rules.function_rules.Kept.{KeepsFunctionRules}
-use Rattle.pass_intrinsics.specs.Shapes.{suspends_of}
-use Rattle.pass_intrinsics.specs.declared.shape.SuspendPoint.{SuspendPoint}
+use Rattle.rule_laws.specs.pass_intrinsics.Shapes.{suspends_of}
+use Rattle.rule_laws.specs.pass_intrinsics.declared.shape.SuspendPoint.{SuspendPoint}
 use Rattle.ir_model.specs.Calls.{first_result}
 use Rattle.ir_model.specs.Layout.{size_of}
 use Rattle.ir_model.specs.Names.{position_of}
@@ -28,26 +28,26 @@ use Rattle.ir_model.specs.declared.module.Block.{Block}
 use Rattle.ir_model.specs.declared.module.Function.{Function}
 use Rattle.ir_model.specs.declared.module.Module.{Module}
 use Rattle.ir_model.specs.declared.operand.Intrinsic.{Intrinsic}
-use Rattle.ir_paths.specs.Windows.{destroy_label, is_call_of, label_at, resume_label}
-use Rattle.ir_paths.specs.declared.point.Point.{Point}
-use Rattle.rule_locals.specs.Entries.{allocates_late, is_past_entry}
-use Rattle.rule_locals.specs.Instrs.{on_instr}
-use Rattle.rule_locals.specs.Markers.{block_size, made_size, slot_size}
-use Rattle.ir_locals.specs.Tables.{first_in, or_first}
+use Rattle.rule_laws.specs.ir_paths.Windows.{destroy_label, is_call_of, label_at, resume_label}
+use Rattle.rule_laws.specs.ir_paths.declared.point.Point.{Point}
+use Rattle.rule_laws.specs.rule_locals.Entries.{allocates_late, is_past_entry}
+use Rattle.rule_laws.specs.rule_locals.Instrs.{on_instr}
+use Rattle.rule_laws.specs.rule_locals.Markers.{block_size, made_size, slot_size}
+use Rattle.rule_laws.specs.ir_locals.Tables.{first_in, or_first}
 use Rattle.rule_laws.proofs.frames.edges.Shaped.{point_home}
 use Rattle.rule_laws.proofs.frames.uses.Apart.{suspend_apart}
-use Rattle.ir_laws.proofs.paths.uses.Paths.{place_of}
+use Rattle.rule_laws.proofs.ir_laws.paths.uses.Paths.{place_of}
 use Rattle.rule_laws.proofs.rules.uses.Plain.{IsPlain, is_plain_kind}
 use Rattle.rule_laws.proofs.rules.uses.Switched.{switched}
-use Rattle.ir_laws.proofs.paths.replaced.Known.{of_listed}
+use Rattle.rule_laws.proofs.ir_laws.paths.replaced.Known.{of_listed}
 use Rattle.pass_proofs.specs.split.rules.Reached.{Edge, Entry, IsLedTo}
 use Rattle.rule_laws.specs.frames.replaced.Splittable.{HasOwnEdges, may_cross}
 use Rattle.pass_proofs.specs.split.rules.Splittable.{IsSplittable}
-use Rattle.frame_crossing.specs.Crossing.{suspends_of as suspend_points}
-use Rattle.frame_crossing.specs.Paths.{IsDefinedBefore, IsNeeded, IsNeededBehind, phis_at}
-use Rattle.rule_values.specs.Fits.{fits_kind}
-use Rattle.rule_values.specs.Kinds.{value_kind}
-use Rattle.rule_values.specs.declared.kinds.Kind.{Kind}
+use Rattle.rule_laws.specs.frame_crossing.Crossing.{suspends_of as suspend_points}
+use Rattle.rule_laws.specs.frame_crossing.Paths.{IsDefinedBefore, IsNeeded, IsNeededBehind, phis_at}
+use Rattle.rule_laws.specs.rule_values.Fits.{fits_kind}
+use Rattle.rule_laws.specs.rule_values.Kinds.{value_kind}
+use Rattle.rule_laws.specs.rule_values.declared.kinds.Kind.{Kind}
 use Rattle.pass_proofs.proofs.split.crossing.Ending.{block_there as target_in}
 
 -- ---- values that may cross

@@ -1,26 +1,26 @@
 -- A value that isn't used on paths of a function isn't used on paths of its part.
 use Rattle.std.proofs.Common.{◌≡◌, inl, inr, ⊎_elim, ℕ, ◌+◌, Bool, true, false, List, [], ◌∷◌, refl, sym, ap, ◌∙◌, subst}
 use Rattle.std.specs.Prelude.{None, Some, map, slice_get, ◌==◌, if◌then◌else◌}
-use Rattle.ir_laws.proofs.paths.crossing.Spots.{Spot, listed_or, spot_first, spot_next}
-use Rattle.ir_laws.specs.facts.crossing.Crossed.{is_switch}
+use Rattle.rule_laws.proofs.ir_laws.paths.crossing.Spots.{Spot, listed_or, spot_first, spot_next}
+use Rattle.rule_laws.specs.ir_laws.facts.crossing.Crossed.{is_switch}
 use Rattle.pass_split.specs.Parts.{back_block, done_block, or_zero}
 use Rattle.pass_split.specs.Pieces.{going_on, origin_in, pass_block, pieced_phi, redirected, redirected_case, redirected_term, stop_label}
 use Rattle.pass_split.specs.declared.origin.Origin.{Origin}
-use Rattle.rule_uses.specs.Uses.{locals_in, made_by_instrs, made_by_phis, phi_values}
-use Rattle.ir_laws.proofs.facts.Truth.{equal_numbers}
-use Rattle.ir_laws.proofs.facts.Members.{each_right}
-use Rattle.ir_laws.proofs.paths.source_rules.Locals.{Apart}
+use Rattle.rule_laws.specs.rule_uses.Uses.{locals_in, made_by_instrs, made_by_phis, phi_values}
+use Rattle.rule_laws.proofs.ir_laws.facts.Truth.{equal_numbers}
+use Rattle.rule_laws.proofs.ir_laws.facts.Members.{each_right}
+use Rattle.rule_laws.proofs.ir_laws.paths.source_rules.Locals.{Apart}
 use Rattle.rule_laws.proofs.rules.source_rules.Locals.{made_by}
-use Rattle.ir_laws.proofs.facts.Lists.{row_of}
-use Rattle.flow_solver.specs.Paths.{IsListed}
-use Rattle.ir_parts.specs.Contents.{ending_operands}
-use Rattle.pass_intrinsics.specs.Cuts.{cut_at}
-use Rattle.pass_intrinsics.specs.Lowered.{lowered, names_taken}
-use Rattle.pass_intrinsics.specs.Shapes.{back_label, done_label, pass_label}
-use Rattle.pass_intrinsics.specs.declared.cuts.Cut.{Cut}
-use Rattle.pass_intrinsics.specs.declared.shape.Part.{Part}
-use Rattle.pass_intrinsics.specs.declared.shape.Shape.{Shape}
-use Rattle.pass_intrinsics.specs.declared.shape.SuspendPoint.{SuspendPoint}
+use Rattle.rule_laws.proofs.ir_laws.facts.Lists.{row_of}
+use Rattle.rule_laws.specs.flow_solver.Paths.{IsListed}
+use Rattle.rule_laws.specs.ir_parts.Contents.{ending_operands}
+use Rattle.rule_laws.specs.pass_intrinsics.Cuts.{cut_at}
+use Rattle.rule_laws.specs.pass_intrinsics.Lowered.{lowered, names_taken}
+use Rattle.rule_laws.specs.pass_intrinsics.Shapes.{back_label, done_label, pass_label}
+use Rattle.rule_laws.specs.pass_intrinsics.declared.cuts.Cut.{Cut}
+use Rattle.rule_laws.specs.pass_intrinsics.declared.shape.Part.{Part}
+use Rattle.rule_laws.specs.pass_intrinsics.declared.shape.Shape.{Shape}
+use Rattle.rule_laws.specs.pass_intrinsics.declared.shape.SuspendPoint.{SuspendPoint}
 use Rattle.ir_model.specs.Names.{position_of}
 use Rattle.ir_model.specs.declared.instr.Case.{Case}
 use Rattle.ir_model.specs.declared.instr.Instr.{Instr}
@@ -31,19 +31,19 @@ use Rattle.ir_model.specs.declared.module.Function.{Function}
 use Rattle.ir_model.specs.declared.operand.Callee.{Callee}
 use Rattle.ir_model.specs.declared.operand.Intrinsic.{Intrinsic}
 use Rattle.ir_model.specs.declared.operand.Operand.{Operand}
-use Rattle.ir_paths.specs.Paths.{targets}
+use Rattle.rule_laws.specs.ir_paths.Paths.{targets}
 use Rattle.rule_laws.proofs.frames.uses.Lowering.{ComesBy, IsLowered}
 use Rattle.rule_laws.proofs.rules.uses.Plain.{IsPlain}
 use Rattle.rule_laws.proofs.frames.uses.Quiet.{AreTold, IsQuiet, suspends}
 use Rattle.pass_proofs.proofs.split.uses.Sources.{HasPieces, IsFirst, NoSuspends, ends_suspended, first_piece, origin_begins, origin_marks, origin_returns, origin_stays, passes_on, piece_there}
-use Rattle.ir_laws.proofs.paths.uses.Sources.{IsIn}
-use Rattle.ir_laws.proofs.facts.Numbers.{Source}
-use Rattle.ir_laws.proofs.facts.uses.Sources.{label_of}
+use Rattle.rule_laws.proofs.ir_laws.paths.uses.Sources.{IsIn}
+use Rattle.rule_laws.proofs.ir_laws.facts.Numbers.{Source}
+use Rattle.rule_laws.proofs.ir_laws.facts.uses.Sources.{label_of}
 use Rattle.rule_laws.proofs.rules.uses.Unused.{IsUnused}
 use Rattle.rule_laws.proofs.frames.uses.Unused.{all_unused, joined_made, row_made, still_made, unused_joined, unused_made}
 use Rattle.pass_proofs.proofs.split.rules.Local.{same_term_operands}
 use Rattle.pass_proofs.specs.split.rules.Pieced.{ArePieces, BeginsAgain, Ends, Marks, Returns, Stays, Suspends, Transfers}
-use Rattle.run_laws.specs.changed.Changed.{Each}
+use Rattle.rule_laws.specs.run_laws.changed.Changed.{Each}
 
 -- A function whose blocks are cut into pieces, with what stands in front of them: what the rules say of its blocks, where its edges lead, and that labels tell blocks apart.
 pub record IsCutUp (f h : Function) (s : Shape) (part : Part) (origins : List Origin) (head : List Block) (css : List (List Block)) : Type 0 where

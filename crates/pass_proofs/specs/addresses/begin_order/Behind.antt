@@ -1,7 +1,7 @@
 -- Lemmas on behind.
 use Rattle.std.specs.Prelude.{◌≡◌, ℕ, true, List, Option}
 use Rattle.pass_proofs.specs.addresses.rules.Addresses.{lies_in_frame}
-use Rattle.rule_uses.specs.Uses.{values_at}
+use Rattle.rule_laws.specs.rule_uses.Uses.{values_at}
 use Rattle.ir_model.specs.Names.{position_of}
 use Rattle.ir_model.specs.declared.instr.Incoming.{Incoming}
 use Rattle.ir_model.specs.declared.module.Function.{Function}

@@ -1,12 +1,12 @@
 -- What is asked of the offsets of slots, so that a function whose slots become bytes of the frame breaks no rule.
 use Rattle.std.specs.Prelude.{◌≡◌, ℕ, Bool, true, false, not, List, [], length, slice_get, Some, None, Option, unwrap_or, ◌^◌, ◌<◌, ◌≤◌}
-use Rattle.rule_uses.specs.Undefined.{IsUndefined}
-use Rattle.rule_uses.specs.Uses.{Use, uses_of}
+use Rattle.rule_laws.specs.rule_uses.Undefined.{IsUndefined}
+use Rattle.rule_laws.specs.rule_uses.Uses.{Use, uses_of}
 use Rattle.pass_addresses.specs.Placing.{is_none, without_markers, without_promise}
 use Rattle.ir_model.specs.declared.module.Function.{Function}
-use Rattle.run_laws.specs.changed.Changed.{Each}
-use Rattle.rule_values.specs.Kinds.{value_kind}
-use Rattle.rule_values.specs.declared.kinds.Kind.{Kind}
+use Rattle.rule_laws.specs.run_laws.changed.Changed.{Each}
+use Rattle.rule_laws.specs.rule_values.Kinds.{value_kind}
+use Rattle.rule_laws.specs.rule_values.declared.kinds.Kind.{Kind}
 use Rattle.rule_laws.specs.rules.woven_rules.Weaving.{Weaving}
 
 -- the name is that of a slot in the frame

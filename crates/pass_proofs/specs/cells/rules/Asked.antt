@@ -1,13 +1,13 @@
 -- What is asked of a coroutine whose crossing values are kept in cells.
 use Rattle.std.specs.Prelude.{◌≡◌, ℕ, Bool, true, List, None}
 use Rattle.rule_laws.specs.rules.counted.Widths.{first_other_width}
-use Rattle.flow_solver.specs.Paths.{IsListed}
-use Rattle.pass_intrinsics.specs.Shapes.{suspends_of}
-use Rattle.pass_intrinsics.specs.declared.shape.SuspendPoint.{SuspendPoint}
+use Rattle.rule_laws.specs.flow_solver.Paths.{IsListed}
+use Rattle.rule_laws.specs.pass_intrinsics.Shapes.{suspends_of}
+use Rattle.rule_laws.specs.pass_intrinsics.declared.shape.SuspendPoint.{SuspendPoint}
 use Rattle.ir_model.specs.declared.module.Function.{Function}
-use Rattle.ir_paths.specs.Slots.{allocas_of}
-use Rattle.frame_crossing.specs.Values.{values_of}
-use Rattle.pass_cells.specs.Kept.{is_flagged}
+use Rattle.rule_laws.specs.ir_paths.Slots.{allocas_of}
+use Rattle.rule_laws.specs.frame_crossing.Values.{values_of}
+use Rattle.rule_laws.specs.pass_cells.Kept.{is_flagged}
 use Rattle.rule_laws.specs.frames.counted.Asked.{IsAwayFromEntry}
 
 -- The pairs are of values of the function that may cross suspends, the flagged names are allocas, suspends lead away from the entry

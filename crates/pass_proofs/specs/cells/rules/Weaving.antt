@@ -1,15 +1,15 @@
 -- Values in cells as instructions that are woven in.
 use Rattle.std.specs.Prelude.{ℕ, Bool, false, List, [], length, ◌∷◌, ◌++◌}
-use Rattle.rule_uses.specs.Uses.{made_by_instrs}
+use Rattle.rule_laws.specs.rule_uses.Uses.{made_by_instrs}
 use Rattle.ir_model.specs.declared.instr.Instr.{Instr}
 use Rattle.ir_model.specs.declared.module.Block.{Block}
 use Rattle.ir_model.specs.declared.module.Function.{Function}
 use Rattle.ir_model.specs.declared.module.Module.{Module}
-use Rattle.pass_cells.specs.Cells.{with_plan}
-use Rattle.pass_cells.specs.Plan.{plan_of}
-use Rattle.pass_cells.specs.Written.{kept_allocas, link_allocas}
-use Rattle.pass_cells.specs.declared.plan.Plan.{Plan}
-use Rattle.rule_values.specs.Kinds.{value_kind}
+use Rattle.rule_laws.specs.pass_cells.Cells.{with_plan}
+use Rattle.rule_laws.specs.pass_cells.Plan.{plan_of}
+use Rattle.rule_laws.specs.pass_cells.Written.{kept_allocas, link_allocas}
+use Rattle.rule_laws.specs.pass_cells.declared.plan.Plan.{Plan}
+use Rattle.rule_laws.specs.rule_values.Kinds.{value_kind}
 use Rattle.rule_laws.specs.rules.woven_rules.Weaving.{Weaving}
 
 -- the allocas at the front of the entry block

@@ -4,14 +4,14 @@ use Rattle.pass_copies.specs.BeginCopies.{after_blocks, copied_function, copying
 use Rattle.pass_copies.specs.Slots.{early_slots, resumed_at}
 use Rattle.pass_copies.specs.Uses.{flag_at, is_begin, used_before}
 use Rattle.pass_copies.specs.declared.slot.EarlySlot.{EarlySlot}
-use Rattle.rule_uses.specs.Uses.{phi_values}
-use Rattle.ir_parts.specs.Contents.{result_of}
+use Rattle.rule_laws.specs.rule_uses.Uses.{phi_values}
+use Rattle.rule_laws.specs.ir_parts.Contents.{result_of}
 use Rattle.ir_model.specs.declared.instr.Instr.{Instr}
 use Rattle.ir_model.specs.declared.module.Block.{Block}
 use Rattle.ir_model.specs.declared.module.Function.{Function}
-use Rattle.ir_locals.specs.Tables.{first_in}
-use Rattle.run_laws.specs.changed.Changed.{Each}
-use Rattle.rule_values.specs.Kinds.{block_kind}
+use Rattle.rule_laws.specs.ir_locals.Tables.{first_in}
+use Rattle.rule_laws.specs.run_laws.changed.Changed.{Each}
+use Rattle.rule_laws.specs.rule_values.Kinds.{block_kind}
 use Rattle.rule_laws.specs.rules.woven_rules.Weaving.{IsThere, Weaving}
 
 -- the slots that get temporaries

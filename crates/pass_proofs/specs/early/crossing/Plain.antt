@@ -1,16 +1,16 @@
 -- What the renaming of uses of coro.frame doesn't touch.
 use Rattle.std.specs.Prelude.{◌≡◌, ℕ, false, Some, slice_get}
-use Rattle.rule_uses.specs.Undefined.{params_of}
+use Rattle.rule_laws.specs.rule_uses.Undefined.{params_of}
 use Rattle.pass_proofs.specs.early.renaming.Regular.{IsPlain}
 use Rattle.pass_early.specs.declared.renaming.Renaming.{Renaming}
-use Rattle.flow_solver.specs.Paths.{IsListed}
-use Rattle.ir_parts.specs.Contents.{result_of}
+use Rattle.rule_laws.specs.flow_solver.Paths.{IsListed}
+use Rattle.rule_laws.specs.ir_parts.Contents.{result_of}
 use Rattle.ir_model.specs.declared.instr.Instr.{Instr}
 use Rattle.ir_model.specs.declared.instr.Phi.{Phi}
 use Rattle.ir_model.specs.declared.module.Block.{Block}
 use Rattle.ir_model.specs.declared.module.Function.{Function}
 use Rattle.ir_model.specs.declared.operand.Intrinsic.{Intrinsic}
-use Rattle.ir_paths.specs.Windows.{is_call_of}
+use Rattle.rule_laws.specs.ir_paths.Windows.{is_call_of}
 
 -- no parameter, no phi and no instruction but begin and coro.frame makes a value that is renamed or takes another's place
 pub record HasPlainNames (f : Function) (r : Renaming) : Type 0 where

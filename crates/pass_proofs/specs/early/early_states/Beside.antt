@@ -1,11 +1,11 @@
 -- The machine of the source meaning, and the states that stand beside each other in the runs of the first pass's
 -- three passes.
 use Rattle.std.specs.Prelude.{◌≡◌, ℕ, ℤ, List}
-use Rattle.run_agreement.specs.Costs.{IsNear, Through}
-use Rattle.run_agreement.specs.Machines.{Machine}
-use Rattle.ir_base.specs.declared.outcome.Word.{Word}
-use Rattle.run_source.specs.Source.{first_state, given, step}
-use Rattle.run_source.specs.declared.state.State.{State}
+use Rattle.rule_laws.specs.run_agreement.Costs.{IsNear, Through}
+use Rattle.rule_laws.specs.run_agreement.Machines.{Machine}
+use Rattle.rule_laws.specs.ir_base.declared.outcome.Word.{Word}
+use Rattle.rule_laws.specs.run_source.Source.{first_state, given, step}
+use Rattle.rule_laws.specs.run_source.declared.state.State.{State}
 use Rattle.pass_early.specs.Early.{early_module}
 use Rattle.run_states.specs.shortened.Shortened.{short_state}
 use Rattle.pass_proofs.specs.early.renaming.Passes.{named_module, renamed_module}
@@ -13,7 +13,7 @@ use Rattle.pass_proofs.specs.early.save_states.SavedState.{saved_state}
 use Rattle.run_states.specs.sound_states.Sound.{IsSound}
 use Rattle.ir_model.specs.declared.module.Frame.{Frame}
 use Rattle.ir_model.specs.declared.module.Module.{Module}
-use Rattle.run_step.specs.Runs.{seen_of}
+use Rattle.rule_laws.specs.run_step.Runs.{seen_of}
 
 -- what is seen of it after n steps is SourceAt
 abbrev pub source_machine : Module → List Frame → ℕ → List Word → List ℤ → Machine State

@@ -1,8 +1,8 @@
 -- Begin's value, which is none of the parameters.
 use Rattle.std.specs.Prelude.{◌≡◌, ℕ, true}
-use Rattle.rule_uses.specs.Undefined.{params_of}
+use Rattle.rule_laws.specs.rule_uses.Undefined.{params_of}
 use Rattle.pass_early.specs.Early.{renaming_of}
-use Rattle.flow_solver.specs.Paths.{IsListed}
+use Rattle.rule_laws.specs.flow_solver.Paths.{IsListed}
 use Rattle.ir_model.specs.Names.{function_at}
 use Rattle.ir_model.specs.declared.module.Module.{Module}
 

@@ -7,7 +7,7 @@ use Rattle.pass_early.specs.declared.renaming.Renaming.{Renaming}
 use Rattle.ir_model.specs.declared.module.Block.{Block}
 use Rattle.ir_model.specs.declared.module.Function.{Function}
 use Rattle.ir_model.specs.declared.module.Module.{Module}
-use Rattle.ir_laws.specs.facts.renamed.Passes.{with_functions}
+use Rattle.rule_laws.specs.ir_laws.facts.renamed.Passes.{with_functions}
 
 -- a coroutine changed, and any other function as it is
 abbrev pub if_coroutine : (Function → Function) → Function → Function

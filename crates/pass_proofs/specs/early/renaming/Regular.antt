@@ -1,26 +1,26 @@
 -- Coroutines in which each use of a value of coro.frame is one of begin's value: what is asked of paths and names.
 use Rattle.std.specs.Prelude.{◌≡◌, ◌<◌, ℕ, true, false, length, IsTrue, Some, None, slice_get, ◌==◌}
-use Rattle.rule_shape.specs.Switches.{wrong_switch}
-use Rattle.rule_uses.specs.Undefined.{IsFirstUndefined, params_of}
-use Rattle.rule_uses.specs.Uses.{uses_of}
+use Rattle.rule_laws.specs.rule_shape.Switches.{wrong_switch}
+use Rattle.rule_laws.specs.rule_uses.Undefined.{IsFirstUndefined, params_of}
+use Rattle.rule_laws.specs.rule_uses.Uses.{uses_of}
 use Rattle.pass_early.specs.Early.{renaming_of}
 use Rattle.pass_early.specs.Renaming.{is_renamed}
 use Rattle.pass_early.specs.declared.renaming.Renaming.{Renaming}
-use Rattle.flow_solver.specs.Paths.{IsListed}
+use Rattle.rule_laws.specs.flow_solver.Paths.{IsListed}
 use Rattle.ir_model.specs.Names.{function_at, position_of}
 use Rattle.ir_model.specs.declared.instr.Instr.{Instr}
 use Rattle.ir_model.specs.declared.module.Block.{Block}
 use Rattle.ir_model.specs.declared.module.Function.{Function}
 use Rattle.ir_model.specs.declared.module.Module.{Module}
 use Rattle.ir_model.specs.declared.operand.Intrinsic.{Intrinsic}
-use Rattle.ir_paths.specs.Paths.{entry_point}
-use Rattle.ir_paths.specs.Slots.{is_in_args, promise_of}
-use Rattle.ir_paths.specs.Windows.{destroy_label, instr_at, is_call_of, resume_label, suspend_of}
-use Rattle.ir_paths.specs.declared.point.Point.{Point}
-use Rattle.run_step.specs.Step.{is_lifetime, phis_of}
-use Rattle.run_laws.specs.changed.Changed.{Each, result_of}
-use Rattle.rule_windows.specs.Outside.{IsFirstOutside}
-use Rattle.ir_laws.specs.paths.renamed.Regular.{HasNoFrame, IsDead, IsTaken, entry, is_call_at}
+use Rattle.rule_laws.specs.ir_paths.Paths.{entry_point}
+use Rattle.rule_laws.specs.ir_paths.Slots.{is_in_args, promise_of}
+use Rattle.rule_laws.specs.ir_paths.Windows.{destroy_label, instr_at, is_call_of, resume_label, suspend_of}
+use Rattle.rule_laws.specs.ir_paths.declared.point.Point.{Point}
+use Rattle.rule_laws.specs.run_step.Step.{is_lifetime, phis_of}
+use Rattle.rule_laws.specs.run_laws.changed.Changed.{Each, result_of}
+use Rattle.rule_laws.specs.rule_windows.Outside.{IsFirstOutside}
+use Rattle.rule_laws.specs.ir_laws.paths.renamed.Regular.{HasNoFrame, IsDead, IsTaken, entry, is_call_at}
 
 -- neither renamed nor what takes another's place
 pub record IsPlain (r : Renaming) (v : ℕ) : Type 0 where

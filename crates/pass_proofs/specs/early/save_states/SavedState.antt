@@ -1,21 +1,21 @@
 -- The state of a source run, and that of the module whose saves are written out.
 use Rattle.std.specs.Prelude.{ℕ, List, [], length, map, replicate, Some, None, Ok, Err, Option, Result, option_map, ◌≡◌, slice_get, ◌∷◌, ◌++◌}
-use Rattle.ir_base.specs.declared.cause.Cause.{Cause}
-use Rattle.run_source.specs.declared.state.Activation.{Activation}
-use Rattle.run_source.specs.declared.state.Instance.{Instance}
-use Rattle.run_source.specs.declared.state.Saved.{Saved}
-use Rattle.run_source.specs.declared.state.State.{State}
-use Rattle.run_source.specs.declared.state.Status.{Status}
+use Rattle.rule_laws.specs.ir_base.declared.cause.Cause.{Cause}
+use Rattle.rule_laws.specs.run_source.declared.state.Activation.{Activation}
+use Rattle.rule_laws.specs.run_source.declared.state.Instance.{Instance}
+use Rattle.rule_laws.specs.run_source.declared.state.Saved.{Saved}
+use Rattle.rule_laws.specs.run_source.declared.state.State.{State}
+use Rattle.rule_laws.specs.run_source.declared.state.Status.{Status}
 use Rattle.ir_model.specs.Names.{function_at}
 use Rattle.ir_model.specs.declared.module.Function.{Function}
 use Rattle.ir_model.specs.declared.module.Module.{Module}
-use Rattle.ir_paths.specs.declared.point.Point.{Point}
-use Rattle.run_step.specs.Step.{Action, Coro, Deallocate, Done, Enter, GoTo, NewSlot, Return, Stuck, Work}
-use Rattle.run_step.specs.Values.{Env}
+use Rattle.rule_laws.specs.ir_paths.declared.point.Point.{Point}
+use Rattle.rule_laws.specs.run_step.Step.{Action, Coro, Deallocate, Done, Enter, GoTo, NewSlot, Return, Stuck, Work}
+use Rattle.rule_laws.specs.run_step.Values.{Env}
 use Rattle.pass_proofs.specs.early.saves.SavesWritten.{save_count}
 use Rattle.pass_proofs.specs.early.saves.Spots.{back_of, front_of, own_saves}
-use Rattle.ir_laws.specs.facts.expanded.Spots.{instrs_in}
-use Rattle.ir_laws.specs.facts.expanded.Tokens.{IsNamedResult}
+use Rattle.rule_laws.specs.ir_laws.facts.expanded.Spots.{instrs_in}
+use Rattle.rule_laws.specs.ir_laws.facts.expanded.Tokens.{IsNamedResult}
 
 -- the saves that are written have names, and no values
 abbrev pub saved_values : Function → Env → Env

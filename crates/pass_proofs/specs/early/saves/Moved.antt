@@ -1,9 +1,9 @@
 -- The windows of a function, and those of the function whose saves are written out.
 use Rattle.std.specs.Prelude.{false, List, [], ◌≡◌, ◌⊎◌, ◌∷◌}
 use Rattle.ir_model.specs.declared.module.Function.{Function}
-use Rattle.ir_paths.specs.Paths.{has_point}
-use Rattle.ir_paths.specs.declared.point.Point.{Point}
-use Rattle.ir_paths.specs.declared.point.Window.{Window}
+use Rattle.rule_laws.specs.ir_paths.Paths.{has_point}
+use Rattle.rule_laws.specs.ir_paths.declared.point.Point.{Point}
+use Rattle.rule_laws.specs.ir_paths.declared.point.Window.{Window}
 use Rattle.pass_proofs.specs.early.saves.Spots.{front_of}
 
 -- a window is moved: its ends are the fronts of those of the window, and it has the fronts of the window's points

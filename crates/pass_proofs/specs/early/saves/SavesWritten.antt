@@ -5,7 +5,7 @@ use Rattle.ir_model.specs.declared.instr.Instr.{Instr}
 use Rattle.ir_model.specs.declared.module.Block.{Block}
 use Rattle.ir_model.specs.declared.module.Function.{Function}
 use Rattle.ir_model.specs.declared.module.Module.{Module}
-use Rattle.ir_laws.specs.facts.expanded.Expansion.{expanded, number_behind}
+use Rattle.rule_laws.specs.ir_laws.facts.expanded.Expansion.{expanded, number_behind}
 
 -- a suspend of a coroutine whose save isn't written
 abbrev pub is_bare : Bool → Instr → Bool

@@ -5,8 +5,8 @@ use Rattle.pass_edges.specs.Edges.{block_edges, edge_table, edges_of, phi_flags}
 use Rattle.pass_edges.specs.declared.edge.Edge.{Edge}
 use Rattle.ir_model.specs.declared.module.Block.{Block}
 use Rattle.ir_model.specs.declared.module.Function.{Function}
-use Rattle.ir_paths.specs.declared.point.Point.{Point}
-use Rattle.ir_laws.specs.facts.expanded.Expansion.{place_of}
+use Rattle.rule_laws.specs.ir_paths.declared.point.Point.{Point}
+use Rattle.rule_laws.specs.ir_laws.facts.expanded.Expansion.{place_of}
 
 -- a block becomes itself and the blocks of its edges
 abbrev pub block_and_edges : List Bool → List (List Edge) → ℕ → Block → List Block

@@ -1,7 +1,7 @@
 -- What blocks on edges make of phis.
 use Rattle.std.specs.Prelude.{◌≡◌, ℕ, true, Some, slice_get}
 use Rattle.pass_edges.specs.Edges.{has_phis}
-use Rattle.rule_phis.specs.Edges.{leads}
+use Rattle.rule_laws.specs.rule_phis.Edges.{leads}
 use Rattle.ir_model.specs.declared.instr.Terminator.{Terminator}
 use Rattle.ir_model.specs.declared.module.Block.{Block}
 use Rattle.ir_model.specs.declared.module.Function.{Function}

@@ -7,7 +7,7 @@ use Rattle.ir_model.specs.declared.instr.Terminator.{Terminator}
 use Rattle.ir_model.specs.declared.module.Block.{Block}
 use Rattle.ir_model.specs.declared.module.Function.{Function}
 use Rattle.ir_model.specs.declared.operand.Arg.{Arg}
-use Rattle.ir_laws.specs.paths.rows.Returns.{IsOwnBlock}
+use Rattle.rule_laws.specs.ir_laws.paths.rows.Returns.{IsOwnBlock}
 use Rattle.rule_laws.specs.rules.rows.Returns.{IsSwitched}
 
 -- the resume and destroy edges of suspends, the cases of their switches, lead to such blocks

@@ -1,8 +1,8 @@
 -- The states that stand beside each other where coroutines' edges have blocks.
 use Rattle.std.specs.Prelude.{◌≡◌, ℕ, ℤ, List}
-use Rattle.run_agreement.specs.Costs.{IsNear, Through}
-use Rattle.ir_base.specs.declared.outcome.Word.{Word}
-use Rattle.run_source.specs.declared.state.State.{State}
+use Rattle.rule_laws.specs.run_agreement.Costs.{IsNear, Through}
+use Rattle.rule_laws.specs.ir_base.declared.outcome.Word.{Word}
+use Rattle.rule_laws.specs.run_source.declared.state.State.{State}
 use Rattle.pass_early.specs.Early.{early_module}
 use Rattle.pass_proofs.specs.early.early_states.Beside.{IsEarlyOf, IsNearlyEarlyOf, source_machine}
 use Rattle.run_states.specs.sound_states.Sound.{IsSound}

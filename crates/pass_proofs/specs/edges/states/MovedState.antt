@@ -1,12 +1,12 @@
 -- The state of a source run, and that of the module whose coroutines' edges have blocks.
 use Rattle.std.specs.Prelude.{ℕ, true, length, map, replicate, Some, None, Ok, Err, Result, option_map, slice_get, ◌≡◌, ◌++◌, if◌then◌else◌}
-use Rattle.ir_base.specs.declared.cause.Cause.{Cause}
-use Rattle.run_source.specs.declared.state.Activation.{Activation}
-use Rattle.run_source.specs.declared.state.Instance.{Instance}
-use Rattle.run_source.specs.declared.state.Saved.{Saved}
-use Rattle.run_source.specs.declared.state.State.{State}
-use Rattle.run_source.specs.declared.state.Status.{Status}
-use Rattle.ir_laws.specs.paths.threads.Labels.{HasNamedLabels}
+use Rattle.rule_laws.specs.ir_base.declared.cause.Cause.{Cause}
+use Rattle.rule_laws.specs.run_source.declared.state.Activation.{Activation}
+use Rattle.rule_laws.specs.run_source.declared.state.Instance.{Instance}
+use Rattle.rule_laws.specs.run_source.declared.state.Saved.{Saved}
+use Rattle.rule_laws.specs.run_source.declared.state.State.{State}
+use Rattle.rule_laws.specs.run_source.declared.state.Status.{Status}
+use Rattle.rule_laws.specs.ir_laws.paths.threads.Labels.{HasNamedLabels}
 use Rattle.pass_proofs.specs.edges.paths.Phis.{AreLabelsOnce, ArePhisForEdges}
 use Rattle.pass_proofs.specs.edges.paths.Spots.{moved}
 use Rattle.pass_edges.specs.EdgeBlocks.{with_edge_blocks}
@@ -17,11 +17,11 @@ use Rattle.ir_model.specs.declared.module.Block.{Block}
 use Rattle.ir_model.specs.declared.module.Function.{Function}
 use Rattle.ir_model.specs.declared.module.Module.{Module}
 use Rattle.ir_model.specs.declared.operand.Intrinsic.{Intrinsic}
-use Rattle.ir_paths.specs.Windows.{instr_at, is_call_of}
-use Rattle.ir_paths.specs.declared.point.Point.{Point}
-use Rattle.run_step.specs.Step.{Action, Coro, Deallocate, Done, Enter, GoTo, NewSlot, Return, Stuck, Work}
-use Rattle.run_step.specs.Values.{Env}
-use Rattle.ir_laws.specs.facts.branches.MovedState.{IsSwitch}
+use Rattle.rule_laws.specs.ir_paths.Windows.{instr_at, is_call_of}
+use Rattle.rule_laws.specs.ir_paths.declared.point.Point.{Point}
+use Rattle.rule_laws.specs.run_step.Step.{Action, Coro, Deallocate, Done, Enter, GoTo, NewSlot, Return, Stuck, Work}
+use Rattle.rule_laws.specs.run_step.Values.{Env}
+use Rattle.rule_laws.specs.ir_laws.facts.branches.MovedState.{IsSwitch}
 
 -- ---- the pass
 

@@ -1,9 +1,9 @@
 -- What a step of a source gives, and one of the module whose coroutines' edges have blocks.
 use Rattle.std.specs.Prelude.{ℤ, List, Ok, Err, Result, ◌≡◌, ◌⊎◌}
-use Rattle.ir_base.specs.declared.cause.Cause.{Cause}
-use Rattle.ir_base.specs.declared.outcome.Outcome.{Outcome}
-use Rattle.run_source.specs.Source.{given, step}
-use Rattle.run_source.specs.declared.state.State.{State}
+use Rattle.rule_laws.specs.ir_base.declared.cause.Cause.{Cause}
+use Rattle.rule_laws.specs.ir_base.declared.outcome.Outcome.{Outcome}
+use Rattle.rule_laws.specs.run_source.Source.{given, step}
+use Rattle.rule_laws.specs.run_source.declared.state.State.{State}
 use Rattle.pass_proofs.specs.edges.states.MovedState.{edges_split, moved_state}
 use Rattle.ir_model.specs.declared.module.Frame.{Frame}
 use Rattle.ir_model.specs.declared.module.Module.{Module}

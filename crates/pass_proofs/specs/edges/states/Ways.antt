@@ -1,15 +1,15 @@
 -- How a block is entered by a label, and by the label that stands there when edges have blocks.
 use Rattle.std.specs.Prelude.{ℕ, IsTrue, slice_get, Some, ◌≡◌, ◌⊎◌}
-use Rattle.ir_laws.specs.facts.threads.Moved.{ArePaired}
-use Rattle.ir_laws.specs.paths.threads.Threads.{IsBetween}
+use Rattle.rule_laws.specs.ir_laws.facts.threads.Moved.{ArePaired}
+use Rattle.rule_laws.specs.ir_laws.paths.threads.Threads.{IsBetween}
 use Rattle.pass_edges.specs.EdgeBlocks.{edge_block}
 use Rattle.pass_edges.specs.declared.edge.Edge.{Edge}
 use Rattle.ir_model.specs.Names.{position_of}
 use Rattle.ir_model.specs.declared.instr.Phi.{Phi}
 use Rattle.ir_model.specs.declared.module.Function.{Function}
-use Rattle.ir_paths.specs.Paths.{entry_point, has_point, nexts}
-use Rattle.ir_paths.specs.declared.point.Point.{Point}
-use Rattle.run_step.specs.Step.{incoming_from, label_of, phis_of}
+use Rattle.rule_laws.specs.ir_paths.Paths.{entry_point, has_point, nexts}
+use Rattle.rule_laws.specs.ir_paths.declared.point.Point.{Point}
+use Rattle.rule_laws.specs.run_step.Step.{incoming_from, label_of, phis_of}
 
 -- two phis take the same, each from its label
 pub record TakesSame (l k : ℕ) (p q : Phi) : Type 0 where

@@ -1,6 +1,6 @@
 -- The module whose coroutines have blocks on the edges that leave windows, and what that asks of them.
 use Rattle.std.specs.Prelude.{◌≡◌, ℕ, true, None, Some, map, slice_get, if◌then◌else◌}
-use Rattle.rule_shape.specs.Switches.{wrong_switch}
+use Rattle.rule_laws.specs.rule_shape.Switches.{wrong_switch}
 use Rattle.pass_proofs.specs.edges.rules.Phis.{ArePhisEnteredByJumps}
 use Rattle.rule_laws.specs.rules.function_rules.Kept.{KeepsFunctionRules}
 use Rattle.ir_model.specs.declared.module.Function.{Function}

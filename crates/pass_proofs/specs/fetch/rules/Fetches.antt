@@ -1,21 +1,21 @@
 -- What is asked of a table of fetches, so that a function whose operands are fetched by it breaks no rule.
 use Rattle.std.specs.Prelude.{◌≡◌, ℕ, true, false, List, [], length, Some, None, Option, ◌^◌, ◌<◌}
-use Rattle.rule_uses.specs.Undefined.{IsUndefined}
-use Rattle.rule_uses.specs.Uses.{Use, uses_of}
-use Rattle.ir_parts.specs.Contents.{instr_operands}
+use Rattle.rule_laws.specs.rule_uses.Undefined.{IsUndefined}
+use Rattle.rule_laws.specs.rule_uses.Uses.{Use, uses_of}
+use Rattle.rule_laws.specs.ir_parts.Contents.{instr_operands}
 use Rattle.ir_model.specs.declared.instr.Instr.{Instr}
 use Rattle.ir_model.specs.declared.module.Block.{Block}
 use Rattle.ir_model.specs.declared.module.Function.{Function}
 use Rattle.ir_model.specs.declared.operand.Operand.{Operand}
-use Rattle.rule_locals.specs.Extents.{is_aligned}
-use Rattle.ir_locals.specs.Tables.{first_in}
-use Rattle.run_laws.specs.changed.Changed.{Each}
-use Rattle.pass_fetch.specs.Blocks.{next_after_blocks, next_after_phis_by, with_fetches}
-use Rattle.pass_fetch.specs.Fetching.{fetch_of, value_bytes}
-use Rattle.pass_fetch.specs.declared.fetch.Fetch.{Fetch}
-use Rattle.rule_values.specs.Fits.{is_scalar}
-use Rattle.rule_values.specs.Kinds.{block_kind, kind_of, value_kind}
-use Rattle.rule_values.specs.declared.kinds.Kind.{Kind}
+use Rattle.rule_laws.specs.rule_locals.Extents.{is_aligned}
+use Rattle.rule_laws.specs.ir_locals.Tables.{first_in}
+use Rattle.rule_laws.specs.run_laws.changed.Changed.{Each}
+use Rattle.rule_laws.specs.pass_fetch.Blocks.{next_after_blocks, next_after_phis_by, with_fetches}
+use Rattle.rule_laws.specs.pass_fetch.Fetching.{fetch_of, value_bytes}
+use Rattle.rule_laws.specs.pass_fetch.declared.fetch.Fetch.{Fetch}
+use Rattle.rule_laws.specs.rule_values.Fits.{is_scalar}
+use Rattle.rule_laws.specs.rule_values.Kinds.{block_kind, kind_of, value_kind}
+use Rattle.rule_laws.specs.rule_values.declared.kinds.Kind.{Kind}
 use Rattle.rule_laws.specs.rules.woven_rules.Blocks.{is_mark}
 use Rattle.rule_laws.specs.rules.woven_rules.Weaving.{Weaving}
 

@@ -3,20 +3,20 @@ use Rattle.std.specs.Prelude.{◌≡◌, ◌⊎◌, ℕ, Bool, true, false, List
 use Rattle.pass_proofs.specs.addresses.rules.Addresses.{lies_in_frame}
 use Rattle.pass_copies.specs.Slots.{entry_instrs}
 use Rattle.pass_copies.specs.Uses.{flag_at}
-use Rattle.rule_uses.specs.Uses.{block_values, phi_values}
-use Rattle.flow_solver.specs.Paths.{IsListed}
-use Rattle.ir_parts.specs.Contents.{ending_operands, result_of}
+use Rattle.rule_laws.specs.rule_uses.Uses.{block_values, phi_values}
+use Rattle.rule_laws.specs.flow_solver.Paths.{IsListed}
+use Rattle.rule_laws.specs.ir_parts.Contents.{ending_operands, result_of}
 use Rattle.ir_model.specs.declared.instr.Instr.{Instr}
 use Rattle.ir_model.specs.declared.instr.Phi.{Phi}
 use Rattle.ir_model.specs.declared.module.Block.{Block}
 use Rattle.ir_model.specs.declared.module.Function.{Function}
 use Rattle.ir_model.specs.declared.operand.Operand.{Operand}
-use Rattle.ir_paths.specs.Slots.{allocas_in}
+use Rattle.rule_laws.specs.ir_paths.Slots.{allocas_in}
 use Rattle.pass_frames.specs.Framed.{begin_block, is_begin}
 use Rattle.pass_frames.specs.Tables.{label_flags}
-use Rattle.run_laws.specs.changed.Changed.{Each}
-use Rattle.rule_values.specs.Kinds.{value_kind}
-use Rattle.rule_values.specs.declared.kinds.Kind.{Kind}
+use Rattle.rule_laws.specs.run_laws.changed.Changed.{Each}
+use Rattle.rule_laws.specs.rule_values.Kinds.{value_kind}
+use Rattle.rule_laws.specs.rule_values.declared.kinds.Kind.{Kind}
 use Rattle.rule_laws.specs.rules.woven_rules.Weaving.{IsThere}
 use Rattle.rule_laws.specs.frames.begin_order.Behind.{AreAgainBehind}
 use Rattle.rule_laws.specs.rules.begin_order.Behind.{access_operands, other_operands}

@@ -2,8 +2,8 @@
 use Rattle.std.specs.Prelude.{◌≡◌, ◌⊎◌, ℕ, Bool, true, false, List, [], Some, Option, length, slice_get, unwrap_or, ◌+◌, ◌*◌, ◌^◌, ◌<◌, ◌≤◌}
 use Rattle.pass_proofs.specs.addresses.rules.Addresses.{lies_in_frame}
 use Rattle.ir_model.specs.declared.module.Function.{Function}
-use Rattle.pass_cells.specs.Kept.{entry, keeping_of}
-use Rattle.pass_cells.specs.declared.keeping.Keeping.{Keeping}
+use Rattle.rule_laws.specs.pass_cells.Kept.{entry, keeping_of}
+use Rattle.rule_laws.specs.pass_cells.declared.keeping.Keeping.{Keeping}
 
 -- the values of a function that are kept
 abbrev pub values_kept : Function → List (ℕ × ℕ) → Keeping

@@ -2,25 +2,25 @@
 use Rattle.std.specs.Prelude.{◌≡◌, ℕ, true, List, None, Option, Some, replicate, ◌^◌, ◌<◌}
 use Rattle.pass_proofs.specs.frames.begin_order.Behind.{AreBlocksBehind}
 use Rattle.pass_proofs.specs.cells.rules.Asked.{AreCellsFor}
-use Rattle.rule_shape.specs.OneOfEach.{wrong_call}
-use Rattle.frame_contents.specs.Frames.{AreContents}
-use Rattle.frame_contents.specs.declared.contents.Contents.{Contents}
-use Rattle.ir_laws.specs.paths.threads.Labels.{HasNamedLabels}
+use Rattle.rule_laws.specs.rule_shape.OneOfEach.{wrong_call}
+use Rattle.rule_laws.specs.frame_contents.Frames.{AreContents}
+use Rattle.rule_laws.specs.frame_contents.declared.contents.Contents.{Contents}
+use Rattle.rule_laws.specs.ir_laws.paths.threads.Labels.{HasNamedLabels}
 use Rattle.pass_proofs.specs.edges.paths.Phis.{AreLabelsOnce}
 use Rattle.pass_edges.specs.EdgeBlocks.{with_edge_blocks}
-use Rattle.frame_layout.specs.declared.layout.Layout.{Layout}
+use Rattle.rule_laws.specs.frame_layout.declared.layout.Layout.{Layout}
 use Rattle.rule_laws.specs.rules.function_rules.Kept.{KeepsFunctionRules}
-use Rattle.pass_intrinsics.specs.Shapes.{suspends_of}
+use Rattle.rule_laws.specs.pass_intrinsics.Shapes.{suspends_of}
 use Rattle.ir_model.specs.Calls.{first_result}
 use Rattle.ir_model.specs.declared.module.Function.{Function}
 use Rattle.ir_model.specs.declared.module.Module.{Module}
 use Rattle.ir_model.specs.declared.operand.Intrinsic.{Intrinsic}
-use Rattle.frame_classes.specs.declared.class.SlotClass.{SlotClass}
+use Rattle.rule_laws.specs.frame_classes.declared.class.SlotClass.{SlotClass}
 use Rattle.pass_frames.specs.Framed.{celled}
 use Rattle.pass_frames.specs.Tables.{class_flags, offset_at, with_slot_offsets}
 use Rattle.rule_laws.specs.rules.replaced.Splittable.{AreBlocksBegun}
 use Rattle.rule_laws.specs.frames.replaced.Splittable.{HasOwnEdges}
-use Rattle.run_laws.specs.changed.Changed.{Each}
+use Rattle.rule_laws.specs.run_laws.changed.Changed.{Each}
 use Rattle.rule_laws.specs.rules.woven_rules.Pairs.{AreIncomingOnce}
 
 -- the offsets of slots alone, for so many names

@@ -1,9 +1,9 @@
 -- The states of a source that breaks no rule, and those where a resume hands on only what is needed behind it.
 use Rattle.std.specs.Prelude.{ℕ, ℤ, List}
-use Rattle.run_agreement.specs.Costs.{Through}
-use Rattle.ir_base.specs.declared.outcome.Word.{Word}
-use Rattle.run_source.specs.Source.{given}
-use Rattle.run_source.specs.declared.state.State.{State}
+use Rattle.rule_laws.specs.run_agreement.Costs.{Through}
+use Rattle.rule_laws.specs.ir_base.declared.outcome.Word.{Word}
+use Rattle.rule_laws.specs.run_source.Source.{given}
+use Rattle.rule_laws.specs.run_source.declared.state.State.{State}
 use Rattle.pass_early.specs.Early.{early_module}
 use Rattle.pass_proofs.specs.edges.simulation.Beside.{IsEarlySplitOf, IsNearlyEarlySplitOf}
 use Rattle.pass_proofs.specs.edges.states.MovedState.{edges_split}

@@ -1,7 +1,7 @@
 -- Coroutines in which the end comes between a suspend and a return.
-use Rattle.flow_solver.specs.Paths.{IsListed}
-use Rattle.pass_intrinsics.specs.Shapes.{suspends_of}
-use Rattle.pass_intrinsics.specs.declared.shape.SuspendPoint.{SuspendPoint}
+use Rattle.rule_laws.specs.flow_solver.Paths.{IsListed}
+use Rattle.rule_laws.specs.pass_intrinsics.Shapes.{suspends_of}
+use Rattle.rule_laws.specs.pass_intrinsics.declared.shape.SuspendPoint.{SuspendPoint}
 use Rattle.ir_model.specs.declared.module.Function.{Function}
 use Rattle.pass_proofs.specs.split.rules.Reached.{IsLedTo}
 use Rattle.rule_laws.specs.frames.replaced.Splittable.{IsEndedFirst}

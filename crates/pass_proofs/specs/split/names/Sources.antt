@@ -2,13 +2,13 @@
 use Rattle.std.specs.Prelude.{ℕ, true, [], Some, codes, map, slice_get, ◌≡◌, ◌∷◌, ◌++◌}
 use Rattle.pass_split.specs.Given.{has_given_call}
 use Rattle.pass_split.specs.Parts.{split_function}
-use Rattle.frame_layout.specs.declared.layout.Layout.{Layout}
+use Rattle.rule_laws.specs.frame_layout.declared.layout.Layout.{Layout}
 use Rattle.rule_laws.specs.frames.same_names.Parts.{HasPart, HasSignature}
 use Rattle.ir_model.specs.Names.{noalloc_of}
 use Rattle.ir_model.specs.Ty.{ptr}
 use Rattle.ir_model.specs.declared.module.Function.{Function}
 use Rattle.ir_model.specs.declared.module.Module.{Module}
-use Rattle.pass_intrinsics.specs.Shapes.{part_name}
+use Rattle.rule_laws.specs.pass_intrinsics.Shapes.{part_name}
 
 -- the function is one of those that a function of the module becomes
 pub record ComesFrom (m : Module) (g : Function) : Type 0 where

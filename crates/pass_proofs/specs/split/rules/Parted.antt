@@ -1,8 +1,8 @@
 -- The parts of a coroutine by their kinds.
 use Rattle.pass_split.specs.Parts.{given_ramp_of, later_part, ramp_of}
 use Rattle.pass_split.specs.Reached.{pruned}
-use Rattle.pass_intrinsics.specs.declared.shape.Part.{Part}
-use Rattle.pass_intrinsics.specs.declared.shape.Shape.{Shape}
+use Rattle.rule_laws.specs.pass_intrinsics.declared.shape.Part.{Part}
+use Rattle.rule_laws.specs.pass_intrinsics.declared.shape.Shape.{Shape}
 use Rattle.ir_model.specs.declared.module.Function.{Function}
 
 -- the parts of a coroutine of a shape

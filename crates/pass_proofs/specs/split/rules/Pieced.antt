@@ -2,12 +2,12 @@
 use Rattle.std.specs.Prelude.{◌≡◌, ℕ, true, false, List, [], map, None, ◌+◌, ◌∷◌, ◌++◌}
 use Rattle.pass_split.specs.Pieces.{begins_again, pass_block, pieced_phi, redirected_term, stop_label}
 use Rattle.pass_split.specs.declared.origin.Origin.{Origin}
-use Rattle.pass_intrinsics.specs.Cuts.{cut_at}
-use Rattle.pass_intrinsics.specs.Lowered.{lowered, names_taken}
-use Rattle.pass_intrinsics.specs.Shapes.{pass_label}
-use Rattle.pass_intrinsics.specs.declared.cuts.Cut.{Cut}
-use Rattle.pass_intrinsics.specs.declared.shape.Part.{Part}
-use Rattle.pass_intrinsics.specs.declared.shape.Shape.{Shape}
+use Rattle.rule_laws.specs.pass_intrinsics.Cuts.{cut_at}
+use Rattle.rule_laws.specs.pass_intrinsics.Lowered.{lowered, names_taken}
+use Rattle.rule_laws.specs.pass_intrinsics.Shapes.{pass_label}
+use Rattle.rule_laws.specs.pass_intrinsics.declared.cuts.Cut.{Cut}
+use Rattle.rule_laws.specs.pass_intrinsics.declared.shape.Part.{Part}
+use Rattle.rule_laws.specs.pass_intrinsics.declared.shape.Shape.{Shape}
 use Rattle.ir_model.specs.declared.instr.Instr.{Instr}
 use Rattle.ir_model.specs.declared.instr.Phi.{Phi}
 use Rattle.ir_model.specs.declared.instr.Terminator.{Terminator}

@@ -1,12 +1,12 @@
 -- The labels to which paths lead from the entry of a function.
 use Rattle.std.specs.Prelude.{◌≡◌, ℕ, Some, length, slice_get, ◌<◌}
 use Rattle.pass_split.specs.Reached.{entry_of, targets_at}
-use Rattle.flow_solver.specs.Paths.{IsListed}
+use Rattle.rule_laws.specs.flow_solver.Paths.{IsListed}
 use Rattle.ir_model.specs.Names.{position_of}
 use Rattle.ir_model.specs.declared.module.Block.{Block}
 use Rattle.ir_model.specs.declared.module.Function.{Function}
-use Rattle.ir_paths.specs.Paths.{targets}
-use Rattle.run_laws.specs.changed.Changed.{Each}
+use Rattle.rule_laws.specs.ir_paths.Paths.{targets}
+use Rattle.rule_laws.specs.run_laws.changed.Changed.{Each}
 
 -- A path leads from the entry's label to a label, along the edges of the blocks that have the labels.
 pub data IsLedTo (f : Function) : ℕ → Type 0 where

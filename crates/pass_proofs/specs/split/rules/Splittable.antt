@@ -1,23 +1,23 @@
 -- Lemmas on splittable.
 use Rattle.std.specs.Prelude.{◌≡◌, ℕ, true, None, Some, slice_get}
-use Rattle.rule_shape.specs.OneOfEach.{wrong_call}
-use Rattle.rule_shape.specs.Switches.{wrong_switch}
-use Rattle.flow_solver.specs.Paths.{IsListed}
+use Rattle.rule_laws.specs.rule_shape.OneOfEach.{wrong_call}
+use Rattle.rule_laws.specs.rule_shape.Switches.{wrong_switch}
+use Rattle.rule_laws.specs.flow_solver.Paths.{IsListed}
 use Rattle.rule_laws.specs.rules.function_rules.Kept.{KeepsFunctionRules}
-use Rattle.pass_front.specs.Front.{with_allocas_first}
-use Rattle.pass_intrinsics.specs.Shapes.{suspends_of}
-use Rattle.pass_intrinsics.specs.declared.shape.SuspendPoint.{SuspendPoint}
+use Rattle.rule_laws.specs.pass_front.Front.{with_allocas_first}
+use Rattle.rule_laws.specs.pass_intrinsics.Shapes.{suspends_of}
+use Rattle.rule_laws.specs.pass_intrinsics.declared.shape.SuspendPoint.{SuspendPoint}
 use Rattle.ir_model.specs.Calls.{first_result}
 use Rattle.ir_model.specs.declared.module.Block.{Block}
 use Rattle.ir_model.specs.declared.module.Function.{Function}
 use Rattle.ir_model.specs.declared.module.Module.{Module}
 use Rattle.ir_model.specs.declared.operand.Intrinsic.{Intrinsic}
-use Rattle.ir_paths.specs.declared.point.Point.{Point}
+use Rattle.rule_laws.specs.ir_paths.declared.point.Point.{Point}
 use Rattle.pass_proofs.specs.split.rules.Reached.{IsLedTo}
-use Rattle.run_laws.specs.changed.Changed.{Each}
-use Rattle.frame_crossing.specs.Crossing.{suspends_of as suspend_points}
-use Rattle.frame_crossing.specs.Paths.{IsDefinedBefore, IsNeededBehind}
-use Rattle.ir_laws.specs.paths.woven_rules.Pairs.{AreDifferent}
+use Rattle.rule_laws.specs.run_laws.changed.Changed.{Each}
+use Rattle.rule_laws.specs.frame_crossing.Crossing.{suspends_of as suspend_points}
+use Rattle.rule_laws.specs.frame_crossing.Paths.{IsDefinedBefore, IsNeededBehind}
+use Rattle.rule_laws.specs.ir_laws.paths.woven_rules.Pairs.{AreDifferent}
 use Rattle.rule_laws.specs.rules.woven_rules.Pairs.{AreIncomingOnce}
 use Rattle.rule_laws.specs.frames.replaced.Splittable.{HasOwnEdges, IsEndedFirst, may_cross, tokens_taken}
 use Rattle.rule_laws.specs.rules.replaced.Splittable.{AreBlocksBegun}

@@ -7,15 +7,15 @@ ghost use Rattle.std.specs.Prelude.{◌↔◌, ℕ, List, None};
 ghost use Rattle.pass_proofs.specs.early.renaming.Passes.{named_module, renamed_module};
 ghost use Rattle.elide_sites.specs.Elidable.{AreElidable};
 ghost use Rattle.ir_model.specs.declared.module.Module.{Module};
-ghost use Rattle.ir_laws.specs.facts.sound_states.Named.{AreLocalsNamed, AreUsesNamed};
-ghost use Rattle.ir_base.specs.declared.outcome.Place.{Place};
+ghost use Rattle.rule_laws.specs.ir_laws.facts.sound_states.Named.{AreLocalsNamed, AreUsesNamed};
+ghost use Rattle.rule_laws.specs.ir_base.declared.outcome.Place.{Place};
 ghost use Rattle.elide_sites.specs.Sites.{AreSites};
 ghost use Rattle.pass_proofs.specs.early.renaming.Regular.{AllKeepRules};
 ghost use Rattle.pass_proofs.specs.early.saves.SavesWritten.{saves_written};
 ghost use Rattle.pass_early.specs.Early.{early_module};
 ghost use Rattle.rule_laws.specs.rules.source_rules.Named.{AreTabled};
-ghost use Rattle.rule_all.specs.Refused.{IsRefused};
-ghost use Rattle.rule_names.specs.declared.stage.Stage.{Stage};
+ghost use Rattle.rule_laws.specs.rule_all.Refused.{IsRefused};
+ghost use Rattle.rule_laws.specs.rule_names.declared.stage.Stage.{Stage};
 
 /// The elidable callees stay where begin's value gets a name.
 pub fn elidable_callees_stay_named()

@@ -1,19 +1,19 @@
 //! Lemmas on sources.
 
 ghost use Rattle.std.specs.Prelude.{◌≡◌, ◌↔◌, ℕ, ℤ, Bool, IfOk, List, None, Result};
-ghost use Rattle.run_agreement.specs.Agreements.{AgreesWithin};
-ghost use Rattle.ir_base.specs.declared.outcome.Word.{Word};
-ghost use Rattle.run_source.specs.Source.{SourceAt};
-ghost use Rattle.frame_contents.specs.Frames.{AreLayouts};
-ghost use Rattle.frame_contents.specs.declared.module_frames.LayoutsError.{LayoutsError};
+ghost use Rattle.rule_laws.specs.run_agreement.Agreements.{AgreesWithin};
+ghost use Rattle.rule_laws.specs.ir_base.declared.outcome.Word.{Word};
+ghost use Rattle.rule_laws.specs.run_source.Source.{SourceAt};
+ghost use Rattle.rule_laws.specs.frame_contents.Frames.{AreLayouts};
+ghost use Rattle.rule_laws.specs.frame_contents.declared.module_frames.LayoutsError.{LayoutsError};
 ghost use Rattle.pass_early.specs.Early.{early_module};
-ghost use Rattle.frame_layout.specs.declared.layout.Layouts.{Layouts};
+ghost use Rattle.rule_laws.specs.frame_layout.declared.layout.Layouts.{Layouts};
 ghost use Rattle.rule_laws.specs.rules.sources.Rules.{BreaksNoOtherRule};
 ghost use Rattle.pass_proofs.specs.early.elision.sources.Same.{HaveSameClasses, HaveSameCrossing, HaveSameElision};
-ghost use Rattle.rule_all.specs.Refused.{IsRefused};
-ghost use Rattle.text_grammar.specs.Text.{StandsFor};
+ghost use Rattle.rule_laws.specs.rule_all.Refused.{IsRefused};
+ghost use Rattle.rule_laws.specs.text_grammar.Text.{StandsFor};
 ghost use Rattle.ir_model.specs.declared.module.Frame.{Frame};
-ghost use Rattle.rule_names.specs.declared.stage.Stage.{Stage};
+ghost use Rattle.rule_laws.specs.rule_names.declared.stage.Stage.{Stage};
 ghost use Rattle.ir_model.specs.declared.module.Module.{Module as TheModule};
 
 use ir_model::Module;

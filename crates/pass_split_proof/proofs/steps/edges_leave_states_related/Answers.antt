@@ -1,6 +1,6 @@
 use Rattle.pass_split_proof.proofs.steps.Branches.{edges_related, left_by}
 use Rattle.pass_split_proof.proofs.steps.edges_leave_states_related.Goals as goal
-use Rattle.run_source.specs.Source.{left_windows}
+use Rattle.pass_proofs.specs.run_source.Source.{left_windows}
 
 pub returns-clause-related : goal.returns-clause-related
 returns-clause-related c = edges_related

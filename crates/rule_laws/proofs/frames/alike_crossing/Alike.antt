@@ -2,14 +2,14 @@
 use Rattle.std.proofs.Common.{◌≡◌, ℕ, ◌+◌, ◌⊎◌, Some, refl, sym, subst, ◌↔◌}
 use Rattle.rule_uses.specs.Undefined.{params_of}
 use Rattle.rule_uses.specs.Uses.{locals_in}
-use Rattle.flow_solver.specs.Paths.{IsListed}
+use Rattle.ir_laws.specs.flow_solver.Paths.{IsListed}
 use Rattle.ir_parts.specs.Contents.{ending_operands, instr_operands, result_of}
-use Rattle.ir_model.specs.Names.{position_of}
-use Rattle.ir_model.specs.declared.instr.Instr.{Instr}
-use Rattle.ir_model.specs.declared.module.Function.{Function}
-use Rattle.ir_paths.specs.Paths.{targets}
-use Rattle.ir_paths.specs.Windows.{destroy_label, end_block, resume_label}
-use Rattle.run_step.specs.Step.{Fetched, Nowhere, AtInstr, AtTerm, fetch}
+use Rattle.ir_laws.specs.ir_model.Names.{position_of}
+use Rattle.ir_laws.specs.ir_model.declared.instr.Instr.{Instr}
+use Rattle.ir_laws.specs.ir_model.declared.module.Function.{Function}
+use Rattle.ir_laws.specs.ir_paths.Paths.{targets}
+use Rattle.ir_laws.specs.ir_paths.Windows.{destroy_label, end_block, resume_label}
+use Rattle.ir_laws.specs.run_step.Step.{Fetched, Nowhere, AtInstr, AtTerm, fetch}
 use Rattle.frame_crossing.specs.EdgeUses.{IsUsedOn}
 use Rattle.frame_crossing.specs.Paths.{BranchesTo, phis_at, used_by}
 

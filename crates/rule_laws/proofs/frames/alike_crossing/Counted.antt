@@ -2,15 +2,15 @@
 use Rattle.std.proofs.Common.{◌≡◌, ℕ, ◌<◌, inl, inr, List, [], ◌∷◌, length, Some, refl, sym, ◌∙◌, subst}
 use Rattle.std.specs.Prelude.{map}
 use Rattle.rule_laws.proofs.frames.alike_crossing.Values.{values_hold}
-use Rattle.flow_solver.specs.Paths.{IsListed}
+use Rattle.ir_laws.specs.flow_solver.Paths.{IsListed}
 use Rattle.ir_parts.specs.Contents.{result_of}
-use Rattle.ir_model.specs.declared.instr.Instr.{Instr}
-use Rattle.ir_model.specs.declared.instr.Phi.{Phi}
-use Rattle.ir_model.specs.declared.module.Block.{Block}
-use Rattle.ir_model.specs.declared.module.Function.{Function}
-use Rattle.ir_model.specs.declared.module.Param.{Param}
+use Rattle.ir_laws.specs.ir_model.declared.instr.Instr.{Instr}
+use Rattle.ir_laws.specs.ir_model.declared.instr.Phi.{Phi}
+use Rattle.ir_laws.specs.ir_model.declared.module.Block.{Block}
+use Rattle.ir_laws.specs.ir_model.declared.module.Function.{Function}
+use Rattle.ir_laws.specs.ir_model.declared.module.Param.{Param}
 use Rattle.ir_laws.proofs.facts.Members.{at_each as each_at}
-use Rattle.run_laws.specs.changed.Changed.{Each, result_of as made_by}
+use Rattle.ir_laws.specs.run_laws.changed.Changed.{Each, result_of as made_by}
 use Rattle.ir_laws.specs.facts.expanded.Tokens.{IsNamedResult}
 use Rattle.ir_laws.specs.facts.sound_states.Named.{HasNamedLocals}
 use Rattle.frame_crossing.specs.Values.{values_of}

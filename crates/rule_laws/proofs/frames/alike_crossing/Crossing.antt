@@ -1,13 +1,13 @@
 -- Which values cross which suspends, in functions that are alike.
 use Rattle.std.proofs.Common.{◌≡◌, ℕ, ◌+◌, ◌⊎◌, inl, inr, List, [], ◌∷◌, map, refl, sym, ap, ◌∙◌, subst, ◌↔◌}
 use Rattle.rule_laws.proofs.frames.alike_crossing.Alike.{AreAlike, IsAt, IsOfPlace, IsOneOn, branches_alike, instr_forth, instr_home, uses_alike}
-use Rattle.flow_solver.specs.Paths.{IsListed}
+use Rattle.ir_laws.specs.flow_solver.Paths.{IsListed}
 use Rattle.ir_parts.specs.Contents.{result_of}
-use Rattle.ir_model.specs.Names.{position_of}
-use Rattle.ir_model.specs.declared.module.Function.{Function}
-use Rattle.ir_paths.specs.Windows.{destroy_label, resume_label}
-use Rattle.ir_paths.specs.declared.point.Point.{Point}
-use Rattle.run_step.specs.Step.{Fetched, AtInstr, fetch}
+use Rattle.ir_laws.specs.ir_model.Names.{position_of}
+use Rattle.ir_laws.specs.ir_model.declared.module.Function.{Function}
+use Rattle.ir_laws.specs.ir_paths.Windows.{destroy_label, resume_label}
+use Rattle.ir_laws.specs.ir_paths.declared.point.Point.{Point}
+use Rattle.ir_laws.specs.run_step.Step.{Fetched, AtInstr, fetch}
 use Rattle.frame_crossing.specs.Crossing.{AreCrossed, AreCrossing, CrossedBy, Crosses, suspends_of}
 use Rattle.frame_crossing.specs.Crossing.AreCrossed.{NoMore, Taken, LeftOut}
 use Rattle.frame_crossing.specs.Crossing.CrossedBy.{Nothing, More}

@@ -4,18 +4,18 @@ use Rattle.std.specs.Prelude.{slice_get, if◌then◌else◌, ◌==◌}
 use Rattle.frame_contents.specs.Held.{crossing_values, field_of, fields_of, held_blocks, held_by, held_instr, held_instrs, held_params, held_phis, if_result, if_value, index_field, result_size, slot_held, suspend_count, value_held}
 use Rattle.frame_contents.specs.declared.held.Holding.{Holding}
 use Rattle.rule_uses.specs.Undefined.{params_of}
-use Rattle.flow_solver.specs.Paths.{IsListed}
+use Rattle.ir_laws.specs.flow_solver.Paths.{IsListed}
 use Rattle.ir_parts.specs.Contents.{result_of}
-use Rattle.ir_model.specs.declared.instr.Instr.{Instr}
-use Rattle.ir_model.specs.declared.instr.Phi.{Phi}
-use Rattle.ir_model.specs.declared.module.Block.{Block}
-use Rattle.ir_model.specs.declared.module.Function.{Function}
-use Rattle.ir_model.specs.declared.module.Module.{Module}
-use Rattle.ir_model.specs.declared.module.Param.{Param}
-use Rattle.ir_paths.proofs.Search.{either, eq_from}
-use Rattle.ir_paths.specs.Slots.{has_name, promise_of}
+use Rattle.ir_laws.specs.ir_model.declared.instr.Instr.{Instr}
+use Rattle.ir_laws.specs.ir_model.declared.instr.Phi.{Phi}
+use Rattle.ir_laws.specs.ir_model.declared.module.Block.{Block}
+use Rattle.ir_laws.specs.ir_model.declared.module.Function.{Function}
+use Rattle.ir_laws.specs.ir_model.declared.module.Module.{Module}
+use Rattle.ir_laws.specs.ir_model.declared.module.Param.{Param}
+use Rattle.ir_laws.proofs.ir_paths.Search.{either, eq_from}
+use Rattle.ir_laws.specs.ir_paths.Slots.{has_name, promise_of}
 use Rattle.ir_laws.proofs.facts.Members.{each_joined as each_append}
-use Rattle.run_laws.specs.changed.Changed.{Each}
+use Rattle.ir_laws.specs.run_laws.changed.Changed.{Each}
 use Rattle.frame_crossing.specs.Crossing.{AreCrossed, AreCrossing, CrossedBy, suspends_of}
 use Rattle.frame_crossing.specs.Crossing.AreCrossed.{NoMore, Taken, LeftOut}
 use Rattle.frame_crossing.specs.Crossing.CrossedBy.{Nothing, More}
@@ -84,7 +84,7 @@ module _ (P : ℕ → Type 0) where
 
   -- ---- the values that cross
 
-  crossed_values : (f : Function) (v k : ℕ) (ss : List Rattle.ir_paths.specs.declared.point.Point.Point) (all : List (ℕ × ℕ)) → P v → AreCrossed f v k ss all → Each P (crossing_values all)
+  crossed_values : (f : Function) (v k : ℕ) (ss : List Rattle.ir_laws.specs.ir_paths.declared.point.Point.Point) (all : List (ℕ × ℕ)) → P v → AreCrossed f v k ss all → Each P (crossing_values all)
   crossed_values f v _ _ _ p (NoMore k) = tt
   crossed_values f v _ _ _ p (Taken k s ss all c rest) = (p, crossed_values f v (k + 1) ss all p rest)
   crossed_values f v _ _ _ p (LeftOut k s ss all c rest) = crossed_values f v (k + 1) ss all p rest

@@ -13,9 +13,9 @@ use Rattle.frame_layout.specs.declared.layout.Field.{Field}
 use Rattle.frame_layout.specs.declared.layout.Layout.{Layout}
 use Rattle.frame_layout.specs.declared.layout.Layouts.{Layouts}
 use Rattle.frame_layout.specs.declared.laying.LayoutError.{LayoutError}
-use Rattle.ir_model.specs.declared.module.Function.{Function}
-use Rattle.ir_model.specs.declared.module.Module.{Module}
-use Rattle.ir_paths.specs.Slots.{allocas_of}
+use Rattle.ir_laws.specs.ir_model.declared.module.Function.{Function}
+use Rattle.ir_laws.specs.ir_model.declared.module.Module.{Module}
+use Rattle.ir_laws.specs.ir_paths.Slots.{allocas_of}
 use Rattle.frame_conflicts.specs.Conflicts.{AreAliveAt, AreConflicts}
 use Rattle.frame_classes.specs.Classes.{AreClasses}
 use Rattle.frame_classes.specs.declared.class.SlotClass.{SlotClass}

@@ -6,11 +6,11 @@ use Rattle.rule_laws.proofs.frames.alike_slots.SlotsAlike.{AreSlotsAlike, after_
 use Rattle.rule_laws.proofs.frames.alike_slots.Spots.{IsOfSpot, behind_forth, behind_home, from_forth, from_home, moved_spot, point_moved, start_forth, start_home, use_forth, use_home}
 use Rattle.rule_laws.proofs.frames.alike_slots.Strands.{none_carried}
 use Rattle.ir_laws.proofs.paths.expanded.Ways.{has_map, map_has}
-use Rattle.ir_model.specs.declared.module.Function.{Function}
-use Rattle.ir_paths.proofs.Search.{Has}
-use Rattle.ir_paths.specs.Paths.{has_point}
-use Rattle.ir_paths.specs.Slots.{allocas_of, is_escaped}
-use Rattle.ir_paths.specs.declared.point.Point.{Point}
+use Rattle.ir_laws.specs.ir_model.declared.module.Function.{Function}
+use Rattle.ir_laws.proofs.ir_paths.Search.{Has}
+use Rattle.ir_laws.specs.ir_paths.Paths.{has_point}
+use Rattle.ir_laws.specs.ir_paths.Slots.{allocas_of, is_escaped}
+use Rattle.ir_laws.specs.ir_paths.declared.point.Point.{Point}
 use Rattle.frame_classes.specs.Classes.{AreClasses, IsAliveAcross, IsOf, IsUsedAcross, IsUsedAway, MeetsLater, NeedsFrame, Touches, parting, suspends}
 use Rattle.frame_classes.specs.Classes.NeedsFrame.{Promise, Away, Across, Alive}
 use Rattle.frame_classes.specs.declared.class.SlotClass.{SlotClass}

@@ -8,11 +8,11 @@ use Rattle.rule_laws.proofs.frames.alike_slots.Spots.{moved_spot, point_moved, u
 use Rattle.rule_laws.proofs.frames.alike_slots.Strands.{IsOf, comes_home, from_front, leads_back}
 use Rattle.ir_laws.proofs.paths.expanded.Strands.{IsOnlyNext}
 use Rattle.ir_laws.proofs.paths.alike_slots.Strands.{leads_at}
-use Rattle.ir_model.specs.declared.module.Function.{Function}
-use Rattle.ir_paths.proofs.Search.{Has, either, or_left, same_point-itself, same_point-same}
-use Rattle.ir_paths.specs.Paths.{Leads, has_point, same_point}
-use Rattle.ir_paths.specs.Slots.{allocas_of}
-use Rattle.ir_paths.specs.declared.point.Point.{Point}
+use Rattle.ir_laws.specs.ir_model.declared.module.Function.{Function}
+use Rattle.ir_laws.proofs.ir_paths.Search.{Has, either, or_left, same_point-itself, same_point-same}
+use Rattle.ir_laws.specs.ir_paths.Paths.{Leads, has_point, same_point}
+use Rattle.ir_laws.specs.ir_paths.Slots.{allocas_of}
+use Rattle.ir_laws.specs.ir_paths.declared.point.Point.{Point}
 use Rattle.flow_points.specs.Reached.{IsReached}
 use Rattle.frame_conflicts.specs.Conflicts.{AliveAt, AreAliveAt, AreAliveTogether, AreConflicts, Conflict, ConflictAt, IsFrameSlotAt, IsUsedEarly}
 use Rattle.frame_conflicts.specs.Conflicts.Conflict.{Unmarked, Early, Together}
@@ -50,7 +50,7 @@ module _ (f g : Function) (front back : Point → Point) (Name : ℕ → Type 0)
       on (inr i) (inl e) = same e
       on (inr i) (inr n) =
           led_there (back entry) (ap (has_point (begins g)) (sym entry_is) ∙ alike.begins_lone.carried.fronts entry ∙ n)
-          (leads_at g (begins g) entry (back entry) (subst (λ (x : Point). Has (Rattle.ir_paths.specs.Paths.nexts g x) (back entry)) entry_is i.edge))
+          (leads_at g (begins g) entry (back entry) (subst (λ (x : Point). Has (Rattle.ir_laws.specs.ir_paths.Paths.nexts g x) (back entry)) entry_is i.edge))
 
   before_forth : (p : Point) → IsBeforeBegin f p → IsBeforeBegin g (back p)
   before_forth p (inl e) = subst (λ (x : Point). IsBeforeBegin g (back x)) (sym e) at_entry

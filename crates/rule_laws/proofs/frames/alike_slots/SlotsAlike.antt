@@ -3,13 +3,13 @@ use Rattle.std.proofs.Common.{◌≡◌, ℕ, inl, inr, true, false, List, [], �
 use Rattle.std.specs.Prelude.{slice_get}
 use Rattle.ir_laws.proofs.paths.alike_slots.Strands.{AreCarried, AreStrands}
 use Rattle.rule_laws.proofs.frames.alike_slots.Strands.{IsLedTo, IsOf, leads_back, leads_front, leads_home, none_carried, to_point}
-use Rattle.ir_model.specs.Names.{position_of}
-use Rattle.ir_model.specs.declared.module.Function.{Function}
-use Rattle.ir_paths.proofs.Search.{Has, or_left, same_point-itself}
-use Rattle.ir_paths.specs.Paths.{Leads, has_point, same_point}
-use Rattle.ir_paths.specs.Slots.{IsRampSlot, addresses_of, allocas_of, end_points, has_name, is_escaped, is_promise}
-use Rattle.ir_paths.specs.Windows.{destroy_label, end_block, resume_label}
-use Rattle.ir_paths.specs.declared.point.Point.{Point}
+use Rattle.ir_laws.specs.ir_model.Names.{position_of}
+use Rattle.ir_laws.specs.ir_model.declared.module.Function.{Function}
+use Rattle.ir_laws.proofs.ir_paths.Search.{Has, or_left, same_point-itself}
+use Rattle.ir_laws.specs.ir_paths.Paths.{Leads, has_point, same_point}
+use Rattle.ir_laws.specs.ir_paths.Slots.{IsRampSlot, addresses_of, allocas_of, end_points, has_name, is_escaped, is_promise}
+use Rattle.ir_laws.specs.ir_paths.Windows.{destroy_label, end_block, resume_label}
+use Rattle.ir_laws.specs.ir_paths.declared.point.Point.{Point}
 use Rattle.flow_reach.specs.Reached.{IsPointOf}
 use Rattle.frame_classes.specs.Alive.{MayBeAlive, markers_of}
 use Rattle.frame_classes.specs.Alive.MayBeAlive.{Unmarked, Started}

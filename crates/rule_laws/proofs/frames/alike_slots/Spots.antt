@@ -5,14 +5,14 @@ use Rattle.rule_laws.proofs.frames.alike_slots.SlotsAlike.{AreSlotsAlike}
 use Rattle.ir_laws.proofs.paths.alike_slots.Strands.{AreCarried, IsOpen}
 use Rattle.rule_laws.proofs.frames.alike_slots.Strands.{both_carried, both_open, comes_forth, comes_home, leads_back, leads_home, to_point}
 use Rattle.ir_laws.proofs.paths.expanded.Ways.{has_map, map_has}
-use Rattle.flow_solver.specs.Paths.{IsListed}
-use Rattle.ir_model.specs.Names.{position_of}
-use Rattle.ir_model.specs.declared.module.Function.{Function}
-use Rattle.ir_paths.proofs.Search.{Has}
-use Rattle.ir_paths.specs.Paths.{entry_point, has_point}
-use Rattle.ir_paths.specs.Slots.{addresses_of, end_points, has_name}
-use Rattle.ir_paths.specs.Windows.{destroy_label, resume_label}
-use Rattle.ir_paths.specs.declared.point.Point.{Point}
+use Rattle.ir_laws.specs.flow_solver.Paths.{IsListed}
+use Rattle.ir_laws.specs.ir_model.Names.{position_of}
+use Rattle.ir_laws.specs.ir_model.declared.module.Function.{Function}
+use Rattle.ir_laws.proofs.ir_paths.Search.{Has}
+use Rattle.ir_laws.specs.ir_paths.Paths.{entry_point, has_point}
+use Rattle.ir_laws.specs.ir_paths.Slots.{addresses_of, end_points, has_name}
+use Rattle.ir_laws.specs.ir_paths.Windows.{destroy_label, resume_label}
+use Rattle.ir_laws.specs.ir_paths.declared.point.Point.{Point}
 use Rattle.frame_slots.specs.Spots.{Comes, IsBehind, IsStart, IsUse, LeadsFrom, Spot, UsesIn, point_at}
 use Rattle.frame_slots.specs.Spots.IsBehind.{OnEdge, Later}
 use Rattle.frame_slots.specs.Spots.IsStart.{Marked}

@@ -1,10 +1,10 @@
 -- Paths of a function, and those of one in which some points have become two, the first of which leads to the second alone.
 use Rattle.std.proofs.Common.{◌≡◌, ◌⊎◌, inl, inr, true, false, List, [], ◌∷◌, ◌++◌, refl, sym, ap, ◌∙◌, subst}
 use Rattle.std.specs.Prelude.{◌||◌, Bool}
-use Rattle.ir_model.specs.declared.module.Function.{Function}
-use Rattle.ir_paths.proofs.Search.{Has, leads-more}
-use Rattle.ir_paths.specs.Paths.{Leads, has_point, nexts, same_point}
-use Rattle.ir_paths.specs.declared.point.Point.{Point}
+use Rattle.ir_laws.specs.ir_model.declared.module.Function.{Function}
+use Rattle.ir_laws.proofs.ir_paths.Search.{Has, leads-more}
+use Rattle.ir_laws.specs.ir_paths.Paths.{Leads, has_point, nexts, same_point}
+use Rattle.ir_laws.specs.ir_paths.declared.point.Point.{Point}
 use Rattle.ir_laws.proofs.paths.expanded.Strands.{IsLedTo as IsOnWay, ahead_home, from_front as on_from_front, leads_forth, leads_home as ways_home}
 use Rattle.frame_slots.specs.Spots.{Comes}
 pub use Rattle.ir_laws.proofs.paths.expanded.Strands.{IsOnlyNext}

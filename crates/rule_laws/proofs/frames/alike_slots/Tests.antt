@@ -2,11 +2,11 @@
 use Rattle.std.proofs.Common.{◌≡◌, Bool, true, false, Some, None, Option, refl, sym, ◌∙◌}
 use Rattle.ir_laws.proofs.paths.renamed.Outside.{where_none, where_pass}
 use Rattle.ir_laws.specs.facts.renamed.Regular.{passes}
-use Rattle.ir_model.specs.declared.instr.Instr.{Instr}
-use Rattle.ir_model.specs.declared.module.Function.{Function}
-use Rattle.ir_paths.specs.Paths.{has_point}
-use Rattle.ir_paths.specs.Windows.{instr_at, points_where}
-use Rattle.ir_paths.specs.declared.point.Point.{Point}
+use Rattle.ir_laws.specs.ir_model.declared.instr.Instr.{Instr}
+use Rattle.ir_laws.specs.ir_model.declared.module.Function.{Function}
+use Rattle.ir_laws.specs.ir_paths.Paths.{has_point}
+use Rattle.ir_laws.specs.ir_paths.Windows.{instr_at, points_where}
+use Rattle.ir_laws.specs.ir_paths.declared.point.Point.{Point}
 use Rattle.frame_slots.proofs.Points.{where_complete}
 
 pub where_is : (t : Instr → Bool) (f : Function) (p : Point) → has_point (points_where t f) p ≡ passes t (instr_at f p)

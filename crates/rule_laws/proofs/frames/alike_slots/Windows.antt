@@ -6,12 +6,12 @@ use Rattle.ir_laws.proofs.paths.alike_slots.SlotsAlike.{AreLone}
 use Rattle.ir_laws.proofs.paths.alike_slots.Strands.{AreStrands}
 use Rattle.rule_laws.proofs.frames.alike_slots.Strands.{leads_back, leads_home, to_point}
 use Rattle.ir_laws.proofs.paths.expanded.Ways.{has_map, map_has}
-use Rattle.ir_model.specs.declared.module.Function.{Function}
-use Rattle.ir_model.specs.declared.operand.Intrinsic.{Intrinsic}
-use Rattle.ir_paths.proofs.Search.{Has, either, or_left, or_right, same_point-itself, same_point-same}
-use Rattle.ir_paths.specs.Paths.{has_point, same_point}
-use Rattle.ir_paths.specs.Windows.{IsInWindow, is_call_of, points_where, suspend_of}
-use Rattle.ir_paths.specs.declared.point.Point.{Point}
+use Rattle.ir_laws.specs.ir_model.declared.module.Function.{Function}
+use Rattle.ir_laws.specs.ir_model.declared.operand.Intrinsic.{Intrinsic}
+use Rattle.ir_laws.proofs.ir_paths.Search.{Has, either, or_left, or_right, same_point-itself, same_point-same}
+use Rattle.ir_laws.specs.ir_paths.Paths.{has_point, same_point}
+use Rattle.ir_laws.specs.ir_paths.Windows.{IsInWindow, is_call_of, points_where, suspend_of}
+use Rattle.ir_laws.specs.ir_paths.declared.point.Point.{Point}
 use Rattle.ir_laws.proofs.facts.Truth.{same_truth}
 use Rattle.rule_slots.specs.Closed.{IsInOneOf, IsInSomeWindow}
 

@@ -9,14 +9,14 @@ use Rattle.frame_contents.specs.declared.held.Holding.{Holding}
 use Rattle.ir_laws.proofs.facts.Members.{each_behind}
 use Rattle.ir_laws.proofs.facts.Truth.{equal_numbers, and_first, and_second}
 use Rattle.ir_parts.specs.Contents.{arg_types, instr_types, result_of}
-use Rattle.ir_model.specs.Layout.{size_of}
-use Rattle.ir_model.specs.Ty.{Ty, array, int, named, ptr, structure, token}
-use Rattle.ir_model.specs.declared.instr.Instr.{Instr}
-use Rattle.ir_model.specs.declared.instr.Phi.{Phi}
-use Rattle.ir_model.specs.declared.module.Block.{Block}
-use Rattle.ir_model.specs.declared.module.Module.{Module}
-use Rattle.ir_model.specs.declared.module.Param.{Param}
-use Rattle.run_laws.specs.changed.Changed.{Each}
+use Rattle.ir_laws.specs.ir_model.Layout.{size_of}
+use Rattle.ir_laws.specs.ir_model.Ty.{Ty, array, int, named, ptr, structure, token}
+use Rattle.ir_laws.specs.ir_model.declared.instr.Instr.{Instr}
+use Rattle.ir_laws.specs.ir_model.declared.instr.Phi.{Phi}
+use Rattle.ir_laws.specs.ir_model.declared.module.Block.{Block}
+use Rattle.ir_laws.specs.ir_model.declared.module.Module.{Module}
+use Rattle.ir_laws.specs.ir_model.declared.module.Param.{Param}
+use Rattle.ir_laws.specs.run_laws.changed.Changed.{Each}
 use Rattle.ir_laws.proofs.facts.Numbers.{min_small}
 use Rattle.ir_laws.proofs.facts.names_apart.Words.{either as either_of}
 

@@ -11,7 +11,7 @@ use Rattle.ir_laws.specs.facts.crossing.Crossed.{is_switch}
 use Rattle.rule_laws.proofs.rules.counted.Lists.{made_joined}
 use Rattle.rule_laws.proofs.rules.counted.Members.{made_either}
 use Rattle.rule_laws.proofs.rules.counted.PartFacts.{AllMadeBefore, block_made, uses_are}
-use Rattle.ir_base.specs.declared.outcome.Place.{Place}
+use Rattle.ir_laws.specs.ir_base.declared.outcome.Place.{Place}
 use Rattle.rule_uses.specs.Undefined.{IsFirstUndefined, IsUndefined, Next as NextBlock, ReachesWithout, params_of}
 use Rattle.rule_uses.specs.Uses.{Use as ValueUse, block_values, incoming_use, incoming_uses as incoming_value_uses, local_of, locals_in, made_by_instrs, phi_uses, phi_values, uses_of, values_at, values_in}
 use Rattle.rule_laws.proofs.rules.renamed.Uses.{block_edge, none_undefined, of_block, three_kinds}
@@ -19,23 +19,23 @@ use Rattle.ir_laws.proofs.facts.Members.{each_left, each_right}
 use Rattle.ir_laws.proofs.paths.source_rules.Locals.{listed_either}
 use Rattle.rule_laws.proofs.rules.source_rules.Locals.{made_by}
 use Rattle.ir_laws.proofs.facts.Lists.{row_of}
-use Rattle.flow_solver.specs.Paths.{IsListed}
+use Rattle.ir_laws.specs.flow_solver.Paths.{IsListed}
 use Rattle.ir_parts.specs.Contents.{ending_operands, result_of}
 use Rattle.ir_parts.specs.Parts.{instr_place}
-use Rattle.ir_model.specs.Names.{position_of}
-use Rattle.ir_model.specs.declared.instr.Case.{Case}
-use Rattle.ir_model.specs.declared.instr.Incoming.{Incoming}
-use Rattle.ir_model.specs.declared.instr.Instr.{Instr}
-use Rattle.ir_model.specs.declared.instr.Phi.{Phi}
-use Rattle.ir_model.specs.declared.instr.Terminator.{Terminator}
-use Rattle.ir_model.specs.declared.module.Block.{Block}
-use Rattle.ir_model.specs.declared.module.Function.{Function}
-use Rattle.ir_model.specs.declared.operand.Intrinsic.{Intrinsic}
-use Rattle.ir_paths.specs.Paths.{targets}
-use Rattle.ir_paths.specs.Windows.{destroy_label, instr_at, instr_in, is_call_of, is_number, label_at, label_in, label_of_term, resume_label}
-use Rattle.ir_paths.specs.declared.point.Point.{Point}
-use Rattle.run_step.specs.Step.{AtInstr, AtTerm, Fetched}
-use Rattle.run_laws.specs.changed.Changed.{Each}
+use Rattle.ir_laws.specs.ir_model.Names.{position_of}
+use Rattle.ir_laws.specs.ir_model.declared.instr.Case.{Case}
+use Rattle.ir_laws.specs.ir_model.declared.instr.Incoming.{Incoming}
+use Rattle.ir_laws.specs.ir_model.declared.instr.Instr.{Instr}
+use Rattle.ir_laws.specs.ir_model.declared.instr.Phi.{Phi}
+use Rattle.ir_laws.specs.ir_model.declared.instr.Terminator.{Terminator}
+use Rattle.ir_laws.specs.ir_model.declared.module.Block.{Block}
+use Rattle.ir_laws.specs.ir_model.declared.module.Function.{Function}
+use Rattle.ir_laws.specs.ir_model.declared.operand.Intrinsic.{Intrinsic}
+use Rattle.ir_laws.specs.ir_paths.Paths.{targets}
+use Rattle.ir_laws.specs.ir_paths.Windows.{destroy_label, instr_at, instr_in, is_call_of, is_number, label_at, label_in, label_of_term, resume_label}
+use Rattle.ir_laws.specs.ir_paths.declared.point.Point.{Point}
+use Rattle.ir_laws.specs.run_step.Step.{AtInstr, AtTerm, Fetched}
+use Rattle.ir_laws.specs.run_laws.changed.Changed.{Each}
 use Rattle.frame_crossing.specs.Crossing.{suspends_of}
 use Rattle.frame_crossing.specs.EdgeUses.{IsUsedOn, edge_use, incoming_uses, phis_uses, uses_by}
 use Rattle.frame_crossing.specs.Paths.{Across, BranchesTo, ByParam, ByPhi, IsDefinedBefore, IsNeeded, IsNeededBehind, IsNeededFrom, LeadsTo, Next, OnEdge, Use, phis_at, phis_in, used_by}

@@ -4,16 +4,16 @@ use Rattle.std.specs.Prelude.{Option, Some, None, filter, map, not, option_map, 
 use Rattle.rule_laws.proofs.rules.counted.PartFacts.{block_passes}
 use Rattle.ir_laws.proofs.facts.Truth.{equal_numbers}
 use Rattle.rule_phis.specs.Edges.{breaks_edges, is_empty, is_entry, leads, predecessors}
-use Rattle.flow_solver.specs.Paths.{IsListed}
+use Rattle.ir_laws.specs.flow_solver.Paths.{IsListed}
 use Rattle.ir_parts.specs.Contents.{ending_labels}
 use Rattle.rule_laws.specs.rules.function_rules.Kept.{KeepsFunctionRules}
-use Rattle.ir_model.specs.Names.{first_where, position_of}
-use Rattle.ir_model.specs.declared.instr.Instr.{Instr}
-use Rattle.ir_model.specs.declared.module.Block.{Block}
-use Rattle.ir_model.specs.declared.module.Function.{Function}
-use Rattle.ir_model.specs.declared.module.Module.{Module}
-use Rattle.ir_paths.specs.Paths.{targets}
-use Rattle.run_step.specs.Step.{fetch, fetch_in, fetch_or}
+use Rattle.ir_laws.specs.ir_model.Names.{first_where, position_of}
+use Rattle.ir_laws.specs.ir_model.declared.instr.Instr.{Instr}
+use Rattle.ir_laws.specs.ir_model.declared.module.Block.{Block}
+use Rattle.ir_laws.specs.ir_model.declared.module.Function.{Function}
+use Rattle.ir_laws.specs.ir_model.declared.module.Module.{Module}
+use Rattle.ir_laws.specs.ir_paths.Paths.{targets}
+use Rattle.ir_laws.specs.run_step.Step.{fetch, fetch_in, fetch_or}
 use Rattle.frame_crossing.specs.Paths.{BranchesTo}
 use Rattle.rule_laws.proofs.rules.edges.Entered.{has_listed as listed_has}
 use Rattle.rule_laws.proofs.rules.known_labels.Rules.{labels_spelt as labels_same}

@@ -7,17 +7,17 @@ use Rattle.rule_laws.proofs.frames.crossing.Spots.{none_needed}
 use Rattle.rule_laws.proofs.rules.counted.Members.{phis_made}
 use Rattle.rule_uses.specs.Uses.{locals_in, phi_values}
 use Rattle.ir_laws.proofs.facts.Lists.{phi_names}
-use Rattle.flow_solver.specs.Paths.{IsListed}
+use Rattle.ir_laws.specs.flow_solver.Paths.{IsListed}
 use Rattle.ir_parts.specs.Contents.{ending_operands, instr_operands, result_of}
-use Rattle.ir_model.specs.Names.{position_of}
-use Rattle.ir_model.specs.declared.instr.Instr.{Instr}
-use Rattle.ir_model.specs.declared.instr.Terminator.{Terminator}
-use Rattle.ir_model.specs.declared.module.Block.{Block}
-use Rattle.ir_model.specs.declared.module.Function.{Function}
-use Rattle.ir_paths.specs.Paths.{targets}
-use Rattle.ir_paths.specs.Windows.{destroy_label, end_block, resume_label}
-use Rattle.ir_paths.specs.declared.point.Point.{Point}
-use Rattle.run_step.specs.Step.{AtInstr, AtTerm, Fetched, fetch}
+use Rattle.ir_laws.specs.ir_model.Names.{position_of}
+use Rattle.ir_laws.specs.ir_model.declared.instr.Instr.{Instr}
+use Rattle.ir_laws.specs.ir_model.declared.instr.Terminator.{Terminator}
+use Rattle.ir_laws.specs.ir_model.declared.module.Block.{Block}
+use Rattle.ir_laws.specs.ir_model.declared.module.Function.{Function}
+use Rattle.ir_laws.specs.ir_paths.Paths.{targets}
+use Rattle.ir_laws.specs.ir_paths.Windows.{destroy_label, end_block, resume_label}
+use Rattle.ir_laws.specs.ir_paths.declared.point.Point.{Point}
+use Rattle.ir_laws.specs.run_step.Step.{AtInstr, AtTerm, Fetched, fetch}
 use Rattle.frame_crossing.specs.EdgeUses.{IsUsedOn}
 use Rattle.frame_crossing.specs.Paths.{Across, BranchesTo, IsNeeded, IsNeededBehind, IsNeededFrom, IsOutside, Next, OnEdge, Use, phis_at, phis_in, used_by}
 

@@ -1,9 +1,9 @@
 -- Lemmas on spots, that speak of no pass.
 use Rattle.std.proofs.Common.{◌≡◌, ℕ, sym, ◌∙◌, subst}
 use Rattle.std.specs.Prelude.{None, slice_get}
-use Rattle.flow_solver.specs.Paths.{IsListed}
-use Rattle.ir_model.specs.declared.module.Function.{Function}
-use Rattle.run_step.specs.Step.{AtInstr, Fetched, Nowhere}
+use Rattle.ir_laws.specs.flow_solver.Paths.{IsListed}
+use Rattle.ir_laws.specs.ir_model.declared.module.Function.{Function}
+use Rattle.ir_laws.specs.run_step.Step.{AtInstr, Fetched, Nowhere}
 use Rattle.frame_crossing.specs.Paths.{Across, BranchesTo, IsNeeded, Next, OnEdge, Use, used_by}
 use Rattle.ir_laws.proofs.paths.crossing.Spots.{nowhere}
 

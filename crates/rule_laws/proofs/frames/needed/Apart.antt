@@ -6,15 +6,15 @@ use Rattle.ir_laws.proofs.facts.Lists.{FoundParam, FoundPhi}
 use Rattle.ir_laws.proofs.paths.counted.Keepable.{param_listed, phi_listed}
 use Rattle.ir_laws.proofs.paths.source_rules.Locals.{listed_either}
 use Rattle.rule_laws.proofs.rules.source_rules.Locals.{no_param, no_phi, same_instr}
-use Rattle.flow_solver.specs.Paths.{IsListed}
+use Rattle.ir_laws.specs.flow_solver.Paths.{IsListed}
 use Rattle.ir_parts.specs.Contents.{result_of}
 use Rattle.rule_laws.specs.rules.function_rules.Kept.{KeepsFunctionRules}
-use Rattle.ir_model.specs.declared.instr.Instr.{Instr}
-use Rattle.ir_model.specs.declared.module.Block.{Block}
-use Rattle.ir_model.specs.declared.module.Function.{Function}
-use Rattle.ir_model.specs.declared.module.Module.{Module}
-use Rattle.ir_paths.specs.Windows.{instr_at, instr_in}
-use Rattle.ir_paths.specs.declared.point.Point.{Point}
+use Rattle.ir_laws.specs.ir_model.declared.instr.Instr.{Instr}
+use Rattle.ir_laws.specs.ir_model.declared.module.Block.{Block}
+use Rattle.ir_laws.specs.ir_model.declared.module.Function.{Function}
+use Rattle.ir_laws.specs.ir_model.declared.module.Module.{Module}
+use Rattle.ir_laws.specs.ir_paths.Windows.{instr_at, instr_in}
+use Rattle.ir_laws.specs.ir_paths.declared.point.Point.{Point}
 use Rattle.frame_crossing.specs.Values.{all_defined, blocks_defined, is_apart, params_defined, values_of}
 
 module _ (m : Module) (k : ℕ) (f : Function) (rules : KeepsFunctionRules m k f) (v : ℕ) (p : Point) (i : Instr) (here : instr_at f p ≡ Some i) (makes : result_of i ≡ Some v) (apart : is_apart i ≡ true) where

@@ -5,17 +5,17 @@ use Rattle.rule_laws.proofs.rules.crossing.Follows.{IsExtra, Uses}
 use Rattle.ir_laws.proofs.paths.crossing.Spots.{Spot, spot_first, spot_instr, spot_next, spot_term}
 use Rattle.rule_laws.proofs.frames.crossing.Spots.{none_needed}
 use Rattle.rule_uses.specs.Uses.{locals_in}
-use Rattle.flow_solver.specs.Paths.{IsListed}
+use Rattle.ir_laws.specs.flow_solver.Paths.{IsListed}
 use Rattle.ir_parts.specs.Contents.{ending_operands, result_of}
-use Rattle.ir_model.specs.Names.{position_of}
-use Rattle.ir_model.specs.declared.instr.Instr.{Instr}
-use Rattle.ir_model.specs.declared.instr.Terminator.{Terminator}
-use Rattle.ir_model.specs.declared.module.Block.{Block}
-use Rattle.ir_model.specs.declared.module.Function.{Function}
-use Rattle.ir_paths.specs.Paths.{targets}
-use Rattle.ir_paths.specs.Windows.{end_block}
-use Rattle.run_step.specs.Step.{AtInstr, AtTerm, Fetched, fetch}
-use Rattle.run_laws.specs.changed.Changed.{Each}
+use Rattle.ir_laws.specs.ir_model.Names.{position_of}
+use Rattle.ir_laws.specs.ir_model.declared.instr.Instr.{Instr}
+use Rattle.ir_laws.specs.ir_model.declared.instr.Terminator.{Terminator}
+use Rattle.ir_laws.specs.ir_model.declared.module.Block.{Block}
+use Rattle.ir_laws.specs.ir_model.declared.module.Function.{Function}
+use Rattle.ir_laws.specs.ir_paths.Paths.{targets}
+use Rattle.ir_laws.specs.ir_paths.Windows.{end_block}
+use Rattle.ir_laws.specs.run_step.Step.{AtInstr, AtTerm, Fetched, fetch}
+use Rattle.ir_laws.specs.run_laws.changed.Changed.{Each}
 use Rattle.frame_crossing.specs.EdgeUses.{IsUsedOn}
 use Rattle.frame_crossing.specs.Paths.{Across, BranchesTo, IsNeeded, IsNeededFrom, IsOutside, Next, OnEdge, Use, phis_at, used_by}
 

@@ -4,19 +4,19 @@ use Rattle.std.specs.Prelude.{None, Option, Some, if◌then◌else◌, is_some, 
 use Rattle.ir_laws.proofs.facts.Lists.{FoundParam, FoundPhi, phi_names}
 use Rattle.ir_laws.proofs.facts.Truth.{itself}
 use Rattle.ir_laws.proofs.paths.source_rules.Locals.{listed_left, listed_right}
-use Rattle.flow_solver.specs.Paths.{IsListed}
+use Rattle.ir_laws.specs.flow_solver.Paths.{IsListed}
 use Rattle.ir_parts.specs.Contents.{result_of}
-use Rattle.ir_model.specs.Layout.{size_of}
-use Rattle.ir_model.specs.Ty.{Ty, token}
-use Rattle.ir_model.specs.declared.instr.Instr.{Instr}
-use Rattle.ir_model.specs.declared.instr.Phi.{Phi}
-use Rattle.ir_model.specs.declared.module.Block.{Block}
-use Rattle.ir_model.specs.declared.module.Module.{Module}
-use Rattle.ir_model.specs.declared.module.Param.{Param}
-use Rattle.ir_model.specs.declared.operand.Arg.{Arg}
-use Rattle.ir_model.specs.declared.operand.Callee.{Callee}
-use Rattle.ir_model.specs.declared.operand.Intrinsic.{Intrinsic}
-use Rattle.ir_paths.specs.Windows.{is_call_of}
+use Rattle.ir_laws.specs.ir_model.Layout.{size_of}
+use Rattle.ir_laws.specs.ir_model.Ty.{Ty, token}
+use Rattle.ir_laws.specs.ir_model.declared.instr.Instr.{Instr}
+use Rattle.ir_laws.specs.ir_model.declared.instr.Phi.{Phi}
+use Rattle.ir_laws.specs.ir_model.declared.module.Block.{Block}
+use Rattle.ir_laws.specs.ir_model.declared.module.Module.{Module}
+use Rattle.ir_laws.specs.ir_model.declared.module.Param.{Param}
+use Rattle.ir_laws.specs.ir_model.declared.operand.Arg.{Arg}
+use Rattle.ir_laws.specs.ir_model.declared.operand.Callee.{Callee}
+use Rattle.ir_laws.specs.ir_model.declared.operand.Intrinsic.{Intrinsic}
+use Rattle.ir_laws.specs.ir_paths.Windows.{is_call_of}
 use Rattle.rule_locals.specs.Markers.{made_size}
 use Rattle.frame_crossing.specs.Values.{blocks_defined, instrs_defined, is_apart, is_token, is_token_result, params_defined, phis_defined, result_unless, unless}
 use Rattle.rule_values.specs.Fits.{fits_kind}

@@ -10,18 +10,18 @@ use Rattle.rule_laws.proofs.rules.path_rules.Outside.{NothingOutside}
 use Rattle.ir_laws.proofs.paths.path_rules.Where.{has_where}
 use Rattle.rule_laws.proofs.rules.source_rules.Ends.{end_first}
 use Rattle.rule_laws.proofs.rules.source_rules.Once.{one_end}
-use Rattle.flow_solver.specs.Paths.{IsListed}
-use Rattle.ir_model.specs.Names.{position_of}
-use Rattle.ir_model.specs.declared.instr.Instr.{Instr}
-use Rattle.ir_model.specs.declared.module.Block.{Block}
-use Rattle.ir_model.specs.declared.module.Function.{Function}
-use Rattle.ir_model.specs.declared.operand.Callee.{Callee}
-use Rattle.ir_model.specs.declared.operand.Intrinsic.{Intrinsic}
-use Rattle.ir_paths.proofs.Search.{Has, leads-more, or_left, or_right, same_point-itself}
-use Rattle.ir_paths.specs.Paths.{Leads, entry_point, has_point, nexts, same_point, targets}
-use Rattle.ir_paths.specs.Windows.{end_block, instr_at, instr_in, is_call_of}
-use Rattle.ir_paths.specs.declared.point.Point.{Point}
-use Rattle.run_step.specs.Step.{AtInstr, Nowhere, fetch, fetch_in, fetch_or}
+use Rattle.ir_laws.specs.flow_solver.Paths.{IsListed}
+use Rattle.ir_laws.specs.ir_model.Names.{position_of}
+use Rattle.ir_laws.specs.ir_model.declared.instr.Instr.{Instr}
+use Rattle.ir_laws.specs.ir_model.declared.module.Block.{Block}
+use Rattle.ir_laws.specs.ir_model.declared.module.Function.{Function}
+use Rattle.ir_laws.specs.ir_model.declared.operand.Callee.{Callee}
+use Rattle.ir_laws.specs.ir_model.declared.operand.Intrinsic.{Intrinsic}
+use Rattle.ir_laws.proofs.ir_paths.Search.{Has, leads-more, or_left, or_right, same_point-itself}
+use Rattle.ir_laws.specs.ir_paths.Paths.{Leads, entry_point, has_point, nexts, same_point, targets}
+use Rattle.ir_laws.specs.ir_paths.Windows.{end_block, instr_at, instr_in, is_call_of}
+use Rattle.ir_laws.specs.ir_paths.declared.point.Point.{Point}
+use Rattle.ir_laws.specs.run_step.Step.{AtInstr, Nowhere, fetch, fetch_in, fetch_or}
 use Rattle.flow_points.proofs.Neighbours.{next-inner, next-term}
 use Rattle.frame_crossing.specs.Paths.{Along, BranchesTo, IsOutside, LeadsTo, Over, There}
 use Rattle.rule_windows.specs.Outside.{ends_with_it, needs_begin}

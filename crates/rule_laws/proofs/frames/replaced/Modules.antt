@@ -2,21 +2,21 @@
 use Rattle.std.proofs.Common.{◌≡◌, ℕ, suc, Bool, true, false, List, [], ◌∷◌, refl, sym, ap, ◌∙◌}
 use Rattle.std.specs.List.{list_all}
 use Rattle.std.specs.Prelude.{None, Option, Some, codes, is_some, map, not, option_map, slice_get, ◌&&◌, ◌||◌, if◌then◌else◌}
-use Rattle.ir_base.specs.declared.name.Name.{Name}
-use Rattle.ir_base.specs.declared.outcome.Place.{Place}
+use Rattle.ir_laws.specs.ir_base.declared.name.Name.{Name}
+use Rattle.ir_laws.specs.ir_base.declared.outcome.Place.{Place}
 use Rattle.ir_laws.proofs.facts.Truth.{and_both, and_first, and_second, or_last as either}
-use Rattle.ir_model.specs.Layout.{extent_of, extent_or, size_of, type_named, type_or, unnamed}
-use Rattle.ir_model.specs.Names.{declaration_named, first_where, function_named, global_named, same_name}
-use Rattle.ir_model.specs.Table.{callee_named}
-use Rattle.ir_model.specs.Ty.{Ty, Tys, array, field, int, named, none, ptr, structure, token}
-use Rattle.ir_model.specs.declared.instr.Instr.{Instr}
-use Rattle.ir_model.specs.declared.module.Declaration.{Declaration}
-use Rattle.ir_model.specs.declared.module.Function.{Function}
-use Rattle.ir_model.specs.declared.module.GlobalItem.{GlobalItem}
-use Rattle.ir_model.specs.declared.module.Module.{Module}
-use Rattle.ir_model.specs.declared.module.TypeItem.{TypeItem}
-use Rattle.ir_model.specs.declared.operand.Arg.{Arg}
-use Rattle.ir_model.specs.declared.operand.Callee.{Callee}
+use Rattle.ir_laws.specs.ir_model.Layout.{extent_of, extent_or, size_of, type_named, type_or, unnamed}
+use Rattle.ir_laws.specs.ir_model.Names.{declaration_named, first_where, function_named, global_named, same_name}
+use Rattle.ir_laws.specs.ir_model.Table.{callee_named}
+use Rattle.ir_laws.specs.ir_model.Ty.{Ty, Tys, array, field, int, named, none, ptr, structure, token}
+use Rattle.ir_laws.specs.ir_model.declared.instr.Instr.{Instr}
+use Rattle.ir_laws.specs.ir_model.declared.module.Declaration.{Declaration}
+use Rattle.ir_laws.specs.ir_model.declared.module.Function.{Function}
+use Rattle.ir_laws.specs.ir_model.declared.module.GlobalItem.{GlobalItem}
+use Rattle.ir_laws.specs.ir_model.declared.module.Module.{Module}
+use Rattle.ir_laws.specs.ir_model.declared.module.TypeItem.{TypeItem}
+use Rattle.ir_laws.specs.ir_model.declared.operand.Arg.{Arg}
+use Rattle.ir_laws.specs.ir_model.declared.operand.Callee.{Callee}
 use Rattle.rule_locals.specs.Calls.{has_pointer, is_closed, is_closed_at, is_closed_declaration}
 use Rattle.rule_locals.specs.Extents.{breaks_extents, is_aligned, is_sized, most_of_alloca}
 use Rattle.rule_names.specs.Known.{allocator_name, is_intrinsic, knows_address, knows_callee, knows_name, knows_type, knows_types}

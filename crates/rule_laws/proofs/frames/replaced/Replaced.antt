@@ -6,15 +6,15 @@ use Rattle.pass_intrinsics.specs.Lowered.{allocates, begin_memory, destroyed_by,
 use Rattle.pass_intrinsics.specs.Shapes.{is_true}
 use Rattle.pass_intrinsics.specs.declared.shape.Part.{Part}
 use Rattle.pass_intrinsics.specs.declared.shape.Shape.{Shape}
-use Rattle.ir_model.specs.Ty.{Ty, int, ptr}
-use Rattle.ir_model.specs.declared.instr.Instr.{Instr}
-use Rattle.ir_model.specs.declared.operand.Arg.{Arg}
-use Rattle.ir_model.specs.declared.operand.Callee.{Callee}
-use Rattle.ir_model.specs.declared.operand.Intrinsic.{Intrinsic}
-use Rattle.ir_model.specs.declared.operand.Operand.{Operand}
+use Rattle.ir_laws.specs.ir_model.Ty.{Ty, int, ptr}
+use Rattle.ir_laws.specs.ir_model.declared.instr.Instr.{Instr}
+use Rattle.ir_laws.specs.ir_model.declared.operand.Arg.{Arg}
+use Rattle.ir_laws.specs.ir_model.declared.operand.Callee.{Callee}
+use Rattle.ir_laws.specs.ir_model.declared.operand.Intrinsic.{Intrinsic}
+use Rattle.ir_laws.specs.ir_model.declared.operand.Operand.{Operand}
 use Rattle.rule_locals.specs.Intrinsics.{is_inner}
 use Rattle.rule_laws.specs.frames.replaced.Replaced.{Address, BackToFrame, Calls, First, Frame, Given, IsDistance, IsPointer, Loads, New, NoFrame, Nothing, Number, OfDestroy, OfFrame, OfIndex, OfParameter, OfPromise, OfResult, Replaces, StoresCleanup, StoresDestroy, StoresIndex, StoresNull, StoresResume, Tests, Truth}
-use Rattle.run_laws.specs.changed.Changed.{Each}
+use Rattle.ir_laws.specs.run_laws.changed.Changed.{Each}
 use Rattle.rule_types.specs.Signatures.{are_wanted, is_result}
 use Rattle.rule_types.specs.Wants.{intrinsic_params, intrinsic_result, is_basic, any, is_int, meets, want}
 use Rattle.rule_types.specs.declared.wants.Basic.{Basic}

@@ -5,7 +5,7 @@ use Rattle.frame_layout.specs.declared.layout.Layout.{Layout}
 use Rattle.pass_intrinsics.specs.Lowered.{number_at, number_of_save}
 use Rattle.pass_intrinsics.specs.Shapes.{saves_of, shape_of, suspends_of, with_save, with_saves}
 use Rattle.pass_intrinsics.specs.declared.shape.SuspendPoint.{SuspendPoint}
-use Rattle.ir_model.specs.declared.module.Function.{Function}
+use Rattle.ir_laws.specs.ir_model.declared.module.Function.{Function}
 
 -- what stands in a list in which one element is set
 pub set_or_there : {A : Type 0} (xs : List A) (n : ℕ) (x : A) (k : ℕ) (y : A) → slice_get (slice_set xs n x) k ≡ Some y → (y ≡ x) ⊎ (slice_get xs k ≡ Some y)

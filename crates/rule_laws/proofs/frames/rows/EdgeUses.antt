@@ -3,13 +3,13 @@ use Rattle.std.proofs.Common.{List, Some, [], ap, arith, inl, inr, refl, subst, 
 use Rattle.std.specs.Prelude.{slice_get}
 use Rattle.rule_uses.specs.Uses.{local_of}
 use Rattle.ir_laws.proofs.paths.source_rules.Locals.{listed_either, listed_left, listed_right}
-use Rattle.flow_solver.specs.Paths.{IsListed}
-use Rattle.ir_model.specs.Names.{position_of}
-use Rattle.ir_model.specs.declared.instr.Incoming.{Incoming}
-use Rattle.ir_model.specs.declared.instr.Phi.{Phi}
-use Rattle.ir_model.specs.declared.module.Block.{Block}
-use Rattle.ir_model.specs.declared.module.Function.{Function}
-use Rattle.ir_model.specs.declared.operand.Operand.{Operand}
+use Rattle.ir_laws.specs.flow_solver.Paths.{IsListed}
+use Rattle.ir_laws.specs.ir_model.Names.{position_of}
+use Rattle.ir_laws.specs.ir_model.declared.instr.Incoming.{Incoming}
+use Rattle.ir_laws.specs.ir_model.declared.instr.Phi.{Phi}
+use Rattle.ir_laws.specs.ir_model.declared.module.Block.{Block}
+use Rattle.ir_laws.specs.ir_model.declared.module.Function.{Function}
+use Rattle.ir_laws.specs.ir_model.declared.operand.Operand.{Operand}
 use Rattle.frame_crossing.specs.EdgeUses.{IsUsedOn, blocks_uses, edge_use, incoming_uses, phis_uses, uses_by}
 use Rattle.frame_crossing.specs.declared.edge_use.EdgeUse.{EdgeUse}
 use Rattle.ir_laws.proofs.facts.Numbers.{IsTakenBy}

@@ -2,15 +2,15 @@
 use Rattle.std.proofs.Common.{◌≡◌, ℕ, Bool, true, false, List, refl, sym, ap, ◌∙◌, Option, Some, None}
 use Rattle.std.proofs.lemmas.Bool.{and_from, and_parts, or_left, or_right}
 use Rattle.std.specs.Prelude.{codes, is_some, map, slice_get, ◌&&◌, ◌||◌}
-use Rattle.ir_base.specs.declared.name.Name.{Name}
-use Rattle.ir_model.specs.Names.{declaration_named, first_where, function_named, global_named, same_name}
-use Rattle.ir_model.specs.Ty.{Ty, named, none}
-use Rattle.ir_model.specs.declared.module.Declaration.{Declaration}
-use Rattle.ir_model.specs.declared.module.Function.{Function}
-use Rattle.ir_model.specs.declared.module.GlobalItem.{GlobalItem}
-use Rattle.ir_model.specs.declared.module.Module.{Module}
-use Rattle.ir_model.specs.declared.operand.Arg.{Arg}
-use Rattle.ir_model.specs.declared.operand.Callee.{Callee}
+use Rattle.ir_laws.specs.ir_base.declared.name.Name.{Name}
+use Rattle.ir_laws.specs.ir_model.Names.{declaration_named, first_where, function_named, global_named, same_name}
+use Rattle.ir_laws.specs.ir_model.Ty.{Ty, named, none}
+use Rattle.ir_laws.specs.ir_model.declared.module.Declaration.{Declaration}
+use Rattle.ir_laws.specs.ir_model.declared.module.Function.{Function}
+use Rattle.ir_laws.specs.ir_model.declared.module.GlobalItem.{GlobalItem}
+use Rattle.ir_laws.specs.ir_model.declared.module.Module.{Module}
+use Rattle.ir_laws.specs.ir_model.declared.operand.Arg.{Arg}
+use Rattle.ir_laws.specs.ir_model.declared.operand.Callee.{Callee}
 use Rattle.rule_locals.specs.Calls.{has_pointer, is_closed, is_closed_at, is_closed_declaration}
 use Rattle.rule_names.specs.Known.{allocator_name, knows_address, knows_callee, knows_name}
 use Rattle.rule_names.specs.Reserved.{name_begins}

@@ -6,21 +6,21 @@ use Rattle.ir_laws.proofs.facts.local_rules.Woven.{other_number}
 use Rattle.rule_laws.proofs.rules.path_rules.Windows.{of_window}
 use Rattle.ir_laws.proofs.paths.source_rules.Locals.{listed_either}
 use Rattle.rule_laws.proofs.frames.spared.Tokens.{taken, tokens_found}
-use Rattle.flow_solver.specs.Paths.{IsListed}
+use Rattle.ir_laws.specs.flow_solver.Paths.{IsListed}
 use Rattle.rule_laws.proofs.rules.shape.Saves.{IsSave}
 use Rattle.rule_laws.proofs.frames.shape.Saves.{taken_saved}
 use Rattle.rule_laws.specs.rules.function_rules.Kept.{KeepsFunctionRules}
 use Rattle.pass_intrinsics.specs.Shapes.{token_of}
-use Rattle.ir_model.specs.Names.{is_local}
-use Rattle.ir_model.specs.declared.instr.Instr.{Instr}
-use Rattle.ir_model.specs.declared.module.Block.{Block}
-use Rattle.ir_model.specs.declared.module.Function.{Function}
-use Rattle.ir_model.specs.declared.module.Module.{Module}
-use Rattle.ir_model.specs.declared.operand.Callee.{Callee}
-use Rattle.ir_model.specs.declared.operand.Intrinsic.{Intrinsic}
-use Rattle.ir_model.specs.declared.operand.Operand.{Operand}
-use Rattle.ir_paths.specs.Windows.{call_result, instr_at, instr_in, is_suspend_of, operand_at, points_from, points_in, points_where}
-use Rattle.ir_paths.specs.declared.point.Point.{Point}
+use Rattle.ir_laws.specs.ir_model.Names.{is_local}
+use Rattle.ir_laws.specs.ir_model.declared.instr.Instr.{Instr}
+use Rattle.ir_laws.specs.ir_model.declared.module.Block.{Block}
+use Rattle.ir_laws.specs.ir_model.declared.module.Function.{Function}
+use Rattle.ir_laws.specs.ir_model.declared.module.Module.{Module}
+use Rattle.ir_laws.specs.ir_model.declared.operand.Callee.{Callee}
+use Rattle.ir_laws.specs.ir_model.declared.operand.Intrinsic.{Intrinsic}
+use Rattle.ir_laws.specs.ir_model.declared.operand.Operand.{Operand}
+use Rattle.ir_laws.specs.ir_paths.Windows.{call_result, instr_at, instr_in, is_suspend_of, operand_at, points_from, points_in, points_where}
+use Rattle.ir_laws.specs.ir_paths.declared.point.Point.{Point}
 use Rattle.rule_laws.specs.frames.replaced.Splittable.{tokens_taken}
 use Rattle.rule_windows.specs.Windows.{IsFirstWindow, NotOne, suspends_of}
 use Rattle.rule_laws.proofs.rules.woven_rules.Once.{once_apart}

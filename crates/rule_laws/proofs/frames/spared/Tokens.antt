@@ -3,9 +3,9 @@ use Rattle.std.proofs.Common.{◌≡◌, ℕ, Bool, true, false, List, [], ◌�
 use Rattle.std.specs.Prelude.{flat_map, map, option_to_list, if◌then◌else◌}
 use Rattle.pass_intrinsics.specs.Shapes.{is_true, token_of}
 use Rattle.pass_intrinsics.specs.declared.shape.SuspendPoint.{SuspendPoint}
-use Rattle.ir_model.specs.declared.module.Block.{Block}
-use Rattle.ir_model.specs.declared.module.Function.{Function}
-use Rattle.ir_paths.specs.Windows.{label_of_term}
+use Rattle.ir_laws.specs.ir_model.declared.module.Block.{Block}
+use Rattle.ir_laws.specs.ir_model.declared.module.Function.{Function}
+use Rattle.ir_laws.specs.ir_paths.Windows.{label_of_term}
 use Rattle.rule_laws.specs.frames.replaced.Splittable.{token_taken, tokens_taken}
 use Rattle.rule_laws.proofs.frames.woven_shape.Suspends.{point_of, points, points_by, suspends_found}
 use Rattle.rule_laws.specs.rules.woven_shape.Calls.{ShapingCall, calls_of_block, is_suspend_call, joined, shaping_calls}

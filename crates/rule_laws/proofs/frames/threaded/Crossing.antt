@@ -3,11 +3,11 @@ use Rattle.std.proofs.Common.{◌≡◌, inl, inr, ⊎_elim, ℕ, ◌+◌, [], N
 use Rattle.std.specs.Prelude.{slice_get}
 use Rattle.ir_laws.proofs.facts.Numbers.{IsTakenBy}
 use Rattle.rule_laws.proofs.frames.rows.EdgeUses.{taken_by, used_on}
-use Rattle.flow_solver.specs.Paths.{IsListed}
-use Rattle.ir_model.specs.Names.{position_of}
-use Rattle.ir_model.specs.declared.module.Block.{Block}
-use Rattle.ir_model.specs.declared.module.Function.{Function}
-use Rattle.run_step.specs.Step.{AtInstr, Nowhere, fetch, fetch_in}
+use Rattle.ir_laws.specs.flow_solver.Paths.{IsListed}
+use Rattle.ir_laws.specs.ir_model.Names.{position_of}
+use Rattle.ir_laws.specs.ir_model.declared.module.Block.{Block}
+use Rattle.ir_laws.specs.ir_model.declared.module.Function.{Function}
+use Rattle.ir_laws.specs.run_step.Step.{AtInstr, Nowhere, fetch, fetch_in}
 use Rattle.frame_crossing.specs.EdgeUses.{IsUsedOn}
 use Rattle.frame_crossing.specs.Paths.{BranchesTo, IsDefinedBefore, IsNeeded, IsNeededFrom, IsOutside, phis_at, phis_in, used_by}
 use Rattle.frame_crossing.specs.Paths.IsDefinedBefore.{ByInstr, ByParam, ByPhi}

@@ -2,20 +2,20 @@
 use Rattle.std.proofs.Common.{◌≡◌, ℕ, zero, suc, ◌+◌, Bool, true, false, List, [], ◌∷◌, ◌++◌, length, refl, sym, ap, ◌∙◌, subst}
 use Rattle.std.specs.Prelude.{None, Some, filter, map, not, option_map, slice_get, unwrap_or, if◌then◌else◌, ◌==◌, ◌&&◌}
 use Rattle.flow_blocks.specs.Edges.{block_edges, edges_of_blocks}
-use Rattle.ir_base.specs.declared.outcome.Place.{Place}
+use Rattle.ir_laws.specs.ir_base.declared.outcome.Place.{Place}
 use Rattle.rule_laws.proofs.rules.local_rules.Carried.{Passing, none_of, passing}
 use Rattle.ir_laws.proofs.facts.Members.{each_joined, each_left, each_right}
 use Rattle.rule_phis.specs.Edges.{breaks_edges, first_wrong_edge, fits_edges, has, into_block, is_empty, is_entry, leads, predecessors}
 use Rattle.ir_parts.specs.Contents.{ending_labels}
 use Rattle.ir_parts.specs.Parts.{Ending, Part, block_parts, blocks_parts, instr_parts, instr_place, parts_of, phi_parts}
 use Rattle.pass_intrinsics.specs.declared.shape.Shape.{Shape}
-use Rattle.ir_model.specs.Names.{first_where, position_of}
-use Rattle.ir_model.specs.declared.instr.Instr.{Instr}
-use Rattle.ir_model.specs.declared.instr.Phi.{Phi}
-use Rattle.ir_model.specs.declared.instr.Terminator.{Terminator}
-use Rattle.ir_model.specs.declared.module.Block.{Block}
-use Rattle.ir_model.specs.declared.module.Function.{Function}
-use Rattle.ir_paths.specs.Paths.{targets}
+use Rattle.ir_laws.specs.ir_model.Names.{first_where, position_of}
+use Rattle.ir_laws.specs.ir_model.declared.instr.Instr.{Instr}
+use Rattle.ir_laws.specs.ir_model.declared.instr.Phi.{Phi}
+use Rattle.ir_laws.specs.ir_model.declared.instr.Terminator.{Terminator}
+use Rattle.ir_laws.specs.ir_model.declared.module.Block.{Block}
+use Rattle.ir_laws.specs.ir_model.declared.module.Function.{Function}
+use Rattle.ir_laws.specs.ir_paths.Paths.{targets}
 use Rattle.rule_laws.proofs.frames.turned.Turned.{AreTurned, IsTurned, NoneTurned, OneTurned, names_behind}
 
 module _ (s : Shape) (f g : Function) where

@@ -2,35 +2,35 @@
 use Rattle.std.proofs.Common.{◌≡◌, ⊎_elim, inl, inr, ℕ, zero, suc, ◌+◌, Bool, true, false, List, [], ◌∷◌, ◌++◌, pos, length, refl, sym, ap, ◌∙◌, subst}
 use Rattle.std.specs.List.{list_all, list_any}
 use Rattle.std.specs.Prelude.{None, Some, is_some, not, slice_get, ◌==◌, ◌&&◌, ◌||◌}
-use Rattle.ir_base.specs.declared.outcome.Place.{Place}
+use Rattle.ir_laws.specs.ir_base.declared.outcome.Place.{Place}
 use Rattle.rule_uses.specs.Uses.{block_values, made_by_instrs, phi_values, values_in}
 use Rattle.rule_laws.proofs.rules.local_rules.Carried.{Passing, none_of, passing}
 use Rattle.ir_laws.proofs.facts.Members.{each_joined, each_left, each_right}
 use Rattle.rule_laws.proofs.rules.local_rules.Defined.{label_defined, value_defined}
 use Rattle.ir_laws.proofs.facts.Truth.{and_both, and_first, and_second, holds}
-use Rattle.flow_solver.specs.Paths.{IsListed}
+use Rattle.ir_laws.specs.flow_solver.Paths.{IsListed}
 use Rattle.ir_parts.specs.Contents.{arg_operands, instr_operands, part_labels, part_operands, part_types}
 use Rattle.ir_parts.specs.Parts.{Ending, OfInstr, OfPhi, Part as FunctionPart, block_parts, blocks_parts, instr_parts, instr_place, parts_of, phi_parts}
 use Rattle.pass_intrinsics.specs.Lowered.{lowered, names_taken, operand_at}
 use Rattle.pass_intrinsics.specs.declared.shape.Part.{Part}
 use Rattle.pass_intrinsics.specs.declared.shape.Shape.{Shape}
-use Rattle.ir_model.specs.declared.instr.Instr.{Instr}
-use Rattle.ir_model.specs.declared.instr.Phi.{Phi}
-use Rattle.ir_model.specs.declared.instr.Terminator.{Terminator}
-use Rattle.ir_model.specs.declared.module.Block.{Block}
-use Rattle.ir_model.specs.declared.module.Function.{Function}
-use Rattle.ir_model.specs.declared.module.Module.{Module}
-use Rattle.ir_model.specs.declared.module.Param.{Param}
-use Rattle.ir_model.specs.declared.operand.Arg.{Arg}
-use Rattle.ir_model.specs.declared.operand.Operand.{Operand}
-use Rattle.ir_locals.specs.Tables.{first_in}
+use Rattle.ir_laws.specs.ir_model.declared.instr.Instr.{Instr}
+use Rattle.ir_laws.specs.ir_model.declared.instr.Phi.{Phi}
+use Rattle.ir_laws.specs.ir_model.declared.instr.Terminator.{Terminator}
+use Rattle.ir_laws.specs.ir_model.declared.module.Block.{Block}
+use Rattle.ir_laws.specs.ir_model.declared.module.Function.{Function}
+use Rattle.ir_laws.specs.ir_model.declared.module.Module.{Module}
+use Rattle.ir_laws.specs.ir_model.declared.module.Param.{Param}
+use Rattle.ir_laws.specs.ir_model.declared.operand.Arg.{Arg}
+use Rattle.ir_laws.specs.ir_model.declared.operand.Operand.{Operand}
+use Rattle.ir_laws.specs.ir_locals.Tables.{first_in}
 use Rattle.rule_names.specs.Known.{first_unknown, is_label, is_value, knows_called, knows_operand, knows_type, names_unknown}
 use Rattle.rule_laws.proofs.frames.turned.Local.{either_some, kinds_of_blocks, some_behind, some_or}
 use Rattle.rule_laws.proofs.frames.turned.Turned.{AreTurned, Becomes, Destroyed, IsTurned, NoneTurned, OneTurned, Promised, Resumed, Same, Tested, becomes, names_behind, turned}
 use Rattle.rule_laws.proofs.rules.turned.Turned.{IsOuter}
 use Rattle.rule_laws.proofs.frames.turned.Uses.{made_joined}
 use Rattle.rule_laws.specs.rules.replaced.Instructions.{KnowsItsLocals, is_there, names_lost}
-use Rattle.run_laws.specs.changed.Changed.{Each}
+use Rattle.ir_laws.specs.run_laws.changed.Changed.{Each}
 use Rattle.rule_values.specs.Kinds.{block_kind, param_kind}
 use Rattle.rule_laws.proofs.rules.woven_rules.ValueKinds.{made_grows, made_some}
 

@@ -1,28 +1,28 @@
 -- The result has its allocas in the entry block and marks them with their sizes (F3, K13), and defines what it names.
 use Rattle.std.proofs.Common.{◌≡◌, ◌⊎◌, ⊎_elim, inl, inr, ℕ, ◌+◌, Bool, true, false, List, [], ◌∷◌, ◌++◌, length, refl, sym, ap, ◌∙◌, subst}
 use Rattle.std.specs.Prelude.{None, Option, Some, is_some, ◌==◌, if◌then◌else◌}
-use Rattle.ir_base.specs.declared.outcome.Place.{Place}
+use Rattle.ir_laws.specs.ir_base.declared.outcome.Place.{Place}
 use Rattle.rule_laws.proofs.rules.local_rules.Carried.{Passing, none_of, passing}
 use Rattle.ir_laws.proofs.facts.Members.{each_joined, each_left, each_right}
 use Rattle.ir_parts.specs.Parts.{Ending, Head, OfInstr, OfPhi, Part as FunctionPart, Signature, block_parts, blocks_parts, first_part, function_place, instr_parts, instr_place, parts_of, phi_parts}
 use Rattle.pass_intrinsics.specs.Lowered.{lowered, names_taken}
 use Rattle.pass_intrinsics.specs.declared.shape.Part.{Part}
 use Rattle.pass_intrinsics.specs.declared.shape.Shape.{Shape}
-use Rattle.ir_model.specs.declared.instr.Instr.{Instr}
-use Rattle.ir_model.specs.declared.instr.Phi.{Phi}
-use Rattle.ir_model.specs.declared.instr.Terminator.{Terminator}
-use Rattle.ir_model.specs.declared.module.Block.{Block}
-use Rattle.ir_model.specs.declared.module.Function.{Function}
-use Rattle.ir_model.specs.declared.module.Module.{Module}
+use Rattle.ir_laws.specs.ir_model.declared.instr.Instr.{Instr}
+use Rattle.ir_laws.specs.ir_model.declared.instr.Phi.{Phi}
+use Rattle.ir_laws.specs.ir_model.declared.instr.Terminator.{Terminator}
+use Rattle.ir_laws.specs.ir_model.declared.module.Block.{Block}
+use Rattle.ir_laws.specs.ir_model.declared.module.Function.{Function}
+use Rattle.ir_laws.specs.ir_model.declared.module.Module.{Module}
 use Rattle.rule_locals.specs.Entries.{allocates_late, first_late_alloca, is_past_entry}
 use Rattle.rule_locals.specs.Instrs.{on_instr}
 use Rattle.rule_locals.specs.Markers.{block_size, first_other_mark, made_size, marks_otherwise, slot_size}
-use Rattle.ir_locals.specs.Tables.{first_in, or_first}
+use Rattle.ir_laws.specs.ir_locals.Tables.{first_in, or_first}
 use Rattle.rule_laws.proofs.frames.turned.Turned.{AreTurned, Becomes, Destroyed, IsTurned, NoneTurned, OneTurned, Promised, Resumed, Same, Tested, becomes, names_behind, turned}
 use Rattle.rule_laws.proofs.rules.turned.Turned.{IsOuter}
 use Rattle.rule_laws.specs.frames.same_names.Parts.{HasPartsOf}
 use Rattle.rule_laws.proofs.frames.replaced.Modules.{size_there}
-use Rattle.run_laws.specs.changed.Changed.{Each}
+use Rattle.ir_laws.specs.run_laws.changed.Changed.{Each}
 use Rattle.rule_values.specs.Kinds.{block_kind, instr_kind, kind_if, phi_kind}
 use Rattle.rule_values.specs.declared.kinds.Kind.{Kind}
 

@@ -10,18 +10,18 @@ use Rattle.ir_laws.proofs.paths.source_rules.Locals.{Apart, listed_left, listed_
 use Rattle.rule_laws.proofs.rules.source_rules.Locals.{block_names, made_by, names_are}
 use Rattle.ir_laws.proofs.facts.Lists.{phi_names, row_of, times_joined}
 use Rattle.rule_laws.specs.rules.source_rules.Named.{HasTabledLocals}
-use Rattle.flow_solver.specs.Paths.{IsListed}
+use Rattle.ir_laws.specs.flow_solver.Paths.{IsListed}
 use Rattle.ir_parts.specs.Locals.{locals_of}
 use Rattle.pass_intrinsics.specs.Lowered.{lowered, names_taken}
 use Rattle.pass_intrinsics.specs.declared.shape.Part.{Part}
 use Rattle.pass_intrinsics.specs.declared.shape.Shape.{Shape}
-use Rattle.ir_model.specs.declared.instr.Instr.{Instr}
-use Rattle.ir_model.specs.declared.module.Block.{Block}
-use Rattle.ir_model.specs.declared.module.Function.{Function}
+use Rattle.ir_laws.specs.ir_model.declared.instr.Instr.{Instr}
+use Rattle.ir_laws.specs.ir_model.declared.module.Block.{Block}
+use Rattle.ir_laws.specs.ir_model.declared.module.Function.{Function}
 use Rattle.rule_names.specs.Definitions.{first_twice}
 use Rattle.rule_laws.proofs.frames.turned.Turned.{AreTurned, Becomes, Destroyed, IsTurned, NoneTurned, OneTurned, Promised, Resumed, Same, Tested, becomes, names_behind, turned}
 use Rattle.rule_laws.proofs.rules.turned.Turned.{IsOuter}
-use Rattle.run_laws.specs.changed.Changed.{Each}
+use Rattle.ir_laws.specs.run_laws.changed.Changed.{Each}
 use Rattle.rule_laws.proofs.rules.woven_rules.Once.{AreOnce, apart_once, names_below, once_apart}
 use Rattle.ir_laws.proofs.paths.woven_rules.Once.{times_none}
 use Rattle.ir_laws.specs.facts.woven_rules.Pairs.{one_if, times}

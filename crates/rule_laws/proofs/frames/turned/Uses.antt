@@ -1,35 +1,35 @@
 -- No path of the result reaches a use without its value (F2): edges stay, blocks make what they made, and new values are used right behind.
 use Rattle.std.proofs.Common.{◌≡◌, ⊎_elim, inl, inr, ℕ, zero, suc, ◌+◌, List, [], ◌∷◌, ◌++◌, pos, length, refl, sym, ap, subst}
 use Rattle.std.specs.Prelude.{None, Option, Some, map, option_to_list, slice_get}
-use Rattle.ir_base.specs.declared.ops.Pred.{Pred}
-use Rattle.ir_base.specs.declared.outcome.Place.{Place}
-use Rattle.ir_calls.specs.Calls.{is_true}
+use Rattle.ir_laws.specs.ir_base.declared.ops.Pred.{Pred}
+use Rattle.ir_laws.specs.ir_base.declared.outcome.Place.{Place}
+use Rattle.ir_laws.specs.ir_calls.Calls.{is_true}
 use Rattle.rule_uses.specs.Undefined.{Entry, IsFirstUndefined, Later, Next, Nowhere, ReachesWithout, params_of}
 use Rattle.rule_uses.specs.Uses.{Use, block_uses, block_values, blocks_uses, incoming_uses, instr_uses, made_by_instrs, made_by_phis, phi_uses, phi_values, uses_at, uses_of, values_at, values_in}
 use Rattle.ir_laws.proofs.facts.Members.{each_behind, each_left, each_right}
 use Rattle.rule_laws.proofs.rules.renamed.Uses.{none_undefined}
 use Rattle.ir_laws.proofs.paths.source_rules.Locals.{listed_either, listed_left, listed_right}
 use Rattle.rule_laws.proofs.rules.source_rules.Locals.{made_by}
-use Rattle.flow_solver.specs.Paths.{IsListed}
+use Rattle.ir_laws.specs.flow_solver.Paths.{IsListed}
 use Rattle.ir_parts.specs.Contents.{arg_operands, ending_operands, instr_operands, result_of}
 use Rattle.ir_parts.specs.Parts.{instr_place}
 use Rattle.pass_intrinsics.specs.Lowered.{address, call_pointer, load_pointer, lowered, names_taken, operand_at, promise_distance}
 use Rattle.pass_intrinsics.specs.declared.shape.Part.{Part}
 use Rattle.pass_intrinsics.specs.declared.shape.Shape.{Shape}
-use Rattle.ir_model.specs.Names.{position_of}
-use Rattle.ir_model.specs.Ty.{ptr}
-use Rattle.ir_model.specs.declared.instr.Incoming.{Incoming}
-use Rattle.ir_model.specs.declared.instr.Instr.{Instr}
-use Rattle.ir_model.specs.declared.instr.Phi.{Phi}
-use Rattle.ir_model.specs.declared.instr.Terminator.{Terminator}
-use Rattle.ir_model.specs.declared.module.Block.{Block}
-use Rattle.ir_model.specs.declared.module.Function.{Function}
-use Rattle.ir_model.specs.declared.operand.Arg.{Arg}
-use Rattle.ir_model.specs.declared.operand.Operand.{Operand}
+use Rattle.ir_laws.specs.ir_model.Names.{position_of}
+use Rattle.ir_laws.specs.ir_model.Ty.{ptr}
+use Rattle.ir_laws.specs.ir_model.declared.instr.Incoming.{Incoming}
+use Rattle.ir_laws.specs.ir_model.declared.instr.Instr.{Instr}
+use Rattle.ir_laws.specs.ir_model.declared.instr.Phi.{Phi}
+use Rattle.ir_laws.specs.ir_model.declared.instr.Terminator.{Terminator}
+use Rattle.ir_laws.specs.ir_model.declared.module.Block.{Block}
+use Rattle.ir_laws.specs.ir_model.declared.module.Function.{Function}
+use Rattle.ir_laws.specs.ir_model.declared.operand.Arg.{Arg}
+use Rattle.ir_laws.specs.ir_model.declared.operand.Operand.{Operand}
 use Rattle.rule_laws.proofs.frames.turned.Edges.{same_edges, same_position}
 use Rattle.rule_laws.proofs.frames.turned.Turned.{AreTurned, Becomes, Destroyed, IsTurned, NoneTurned, OneTurned, Promised, Resumed, Same, Tested, becomes, names_behind, turned}
 use Rattle.rule_laws.proofs.rules.turned.Turned.{IsOuter}
-use Rattle.run_laws.specs.changed.Changed.{Each}
+use Rattle.ir_laws.specs.run_laws.changed.Changed.{Each}
 use Rattle.rule_laws.proofs.rules.woven_rules.Uses.{IsFine, IsSound, IsSoundIn, fine_incoming, fine_uses, sound_incoming, sound_uses}
 
 -- what one has, the other has

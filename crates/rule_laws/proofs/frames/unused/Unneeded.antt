@@ -2,28 +2,28 @@
 use Rattle.std.proofs.Common.{◌≡◌, inl, inr, ⊎_elim, ℕ, ◌+◌, Bool, true, false, List, [], ◌∷◌, length, refl, sym, ap, ◌∙◌}
 use Rattle.std.specs.List.{list_all}
 use Rattle.std.specs.Prelude.{None, Option, Some, not, option_to_list, slice_get, ◌==◌}
-use Rattle.ir_base.specs.declared.outcome.Place.{Place}
+use Rattle.ir_laws.specs.ir_base.declared.outcome.Place.{Place}
 use Rattle.rule_uses.specs.Uses.{local_of, locals_in}
 use Rattle.ir_laws.proofs.facts.Truth.{itself, and_first, and_second, holds}
 use Rattle.rule_laws.proofs.rules.local_rules.Carried.{passing}
 use Rattle.rule_laws.proofs.rules.path_rules.Holding.{HoldsOf, of_parts}
 use Rattle.ir_laws.proofs.paths.source_rules.Locals.{listed_either}
-use Rattle.flow_solver.specs.Paths.{IsListed}
+use Rattle.ir_laws.specs.flow_solver.Paths.{IsListed}
 use Rattle.rule_laws.proofs.rules.counted.PartFacts.{all_at}
 use Rattle.rule_laws.proofs.frames.rows.EdgeUses.{taken_by}
 use Rattle.ir_laws.proofs.facts.Lists.{by_value}
 use Rattle.ir_parts.specs.Contents.{ending_operands, instr_operands, part_operands}
 use Rattle.ir_parts.specs.Parts.{OfPhi, Part, first_part, parts_of}
-use Rattle.ir_model.specs.Names.{position_of}
-use Rattle.ir_model.specs.declared.instr.Incoming.{Incoming}
-use Rattle.ir_model.specs.declared.instr.Instr.{Instr}
-use Rattle.ir_model.specs.declared.module.Block.{Block}
-use Rattle.ir_model.specs.declared.module.Function.{Function}
-use Rattle.ir_model.specs.declared.operand.Operand.{Operand}
-use Rattle.ir_paths.specs.declared.point.Point.{Point}
+use Rattle.ir_laws.specs.ir_model.Names.{position_of}
+use Rattle.ir_laws.specs.ir_model.declared.instr.Incoming.{Incoming}
+use Rattle.ir_laws.specs.ir_model.declared.instr.Instr.{Instr}
+use Rattle.ir_laws.specs.ir_model.declared.module.Block.{Block}
+use Rattle.ir_laws.specs.ir_model.declared.module.Function.{Function}
+use Rattle.ir_laws.specs.ir_model.declared.operand.Operand.{Operand}
+use Rattle.ir_laws.specs.ir_paths.declared.point.Point.{Point}
 use Rattle.rule_laws.specs.frames.needed.Crossed.{AreFramesUnneeded}
 use Rattle.rule_laws.specs.rules.unused.Unused.{AreFramesUnused, is_other, names_value}
-use Rattle.run_step.specs.Step.{fetch, fetch_in, fetch_or}
+use Rattle.ir_laws.specs.run_step.Step.{fetch, fetch_in, fetch_or}
 use Rattle.frame_crossing.specs.EdgeUses.{IsUsedOn}
 use Rattle.frame_crossing.specs.Paths.{Across, IsNeeded, IsNeededBehind, IsNeededFrom, Next, OnEdge, Use, used_by}
 

@@ -9,17 +9,17 @@ use Rattle.rule_shape.specs.Uses.{phi_operands}
 use Rattle.rule_uses.specs.Uses.{local_of, locals_in, made_by_phis}
 use Rattle.ir_laws.proofs.facts.Truth.{equal_numbers, is_number}
 use Rattle.ir_laws.proofs.paths.source_rules.Locals.{listed_either, listed_left, listed_right}
-use Rattle.flow_solver.specs.Paths.{IsListed}
+use Rattle.ir_laws.specs.flow_solver.Paths.{IsListed}
 use Rattle.ir_parts.specs.Contents.{ending_operands, instr_operands, result_of}
-use Rattle.ir_model.specs.Names.{position_of}
-use Rattle.ir_model.specs.declared.instr.Incoming.{Incoming}
-use Rattle.ir_model.specs.declared.instr.Instr.{Instr}
-use Rattle.ir_model.specs.declared.instr.Phi.{Phi}
-use Rattle.ir_model.specs.declared.module.Block.{Block}
-use Rattle.ir_model.specs.declared.module.Function.{Function}
-use Rattle.ir_model.specs.declared.operand.Intrinsic.{Intrinsic}
-use Rattle.ir_paths.specs.Windows.{destroy_label, instr_at, instr_in, is_call_of, label_at, label_of_term, resume_label}
-use Rattle.run_step.specs.Step.{AtInstr, fetch, fetch_in, fetch_or}
+use Rattle.ir_laws.specs.ir_model.Names.{position_of}
+use Rattle.ir_laws.specs.ir_model.declared.instr.Incoming.{Incoming}
+use Rattle.ir_laws.specs.ir_model.declared.instr.Instr.{Instr}
+use Rattle.ir_laws.specs.ir_model.declared.instr.Phi.{Phi}
+use Rattle.ir_laws.specs.ir_model.declared.module.Block.{Block}
+use Rattle.ir_laws.specs.ir_model.declared.module.Function.{Function}
+use Rattle.ir_laws.specs.ir_model.declared.operand.Intrinsic.{Intrinsic}
+use Rattle.ir_laws.specs.ir_paths.Windows.{destroy_label, instr_at, instr_in, is_call_of, label_at, label_of_term, resume_label}
+use Rattle.ir_laws.specs.run_step.Step.{AtInstr, fetch, fetch_in, fetch_or}
 use Rattle.ir_laws.proofs.facts.Lists.{label_found}
 use Rattle.ir_laws.proofs.paths.uses.Paths.{there_listed}
 use Rattle.rule_laws.proofs.rules.uses.Switched.{IsSwitched, is_switch_then, not_in_instr, not_in_phi, not_switched_on, suspend_result}

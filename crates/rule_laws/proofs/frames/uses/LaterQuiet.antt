@@ -7,21 +7,21 @@ use Rattle.ir_laws.specs.facts.renamed.Regular.{passes}
 use Rattle.rule_laws.proofs.rules.source_rules.Ends.{end_first}
 use Rattle.rule_laws.proofs.rules.source_rules.Locals.{own_label}
 use Rattle.rule_phis.specs.Edges.{first_wrong_edge}
-use Rattle.flow_solver.specs.Paths.{IsListed}
+use Rattle.ir_laws.specs.flow_solver.Paths.{IsListed}
 use Rattle.ir_parts.specs.Locals.{locals_of}
 use Rattle.pass_intrinsics.specs.Cuts.{cut_at, goes_on}
 use Rattle.pass_intrinsics.specs.declared.cuts.Cut.{Cut}
 use Rattle.pass_intrinsics.specs.declared.shape.Part.{Part}
 use Rattle.pass_intrinsics.specs.declared.shape.Shape.{Shape}
-use Rattle.ir_model.specs.declared.instr.Instr.{Instr}
-use Rattle.ir_model.specs.declared.module.Block.{Block}
-use Rattle.ir_model.specs.declared.module.Function.{Function}
-use Rattle.ir_model.specs.declared.operand.Callee.{Callee}
-use Rattle.ir_model.specs.declared.operand.Intrinsic.{Intrinsic}
-use Rattle.ir_paths.specs.Paths.{targets}
-use Rattle.ir_paths.specs.Windows.{end_block, instr_in, is_call_of}
+use Rattle.ir_laws.specs.ir_model.declared.instr.Instr.{Instr}
+use Rattle.ir_laws.specs.ir_model.declared.module.Block.{Block}
+use Rattle.ir_laws.specs.ir_model.declared.module.Function.{Function}
+use Rattle.ir_laws.specs.ir_model.declared.operand.Callee.{Callee}
+use Rattle.ir_laws.specs.ir_model.declared.operand.Intrinsic.{Intrinsic}
+use Rattle.ir_laws.specs.ir_paths.Paths.{targets}
+use Rattle.ir_laws.specs.ir_paths.Windows.{end_block, instr_in, is_call_of}
 use Rattle.rule_names.specs.Definitions.{first_twice}
-use Rattle.run_step.specs.Step.{Fetched, fetch}
+use Rattle.ir_laws.specs.run_step.Step.{Fetched, fetch}
 use Rattle.rule_laws.proofs.frames.uses.Lowering.{ComesBy, OfBegin, OfGiven, OfOperand}
 use Rattle.rule_laws.proofs.frames.uses.PhiEdges.{phi_source, used_on}
 use Rattle.rule_laws.proofs.frames.uses.Quiet.{IsQuiet}

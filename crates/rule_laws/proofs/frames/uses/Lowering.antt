@@ -2,27 +2,27 @@
 use Rattle.std.proofs.Common.{◌≡◌, ◌⊎◌, inl, inr, ℕ, ◌+◌, Bool, true, false, List, [], ◌∷◌, ◌++◌, refl, sym, ap, ◌∙◌, subst}
 use Rattle.std.specs.List.{list_all}
 use Rattle.std.specs.Prelude.{None, Option, Some, option_to_list, pos, slice_get, ◌&&◌}
-use Rattle.ir_base.specs.declared.outcome.Place.{Place}
+use Rattle.ir_laws.specs.ir_base.declared.outcome.Place.{Place}
 use Rattle.rule_uses.specs.Uses.{locals_in}
 use Rattle.ir_laws.proofs.facts.Truth.{and_first, and_second, holds}
 use Rattle.rule_laws.proofs.rules.source_rules.Locals.{made_by}
 use Rattle.ir_laws.proofs.facts.Lists.{row_of}
-use Rattle.flow_solver.specs.Paths.{IsListed}
+use Rattle.ir_laws.specs.flow_solver.Paths.{IsListed}
 use Rattle.ir_parts.specs.Contents.{arg_operands, instr_operands, result_of}
 use Rattle.ir_parts.specs.Parts.{OfInstr}
 use Rattle.pass_intrinsics.specs.Lowered.{allocates, begin_memory, begin_stores, destroy_call, done_test, freed_by, is_final_at, lowered, number_of_save, operand_at, promise_distance, resume_call, resumed_by, save_or_none, set_address, set_number, set_truth, truth_of}
 use Rattle.pass_intrinsics.specs.Shapes.{given_name, is_true}
 use Rattle.pass_intrinsics.specs.declared.shape.Part.{Part}
 use Rattle.pass_intrinsics.specs.declared.shape.Shape.{Shape}
-use Rattle.ir_model.specs.Ty.{Ty}
-use Rattle.ir_model.specs.declared.instr.Instr.{Instr}
-use Rattle.ir_model.specs.declared.module.Function.{Function}
-use Rattle.ir_model.specs.declared.module.Module.{Module}
-use Rattle.ir_model.specs.declared.operand.Arg.{Arg}
-use Rattle.ir_model.specs.declared.operand.Callee.{Callee}
-use Rattle.ir_model.specs.declared.operand.Intrinsic.{Intrinsic}
-use Rattle.ir_model.specs.declared.operand.Operand.{Operand}
-use Rattle.ir_paths.specs.Windows.{is_call_of}
+use Rattle.ir_laws.specs.ir_model.Ty.{Ty}
+use Rattle.ir_laws.specs.ir_model.declared.instr.Instr.{Instr}
+use Rattle.ir_laws.specs.ir_model.declared.module.Function.{Function}
+use Rattle.ir_laws.specs.ir_model.declared.module.Module.{Module}
+use Rattle.ir_laws.specs.ir_model.declared.operand.Arg.{Arg}
+use Rattle.ir_laws.specs.ir_model.declared.operand.Callee.{Callee}
+use Rattle.ir_laws.specs.ir_model.declared.operand.Intrinsic.{Intrinsic}
+use Rattle.ir_laws.specs.ir_model.declared.operand.Operand.{Operand}
+use Rattle.ir_laws.specs.ir_paths.Windows.{is_call_of}
 use Rattle.rule_laws.proofs.rules.uses.Plain.{IsPlain, args_pass, calls_intrinsic, has_no_token, is_no_token, is_plain_kind, operands_scalar, scalar_local}
 use Rattle.rule_laws.proofs.frames.uses.Plain.{all_wanted_scalar, operand_given}
 use Rattle.rule_laws.proofs.rules.replaced.OwnKinds.{MakesIn}

@@ -9,16 +9,16 @@ use Rattle.ir_laws.proofs.facts.Truth.{and_first, and_second, holds}
 use Rattle.ir_laws.proofs.paths.source_rules.Locals.{listed_left, listed_right}
 use Rattle.rule_laws.proofs.rules.source_rules.Locals.{own_label}
 use Rattle.rule_phis.specs.Edges.{block_at, breaks_edges, differs, first_wrong_edge, fits_edges, has, incoming_labels, into_block, leads, predecessors}
-use Rattle.flow_solver.specs.Paths.{IsListed}
+use Rattle.ir_laws.specs.flow_solver.Paths.{IsListed}
 use Rattle.ir_parts.specs.Contents.{ending_labels}
 use Rattle.ir_parts.specs.Locals.{locals_of}
-use Rattle.ir_model.specs.Names.{position_of}
-use Rattle.ir_model.specs.declared.instr.Incoming.{Incoming}
-use Rattle.ir_model.specs.declared.instr.Phi.{Phi}
-use Rattle.ir_model.specs.declared.module.Block.{Block}
-use Rattle.ir_model.specs.declared.module.Function.{Function}
-use Rattle.ir_model.specs.declared.operand.Operand.{Operand}
-use Rattle.ir_paths.specs.Paths.{targets}
+use Rattle.ir_laws.specs.ir_model.Names.{position_of}
+use Rattle.ir_laws.specs.ir_model.declared.instr.Incoming.{Incoming}
+use Rattle.ir_laws.specs.ir_model.declared.instr.Phi.{Phi}
+use Rattle.ir_laws.specs.ir_model.declared.module.Block.{Block}
+use Rattle.ir_laws.specs.ir_model.declared.module.Function.{Function}
+use Rattle.ir_laws.specs.ir_model.declared.operand.Operand.{Operand}
+use Rattle.ir_laws.specs.ir_paths.Paths.{targets}
 use Rattle.rule_names.specs.Definitions.{first_twice}
 use Rattle.ir_laws.proofs.paths.edges.Lists.{from_filtered}
 use Rattle.ir_laws.proofs.paths.uses.Paths.{from_mapped, place_of}

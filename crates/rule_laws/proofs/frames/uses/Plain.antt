@@ -5,13 +5,13 @@ use Rattle.std.specs.Prelude.{None, Option, Some, option_to_list, slice_get, ◌
 use Rattle.rule_uses.specs.Uses.{local_of, locals_in}
 use Rattle.ir_laws.proofs.facts.Truth.{and_first, and_second}
 use Rattle.ir_laws.proofs.paths.source_rules.Locals.{listed_either, listed_left, listed_right}
-use Rattle.flow_solver.specs.Paths.{IsListed}
+use Rattle.ir_laws.specs.flow_solver.Paths.{IsListed}
 use Rattle.ir_parts.specs.Contents.{arg_operands}
 use Rattle.pass_intrinsics.specs.Lowered.{operand_at, value_or_null}
-use Rattle.ir_model.specs.declared.operand.Arg.{Arg}
-use Rattle.ir_model.specs.declared.operand.Callee.{Callee}
-use Rattle.ir_model.specs.declared.operand.Operand.{Operand}
-use Rattle.run_laws.specs.changed.Changed.{Each}
+use Rattle.ir_laws.specs.ir_model.declared.operand.Arg.{Arg}
+use Rattle.ir_laws.specs.ir_model.declared.operand.Callee.{Callee}
+use Rattle.ir_laws.specs.ir_model.declared.operand.Operand.{Operand}
+use Rattle.ir_laws.specs.run_laws.changed.Changed.{Each}
 use Rattle.rule_types.specs.Signatures.{are_wanted}
 use Rattle.rule_types.specs.Wants.{is_basic, meets}
 use Rattle.rule_types.specs.declared.wants.Wanted.{Wanted}

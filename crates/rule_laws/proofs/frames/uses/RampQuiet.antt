@@ -7,15 +7,15 @@ use Rattle.rule_uses.specs.Uses.{block_values, made_by_instrs, phi_values, value
 use Rattle.rule_laws.proofs.rules.renamed.Uses.{block_edge}
 use Rattle.ir_laws.proofs.paths.source_rules.Locals.{listed_either}
 use Rattle.rule_laws.proofs.rules.source_rules.Locals.{made_by}
-use Rattle.flow_solver.specs.Paths.{IsListed}
+use Rattle.ir_laws.specs.flow_solver.Paths.{IsListed}
 use Rattle.ir_parts.specs.Contents.{result_of}
 use Rattle.pass_intrinsics.specs.Shapes.{given_name}
 use Rattle.pass_intrinsics.specs.declared.shape.Part.{Part}
 use Rattle.pass_intrinsics.specs.declared.shape.Shape.{Shape}
-use Rattle.ir_model.specs.Names.{position_of}
-use Rattle.ir_model.specs.declared.instr.Instr.{Instr}
-use Rattle.ir_model.specs.declared.module.Block.{Block}
-use Rattle.ir_model.specs.declared.module.Function.{Function}
+use Rattle.ir_laws.specs.ir_model.Names.{position_of}
+use Rattle.ir_laws.specs.ir_model.declared.instr.Instr.{Instr}
+use Rattle.ir_laws.specs.ir_model.declared.module.Block.{Block}
+use Rattle.ir_laws.specs.ir_model.declared.module.Function.{Function}
 use Rattle.rule_laws.proofs.frames.uses.Lowering.{ComesBy, OfBegin, OfGiven, OfOperand}
 use Rattle.rule_laws.proofs.frames.uses.Quiet.{IsQuiet}
 use Rattle.rule_laws.specs.rules.replaced.Splittable.{AreBegun}

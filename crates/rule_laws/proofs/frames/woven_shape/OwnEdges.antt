@@ -4,14 +4,14 @@ use Rattle.std.specs.Prelude.{Some, slice_get}
 use Rattle.rule_uses.specs.Uses.{values_at}
 use Rattle.rule_phis.specs.Edges.{predecessors}
 use Rattle.pass_intrinsics.specs.declared.shape.SuspendPoint.{SuspendPoint}
-use Rattle.ir_model.specs.Names.{position_of}
-use Rattle.ir_model.specs.declared.instr.Phi.{Phi}
-use Rattle.ir_model.specs.declared.module.Block.{Block}
-use Rattle.ir_model.specs.declared.module.Function.{Function}
-use Rattle.ir_model.specs.declared.module.Module.{Module}
-use Rattle.ir_model.specs.declared.operand.Operand.{Operand}
+use Rattle.ir_laws.specs.ir_model.Names.{position_of}
+use Rattle.ir_laws.specs.ir_model.declared.instr.Phi.{Phi}
+use Rattle.ir_laws.specs.ir_model.declared.module.Block.{Block}
+use Rattle.ir_laws.specs.ir_model.declared.module.Function.{Function}
+use Rattle.ir_laws.specs.ir_model.declared.module.Module.{Module}
+use Rattle.ir_laws.specs.ir_model.declared.operand.Operand.{Operand}
 use Rattle.rule_laws.specs.frames.replaced.Splittable.{HasOwnEdges, IsLedToBy}
-use Rattle.run_laws.specs.changed.Changed.{Each}
+use Rattle.ir_laws.specs.run_laws.changed.Changed.{Each}
 use Rattle.ir_laws.proofs.facts.Members.{each_turns}
 use Rattle.rule_laws.specs.rules.woven_rules.Blocks.{AreWovenBlocks, IsWoven, NoBlock, OneBlock}
 use Rattle.ir_laws.specs.facts.woven_rules.Pairs.{Empty, Pair, Pairwise}

@@ -4,17 +4,17 @@ use Rattle.std.specs.Prelude.{None, Some, List, flat_map}
 use Rattle.rule_shape.specs.OneOfEach.{wrong_call}
 use Rattle.rule_shape.specs.Switches.{wrong_switch}
 use Rattle.rule_laws.proofs.rules.local_rules.Names.{numbers}
-use Rattle.flow_solver.specs.Paths.{IsListed}
+use Rattle.ir_laws.specs.flow_solver.Paths.{IsListed}
 use Rattle.rule_laws.specs.rules.function_rules.Kept.{KeepsFunctionRules}
 use Rattle.pass_intrinsics.specs.Shapes.{suspends_of}
 use Rattle.pass_intrinsics.specs.declared.shape.SuspendPoint.{SuspendPoint}
-use Rattle.ir_model.specs.Calls.{first_result}
-use Rattle.ir_model.specs.declared.module.Function.{Function}
-use Rattle.ir_model.specs.declared.module.Module.{Module}
-use Rattle.ir_model.specs.declared.operand.Intrinsic.{Intrinsic}
+use Rattle.ir_laws.specs.ir_model.Calls.{first_result}
+use Rattle.ir_laws.specs.ir_model.declared.module.Function.{Function}
+use Rattle.ir_laws.specs.ir_model.declared.module.Module.{Module}
+use Rattle.ir_laws.specs.ir_model.declared.operand.Intrinsic.{Intrinsic}
 use Rattle.rule_laws.specs.rules.replaced.Splittable.{AreBlocksBegun}
 use Rattle.rule_laws.specs.frames.replaced.Splittable.{HasOwnEdges, token_taken}
-use Rattle.run_laws.specs.changed.Changed.{Each}
+use Rattle.ir_laws.specs.run_laws.changed.Changed.{Each}
 use Rattle.rule_laws.proofs.rules.woven_rules.Edges.{same_edges, same_position, same_predecessors}
 use Rattle.rule_laws.proofs.rules.woven_rules.Laid.{AreLaidBlocks, laid}
 use Rattle.rule_laws.proofs.rules.woven_rules.Once.{below}

@@ -1,8 +1,8 @@
 -- Lemmas on unmarked, that speak of no pass.
 use Rattle.std.proofs.Common.{◌≡◌, ℕ, true, refl}
 use Rattle.std.specs.Prelude.{None, Option, Some}
-use Rattle.ir_model.specs.Ty.{Ty}
-use Rattle.ir_model.specs.declared.operand.Callee.{Callee}
+use Rattle.ir_laws.specs.ir_model.Ty.{Ty}
+use Rattle.ir_laws.specs.ir_model.declared.operand.Callee.{Callee}
 use Rattle.rule_types.specs.Signatures.{is_result}
 use Rattle.rule_values.specs.Instrs.{fits_result}
 

@@ -2,7 +2,7 @@
 use Rattle.std.proofs.Common.{◌≡◌, ℕ, Bool, true, refl, ap}
 use Rattle.std.specs.Prelude.{Some, None, if◌then◌else◌}
 use Rattle.ir_laws.proofs.facts.Truth.{itself}
-use Rattle.ir_model.specs.Ty.{Ty, array, int, named, ptr, structure, token}
+use Rattle.ir_laws.specs.ir_model.Ty.{Ty, array, int, named, ptr, structure, token}
 use Rattle.rule_values.specs.Fits.{is_integer, is_scalar}
 use Rattle.rule_values.specs.Kinds.{kind_if}
 use Rattle.rule_values.specs.declared.kinds.Kind.{Kind}

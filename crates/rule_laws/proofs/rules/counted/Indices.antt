@@ -2,9 +2,9 @@
 use Rattle.std.proofs.Common.{ℕ, List}
 use Rattle.rule_uses.specs.Undefined.{ReachesWithout, params_of}
 use Rattle.rule_uses.specs.Uses.{locals_in}
-use Rattle.flow_solver.specs.Paths.{IsListed}
-use Rattle.ir_model.specs.declared.module.Function.{Function}
-use Rattle.ir_model.specs.declared.operand.Operand.{Operand}
+use Rattle.ir_laws.specs.flow_solver.Paths.{IsListed}
+use Rattle.ir_laws.specs.ir_model.declared.module.Function.{Function}
+use Rattle.ir_laws.specs.ir_model.declared.operand.Operand.{Operand}
 
 -- no path leads to a block that has made some values but behind the value
 abbrev pub IsMadeBefore : Function → ℕ → List ℕ → ℕ → Type 0

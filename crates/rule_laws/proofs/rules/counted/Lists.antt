@@ -4,8 +4,8 @@ use Rattle.rule_uses.specs.Uses.{made_by_instrs}
 use Rattle.ir_laws.proofs.paths.source_rules.Locals.{listed_either, listed_left, listed_right}
 use Rattle.rule_laws.proofs.rules.source_rules.Locals.{made_by}
 use Rattle.ir_laws.proofs.facts.Lists.{row_of}
-use Rattle.flow_solver.specs.Paths.{IsListed}
-use Rattle.ir_model.specs.declared.instr.Instr.{Instr}
+use Rattle.ir_laws.specs.flow_solver.Paths.{IsListed}
+use Rattle.ir_laws.specs.ir_model.declared.instr.Instr.{Instr}
 
 -- what one list has the other has
 abbrev pub AreAmong : List ℕ → List ℕ → Type 0

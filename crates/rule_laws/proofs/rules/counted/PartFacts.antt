@@ -3,21 +3,21 @@ use Rattle.std.proofs.Common.{◌≡◌, inl, inr, ℕ, zero, suc, ◌+◌, Bool
 use Rattle.std.specs.List.{list_all}
 use Rattle.std.specs.Prelude.{Some, None, map, option_to_list, slice_get}
 use Rattle.rule_laws.proofs.rules.counted.Indices.{AreMadeBefore}
-use Rattle.ir_base.specs.declared.outcome.Place.{Place}
+use Rattle.ir_laws.specs.ir_base.declared.outcome.Place.{Place}
 use Rattle.rule_uses.specs.Undefined.{IsFirstUndefined, IsUndefined}
 use Rattle.rule_uses.specs.Uses.{Use, instr_uses, locals_in, phi_values, use_of, uses_at, uses_of}
 use Rattle.rule_laws.proofs.rules.renamed.Uses.{none_undefined, of_block, three_kinds}
 use Rattle.rule_laws.proofs.rules.local_rules.Carried.{Passing, passing}
 use Rattle.ir_laws.proofs.facts.Truth.{and_first, and_second}
 use Rattle.ir_laws.proofs.facts.Members.{each_left, each_right}
-use Rattle.flow_solver.specs.Paths.{IsListed}
+use Rattle.ir_laws.specs.flow_solver.Paths.{IsListed}
 use Rattle.ir_parts.specs.Contents.{instr_operands, result_of}
 use Rattle.ir_parts.specs.Parts.{Ending, Head, OfInstr, OfPhi, Part, Signature, block_parts, block_place, blocks_parts, first_part, instr_parts, instr_place, parts_of, phi_parts}
-use Rattle.ir_model.specs.declared.instr.Instr.{Instr}
-use Rattle.ir_model.specs.declared.instr.Phi.{Phi}
-use Rattle.ir_model.specs.declared.module.Block.{Block}
-use Rattle.ir_model.specs.declared.module.Function.{Function}
-use Rattle.run_laws.specs.changed.Changed.{Each}
+use Rattle.ir_laws.specs.ir_model.declared.instr.Instr.{Instr}
+use Rattle.ir_laws.specs.ir_model.declared.instr.Phi.{Phi}
+use Rattle.ir_laws.specs.ir_model.declared.module.Block.{Block}
+use Rattle.ir_laws.specs.ir_model.declared.module.Function.{Function}
+use Rattle.ir_laws.specs.run_laws.changed.Changed.{Each}
 
 pub all_at : {A : Type 0} (t : A → Bool) (xs : List A) → list_all t xs ≡ true → (k : ℕ) (x : A) → slice_get xs k ≡ Some x → t x ≡ true
 all_at t [] h k x e = absurd (cc)

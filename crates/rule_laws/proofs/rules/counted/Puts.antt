@@ -4,10 +4,10 @@ use Rattle.std.specs.Prelude.{option_to_list}
 use Rattle.rule_laws.proofs.rules.counted.Lists.{AreAmong}
 use Rattle.rule_uses.specs.Uses.{made_by_instrs}
 use Rattle.ir_parts.specs.Contents.{result_of}
-use Rattle.ir_model.specs.declared.instr.Instr.{Instr}
-use Rattle.ir_model.specs.declared.module.Function.{Function}
-use Rattle.ir_model.specs.declared.module.Module.{Module}
-use Rattle.ir_model.specs.declared.operand.Operand.{Operand}
+use Rattle.ir_laws.specs.ir_model.declared.instr.Instr.{Instr}
+use Rattle.ir_laws.specs.ir_model.declared.module.Function.{Function}
+use Rattle.ir_laws.specs.ir_model.declared.module.Module.{Module}
+use Rattle.ir_laws.specs.ir_model.declared.operand.Operand.{Operand}
 use Rattle.rule_laws.specs.rules.woven_rules.Blocks.{AreWoven, Done, IsPutIn, Put}
 use Rattle.rule_laws.specs.rules.woven_rules.Weaving.{Constant, Front, IsKnown, New, Old, Weaving}
 

@@ -14,14 +14,14 @@ use Rattle.ir_laws.proofs.facts.Members.{at_each}
 use Rattle.rule_laws.proofs.rules.local_rules.Names.{numbers}
 use Rattle.rule_laws.proofs.rules.source_rules.Locals.{block_names, made_by}
 use Rattle.ir_laws.proofs.paths.source_rules.Locals.{in_row, listed_either, listed_left, listed_right}
-use Rattle.flow_solver.specs.Paths.{IsListed}
-use Rattle.ir_model.specs.Layout.{size_of}
-use Rattle.ir_model.specs.Ty.{Ty, int}
-use Rattle.ir_model.specs.declared.instr.Instr.{Instr}
-use Rattle.ir_model.specs.declared.module.Block.{Block}
-use Rattle.ir_model.specs.declared.module.Function.{Function}
-use Rattle.ir_model.specs.declared.module.Module.{Module}
-use Rattle.ir_paths.specs.Slots.{allocas_in, allocas_of}
+use Rattle.ir_laws.specs.flow_solver.Paths.{IsListed}
+use Rattle.ir_laws.specs.ir_model.Layout.{size_of}
+use Rattle.ir_laws.specs.ir_model.Ty.{Ty, int}
+use Rattle.ir_laws.specs.ir_model.declared.instr.Instr.{Instr}
+use Rattle.ir_laws.specs.ir_model.declared.module.Block.{Block}
+use Rattle.ir_laws.specs.ir_model.declared.module.Function.{Function}
+use Rattle.ir_laws.specs.ir_model.declared.module.Module.{Module}
+use Rattle.ir_laws.specs.ir_paths.Slots.{allocas_in, allocas_of}
 use Rattle.rule_locals.specs.Entries.{allocates_late, first_late_alloca, is_past_entry}
 use Rattle.rule_locals.specs.Instrs.{on_instr}
 use Rattle.rule_locals.specs.Markers.{block_size, made_size, slot_size}

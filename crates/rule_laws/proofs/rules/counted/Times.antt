@@ -8,10 +8,10 @@ use Rattle.ir_laws.proofs.facts.local_rules.Woven.{other_number}
 use Rattle.ir_laws.proofs.paths.source_rules.Locals.{Apart}
 use Rattle.rule_laws.proofs.rules.source_rules.Locals.{block_names, made_by}
 use Rattle.ir_laws.proofs.facts.Lists.{phi_names, row_of, times_joined}
-use Rattle.flow_solver.specs.Paths.{IsListed}
-use Rattle.ir_model.specs.declared.instr.Instr.{Instr}
-use Rattle.ir_model.specs.declared.instr.Phi.{Phi}
-use Rattle.ir_model.specs.declared.module.Block.{Block}
+use Rattle.ir_laws.specs.flow_solver.Paths.{IsListed}
+use Rattle.ir_laws.specs.ir_model.declared.instr.Instr.{Instr}
+use Rattle.ir_laws.specs.ir_model.declared.instr.Phi.{Phi}
+use Rattle.ir_laws.specs.ir_model.declared.module.Block.{Block}
 use Rattle.rule_laws.specs.rules.woven_rules.Blocks.{times_made}
 use Rattle.ir_laws.specs.facts.woven_rules.Pairs.{one_if, times}
 use Rattle.ir_laws.proofs.paths.woven_rules.Once.{times_none as unlisted_times}

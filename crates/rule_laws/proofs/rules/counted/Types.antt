@@ -3,9 +3,9 @@ use Rattle.std.proofs.Common.{◌≡◌, ◌⊎◌, ⊎_elim, ℕ, Bool, true, f
 use Rattle.std.specs.Prelude.{Some, nat_lt, ◌==◌, ◌||◌}
 use Rattle.ir_laws.specs.facts.counted.Widths.{has_width, is_width}
 use Rattle.ir_laws.proofs.facts.Truth.{equal_numbers, itself}
-use Rattle.ir_model.specs.Layout.{size_of}
-use Rattle.ir_model.specs.Ty.{Ty, int, ptr}
-use Rattle.ir_model.specs.declared.module.Module.{Module}
+use Rattle.ir_laws.specs.ir_model.Layout.{size_of}
+use Rattle.ir_laws.specs.ir_model.Ty.{Ty, int, ptr}
+use Rattle.ir_laws.specs.ir_model.declared.module.Module.{Module}
 use Rattle.rule_locals.specs.Extents.{is_sized}
 use Rattle.rule_names.specs.Known.{knows_type}
 use Rattle.rule_types.specs.Depth.{is_shallow}

@@ -2,9 +2,9 @@
 use Rattle.std.proofs.Common.{◌≡◌, ℕ, List, [], ◌∷◌}
 use Rattle.std.specs.Prelude.{Some}
 use Rattle.rule_uses.specs.Uses.{locals_in}
-use Rattle.flow_solver.specs.Paths.{IsListed}
+use Rattle.ir_laws.specs.flow_solver.Paths.{IsListed}
 use Rattle.ir_parts.specs.Contents.{instr_operands, result_of}
-use Rattle.ir_model.specs.declared.instr.Instr.{Instr}
+use Rattle.ir_laws.specs.ir_model.declared.instr.Instr.{Instr}
 
 -- the operands of an instruction use the value
 abbrev pub Uses : ℕ → Instr → Type 0

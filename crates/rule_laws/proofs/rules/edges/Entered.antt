@@ -3,10 +3,10 @@ use Rattle.std.proofs.Common.{Bool, List, [], ap, false, inl, inr, refl, subst, 
 use Rattle.std.specs.Prelude.{filter, ◌==◌, ◌||◌}
 use Rattle.ir_laws.proofs.facts.Truth.{equal_numbers, itself}
 use Rattle.rule_phis.specs.Edges.{has, leads, predecessors}
-use Rattle.flow_solver.specs.Paths.{IsListed}
-use Rattle.ir_model.specs.declared.module.Block.{Block}
-use Rattle.ir_model.specs.declared.module.Function.{Function}
-use Rattle.ir_paths.specs.Paths.{targets}
+use Rattle.ir_laws.specs.flow_solver.Paths.{IsListed}
+use Rattle.ir_laws.specs.ir_model.declared.module.Block.{Block}
+use Rattle.ir_laws.specs.ir_model.declared.module.Function.{Function}
+use Rattle.ir_laws.specs.ir_paths.Paths.{targets}
 use Rattle.ir_laws.proofs.paths.edges.Lists.{from_filtered, from_mapped}
 use Rattle.ir_laws.proofs.facts.Numbers.{label_of}
 use Rattle.ir_laws.proofs.paths.edges.Shaped.{any_there}

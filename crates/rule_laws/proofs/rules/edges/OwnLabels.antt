@@ -7,14 +7,14 @@ use Rattle.rule_laws.proofs.rules.renamed.Switches.{none_part}
 use Rattle.rule_laws.proofs.rules.local_rules.Defined.{label_defined}
 use Rattle.rule_laws.proofs.rules.path_rules.Holding.{of_parts, part_none, to_parts}
 use Rattle.rule_phis.specs.Edges.{breaks_edges, differs, first_wrong_edge, fits_edges, has, incoming_labels, into_block, predecessors}
-use Rattle.flow_solver.specs.Paths.{IsListed}
+use Rattle.ir_laws.specs.flow_solver.Paths.{IsListed}
 use Rattle.ir_parts.specs.Contents.{ending_labels, ending_operands, instr_operands, part_operands}
 use Rattle.ir_parts.specs.Parts.{OfPhi, first_part, parts_of}
-use Rattle.ir_model.specs.declared.instr.Phi.{Phi}
-use Rattle.ir_model.specs.declared.module.Block.{Block}
-use Rattle.ir_model.specs.declared.module.Function.{Function}
-use Rattle.ir_model.specs.declared.operand.Operand.{Operand}
-use Rattle.ir_paths.specs.Paths.{targets}
+use Rattle.ir_laws.specs.ir_model.declared.instr.Phi.{Phi}
+use Rattle.ir_laws.specs.ir_model.declared.module.Block.{Block}
+use Rattle.ir_laws.specs.ir_model.declared.module.Function.{Function}
+use Rattle.ir_laws.specs.ir_model.declared.operand.Operand.{Operand}
+use Rattle.ir_laws.specs.ir_paths.Paths.{targets}
 use Rattle.rule_names.specs.Known.{is_label}
 use Rattle.rule_laws.proofs.rules.edges.Entered.{from_predecessors, listed_has}
 use Rattle.ir_laws.proofs.paths.edges.Lists.{all_of, listed_at}

@@ -1,15 +1,15 @@
 -- A rule that no part of a function breaks is broken by no part of the function with its allocas in front.
 use Rattle.std.proofs.Common.{◌≡◌, ℕ, ◌+◌, Bool, false, None, length, refl}
-use Rattle.ir_base.specs.declared.outcome.Place.{Place}
+use Rattle.ir_laws.specs.ir_base.declared.outcome.Place.{Place}
 use Rattle.rule_laws.proofs.rules.renamed.Switches.{none_part}
 use Rattle.rule_laws.proofs.rules.path_rules.Holding.{HoldsIn, of_parts, part_none, to_parts}
-use Rattle.pass_front.specs.Front.{allocas_first, with_front_allocas}
+use Rattle.ir_laws.specs.pass_front.Front.{allocas_first, with_front_allocas}
 use Rattle.ir_parts.specs.Parts.{Ending, Head, OfInstr, OfPhi, Part, Signature, block_place, first_part, function_place, instr_place, parts_of}
-use Rattle.ir_model.specs.declared.instr.Instr.{Instr}
-use Rattle.ir_model.specs.declared.instr.Phi.{Phi}
-use Rattle.ir_model.specs.declared.instr.Terminator.{Terminator}
-use Rattle.ir_model.specs.declared.module.Block.{Block}
-use Rattle.ir_model.specs.declared.module.Function.{Function}
+use Rattle.ir_laws.specs.ir_model.declared.instr.Instr.{Instr}
+use Rattle.ir_laws.specs.ir_model.declared.instr.Phi.{Phi}
+use Rattle.ir_laws.specs.ir_model.declared.instr.Terminator.{Terminator}
+use Rattle.ir_laws.specs.ir_model.declared.module.Block.{Block}
+use Rattle.ir_laws.specs.ir_model.declared.module.Function.{Function}
 use Rattle.rule_locals.specs.Instrs.{on_instr}
 use Rattle.ir_laws.proofs.facts.Numbers.{First, IsSource, Same}
 use Rattle.ir_laws.proofs.facts.Lists.{came_from, source_of}

@@ -2,18 +2,18 @@
 use Rattle.std.proofs.Common.{◌≡◌, ℕ, Bool, true, false, List, [], ◌∷◌, None, Option, Some, ap, not, refl, sym, ◌∙◌}
 use Rattle.std.specs.List.{list_any}
 use Rattle.std.specs.Prelude.{slice_get, filter, map, zero, suc, ◌==◌, ◌&&◌, if◌then◌else◌}
-use Rattle.ir_base.specs.declared.outcome.Place.{Place}
+use Rattle.ir_laws.specs.ir_base.declared.outcome.Place.{Place}
 use Rattle.rule_phis.specs.Edges.{block_at, breaks_edges, first_wrong_edge, fits_edges, into_block, is_empty, is_entry, leads, predecessors}
 use Rattle.rule_laws.proofs.rules.local_rules.Defined.{label_defined}
 use Rattle.rule_laws.specs.rules.local_rules.Local.{BreaksNoLocalRuleIn}
 use Rattle.rule_laws.specs.rules.function_rules.Kept.{KeepsFunctionRules}
 use Rattle.rule_laws.proofs.rules.function_rules.Depths.{plain_part, types_fit}
-use Rattle.pass_front.specs.Front.{allocas_first, with_allocas_first, with_front_allocas}
+use Rattle.ir_laws.specs.pass_front.Front.{allocas_first, with_allocas_first, with_front_allocas}
 use Rattle.ir_parts.specs.Parts.{Ending, Head, OfInstr, first_part, parts_of}
-use Rattle.ir_model.specs.declared.instr.Instr.{Instr}
-use Rattle.ir_model.specs.declared.module.Block.{Block}
-use Rattle.ir_model.specs.declared.module.Function.{Function}
-use Rattle.ir_model.specs.declared.module.Module.{Module}
+use Rattle.ir_laws.specs.ir_model.declared.instr.Instr.{Instr}
+use Rattle.ir_laws.specs.ir_model.declared.module.Block.{Block}
+use Rattle.ir_laws.specs.ir_model.declared.module.Function.{Function}
+use Rattle.ir_laws.specs.ir_model.declared.module.Module.{Module}
 use Rattle.rule_locals.specs.Addresses.{points_to_functions}
 use Rattle.rule_locals.specs.Calls.{calls_closed}
 use Rattle.rule_locals.specs.Entries.{allocates_late, is_past_entry}

@@ -12,11 +12,11 @@ use Rattle.rule_laws.proofs.rules.function_rules.Tabled.{numbers_below, tabled_b
 use Rattle.rule_laws.proofs.rules.woven_rules.Once.{apart_once}
 use Rattle.ir_laws.proofs.paths.woven_rules.Once.{times_listed}
 use Rattle.ir_laws.specs.facts.woven_rules.Pairs.{times}
-use Rattle.pass_front.specs.Front.{allocas_first, is_alloca, is_no_alloca, with_allocas_first, with_front_allocas}
+use Rattle.ir_laws.specs.pass_front.Front.{allocas_first, is_alloca, is_no_alloca, with_allocas_first, with_front_allocas}
 use Rattle.ir_parts.specs.Locals.{locals_of}
-use Rattle.ir_model.specs.declared.instr.Instr.{Instr}
-use Rattle.ir_model.specs.declared.module.Block.{Block}
-use Rattle.ir_model.specs.declared.module.Function.{Function}
+use Rattle.ir_laws.specs.ir_model.declared.instr.Instr.{Instr}
+use Rattle.ir_laws.specs.ir_model.declared.module.Block.{Block}
+use Rattle.ir_laws.specs.ir_model.declared.module.Function.{Function}
 use Rattle.ir_laws.proofs.paths.edges.Lists.{as_different, listed_times}
 use Rattle.rule_laws.proofs.rules.uses.Once.{none_twice_by}
 use Rattle.rule_names.specs.Definitions.{first_twice}

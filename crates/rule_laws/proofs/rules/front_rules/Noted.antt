@@ -8,18 +8,18 @@ use Rattle.rule_laws.proofs.rules.local_rules.Names.{numbers}
 use Rattle.ir_laws.proofs.facts.local_rules.Woven.{other_number}
 use Rattle.rule_laws.proofs.rules.source_rules.Locals.{block_names, made_by}
 use Rattle.ir_laws.proofs.facts.Lists.{phi_names, row_of, times_joined, in_front}
-use Rattle.flow_solver.specs.Paths.{IsListed}
+use Rattle.ir_laws.specs.flow_solver.Paths.{IsListed}
 use Rattle.ir_laws.proofs.paths.woven_rules.Once.{times_listed}
 use Rattle.ir_laws.specs.facts.woven_rules.Pairs.{times}
-use Rattle.pass_front.specs.Front.{is_alloca, is_no_alloca, with_allocas_first, with_front_allocas}
+use Rattle.ir_laws.specs.pass_front.Front.{is_alloca, is_no_alloca, with_allocas_first, with_front_allocas}
 use Rattle.ir_parts.specs.Locals.{locals_of}
-use Rattle.ir_model.specs.Layout.{size_of}
-use Rattle.ir_model.specs.declared.instr.Instr.{Instr}
-use Rattle.ir_model.specs.declared.module.Block.{Block}
-use Rattle.ir_model.specs.declared.module.Function.{Function}
-use Rattle.ir_model.specs.declared.module.Module.{Module}
+use Rattle.ir_laws.specs.ir_model.Layout.{size_of}
+use Rattle.ir_laws.specs.ir_model.declared.instr.Instr.{Instr}
+use Rattle.ir_laws.specs.ir_model.declared.module.Block.{Block}
+use Rattle.ir_laws.specs.ir_model.declared.module.Function.{Function}
+use Rattle.ir_laws.specs.ir_model.declared.module.Module.{Module}
 use Rattle.rule_locals.specs.Markers.{block_size, made_size, slot_size}
-use Rattle.ir_locals.specs.Tables.{first_in, or_first}
+use Rattle.ir_laws.specs.ir_locals.Tables.{first_in, or_first}
 use Rattle.rule_names.specs.Definitions.{first_twice}
 use Rattle.rule_names.specs.Known.{is_value}
 use Rattle.rule_values.specs.Kinds.{block_kind, instr_kind, kind_if, kind_of, param_kind, phi_kind, result_kind, value_kind}

@@ -2,7 +2,7 @@
 use Rattle.std.proofs.Common.{◌≡◌, ◌⊎◌, inl, inr, ⊎_elim, ℕ, suc, ◌+◌, Bool, true, false, List, [], ◌∷◌, ◌++◌, length, refl, sym, ◌∙◌, subst, arith}
 use Rattle.std.specs.Prelude.{None, Option, Some, filter, map, option_to_list, slice_get, unwrap_or, ◌==◌, if◌then◌else◌}
 use Rattle.flow_blocks.specs.Edges.{block_edges, edges_of_blocks}
-use Rattle.ir_base.specs.declared.outcome.Place.{Place}
+use Rattle.ir_laws.specs.ir_base.declared.outcome.Place.{Place}
 use Rattle.rule_uses.specs.Undefined.{Entry, IsFirstUndefined, IsUndefined, Next, ReachesWithout}
 use Rattle.rule_uses.specs.Uses.{Use, block_uses, block_values, blocks_uses, incoming_use, incoming_uses, instr_uses, local_of, locals_in, made_by_instrs, phi_uses, phi_values, use_of, uses_at, uses_of, values_at, values_in}
 use Rattle.ir_laws.proofs.facts.Members.{each_behind, each_left, each_right}
@@ -11,23 +11,23 @@ use Rattle.rule_laws.proofs.rules.path_rules.SavedUses.{all_defined}
 use Rattle.ir_laws.proofs.paths.source_rules.Locals.{listed_either, listed_left, listed_right}
 use Rattle.rule_laws.proofs.rules.source_rules.Locals.{made_by}
 use Rattle.ir_laws.proofs.facts.Lists.{row_of, source_of, to_source}
-use Rattle.flow_solver.specs.Paths.{IsListed}
+use Rattle.ir_laws.specs.flow_solver.Paths.{IsListed}
 use Rattle.rule_laws.proofs.rules.counted.Lists.{made_grows, made_joined, made_listed}
 use Rattle.rule_laws.proofs.rules.counted.Members.{made_either}
-use Rattle.pass_front.specs.Front.{allocas_first, is_alloca, is_no_alloca, with_allocas_first, with_front_allocas}
+use Rattle.ir_laws.specs.pass_front.Front.{allocas_first, is_alloca, is_no_alloca, with_allocas_first, with_front_allocas}
 use Rattle.ir_parts.specs.Contents.{ending_operands, instr_operands}
 use Rattle.ir_parts.specs.Parts.{instr_place}
-use Rattle.ir_model.specs.Names.{first_where, position_of}
-use Rattle.ir_model.specs.declared.instr.Incoming.{Incoming}
-use Rattle.ir_model.specs.declared.instr.Instr.{Instr}
-use Rattle.ir_model.specs.declared.instr.Phi.{Phi}
-use Rattle.ir_model.specs.declared.module.Block.{Block}
-use Rattle.ir_model.specs.declared.module.Function.{Function}
-use Rattle.ir_paths.specs.Paths.{targets}
+use Rattle.ir_laws.specs.ir_model.Names.{first_where, position_of}
+use Rattle.ir_laws.specs.ir_model.declared.instr.Incoming.{Incoming}
+use Rattle.ir_laws.specs.ir_model.declared.instr.Instr.{Instr}
+use Rattle.ir_laws.specs.ir_model.declared.instr.Phi.{Phi}
+use Rattle.ir_laws.specs.ir_model.declared.module.Block.{Block}
+use Rattle.ir_laws.specs.ir_model.declared.module.Function.{Function}
+use Rattle.ir_laws.specs.ir_paths.Paths.{targets}
 use Rattle.ir_laws.proofs.facts.Numbers.{First, IsSource, Same}
 use Rattle.rule_laws.specs.rules.replaced.Splittable.{AreBegun, AreBlocksBegun}
 use Rattle.ir_laws.specs.facts.replaced.Splittable.{asks_begin}
-use Rattle.run_laws.specs.changed.Changed.{Each}
+use Rattle.ir_laws.specs.run_laws.changed.Changed.{Each}
 use Rattle.rule_laws.proofs.rules.front_rules.Shape.{no_operands}
 
 -- ---- blocks stand at the same positions

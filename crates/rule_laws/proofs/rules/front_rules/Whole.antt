@@ -1,9 +1,9 @@
 -- Lemmas on whole, that speak of no pass.
 use Rattle.std.proofs.Common.{ℕ}
 use Rattle.rule_laws.specs.rules.function_rules.Kept.{KeepsFunctionRules}
-use Rattle.pass_front.specs.Front.{with_front_allocas}
-use Rattle.ir_model.specs.declared.module.Function.{Function}
-use Rattle.ir_model.specs.declared.module.Module.{Module}
+use Rattle.ir_laws.specs.pass_front.Front.{with_front_allocas}
+use Rattle.ir_laws.specs.ir_model.declared.module.Function.{Function}
+use Rattle.ir_laws.specs.ir_model.declared.module.Module.{Module}
 use Rattle.rule_laws.proofs.rules.front_rules.Local.{calls_kept, depths_kept, edges_kept, known_kept, local_kept}
 use Rattle.rule_laws.proofs.rules.front_rules.Names.{names_once, names_tabled}
 use Rattle.rule_laws.proofs.rules.front_rules.Uses.{uses_kept}

@@ -1,10 +1,10 @@
 -- Lemmas on depths, that speak of no pass.
 use Rattle.std.proofs.Common.{None, Option, Some, ap, false, not, true, ℕ, ◌||◌, ◌≡◌}
-use Rattle.ir_base.specs.declared.outcome.Place.{Place}
+use Rattle.ir_laws.specs.ir_base.declared.outcome.Place.{Place}
 use Rattle.ir_laws.proofs.facts.Truth.{holds, second_no as or_second_out}
 use Rattle.ir_parts.specs.Contents.{part_types}
 use Rattle.ir_parts.specs.Parts.{Part}
-use Rattle.ir_model.specs.declared.module.Module.{Module}
+use Rattle.ir_laws.specs.ir_model.declared.module.Module.{Module}
 use Rattle.rule_names.specs.declared.stage.Stage.{Stage}
 use Rattle.rule_types.specs.Limits.{all_fit, breaks_limits, is_block_past, is_spot}
 

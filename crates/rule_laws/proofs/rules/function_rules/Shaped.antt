@@ -1,7 +1,7 @@
 -- What the functions of a module define whose parts are parts of the grammar are positions of their tables of names.
 use Rattle.rule_laws.proofs.rules.source_rules.Shaped.{function_shaped, function_tabled}
 use Rattle.rule_laws.specs.rules.function_rules.Tabled.{AreAllTabled}
-use Rattle.ir_model.specs.declared.module.Module.{Module}
+use Rattle.ir_laws.specs.ir_model.declared.module.Module.{Module}
 use Rattle.text_canonical.specs.order.Shape.{IsShaped}
 
 pub all_shaped : (m : Module) → IsShaped m → AreAllTabled m

@@ -3,24 +3,24 @@ use Rattle.std.proofs.Common.{Bool, List, None, Option, Some, [], ap, false, ifâ
 use Rattle.std.proofs.lemmas.Option.{slice_get-map}
 use Rattle.std.specs.List.{list_all}
 use Rattle.std.specs.Prelude.{is_some, slice_get}
-use Rattle.ir_base.specs.declared.name.Name.{Name}
-use Rattle.ir_base.specs.declared.outcome.Place.{Place}
+use Rattle.ir_laws.specs.ir_base.declared.name.Name.{Name}
+use Rattle.ir_laws.specs.ir_base.declared.outcome.Place.{Place}
 use Rattle.rule_laws.specs.rules.local_rules.Local.{BreaksNoLocalRuleIn}
 use Rattle.ir_parts.specs.Contents.{part_labels, part_operands, part_types}
 use Rattle.ir_parts.specs.Parts.{OfInstr, Part, first_part, parts_of}
 use Rattle.rule_laws.specs.rules.function_rules.Kept.{KeepsFunctionRules}
 use Rattle.ir_laws.specs.facts.function_rules.Signatures.{HaveSameSignatures, Heading, heading}
 use Rattle.rule_laws.specs.rules.plain_rules.Kept.{KeepsPlainRules}
-use Rattle.ir_model.specs.Layout.{unnamed}
-use Rattle.ir_model.specs.Names.{declaration_named, first_where, function_named, global_named, same_name}
-use Rattle.ir_model.specs.Table.{callee_named}
-use Rattle.ir_model.specs.Ty.{Ty, Tys, array, field, int, named, none, ptr, structure, token}
-use Rattle.ir_model.specs.declared.instr.Instr.{Instr}
-use Rattle.ir_model.specs.declared.module.Function.{Function}
-use Rattle.ir_model.specs.declared.module.Module.{Module}
-use Rattle.ir_model.specs.declared.operand.Arg.{Arg}
-use Rattle.ir_model.specs.declared.operand.Callee.{Callee}
-use Rattle.ir_model.specs.declared.operand.Operand.{Operand}
+use Rattle.ir_laws.specs.ir_model.Layout.{unnamed}
+use Rattle.ir_laws.specs.ir_model.Names.{declaration_named, first_where, function_named, global_named, same_name}
+use Rattle.ir_laws.specs.ir_model.Table.{callee_named}
+use Rattle.ir_laws.specs.ir_model.Ty.{Ty, Tys, array, field, int, named, none, ptr, structure, token}
+use Rattle.ir_laws.specs.ir_model.declared.instr.Instr.{Instr}
+use Rattle.ir_laws.specs.ir_model.declared.module.Function.{Function}
+use Rattle.ir_laws.specs.ir_model.declared.module.Module.{Module}
+use Rattle.ir_laws.specs.ir_model.declared.operand.Arg.{Arg}
+use Rattle.ir_laws.specs.ir_model.declared.operand.Callee.{Callee}
+use Rattle.ir_laws.specs.ir_model.declared.operand.Operand.{Operand}
 use Rattle.rule_locals.specs.Calls.{calls_closed, is_closed, is_closed_at, is_closed_declaration}
 use Rattle.rule_locals.specs.Instrs.{on_instr}
 use Rattle.rule_names.specs.Known.{allocator_name, is_intrinsic, is_label, is_value, knows_called, knows_callee, knows_name, knows_operand, knows_type, knows_types, names_unknown}

@@ -4,9 +4,9 @@ use Rattle.rule_laws.proofs.rules.local_rules.Names.{is_definition, numbers}
 use Rattle.rule_laws.proofs.rules.source_rules.Locals.{names_are}
 use Rattle.rule_laws.proofs.rules.source_rules.Shaped.{name_listed}
 use Rattle.rule_laws.specs.rules.source_rules.Named.{HasTabledLocals}
-use Rattle.flow_solver.specs.Paths.{IsListed}
+use Rattle.ir_laws.specs.flow_solver.Paths.{IsListed}
 use Rattle.ir_parts.specs.Locals.{locals_of}
-use Rattle.ir_model.specs.declared.module.Function.{Function}
+use Rattle.ir_laws.specs.ir_model.declared.module.Function.{Function}
 
 -- ---- definitions, and the numbers that they define
 

@@ -2,7 +2,7 @@
 use Rattle.std.proofs.Common.{◌≡◌, inl, inr, ℕ, zero, suc, ◌+◌, ◌<◌, Bool, true, false, List, [], ◌∷◌, length, refl, sym, ap, ◌∙◌, subst, arith}
 use Rattle.std.specs.List.{list_all, list_any}
 use Rattle.std.specs.Prelude.{Some, None, Option, map, slice_get, ◌&&◌, ◌||◌, ◌==◌}
-use Rattle.ir_base.specs.declared.outcome.Place.{Place}
+use Rattle.ir_laws.specs.ir_base.declared.outcome.Place.{Place}
 use Rattle.rule_uses.specs.Undefined.{params_of}
 use Rattle.ir_laws.proofs.facts.Truth.{equal_numbers, both_true, holds}
 use Rattle.rule_laws.proofs.rules.renamed.Switches.{none_part}
@@ -16,15 +16,15 @@ use Rattle.rule_laws.specs.rules.source_rules.Named.{HasTabledLocals}
 use Rattle.ir_laws.specs.paths.threads.Labels.{HasLabelsBelow, HasNamedLabels}
 use Rattle.ir_laws.proofs.facts.known_labels.Rules.{each_there}
 use Rattle.rule_laws.proofs.rules.known_labels.Rules.{labels_spelt}
-use Rattle.flow_solver.specs.Paths.{IsListed}
+use Rattle.ir_laws.specs.flow_solver.Paths.{IsListed}
 use Rattle.ir_parts.specs.Contents.{ending_labels, part_labels, part_operands, part_types}
 use Rattle.ir_parts.specs.Locals.{locals_of}
 use Rattle.ir_parts.specs.Parts.{Ending, parts_of}
 use Rattle.ir_parts.specs.declared.defined.Definition.{Definition}
-use Rattle.ir_model.specs.declared.module.Block.{Block}
-use Rattle.ir_model.specs.declared.module.Function.{Function}
-use Rattle.ir_model.specs.declared.module.Module.{Module}
-use Rattle.ir_paths.specs.Paths.{targets}
+use Rattle.ir_laws.specs.ir_model.declared.module.Block.{Block}
+use Rattle.ir_laws.specs.ir_model.declared.module.Function.{Function}
+use Rattle.ir_laws.specs.ir_model.declared.module.Module.{Module}
+use Rattle.ir_laws.specs.ir_paths.Paths.{targets}
 use Rattle.rule_names.specs.Items.{first_function}
 use Rattle.rule_names.specs.Known.{first_unknown, is_kind, is_label, is_value, knows_called, knows_operand, knows_type, names_unknown}
 use Rattle.ir_laws.proofs.facts.Members.{each_known}

@@ -4,8 +4,8 @@ use Rattle.std.specs.Prelude.{Option}
 use Rattle.rule_shape.specs.Switches.{is_switch_on}
 use Rattle.ir_laws.specs.facts.branches.MovedState.{IsSwitch}
 use Rattle.ir_parts.specs.Contents.{ending_labels}
-use Rattle.ir_model.specs.declared.instr.Terminator.{Terminator}
-use Rattle.ir_paths.specs.Paths.{targets}
+use Rattle.ir_laws.specs.ir_model.declared.instr.Terminator.{Terminator}
+use Rattle.ir_laws.specs.ir_paths.Paths.{targets}
 
 pub labels_spelt : (t : Terminator) → ending_labels t ≡ targets t
 labels_spelt (Terminator.Jump label) = refl

@@ -1,16 +1,16 @@
 -- A source that is not refused breaks none of the rules that speak of no paths.
 use Rattle.std.proofs.Common.{◌≡◌, ℕ, List, refl, sym}
 use Rattle.std.specs.Prelude.{None, Option, Some}
-use Rattle.ir_base.specs.declared.outcome.Place.{Place}
-use Rattle.ir_base.specs.declared.rule.Rule.{Rule}
+use Rattle.ir_laws.specs.ir_base.declared.outcome.Place.{Place}
+use Rattle.ir_laws.specs.ir_base.declared.rule.Rule.{Rule}
 use Rattle.rule_laws.specs.rules.local_rules.Local.{BreaksNoLocalRule, BreaksNoLocalRuleIn}
 use Rattle.rule_laws.proofs.rules.source_rules.Order.{pass_of}
 use Rattle.rule_phis.specs.Edges.{first_wrong_edge}
 use Rattle.rule_all.specs.Order.{flow_refusal, function_refusal, functions_refusal, items_refusal, or_later, placing_refusal, pointer_refusal, refusal, shape_refusal, value_refusal}
 use Rattle.rule_all.specs.Refused.{IsRefused}
 use Rattle.rule_all.specs.declared.faults.PathFaults.{PathFaults}
-use Rattle.ir_model.specs.declared.module.Function.{Function}
-use Rattle.ir_model.specs.declared.module.Module.{Module}
+use Rattle.ir_laws.specs.ir_model.declared.module.Function.{Function}
+use Rattle.ir_laws.specs.ir_model.declared.module.Module.{Module}
 use Rattle.rule_locals.specs.Addresses.{first_function_pointer}
 use Rattle.rule_locals.specs.Calls.{first_closed_call}
 use Rattle.rule_locals.specs.Entries.{first_late_alloca}

@@ -1,7 +1,7 @@
 -- Lemmas on fitting, that speak of no pass.
 use Rattle.std.proofs.Common.{◌≡◌, Bool, List, [], ◌∷◌, ap, ◌∙◌}
 use Rattle.std.specs.Prelude.{None, ◌||◌}
-use Rattle.ir_base.specs.declared.outcome.Place.{Place}
+use Rattle.ir_laws.specs.ir_base.declared.outcome.Place.{Place}
 use Rattle.rule_laws.proofs.rules.local_rules.Carried.{Passing, none_of, passing}
 use Rattle.ir_parts.specs.Parts.{Part, first_part}
 

@@ -1,16 +1,16 @@
 -- Lemmas on followed, that speak of no pass.
 use Rattle.std.proofs.Common.{◌≡◌, ℕ, Bool, true, false, ap, ◌∙◌}
 use Rattle.std.specs.Prelude.{None, Some, ◌==◌, ◌&&◌, if◌then◌else◌}
-use Rattle.ir_base.specs.declared.outcome.Place.{Place}
+use Rattle.ir_laws.specs.ir_base.declared.outcome.Place.{Place}
 use Rattle.ir_laws.proofs.facts.Truth.{itself, and_first, holds}
 use Rattle.ir_parts.specs.Parts.{OfInstr}
-use Rattle.ir_model.specs.Ty.{Ty}
-use Rattle.ir_model.specs.declared.instr.Instr.{Instr}
-use Rattle.ir_model.specs.declared.module.Module.{Module}
-use Rattle.ir_model.specs.declared.operand.Callee.{Callee}
-use Rattle.ir_model.specs.declared.operand.Intrinsic.{Intrinsic}
-use Rattle.ir_paths.specs.Windows.{is_call_of}
-use Rattle.run_laws.specs.changed.Changed.{result_of}
+use Rattle.ir_laws.specs.ir_model.Ty.{Ty}
+use Rattle.ir_laws.specs.ir_model.declared.instr.Instr.{Instr}
+use Rattle.ir_laws.specs.ir_model.declared.module.Module.{Module}
+use Rattle.ir_laws.specs.ir_model.declared.operand.Callee.{Callee}
+use Rattle.ir_laws.specs.ir_model.declared.operand.Intrinsic.{Intrinsic}
+use Rattle.ir_laws.specs.ir_paths.Windows.{is_call_of}
+use Rattle.ir_laws.specs.run_laws.changed.Changed.{result_of}
 use Rattle.rule_types.specs.Signatures.{are_wanted, calls_otherwise, is_result}
 use Rattle.rule_types.specs.Wants.{intrinsic_params, is_ptr}
 use Rattle.rule_types.specs.declared.wants.Basic.{Basic}

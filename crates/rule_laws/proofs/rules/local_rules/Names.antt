@@ -4,9 +4,9 @@ use Rattle.std.specs.Prelude.{map}
 use Rattle.rule_uses.specs.Undefined.{params_of}
 use Rattle.rule_laws.proofs.rules.source_rules.Locals.{block_names, name_of}
 use Rattle.ir_laws.proofs.facts.Lists.{row_of}
-use Rattle.flow_solver.specs.Paths.{IsListed}
+use Rattle.ir_laws.specs.flow_solver.Paths.{IsListed}
 use Rattle.ir_parts.specs.declared.defined.Definition.{Definition}
-use Rattle.ir_model.specs.declared.module.Function.{Function}
+use Rattle.ir_laws.specs.ir_model.declared.module.Function.{Function}
 
 -- the numbers that a function defines
 abbrev pub numbers : Function → List ℕ

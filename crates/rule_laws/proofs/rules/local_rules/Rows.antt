@@ -4,8 +4,8 @@ use Rattle.std.specs.Prelude.{None, Option, Some, map, slice_get}
 use Rattle.rule_laws.proofs.rules.local_rules.Names.{numbers}
 use Rattle.ir_laws.proofs.paths.source_rules.Locals.{Apart, in_row, listed_left, listed_right}
 use Rattle.ir_laws.proofs.facts.Lists.{row_of}
-use Rattle.flow_solver.specs.Paths.{IsListed}
-use Rattle.ir_locals.specs.Tables.{first_in, or_first}
+use Rattle.ir_laws.specs.flow_solver.Paths.{IsListed}
+use Rattle.ir_laws.specs.ir_locals.Tables.{first_in, or_first}
 use Rattle.ir_laws.proofs.facts.Options.{or_none}
 
 -- ---- numbers that are apart

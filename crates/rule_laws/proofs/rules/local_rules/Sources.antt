@@ -1,10 +1,10 @@
 -- Lemmas on sources, that speak of no pass.
 use Rattle.std.proofs.Common.{◌≡◌, ℕ, zero, suc, ◌+◌, List, [], ◌∷◌, subst, arith}
 use Rattle.std.specs.Prelude.{None, Option, Some, slice_get}
-use Rattle.ir_base.specs.declared.outcome.Place.{Place}
+use Rattle.ir_laws.specs.ir_base.declared.outcome.Place.{Place}
 use Rattle.rule_laws.proofs.rules.plain_rules.Places.{first_place_out as first_out}
 use Rattle.rule_laws.proofs.rules.local_rules.Rules.{second_out}
-use Rattle.ir_model.specs.declared.module.Function.{Function}
+use Rattle.ir_laws.specs.ir_model.declared.module.Function.{Function}
 use Rattle.rule_names.specs.Items.{first_function}
 
 -- a rule that is broken nowhere is broken in no function

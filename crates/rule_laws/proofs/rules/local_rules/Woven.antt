@@ -4,7 +4,7 @@ use Rattle.std.specs.Prelude.{None, Some, map, ◌==◌, ◌||◌, if◌then◌e
 use Rattle.ir_laws.proofs.facts.Truth.{itself, second_no as neither}
 use Rattle.ir_laws.proofs.paths.source_rules.Locals.{Apart}
 use Rattle.rule_laws.proofs.rules.source_rules.Locals.{name_of}
-use Rattle.flow_solver.specs.Paths.{IsListed}
+use Rattle.ir_laws.specs.flow_solver.Paths.{IsListed}
 use Rattle.ir_parts.specs.declared.defined.Definition.{Definition}
 use Rattle.rule_names.specs.Definitions.{first_twice, has_number}
 use Rattle.ir_laws.proofs.facts.local_rules.Woven.{other_number}

@@ -2,21 +2,21 @@
 use Rattle.std.proofs.Common.{◌≡◌, inl, inr, ℕ, ◌<◌, List, [], ◌∷◌, length, ap}
 use Rattle.std.specs.Prelude.{None, Option, Some, map}
 use Rattle.rule_uses.specs.Undefined.{params_of}
-use Rattle.run_laws.specs.changed.Changed.{Each, result_of}
+use Rattle.ir_laws.specs.run_laws.changed.Changed.{Each, result_of}
 use Rattle.ir_laws.specs.facts.expanded.Tokens.{IsNamedResult}
 use Rattle.ir_laws.specs.facts.sound_states.Named.{HasNamedLocals}
 use Rattle.rule_laws.proofs.rules.source_rules.Locals.{block_names, made_by}
 use Rattle.ir_laws.proofs.paths.source_rules.Locals.{listed_left, listed_right}
 use Rattle.ir_laws.proofs.facts.Lists.{phi_names, row_of}
 use Rattle.rule_laws.specs.rules.source_rules.Named.{HasTabledLocals}
-use Rattle.flow_solver.specs.Paths.{IsListed}
+use Rattle.ir_laws.specs.flow_solver.Paths.{IsListed}
 use Rattle.rule_laws.proofs.rules.woven_rules.Once.{names_below}
 use Rattle.ir_parts.specs.Contents.{result_of as part_result}
-use Rattle.ir_model.specs.declared.instr.Instr.{Instr}
-use Rattle.ir_model.specs.declared.instr.Phi.{Phi}
-use Rattle.ir_model.specs.declared.module.Block.{Block}
-use Rattle.ir_model.specs.declared.module.Function.{Function}
-use Rattle.ir_model.specs.declared.module.Param.{Param}
+use Rattle.ir_laws.specs.ir_model.declared.instr.Instr.{Instr}
+use Rattle.ir_laws.specs.ir_model.declared.instr.Phi.{Phi}
+use Rattle.ir_laws.specs.ir_model.declared.module.Block.{Block}
+use Rattle.ir_laws.specs.ir_model.declared.module.Function.{Function}
+use Rattle.ir_laws.specs.ir_model.declared.module.Param.{Param}
 use Rattle.rule_laws.proofs.rules.short_names.Sources.{results_below}
 use Rattle.ir_laws.proofs.paths.short_names.Sources.{row_listed}
 use Rattle.ir_laws.proofs.paths.woven_rules.Unbroken.{each_listed as each_of}

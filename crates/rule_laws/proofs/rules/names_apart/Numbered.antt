@@ -5,12 +5,12 @@ use Rattle.std.specs.List.{list_all}
 use Rattle.std.proofs.lemmas.Bool.{and_parts, eq-eqb}
 use Rattle.std.proofs.lemmas.Fmt.{decimal_by_steps, decimal_injective}
 use Rattle.std.proofs.lemmas.List.{append_cancel_left}
-use Rattle.ir_base.specs.declared.name.Name.{Name}
-use Rattle.ir_model.specs.Names.{numbered, same_text}
-use Rattle.ir_tables.proofs.Tables.{same_text-same}
+use Rattle.ir_laws.specs.ir_base.declared.name.Name.{Name}
+use Rattle.ir_laws.specs.ir_model.Names.{numbered, same_text}
+use Rattle.ir_laws.proofs.ir_tables.Tables.{same_text-same}
 use Rattle.rule_names.specs.Reserved.{begins_with, name_begins}
 use Rattle.ir_laws.proofs.facts.Members.{each_behind, each_all, each_turns, different_behind}
-use Rattle.run_laws.specs.changed.Changed.{Each}
+use Rattle.ir_laws.specs.run_laws.changed.Changed.{Each}
 use Rattle.ir_laws.proofs.facts.Lists.{AreDifferent, IsNone, row, rows}
 use Rattle.rule_laws.proofs.rules.names_apart.Words.{AreNew, are_unlike, last_words, name_never_both}
 use Rattle.rule_laws.specs.rules.names_apart.Words.{begins_with_one}

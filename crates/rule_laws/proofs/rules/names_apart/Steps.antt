@@ -2,7 +2,7 @@
 use Rattle.std.proofs.Common.{◌≡◌, ℕ, ◌+◌, ◌≤◌, true, List, [], ◌∷◌, ◌++◌, length, sym, ap, subst, arith}
 use Rattle.std.specs.Prelude.{codes}
 use Rattle.std.proofs.lemmas.List.{length-append}
-use Rattle.ir_base.specs.declared.name.Name.{Name}
+use Rattle.ir_laws.specs.ir_base.declared.name.Name.{Name}
 use Rattle.rule_laws.proofs.rules.names_apart.Numbered.{are_right, rows_new}
 use Rattle.ir_laws.proofs.facts.Lists.{rows, rows_longer}
 use Rattle.rule_laws.proofs.rules.names_apart.Words.{AreNew, are_all_unlike, are_own, more_words, table_behind}

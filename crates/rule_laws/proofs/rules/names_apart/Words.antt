@@ -3,10 +3,10 @@ use Rattle.std.proofs.Common.{◌≡◌, inl, inr, ℕ, Bool, true, false, List,
 use Rattle.std.specs.Prelude.{codes, not, ◌==◌, ◌&&◌, ◌||◌}
 use Rattle.std.specs.List.{list_all}
 use Rattle.std.proofs.lemmas.Bool.{and_parts}
-use Rattle.ir_base.specs.declared.name.Name.{Name}
+use Rattle.ir_laws.specs.ir_base.declared.name.Name.{Name}
 use Rattle.rule_names.specs.Reserved.{begins_with, name_begins}
 use Rattle.ir_laws.proofs.facts.Members.{at_each, each_behind, each_there, each_turns, apart_from, different_behind, different_from}
-use Rattle.run_laws.specs.changed.Changed.{Each}
+use Rattle.ir_laws.specs.run_laws.changed.Changed.{Each}
 use Rattle.ir_laws.proofs.facts.Lists.{AreDifferent}
 use Rattle.rule_laws.specs.rules.names_apart.Words.{IsOfWords, IsTableOf, begins_with_one}
 use Rattle.ir_laws.proofs.facts.Truth.{or_last}

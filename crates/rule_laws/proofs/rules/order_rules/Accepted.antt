@@ -2,7 +2,7 @@
 use Rattle.std.proofs.Common.{◌≡◌, ℕ, zero, suc, ◌+◌, ◌<◌, List, [], ◌∷◌, length, refl, sym, subst, arith, Option, Some, None}
 use Rattle.std.proofs.lemmas.Option.{slice_get_within}
 use Rattle.std.specs.Prelude.{slice_get, unwrap_or}
-use Rattle.ir_base.specs.declared.rule.Rule.{Rule}
+use Rattle.ir_laws.specs.ir_base.declared.rule.Rule.{Rule}
 use Rattle.rule_uses.specs.Undefined.{IsFirstUndefined}
 use Rattle.rule_uses.specs.Uses.{uses_of}
 use Rattle.rule_phis.specs.Edges.{first_wrong_edge}
@@ -18,8 +18,8 @@ use Rattle.rule_all.specs.Faults.{HaveFaults, faults_at, no_faults}
 use Rattle.rule_all.specs.Order.{flow_refusal, function_refusal, functions_refusal, items_refusal, or_later, placing_refusal, pointer_refusal, refusal, shape_refusal, value_refusal}
 use Rattle.rule_all.specs.Refused.{IsRefused}
 use Rattle.rule_all.specs.declared.faults.PathFaults.{PathFaults}
-use Rattle.ir_model.specs.declared.module.Function.{Function}
-use Rattle.ir_model.specs.declared.module.Module.{Module}
+use Rattle.ir_laws.specs.ir_model.declared.module.Function.{Function}
+use Rattle.ir_laws.specs.ir_model.declared.module.Module.{Module}
 use Rattle.rule_locals.specs.Calls.{first_closed_call}
 use Rattle.rule_locals.specs.Entries.{first_late_alloca}
 use Rattle.rule_locals.specs.Extents.{first_past_extent, misaligned_globals}

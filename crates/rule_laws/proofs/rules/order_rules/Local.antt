@@ -4,21 +4,21 @@ use Rattle.std.proofs.lemmas.List.{length-map}
 use Rattle.std.proofs.lemmas.Option.{slice_get-map}
 use Rattle.std.specs.List.{list_all}
 use Rattle.std.specs.Prelude.{if◌then◌else◌, map, not, option_map, ◌&&◌, ◌==◌, ◌||◌}
-use Rattle.ir_base.specs.declared.name.Name.{Name}
-use Rattle.ir_base.specs.declared.outcome.Place.{Place}
+use Rattle.ir_laws.specs.ir_base.declared.name.Name.{Name}
+use Rattle.ir_laws.specs.ir_base.declared.outcome.Place.{Place}
 use Rattle.ir_laws.proofs.facts.Lists.{all_changed}
 use Rattle.ir_parts.specs.Contents.{part_operands}
 use Rattle.ir_parts.specs.Parts.{Ending, Head, OfInstr, OfPhi, Part, Signature, first_part, parts_of}
-use Rattle.ir_model.specs.Layout.{size_of}
-use Rattle.ir_model.specs.Ty.{Ty}
-use Rattle.ir_model.specs.declared.instr.Instr.{Instr}
-use Rattle.ir_model.specs.declared.instr.Terminator.{Terminator}
-use Rattle.ir_model.specs.declared.module.Block.{Block}
-use Rattle.ir_model.specs.declared.module.Function.{Function}
-use Rattle.ir_model.specs.declared.module.Module.{Module}
-use Rattle.ir_model.specs.declared.operand.Arg.{Arg}
-use Rattle.ir_model.specs.declared.operand.Callee.{Callee}
-use Rattle.ir_model.specs.declared.operand.Operand.{Operand}
+use Rattle.ir_laws.specs.ir_model.Layout.{size_of}
+use Rattle.ir_laws.specs.ir_model.Ty.{Ty}
+use Rattle.ir_laws.specs.ir_model.declared.instr.Instr.{Instr}
+use Rattle.ir_laws.specs.ir_model.declared.instr.Terminator.{Terminator}
+use Rattle.ir_laws.specs.ir_model.declared.module.Block.{Block}
+use Rattle.ir_laws.specs.ir_model.declared.module.Function.{Function}
+use Rattle.ir_laws.specs.ir_model.declared.module.Module.{Module}
+use Rattle.ir_laws.specs.ir_model.declared.operand.Arg.{Arg}
+use Rattle.ir_laws.specs.ir_model.declared.operand.Callee.{Callee}
+use Rattle.ir_laws.specs.ir_model.declared.operand.Operand.{Operand}
 use Rattle.rule_locals.specs.Calls.{calls_closed, first_closed_call}
 use Rattle.rule_locals.specs.Entries.{allocates_late, first_late_alloca}
 use Rattle.rule_locals.specs.Extents.{breaks_extents, first_past_extent}
@@ -26,7 +26,7 @@ use Rattle.rule_locals.specs.Instrs.{on_instr}
 use Rattle.rule_locals.specs.Intrinsics.{first_misplaced, has_coro, is_coro_part, is_no_coro}
 use Rattle.rule_locals.specs.Markers.{block_size, first_other_mark, is_marker, is_size_or_all, made_size, marks, marks_otherwise, marks_size, marks_slot, slot_size}
 use Rattle.rule_locals.specs.Transfers.{block_at, breaks_transfers, first_wrong_transfer, is_void_of_pointer, is_void_return, may_transfer, returns_behind}
-use Rattle.ir_locals.specs.Tables.{first_in, or_first}
+use Rattle.ir_laws.specs.ir_locals.Tables.{first_in, or_first}
 use Rattle.rule_names.specs.declared.stage.Stage.{Stage}
 use Rattle.rule_laws.proofs.rules.order_rules.Contents.{arg_types_same, operands_over, param_types_same, types_same}
 use Rattle.rule_laws.proofs.rules.order_rules.Parts.{first_of_parts, renumbered_part}

@@ -1,13 +1,13 @@
 -- The kind of a value of a renumbered function is that of the value.
 use Rattle.std.proofs.Common.{◌≡◌, ℕ, List, refl, Option, Some, None}
 use Rattle.std.specs.Prelude.{if◌then◌else◌, option_map}
-use Rattle.ir_base.specs.declared.name.Name.{Name}
-use Rattle.ir_model.specs.Ty.{Ty}
-use Rattle.ir_model.specs.declared.instr.Instr.{Instr}
-use Rattle.ir_model.specs.declared.module.Block.{Block}
-use Rattle.ir_model.specs.declared.module.Function.{Function}
-use Rattle.ir_model.specs.declared.operand.Callee.{Callee}
-use Rattle.ir_locals.specs.Tables.{or_first}
+use Rattle.ir_laws.specs.ir_base.declared.name.Name.{Name}
+use Rattle.ir_laws.specs.ir_model.Ty.{Ty}
+use Rattle.ir_laws.specs.ir_model.declared.instr.Instr.{Instr}
+use Rattle.ir_laws.specs.ir_model.declared.module.Block.{Block}
+use Rattle.ir_laws.specs.ir_model.declared.module.Function.{Function}
+use Rattle.ir_laws.specs.ir_model.declared.operand.Callee.{Callee}
+use Rattle.ir_laws.specs.ir_locals.Tables.{or_first}
 use Rattle.rule_laws.proofs.rules.order_rules.Local.{noted_over}
 use Rattle.ir_laws.proofs.facts.Renumbering.{equal_same}
 use Rattle.ir_laws.specs.facts.order_rules.Renumbered.{StaysApart, renumbered_block, renumbered_callee, renumbered_function, renumbered_instr, renumbered_param, renumbered_phi}

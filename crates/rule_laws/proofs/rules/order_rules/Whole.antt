@@ -1,8 +1,8 @@
 -- A renumbered function breaks each rule at the same place.
 use Rattle.std.proofs.Common.{ℕ, List, subst, sym}
-use Rattle.ir_base.specs.declared.name.Name.{Name}
-use Rattle.ir_model.specs.declared.module.Function.{Function}
-use Rattle.ir_model.specs.declared.module.Module.{Module}
+use Rattle.ir_laws.specs.ir_base.declared.name.Name.{Name}
+use Rattle.ir_laws.specs.ir_model.declared.module.Function.{Function}
+use Rattle.ir_laws.specs.ir_model.declared.module.Module.{Module}
 use Rattle.rule_laws.proofs.rules.order_rules.Called.{calls_same}
 use Rattle.rule_laws.proofs.rules.order_rules.Edges.{edges_same}
 use Rattle.rule_laws.proofs.rules.order_rules.Local.{allocas_same, closed_same, depths_same, extents_same, marked_same, placed_same, transfers_same}

@@ -3,7 +3,7 @@ use Rattle.std.proofs.Common.{◌≡◌, ◌⊎◌, inl, inr, ℕ, suc, true, Li
 use Rattle.std.specs.List.{cons_option}
 use Rattle.std.specs.Prelude.{Some, None, Option, filter_map, map, option_map, slice_get}
 use Rattle.flow_blocks.specs.Edges.{block_edges}
-use Rattle.ir_base.specs.declared.outcome.Place.{Place}
+use Rattle.ir_laws.specs.ir_base.declared.outcome.Place.{Place}
 use Rattle.rule_uses.specs.Uses.{Use, use_of, uses_of, values_at}
 use Rattle.rule_laws.proofs.rules.renamed.Outside.{none_breaks}
 use Rattle.ir_laws.proofs.paths.renamed.Outside.{where_pass}
@@ -11,18 +11,18 @@ use Rattle.rule_laws.proofs.rules.path_rules.Holding.{HoldsOf, first_none, of_pa
 use Rattle.rule_laws.proofs.rules.path_rules.Windows.{IsAlike, NoWrongWindow, inside_back, leads_back}
 use Rattle.ir_laws.proofs.paths.path_rules.Windows.{is_save}
 use Rattle.ir_laws.proofs.facts.Options.{passing_is}
-use Rattle.flow_solver.specs.Paths.{IsListed}
+use Rattle.ir_laws.specs.flow_solver.Paths.{IsListed}
 use Rattle.ir_parts.specs.Contents.{result_of}
 use Rattle.ir_parts.specs.Parts.{Part, parts_of}
-use Rattle.ir_model.specs.declared.instr.Instr.{Instr}
-use Rattle.ir_model.specs.declared.instr.Phi.{Phi}
-use Rattle.ir_model.specs.declared.module.Block.{Block}
-use Rattle.ir_model.specs.declared.module.Function.{Function}
-use Rattle.ir_paths.proofs.Search.{either, or_left, or_right, same_point-itself, same_point-same}
-use Rattle.ir_paths.specs.Paths.{has_point, same_point}
-use Rattle.ir_paths.specs.Windows.{IsInWindow, end_block, instr_at, instr_in, points_where, suspend_of}
-use Rattle.ir_paths.specs.declared.point.Point.{Point}
-use Rattle.run_laws.specs.changed.Changed.{Each}
+use Rattle.ir_laws.specs.ir_model.declared.instr.Instr.{Instr}
+use Rattle.ir_laws.specs.ir_model.declared.instr.Phi.{Phi}
+use Rattle.ir_laws.specs.ir_model.declared.module.Block.{Block}
+use Rattle.ir_laws.specs.ir_model.declared.module.Function.{Function}
+use Rattle.ir_laws.proofs.ir_paths.Search.{either, or_left, or_right, same_point-itself, same_point-same}
+use Rattle.ir_laws.specs.ir_paths.Paths.{has_point, same_point}
+use Rattle.ir_laws.specs.ir_paths.Windows.{IsInWindow, end_block, instr_at, instr_in, points_where, suspend_of}
+use Rattle.ir_laws.specs.ir_paths.declared.point.Point.{Point}
+use Rattle.ir_laws.specs.run_laws.changed.Changed.{Each}
 use Rattle.rule_windows.specs.Windows.{Between, Call, NotOne, ends_window_at}
 use Rattle.rule_window_values.specs.Kept.{AtSuspend, BreaksValue, ByInstr, ByPhi, InBlock, Inside, IsFirstKept, IsFrontIn, IsKept, IsMadeIn, IsUsedBehind, Next, OnEdge, Own, ReachesBehind, TakesFrom, front, own_blocks, phi_results, phis_in}
 use Rattle.ir_laws.proofs.paths.woven_rules.Unbroken.{each_listed as each_of}

@@ -1,7 +1,7 @@
 -- A function of a module that isn't refused breaks no rule on edges, on the calls of coroutines, or on paths.
 use Rattle.std.proofs.Common.{◌≡◌, ℕ}
 use Rattle.std.specs.Prelude.{Some, None, Option, slice_get}
-use Rattle.ir_base.specs.declared.rule.Rule.{Rule}
+use Rattle.ir_laws.specs.ir_base.declared.rule.Rule.{Rule}
 use Rattle.rule_shape.specs.OneOfEach.{wrong_call}
 use Rattle.rule_shape.specs.Promise.{wrong_promise}
 use Rattle.rule_shape.specs.Suspends.{second_final, suspend_too_many}
@@ -13,8 +13,8 @@ use Rattle.rule_all.specs.Faults.{AreFaultsOf}
 use Rattle.rule_all.specs.Order.{flow_refusal, frame_refusal, function_refusal, or_later, parts_refusal, placing_refusal, shape_refusal, slots_refusal, standing_refusal, value_refusal}
 use Rattle.rule_all.specs.Refused.{IsRefused}
 use Rattle.rule_all.specs.declared.faults.PathFaults.{PathFaults}
-use Rattle.ir_model.specs.declared.module.Function.{Function}
-use Rattle.ir_model.specs.declared.module.Module.{Module}
+use Rattle.ir_laws.specs.ir_model.declared.module.Function.{Function}
+use Rattle.ir_laws.specs.ir_model.declared.module.Module.{Module}
 use Rattle.rule_locals.specs.Entries.{first_late_alloca}
 use Rattle.rule_locals.specs.Markers.{first_other_mark}
 use Rattle.rule_modules.specs.Order.{or_refusal}

@@ -1,15 +1,15 @@
 -- Lemmas on outside, that speak of no pass.
 use Rattle.std.proofs.Common.{◌≡◌, ◌⊎◌, ℕ, ◌+◌, ◌-◌, true, length, refl, sym, ap, ◌∙◌, subst, arith}
 use Rattle.std.specs.Prelude.{IsTrue, Some, None, Option, slice_get}
-use Rattle.ir_base.specs.declared.outcome.Place.{Place}
+use Rattle.ir_laws.specs.ir_base.declared.outcome.Place.{Place}
 use Rattle.rule_laws.proofs.rules.renamed.Outside.{none_breaks}
 use Rattle.rule_laws.proofs.rules.path_rules.Holding.{HoldsOf, first_none, of_parts, to_parts}
 use Rattle.ir_parts.specs.Parts.{Part, instr_place, parts_of}
-use Rattle.ir_model.specs.declared.instr.Instr.{Instr}
-use Rattle.ir_model.specs.declared.module.Block.{Block}
-use Rattle.ir_model.specs.declared.module.Function.{Function}
-use Rattle.ir_paths.specs.Windows.{instr_at, instr_in}
-use Rattle.ir_paths.specs.declared.point.Point.{Point}
+use Rattle.ir_laws.specs.ir_model.declared.instr.Instr.{Instr}
+use Rattle.ir_laws.specs.ir_model.declared.module.Block.{Block}
+use Rattle.ir_laws.specs.ir_model.declared.module.Function.{Function}
+use Rattle.ir_laws.specs.ir_paths.Windows.{instr_at, instr_in}
+use Rattle.ir_laws.specs.ir_paths.declared.point.Point.{Point}
 use Rattle.rule_windows.specs.Outside.{BreaksOutside, IsFirstOutside, ends_with_it, is_return, needs_begin}
 use Rattle.rule_windows.specs.Points.{phi_count, phis_in, point_of}
 use Rattle.rule_windows.specs.Sets.{IsAfterEnd, IsWithoutBegin, RunsOut}

@@ -7,8 +7,8 @@ use Rattle.rule_laws.proofs.rules.path_rules.Order.{breaks_none}
 use Rattle.rule_laws.specs.rules.path_rules.Paths.{KeepsPaths}
 use Rattle.rule_laws.specs.rules.path_rules.Shape.{KeepsShape}
 use Rattle.rule_all.specs.Refused.{IsRefused}
-use Rattle.ir_model.specs.declared.module.Function.{Function}
-use Rattle.ir_model.specs.declared.module.Module.{Module}
+use Rattle.ir_laws.specs.ir_model.declared.module.Function.{Function}
+use Rattle.ir_laws.specs.ir_model.declared.module.Module.{Module}
 use Rattle.rule_names.specs.declared.stage.Stage.{Stage}
 use Rattle.rule_slots.specs.Early.{IsFirstEarly}
 use Rattle.rule_slots.specs.Marked.{IsFirstMarked}

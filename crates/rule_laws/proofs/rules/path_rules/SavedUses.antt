@@ -3,8 +3,8 @@ use Rattle.std.proofs.Common.{List, [], ◌∷◌}
 use Rattle.std.specs.Prelude.{None}
 use Rattle.rule_uses.specs.Undefined.{IsFirstUndefined, IsUndefined, Later, Nowhere}
 use Rattle.rule_uses.specs.Uses.{Use}
-use Rattle.ir_model.specs.declared.module.Function.{Function}
-use Rattle.run_laws.specs.changed.Changed.{Each}
+use Rattle.ir_laws.specs.ir_model.declared.module.Function.{Function}
+use Rattle.ir_laws.specs.run_laws.changed.Changed.{Each}
 
 pub all_defined : (f : Function) (us : List Use) → Each (λ u. IsUndefined f u → ⊥) us → IsFirstUndefined f us None
 all_defined f [] h = Nowhere

@@ -6,11 +6,11 @@ use Rattle.rule_laws.proofs.rules.renamed.Outside.{none_breaks}
 use Rattle.ir_laws.proofs.paths.renamed.Outside.{where_pass}
 use Rattle.rule_laws.proofs.rules.path_rules.Holding.{first_none}
 use Rattle.ir_laws.proofs.paths.path_rules.Where.{where_has}
-use Rattle.ir_model.specs.declared.instr.Instr.{Instr}
-use Rattle.ir_model.specs.declared.module.Function.{Function}
-use Rattle.ir_paths.specs.Paths.{IsPath, Leads, has_point, nexts}
-use Rattle.ir_paths.specs.Windows.{IsInWindow, instr_at, points_where}
-use Rattle.ir_paths.specs.declared.point.Point.{Point}
+use Rattle.ir_laws.specs.ir_model.declared.instr.Instr.{Instr}
+use Rattle.ir_laws.specs.ir_model.declared.module.Function.{Function}
+use Rattle.ir_laws.specs.ir_paths.Paths.{IsPath, Leads, has_point, nexts}
+use Rattle.ir_laws.specs.ir_paths.Windows.{IsInWindow, instr_at, points_where}
+use Rattle.ir_laws.specs.ir_paths.declared.point.Point.{Point}
 use Rattle.rule_windows.specs.Points.{place_of}
 use Rattle.rule_windows.specs.Windows.{Back, Between, BreaksSave, BreaksWindow, Call, ComesBack, IsFirstWindow, IsWrong, Left, NoPath, NotOne, ends_window_at, is_final_at, own_edges, suspends_of}
 use Rattle.ir_laws.proofs.facts.Options.{passing_is}

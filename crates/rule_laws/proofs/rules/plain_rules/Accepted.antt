@@ -3,7 +3,7 @@ use Rattle.std.proofs.Common.{◌≡◌, ℕ, suc, ◌+◌, Bool, false, List, [
 use Rattle.std.proofs.lemmas.Bool.{or_parts}
 use Rattle.std.specs.Prelude.{None, Option, Some, slice_get, not}
 use Rattle.std.specs.List.{list_all}
-use Rattle.ir_base.specs.declared.rule.Rule.{Rule}
+use Rattle.ir_laws.specs.ir_base.declared.rule.Rule.{Rule}
 use Rattle.rule_phis.specs.Edges.{first_wrong_edge}
 use Rattle.ir_parts.specs.Contents.{part_operands}
 use Rattle.ir_parts.specs.Parts.{Signature, blocks_parts, first_part, function_place, or_place, place_if}
@@ -11,8 +11,8 @@ use Rattle.rule_all.specs.Faults.{faults_at, no_faults}
 use Rattle.rule_all.specs.Order.{flow_refusal, function_refusal, functions_refusal, items_refusal, or_later, placing_refusal, pointer_refusal, refusal, shape_refusal, value_refusal}
 use Rattle.rule_all.specs.Refused.{IsRefused}
 use Rattle.rule_all.specs.declared.faults.PathFaults.{PathFaults}
-use Rattle.ir_model.specs.declared.module.Function.{Function}
-use Rattle.ir_model.specs.declared.module.Module.{Module}
+use Rattle.ir_laws.specs.ir_model.declared.module.Function.{Function}
+use Rattle.ir_laws.specs.ir_model.declared.module.Module.{Module}
 use Rattle.rule_locals.specs.Calls.{first_closed_call}
 use Rattle.rule_locals.specs.Entries.{first_late_alloca}
 use Rattle.rule_locals.specs.Extents.{first_past_extent, misaligned_globals}

@@ -3,15 +3,15 @@ use Rattle.std.proofs.Common.{◌≡◌, ℕ, Bool, true, false, List, [], ◌�
 use Rattle.std.proofs.lemmas.List.{length-map}
 use Rattle.std.proofs.lemmas.Option.{slice_get-map}
 use Rattle.std.specs.Prelude.{IsTrue, None, Option, Some, map, option_map, slice_get, unwrap_or}
-use Rattle.ir_base.specs.declared.outcome.Place.{Place}
+use Rattle.ir_laws.specs.ir_base.declared.outcome.Place.{Place}
 use Rattle.rule_uses.specs.Undefined.{IsFirstUndefined}
 use Rattle.rule_uses.specs.Uses.{uses_of}
 use Rattle.ir_parts.specs.Parts.{parts_of}
 use Rattle.rule_all.specs.Faults.{AreFaultsOf, HaveFaults, faults_at, no_faults}
 use Rattle.rule_all.specs.declared.faults.PathFaults.{PathFaults}
-use Rattle.ir_model.specs.declared.module.Function.{Function}
-use Rattle.ir_model.specs.declared.operand.Intrinsic.{Intrinsic}
-use Rattle.ir_paths.specs.Windows.{is_call_of, points_where}
+use Rattle.ir_laws.specs.ir_model.declared.module.Function.{Function}
+use Rattle.ir_laws.specs.ir_model.declared.operand.Intrinsic.{Intrinsic}
+use Rattle.ir_laws.specs.ir_paths.Windows.{is_call_of, points_where}
 use Rattle.rule_slots.specs.Early.{BreaksEarly}
 use Rattle.rule_slots.specs.Marked.{BreaksMarked}
 use Rattle.rule_windows.specs.First.{IsFirst}

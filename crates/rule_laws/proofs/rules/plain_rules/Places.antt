@@ -1,8 +1,8 @@
 -- The first place of two, and the first refusal of two: where there is none, neither is there.
 use Rattle.std.proofs.Common.{◌≡◌, Bool, true, false, refl, ap, ◌∙◌}
 use Rattle.std.specs.Prelude.{None, Option, Some}
-use Rattle.ir_base.specs.declared.outcome.Place.{Place}
-use Rattle.ir_base.specs.declared.rule.Rule.{Rule}
+use Rattle.ir_laws.specs.ir_base.declared.outcome.Place.{Place}
+use Rattle.ir_laws.specs.ir_base.declared.rule.Rule.{Rule}
 use Rattle.ir_parts.specs.Parts.{or_place, place_if}
 use Rattle.rule_all.specs.Order.{or_later}
 use Rattle.rule_modules.specs.Order.{or_refusal}

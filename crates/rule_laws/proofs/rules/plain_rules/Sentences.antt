@@ -1,11 +1,11 @@
 -- A rule is broken nowhere in a module just where no type, global or declaration breaks it and it has no fault in a function.
 use Rattle.std.proofs.Common.{◌≡◌, ℕ, zero, suc, ◌+◌, Bool, false, List, [], ◌∷◌, refl, ap, ◌∙◌, subst, arith}
 use Rattle.std.specs.Prelude.{None, Option, Some, slice_get}
-use Rattle.ir_base.specs.declared.outcome.Item.{Item}
-use Rattle.ir_base.specs.declared.outcome.Place.{Place}
+use Rattle.ir_laws.specs.ir_base.declared.outcome.Item.{Item}
+use Rattle.ir_laws.specs.ir_base.declared.outcome.Place.{Place}
 use Rattle.ir_parts.specs.Parts.{item_place, or_place, place_if}
-use Rattle.ir_model.specs.declared.module.Function.{Function}
-use Rattle.ir_model.specs.declared.module.Module.{Module}
+use Rattle.ir_laws.specs.ir_model.declared.module.Function.{Function}
+use Rattle.ir_laws.specs.ir_model.declared.module.Module.{Module}
 use Rattle.rule_names.specs.Items.{Sentence, first_function, first_item, first_place}
 use Rattle.rule_laws.proofs.rules.plain_rules.Places.{first_place_out, no_place_in, not_placed}
 use Rattle.rule_laws.proofs.rules.local_rules.Rules.{second_out as second_place_out}

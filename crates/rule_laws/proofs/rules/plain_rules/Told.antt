@@ -1,13 +1,13 @@
 -- The items of a module that is refused for nothing break no rule.
 use Rattle.std.proofs.Common.{◌≡◌, List, [], sym}
 use Rattle.std.specs.Prelude.{None, Option, ◌||◌, ◌&&◌}
-use Rattle.ir_base.specs.declared.rule.Rule.{Rule}
+use Rattle.ir_laws.specs.ir_base.declared.rule.Rule.{Rule}
 use Rattle.ir_parts.specs.Locals.{locals_of}
 use Rattle.ir_parts.specs.Parts.{function_place, place_if}
 use Rattle.rule_all.specs.Order.{functions_refusal, items_refusal, refusal}
 use Rattle.rule_all.specs.Refused.{IsRefused}
 use Rattle.rule_all.specs.declared.faults.PathFaults.{PathFaults}
-use Rattle.ir_model.specs.declared.module.Module.{Module}
+use Rattle.ir_laws.specs.ir_model.declared.module.Module.{Module}
 use Rattle.rule_locals.specs.Extents.{misaligned_globals}
 use Rattle.rule_modules.specs.Order.{module_refusal, or_refusal}
 use Rattle.rule_modules.specs.declared.order.Refusal.{Refusal}

@@ -1,7 +1,7 @@
 -- The first that breaks a rule is one, so the faults of a module are, and what it is refused for.
 use Rattle.std.proofs.Common.{◌≡◌, ℕ, zero, suc, List, [], ◌∷◌, length, refl, ap, sym, ◌∙◌, arith, Option, Some, inl, inr}
 use Rattle.std.specs.Prelude.{slice_get}
-use Rattle.ir_base.specs.declared.outcome.Place.{Place}
+use Rattle.ir_laws.specs.ir_base.declared.outcome.Place.{Place}
 use Rattle.rule_uses.specs.Undefined.{IsFirstUndefined, IsUndefined}
 use Rattle.rule_uses.specs.Undefined.IsFirstUndefined.{Nowhere, Here, Later}
 use Rattle.rule_uses.specs.Uses.{Use, uses_of}
@@ -10,10 +10,10 @@ use Rattle.rule_all.specs.Faults.{AreFaultsOf}
 use Rattle.rule_all.specs.Order.{refusal}
 use Rattle.rule_all.specs.Refused.{IsRefused}
 use Rattle.rule_all.specs.declared.faults.PathFaults.{PathFaults}
-use Rattle.ir_model.specs.declared.module.Function.{Function}
-use Rattle.ir_model.specs.declared.module.Module.{Module}
-use Rattle.ir_model.specs.declared.operand.Intrinsic.{Intrinsic}
-use Rattle.ir_paths.specs.Windows.{is_call_of, points_where}
+use Rattle.ir_laws.specs.ir_model.declared.module.Function.{Function}
+use Rattle.ir_laws.specs.ir_model.declared.module.Module.{Module}
+use Rattle.ir_laws.specs.ir_model.declared.operand.Intrinsic.{Intrinsic}
+use Rattle.ir_laws.specs.ir_paths.Windows.{is_call_of, points_where}
 use Rattle.rule_modules.specs.declared.order.Refusal.{Refusal}
 use Rattle.rule_names.specs.declared.stage.Stage.{Stage}
 use Rattle.rule_slots.specs.Early.{BreaksEarly}

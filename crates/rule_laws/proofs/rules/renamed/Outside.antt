@@ -1,19 +1,19 @@
 -- A coro.frame that no path reaches without begin (rule K5): no path from the entry leads to one but behind a begin.
 use Rattle.std.proofs.Common.{◌≡◌, inl, inr, ℕ, zero, suc, ◌+◌, ◌-◌, Bool, true, false, List, [], ◌∷◌, ◌++◌, length, refl, sym, ap, ◌∙◌, subst, arith}
 use Rattle.std.specs.Prelude.{IsTrue, IsFalse, Some, None, Option, slice_get}
-use Rattle.ir_base.specs.declared.outcome.Place.{Place}
+use Rattle.ir_laws.specs.ir_base.declared.outcome.Place.{Place}
 use Rattle.ir_laws.specs.paths.renamed.Regular.{Ahead, HasNoFrame, Here, Next, entry, is_call_at}
 use Rattle.ir_laws.specs.facts.renamed.Regular.{passes}
 use Rattle.ir_parts.specs.Parts.{OfInstr, Part, block_parts, blocks_parts, instr_parts, instr_place, parts_of, phi_parts}
-use Rattle.ir_model.specs.declared.instr.Instr.{Instr}
-use Rattle.ir_model.specs.declared.module.Block.{Block}
-use Rattle.ir_model.specs.declared.module.Function.{Function}
-use Rattle.ir_model.specs.declared.operand.Callee.{Callee}
-use Rattle.ir_model.specs.declared.operand.Intrinsic.{Intrinsic}
-use Rattle.ir_paths.specs.Paths.{Leads, has_point, nexts}
-use Rattle.ir_paths.specs.Windows.{instr_at, instr_in, is_call_of}
-use Rattle.ir_paths.specs.declared.point.Point.{Point}
-use Rattle.run_laws.specs.changed.Changed.{Each}
+use Rattle.ir_laws.specs.ir_model.declared.instr.Instr.{Instr}
+use Rattle.ir_laws.specs.ir_model.declared.module.Block.{Block}
+use Rattle.ir_laws.specs.ir_model.declared.module.Function.{Function}
+use Rattle.ir_laws.specs.ir_model.declared.operand.Callee.{Callee}
+use Rattle.ir_laws.specs.ir_model.declared.operand.Intrinsic.{Intrinsic}
+use Rattle.ir_laws.specs.ir_paths.Paths.{Leads, has_point, nexts}
+use Rattle.ir_laws.specs.ir_paths.Windows.{instr_at, instr_in, is_call_of}
+use Rattle.ir_laws.specs.ir_paths.declared.point.Point.{Point}
+use Rattle.ir_laws.specs.run_laws.changed.Changed.{Each}
 use Rattle.rule_windows.specs.First.{IsFirst}
 use Rattle.rule_windows.specs.Outside.{BreaksOutside, IsFirstOutside, needs_begin}
 use Rattle.rule_windows.specs.Points.{begins, phi_count, phis_in, point_of}

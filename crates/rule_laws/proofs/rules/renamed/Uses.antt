@@ -3,7 +3,7 @@ use Rattle.std.proofs.Common.{◌≡◌, inl, inr, ℕ, zero, suc, ◌+◌, ◌<
 use Rattle.std.specs.List.{list_any}
 use Rattle.std.specs.Prelude.{IsTrue, Some, None, Option, map, nat_lt, option_to_list, slice_get, ◌==◌, ◌||◌, if◌then◌else◌}
 use Rattle.flow_blocks.specs.Edges.{block_edges, edges_of_blocks, edges_out}
-use Rattle.ir_base.specs.declared.outcome.Place.{Place}
+use Rattle.ir_laws.specs.ir_base.declared.outcome.Place.{Place}
 use Rattle.rule_uses.specs.Undefined.{Entry, Here as UndefinedHere, IsFirstUndefined, IsUndefined, Later, Next as NextBlock, Nowhere as NoneUndefined, ReachesWithout, params_of}
 use Rattle.rule_uses.specs.Uses.{Use, block_uses, block_values, blocks_uses, incoming_use, incoming_uses, instr_uses, local_of, made_by_instrs, made_by_phis, phi_uses, phi_values, use_of, uses_at, uses_of, values_at, values_in}
 use Rattle.ir_laws.proofs.paths.renamed.Fits.{AnInstr, ATerm, Nothing, Stands, stands}
@@ -12,25 +12,25 @@ use Rattle.ir_laws.proofs.facts.Lists.{get_within}
 use Rattle.rule_laws.proofs.rules.renamed.Outside.{each_left, each_right}
 use Rattle.ir_laws.specs.paths.renamed.Regular.{Ahead, AsOperand, Here, IsDead, IsTaken, IsUsed, Next, OnEdge, entry, makes, operands_read}
 use Rattle.ir_laws.specs.facts.renamed.Regular.{is_result, passes}
-use Rattle.flow_solver.specs.Paths.{IsListed}
+use Rattle.ir_laws.specs.flow_solver.Paths.{IsListed}
 use Rattle.ir_parts.specs.Contents.{ending_operands, instr_operands, result_of as part_result}
 use Rattle.ir_parts.specs.Parts.{instr_place}
-use Rattle.ir_model.specs.Names.{is_local, position_of}
-use Rattle.ir_model.specs.declared.instr.Incoming.{Incoming}
-use Rattle.ir_model.specs.declared.instr.Instr.{Instr}
-use Rattle.ir_model.specs.declared.instr.Phi.{Phi}
-use Rattle.ir_model.specs.declared.instr.Terminator.{Terminator}
-use Rattle.ir_model.specs.declared.module.Block.{Block}
-use Rattle.ir_model.specs.declared.module.Function.{Function}
-use Rattle.ir_model.specs.declared.operand.Callee.{Callee}
-use Rattle.ir_model.specs.declared.operand.Intrinsic.{Intrinsic}
-use Rattle.ir_model.specs.declared.operand.Operand.{Operand}
-use Rattle.ir_paths.proofs.Search.{same_point-same}
-use Rattle.ir_paths.specs.Paths.{entry_point, has_point, nexts, nexts_in, same_point, targets}
-use Rattle.ir_paths.specs.Windows.{instr_at, instr_in, is_call_of}
-use Rattle.ir_paths.specs.declared.point.Point.{Point}
-use Rattle.run_step.specs.Step.{Fetched, fetch, incoming_from, label_of, phis_of}
-use Rattle.run_laws.specs.changed.Changed.{Each, operands_of, operands_of_term, result_of}
+use Rattle.ir_laws.specs.ir_model.Names.{is_local, position_of}
+use Rattle.ir_laws.specs.ir_model.declared.instr.Incoming.{Incoming}
+use Rattle.ir_laws.specs.ir_model.declared.instr.Instr.{Instr}
+use Rattle.ir_laws.specs.ir_model.declared.instr.Phi.{Phi}
+use Rattle.ir_laws.specs.ir_model.declared.instr.Terminator.{Terminator}
+use Rattle.ir_laws.specs.ir_model.declared.module.Block.{Block}
+use Rattle.ir_laws.specs.ir_model.declared.module.Function.{Function}
+use Rattle.ir_laws.specs.ir_model.declared.operand.Callee.{Callee}
+use Rattle.ir_laws.specs.ir_model.declared.operand.Intrinsic.{Intrinsic}
+use Rattle.ir_laws.specs.ir_model.declared.operand.Operand.{Operand}
+use Rattle.ir_laws.proofs.ir_paths.Search.{same_point-same}
+use Rattle.ir_laws.specs.ir_paths.Paths.{entry_point, has_point, nexts, nexts_in, same_point, targets}
+use Rattle.ir_laws.specs.ir_paths.Windows.{instr_at, instr_in, is_call_of}
+use Rattle.ir_laws.specs.ir_paths.declared.point.Point.{Point}
+use Rattle.ir_laws.specs.run_step.Step.{Fetched, fetch, incoming_from, label_of, phis_of}
+use Rattle.ir_laws.specs.run_laws.changed.Changed.{Each, operands_of, operands_of_term, result_of}
 use Rattle.ir_laws.proofs.paths.renamed.Uses.{stands_in}
 use Rattle.ir_laws.proofs.paths.source_rules.Locals.{listed_left, listed_right}
 

@@ -2,11 +2,11 @@
 use Rattle.std.proofs.Common.{◌≡◌, ℕ, Bool, true, false}
 use Rattle.std.specs.List.{list_all}
 use Rattle.std.specs.Prelude.{◌&&◌}
-use Rattle.ir_base.specs.declared.outcome.Place.{Place}
+use Rattle.ir_laws.specs.ir_base.declared.outcome.Place.{Place}
 use Rattle.ir_laws.proofs.facts.Truth.{and_first, and_second, holds}
 use Rattle.ir_parts.specs.Contents.{part_labels, part_operands, part_types}
 use Rattle.ir_parts.specs.Parts.{Part as FunctionPart}
-use Rattle.ir_model.specs.declared.module.Module.{Module}
+use Rattle.ir_laws.specs.ir_model.declared.module.Module.{Module}
 use Rattle.rule_names.specs.Known.{knows_called, knows_operand, knows_type, names_unknown}
 
 -- ---- names but for those of locals

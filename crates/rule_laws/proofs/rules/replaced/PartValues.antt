@@ -1,11 +1,11 @@
 -- Lemmas on part values, that speak of no pass.
 use Rattle.std.proofs.Common.{ℕ, Bool, true, false}
 use Rattle.std.specs.Prelude.{Option, not, ◌&&◌}
-use Rattle.ir_base.specs.declared.outcome.Place.{Place}
+use Rattle.ir_laws.specs.ir_base.declared.outcome.Place.{Place}
 use Rattle.ir_parts.specs.Parts.{Ending, Part as FunctionPart}
-use Rattle.ir_model.specs.Ty.{Ty}
-use Rattle.ir_model.specs.declared.instr.Terminator.{Terminator}
-use Rattle.ir_model.specs.declared.module.Module.{Module}
+use Rattle.ir_laws.specs.ir_model.Ty.{Ty}
+use Rattle.ir_laws.specs.ir_model.declared.instr.Terminator.{Terminator}
+use Rattle.ir_laws.specs.ir_model.declared.module.Module.{Module}
 use Rattle.rule_values.specs.Values.{breaks_values}
 use Rattle.rule_values.specs.declared.kinds.Kind.{Kind}
 

@@ -1,14 +1,14 @@
 -- A rule that looks at parts of a function one by one: what stands in the blocks of a function passes it, and what of that stands in others.
 use Rattle.std.proofs.Common.{◌≡◌, ℕ, ◌+◌, Bool, false, List, [], ◌∷◌, ◌++◌, length}
-use Rattle.ir_base.specs.declared.outcome.Place.{Place}
+use Rattle.ir_laws.specs.ir_base.declared.outcome.Place.{Place}
 use Rattle.rule_laws.proofs.rules.local_rules.Carried.{Passing}
 use Rattle.ir_laws.proofs.facts.Members.{each_joined, each_left, each_right}
 use Rattle.ir_parts.specs.Parts.{Ending, Head, OfInstr, OfPhi, Part, block_parts, block_place, blocks_parts, instr_parts, instr_place, phi_parts}
-use Rattle.ir_model.specs.declared.instr.Instr.{Instr}
-use Rattle.ir_model.specs.declared.instr.Phi.{Phi}
-use Rattle.ir_model.specs.declared.instr.Terminator.{Terminator}
-use Rattle.ir_model.specs.declared.module.Block.{Block}
-use Rattle.run_laws.specs.changed.Changed.{Each}
+use Rattle.ir_laws.specs.ir_model.declared.instr.Instr.{Instr}
+use Rattle.ir_laws.specs.ir_model.declared.instr.Phi.{Phi}
+use Rattle.ir_laws.specs.ir_model.declared.instr.Terminator.{Terminator}
+use Rattle.ir_laws.specs.ir_model.declared.module.Block.{Block}
+use Rattle.ir_laws.specs.run_laws.changed.Changed.{Each}
 
 -- what is said of a block's phis, of its instructions and of its terminator
 pub record IsAll (Q : Phi → Type 0) (P : Instr → Type 0) (T : Terminator → Type 0) (b : Block) : Type 0 where

@@ -1,6 +1,6 @@
 -- Lemmas on replaced, that speak of no pass.
 use Rattle.std.proofs.Common.{◌≡◌, true, refl}
-use Rattle.ir_model.specs.Ty.{Ty, ptr}
+use Rattle.ir_laws.specs.ir_model.Ty.{Ty, ptr}
 use Rattle.rule_types.specs.Wants.{is_ptr}
 
 pub is_the_ptr : (t : Ty) → is_ptr t ≡ true → t ≡ ptr

@@ -2,24 +2,24 @@
 use Rattle.std.proofs.Common.{◌≡◌, ℕ, Bool, true, false, List, [], ◌∷◌, refl, sym, ap, ◌∙◌}
 use Rattle.std.specs.List.{list_all}
 use Rattle.std.specs.Prelude.{None, Option, Some, is_some, map, not, ◌&&◌}
-use Rattle.ir_base.specs.declared.outcome.Place.{Place}
+use Rattle.ir_laws.specs.ir_base.declared.outcome.Place.{Place}
 use Rattle.rule_laws.proofs.rules.local_rules.Carried.{none_of, passing}
 use Rattle.rule_laws.proofs.rules.local_rules.Defined.{value_defined}
 use Rattle.rule_laws.proofs.rules.local_rules.Fitting.{either, no_either}
 use Rattle.ir_laws.proofs.facts.Truth.{and_both, and_first, and_second, holds, first_no, second_no}
 use Rattle.ir_parts.specs.Contents.{ending_operands, instr_operands, part_operands}
 use Rattle.ir_parts.specs.Parts.{Ending, Head, OfInstr, OfPhi, Part as FunctionPart, Signature, first_part, parts_of}
-use Rattle.ir_model.specs.Ty.{Ty}
-use Rattle.ir_model.specs.declared.instr.Incoming.{Incoming}
-use Rattle.ir_model.specs.declared.instr.Terminator.{Terminator}
-use Rattle.ir_model.specs.declared.module.Function.{Function}
-use Rattle.ir_model.specs.declared.module.Module.{Module}
-use Rattle.ir_model.specs.declared.operand.Operand.{Operand}
+use Rattle.ir_laws.specs.ir_model.Ty.{Ty}
+use Rattle.ir_laws.specs.ir_model.declared.instr.Incoming.{Incoming}
+use Rattle.ir_laws.specs.ir_model.declared.instr.Terminator.{Terminator}
+use Rattle.ir_laws.specs.ir_model.declared.module.Function.{Function}
+use Rattle.ir_laws.specs.ir_model.declared.module.Module.{Module}
+use Rattle.ir_laws.specs.ir_model.declared.operand.Operand.{Operand}
 use Rattle.rule_names.specs.Known.{first_unknown, is_label, is_value, knows_operand, names_unknown}
 use Rattle.rule_laws.proofs.rules.replaced.Known.{operands_before}
 use Rattle.rule_laws.proofs.rules.replaced.PartValues.{is_return, misfits}
 use Rattle.rule_laws.specs.rules.replaced.Returns.{ReturnsNothing, gives_value}
-use Rattle.run_laws.specs.changed.Changed.{Each}
+use Rattle.ir_laws.specs.run_laws.changed.Changed.{Each}
 use Rattle.rule_values.specs.Fits.{is_scalar}
 use Rattle.rule_values.specs.Kinds.{value_kind}
 use Rattle.rule_values.specs.Values.{breaks_values, first_wrong_value, fits_part, takes}

@@ -1,6 +1,6 @@
 -- Lemmas on carried, that speak of no pass.
 use Rattle.std.proofs.Common.{◌≡◌}
-use Rattle.ir_base.specs.declared.outcome.Place.{Place}
+use Rattle.ir_laws.specs.ir_base.declared.outcome.Place.{Place}
 use Rattle.rule_locals.specs.Entries.{is_past_entry}
 
 -- places of which both are in the entry block, or neither is

@@ -3,10 +3,10 @@ use Rattle.std.proofs.Common.{◌≡◌, ⊎_elim, ℕ, suc, Bool, true, false, 
 use Rattle.std.proofs.lemmas.Bool.{or_parts}
 use Rattle.std.specs.Prelude.{codes, map, slice_get, if◌then◌else◌, ◌&&◌}
 use Rattle.std.specs.List.{list_any}
-use Rattle.ir_base.specs.declared.name.Name.{Name}
-use Rattle.ir_model.specs.Names.{function_named, same_name, same_text}
-use Rattle.ir_model.specs.declared.module.Function.{Function}
-use Rattle.ir_model.specs.declared.module.Module.{Module}
+use Rattle.ir_laws.specs.ir_base.declared.name.Name.{Name}
+use Rattle.ir_laws.specs.ir_model.Names.{function_named, same_name, same_text}
+use Rattle.ir_laws.specs.ir_model.declared.module.Function.{Function}
+use Rattle.ir_laws.specs.ir_model.declared.module.Module.{Module}
 use Rattle.rule_names.specs.Reserved.{is_odd, is_part, is_part_of, is_reserved, is_taken, part_name, suffixes}
 use Rattle.rule_names.specs.declared.stage.Stage.{Stage}
 use Rattle.rule_laws.proofs.rules.plain_rules.Once.{once_at}
@@ -14,8 +14,8 @@ use Rattle.rule_laws.specs.rules.plain_rules.Items.{AreNamesFree}
 use Rattle.ir_laws.proofs.facts.Lists.{AreDistinct, StandsIn, distinct_joined, of_both, of_more, of_none}
 use Rattle.rule_laws.proofs.rules.same_names.Spellings.{IsSuffix, OfCleanup, OfDestroy, OfNoalloc, OfResume, never_same, parts_alike, suffixes_alike}
 use Rattle.ir_laws.specs.facts.same_names.Short.{HaveShortNames}
-use Rattle.ir_tables.proofs.Tables.{same_text-refl}
-use Rattle.run_laws.specs.changed.Changed.{Each}
+use Rattle.ir_laws.proofs.ir_tables.Tables.{same_text-refl}
+use Rattle.ir_laws.specs.run_laws.changed.Changed.{Each}
 
 -- ---- what a function becomes
 

@@ -7,8 +7,8 @@ use Rattle.std.proofs.lemmas.Str.Parse.{digit_from_value}
 use Rattle.std.specs.Prelude.{codes, decimal, nat_le, ◌^◌, ◌==◌, if◌then◌else◌}
 use Rattle.std.specs.List.{list_all}
 use Rattle.std.specs.Str.Parse.{AllDigits}
-use Rattle.ir_base.specs.declared.name.Name.{Name}
-use Rattle.ir_model.specs.Names.{same_name, same_text, spelling}
+use Rattle.ir_laws.specs.ir_base.declared.name.Name.{Name}
+use Rattle.ir_laws.specs.ir_model.Names.{same_name, same_text, spelling}
 use Rattle.rule_names.specs.Reserved.{is_digit, is_odd, part_name}
 use Rattle.ir_laws.specs.facts.same_names.Short.{IsShort}
 use Rattle.ir_laws.proofs.facts.Truth.{same_name-itself}

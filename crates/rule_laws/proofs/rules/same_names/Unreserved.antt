@@ -4,12 +4,12 @@ use Rattle.std.proofs.Math.Bool.{and-false}
 use Rattle.std.proofs.lemmas.Bool.{eq-eqb, eqb-false, eqb-true, leb-true, ne_eqb, or_parts, or_right}
 use Rattle.std.specs.Prelude.{codes, decimal, nat_le, if◌then◌else◌, ◌&&◌, ◌==◌}
 use Rattle.std.specs.List.{list_all, list_any}
-use Rattle.ir_base.specs.declared.name.Name.{Name}
-use Rattle.ir_model.specs.Names.{same_text, spelling}
-use Rattle.ir_model.specs.Table.{all_allocators, all_intrinsics, allocator_in, allocator_word, callee_named, callee_or, intrinsic_in}
-use Rattle.ir_model.specs.declared.operand.Allocator.{Allocator}
-use Rattle.ir_model.specs.declared.operand.Intrinsic.{Intrinsic}
-use Rattle.ir_tables.proofs.Tables.{and-left, and-right, same_text-same}
+use Rattle.ir_laws.specs.ir_base.declared.name.Name.{Name}
+use Rattle.ir_laws.specs.ir_model.Names.{same_text, spelling}
+use Rattle.ir_laws.specs.ir_model.Table.{all_allocators, all_intrinsics, allocator_in, allocator_word, callee_named, callee_or, intrinsic_in}
+use Rattle.ir_laws.specs.ir_model.declared.operand.Allocator.{Allocator}
+use Rattle.ir_laws.specs.ir_model.declared.operand.Intrinsic.{Intrinsic}
+use Rattle.ir_laws.proofs.ir_tables.Tables.{and-left, and-right, same_text-same}
 use Rattle.rule_names.specs.Reserved.{begins_with, is_allocator, is_digit, is_odd, is_reserved, name_begins, part_name}
 use Rattle.rule_laws.proofs.rules.same_names.Spellings.{number_is_digits}
 use Rattle.ir_laws.specs.facts.same_names.Short.{IsShort}

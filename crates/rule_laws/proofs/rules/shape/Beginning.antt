@@ -11,17 +11,17 @@ use Rattle.ir_laws.specs.facts.renamed.Regular.{passes}
 use Rattle.rule_laws.proofs.rules.path_rules.Outside.{of_outside}
 use Rattle.ir_laws.proofs.paths.path_rules.Where.{has_where}
 use Rattle.rule_laws.proofs.rules.source_rules.Once.{one_begin}
-use Rattle.flow_solver.specs.Paths.{IsListed}
+use Rattle.ir_laws.specs.flow_solver.Paths.{IsListed}
 use Rattle.ir_parts.specs.Contents.{result_of}
-use Rattle.ir_model.specs.declared.instr.Instr.{Instr}
-use Rattle.ir_model.specs.declared.module.Block.{Block}
-use Rattle.ir_model.specs.declared.module.Function.{Function}
-use Rattle.ir_model.specs.declared.operand.Callee.{Callee}
-use Rattle.ir_model.specs.declared.operand.Intrinsic.{Intrinsic}
-use Rattle.ir_paths.proofs.Search.{Has, leads-more, or_left, same_point-itself}
-use Rattle.ir_paths.specs.Paths.{Leads, has_point, nexts, same_point}
-use Rattle.ir_paths.specs.Windows.{instr_at, instr_in, is_call_of}
-use Rattle.ir_paths.specs.declared.point.Point.{Point}
+use Rattle.ir_laws.specs.ir_model.declared.instr.Instr.{Instr}
+use Rattle.ir_laws.specs.ir_model.declared.module.Block.{Block}
+use Rattle.ir_laws.specs.ir_model.declared.module.Function.{Function}
+use Rattle.ir_laws.specs.ir_model.declared.operand.Callee.{Callee}
+use Rattle.ir_laws.specs.ir_model.declared.operand.Intrinsic.{Intrinsic}
+use Rattle.ir_laws.proofs.ir_paths.Search.{Has, leads-more, or_left, same_point-itself}
+use Rattle.ir_laws.specs.ir_paths.Paths.{Leads, has_point, nexts, same_point}
+use Rattle.ir_laws.specs.ir_paths.Windows.{instr_at, instr_in, is_call_of}
+use Rattle.ir_laws.specs.ir_paths.declared.point.Point.{Point}
 use Rattle.flow_points.proofs.Neighbours.{next-inner}
 use Rattle.flow_reach.proofs.Ways.{edge_leaves}
 use Rattle.rule_laws.specs.rules.replaced.Splittable.{AreBegun, AreBlocksBegun}

@@ -1,8 +1,8 @@
 -- Lemmas on edges, that speak of no pass.
 use Rattle.std.proofs.Common.{◌≡◌, refl}
 use Rattle.ir_parts.specs.Contents.{ending_labels}
-use Rattle.ir_model.specs.declared.instr.Terminator.{Terminator}
-use Rattle.ir_paths.specs.Paths.{targets}
+use Rattle.ir_laws.specs.ir_model.declared.instr.Terminator.{Terminator}
+use Rattle.ir_laws.specs.ir_paths.Paths.{targets}
 
 -- ---- an edge to a label
 

@@ -1,7 +1,7 @@
 -- How the calls of a coroutine stand that breaks neither K2 nor K3: the end leads its block, and suspends are the last of theirs.
 use Rattle.std.proofs.Common.{◌≡◌, ℕ, ◌+◌, Bool, true, false, List, [], ◌∷◌, length, refl, subst, arith}
 use Rattle.std.specs.Prelude.{Some, None, Option, is_some, map, not, if◌then◌else◌, ◌||◌}
-use Rattle.ir_calls.specs.Calls.{is_null, is_value}
+use Rattle.ir_laws.specs.ir_calls.Calls.{is_null, is_value}
 use Rattle.rule_shape.specs.OneOfEach.{calls_of, wrong_call}
 use Rattle.rule_shape.specs.Switches.{end_label, is_last, wrong_switch}
 use Rattle.rule_shape.specs.Uses.{uses_of}
@@ -10,20 +10,20 @@ use Rattle.rule_uses.specs.Uses.{made_by_phis}
 use Rattle.ir_laws.proofs.facts.Members.{each_behind, each_there}
 use Rattle.ir_laws.proofs.facts.Truth.{equal_numbers, and_first}
 use Rattle.rule_laws.proofs.rules.renamed.Outside.{each_left, each_right}
-use Rattle.flow_solver.specs.Paths.{IsListed}
+use Rattle.ir_laws.specs.flow_solver.Paths.{IsListed}
 use Rattle.rule_laws.proofs.rules.shape.Steady.{AreAllOrdered, LeadsAt}
 use Rattle.ir_laws.proofs.paths.shape.Steady.{AreOrdered, is_end, is_suspend}
-use Rattle.ir_model.specs.Names.{same_intrinsic}
-use Rattle.ir_model.specs.declared.instr.Instr.{Instr}
-use Rattle.ir_model.specs.declared.instr.Phi.{Phi}
-use Rattle.ir_model.specs.declared.module.Block.{Block}
-use Rattle.ir_model.specs.declared.module.Function.{Function}
-use Rattle.ir_model.specs.declared.operand.Callee.{Callee}
-use Rattle.ir_model.specs.declared.operand.Intrinsic.{Intrinsic}
-use Rattle.ir_model.specs.declared.operand.Operand.{Operand}
-use Rattle.ir_paths.specs.Windows.{call_result}
+use Rattle.ir_laws.specs.ir_model.Names.{same_intrinsic}
+use Rattle.ir_laws.specs.ir_model.declared.instr.Instr.{Instr}
+use Rattle.ir_laws.specs.ir_model.declared.instr.Phi.{Phi}
+use Rattle.ir_laws.specs.ir_model.declared.module.Block.{Block}
+use Rattle.ir_laws.specs.ir_model.declared.module.Function.{Function}
+use Rattle.ir_laws.specs.ir_model.declared.operand.Callee.{Callee}
+use Rattle.ir_laws.specs.ir_model.declared.operand.Intrinsic.{Intrinsic}
+use Rattle.ir_laws.specs.ir_model.declared.operand.Operand.{Operand}
+use Rattle.ir_laws.specs.ir_paths.Windows.{call_result}
 use Rattle.rule_laws.specs.rules.replaced.Splittable.{AreBegun, AreBlocksBegun}
-use Rattle.run_laws.specs.changed.Changed.{Each}
+use Rattle.ir_laws.specs.run_laws.changed.Changed.{Each}
 use Rattle.ir_laws.proofs.paths.woven_rules.Unbroken.{each_listed, of_listed}
 use Rattle.rule_laws.proofs.rules.woven_shape.Gathered.{to_row}
 use Rattle.rule_laws.proofs.rules.woven_shape.OneOfEach.{IsRight, all_right, right_of}

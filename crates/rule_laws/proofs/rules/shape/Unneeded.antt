@@ -2,10 +2,10 @@
 use Rattle.std.proofs.Common.{◌≡◌, true, refl}
 use Rattle.ir_laws.proofs.paths.shape.Steady.{is_suspend}
 use Rattle.ir_parts.specs.Contents.{result_of}
-use Rattle.ir_model.specs.declared.instr.Instr.{Instr}
-use Rattle.ir_model.specs.declared.operand.Callee.{Callee}
-use Rattle.ir_model.specs.declared.operand.Intrinsic.{Intrinsic}
-use Rattle.ir_paths.specs.Windows.{call_result}
+use Rattle.ir_laws.specs.ir_model.declared.instr.Instr.{Instr}
+use Rattle.ir_laws.specs.ir_model.declared.operand.Callee.{Callee}
+use Rattle.ir_laws.specs.ir_model.declared.operand.Intrinsic.{Intrinsic}
+use Rattle.ir_laws.specs.ir_paths.Windows.{call_result}
 
 pub suspend_result : (i : Instr) → is_suspend i ≡ true → result_of i ≡ call_result i
 suspend_result (Instr.Call result must_tail ty (Callee.Intrinsic Intrinsic.CoroSuspend) args) e = refl

@@ -6,15 +6,15 @@ use Rattle.rule_laws.specs.rules.begin_order.Behind.{besides_second, other_opera
 use Rattle.ir_laws.proofs.facts.Truth.{and_first, and_second, holds}
 use Rattle.ir_parts.specs.Contents.{arg_operands}
 use Rattle.ir_parts.specs.Parts.{OfInstr}
-use Rattle.ir_model.specs.Ty.{Ty}
-use Rattle.ir_model.specs.declared.instr.Instr.{Instr}
-use Rattle.ir_model.specs.declared.module.Module.{Module}
-use Rattle.ir_model.specs.declared.operand.Arg.{Arg}
-use Rattle.ir_model.specs.declared.operand.Callee.{Callee}
-use Rattle.ir_model.specs.declared.operand.Intrinsic.{Intrinsic}
-use Rattle.ir_model.specs.declared.operand.Operand.{Operand}
+use Rattle.ir_laws.specs.ir_model.Ty.{Ty}
+use Rattle.ir_laws.specs.ir_model.declared.instr.Instr.{Instr}
+use Rattle.ir_laws.specs.ir_model.declared.module.Module.{Module}
+use Rattle.ir_laws.specs.ir_model.declared.operand.Arg.{Arg}
+use Rattle.ir_laws.specs.ir_model.declared.operand.Callee.{Callee}
+use Rattle.ir_laws.specs.ir_model.declared.operand.Intrinsic.{Intrinsic}
+use Rattle.ir_laws.specs.ir_model.declared.operand.Operand.{Operand}
 use Rattle.rule_slots.specs.Early.{other_uses}
-use Rattle.run_laws.specs.changed.Changed.{Each}
+use Rattle.ir_laws.specs.run_laws.changed.Changed.{Each}
 use Rattle.rule_types.specs.Signatures.{are_wanted, calls_otherwise, is_result}
 use Rattle.rule_types.specs.Wants.{any, intrinsic_params, intrinsic_result, is_basic, meets, want}
 use Rattle.rule_types.specs.declared.wants.Basic.{Basic}

@@ -9,23 +9,23 @@ use Rattle.rule_laws.proofs.rules.renamed.Uses.{AreOfBlock, block_edge, block_un
 use Rattle.ir_laws.proofs.paths.renamed.Uses.{stands_in}
 use Rattle.ir_laws.specs.paths.renamed.Regular.{Ahead, AsOperand, Here, IsTaken, IsUsed, Next, OnEdge, is_call_at, makes, operands_read, stops}
 use Rattle.ir_laws.specs.facts.renamed.Regular.{is_result, passes}
-use Rattle.flow_solver.specs.Paths.{IsListed}
+use Rattle.ir_laws.specs.flow_solver.Paths.{IsListed}
 use Rattle.ir_parts.specs.Contents.{ending_operands}
 use Rattle.ir_parts.specs.Parts.{instr_place}
-use Rattle.ir_model.specs.Names.{is_local, position_of}
-use Rattle.ir_model.specs.declared.instr.Incoming.{Incoming}
-use Rattle.ir_model.specs.declared.instr.Instr.{Instr}
-use Rattle.ir_model.specs.declared.instr.Phi.{Phi}
-use Rattle.ir_model.specs.declared.module.Block.{Block}
-use Rattle.ir_model.specs.declared.module.Function.{Function}
-use Rattle.ir_model.specs.declared.operand.Intrinsic.{Intrinsic}
-use Rattle.ir_model.specs.declared.operand.Operand.{Operand}
-use Rattle.ir_paths.proofs.Search.{same_point-same}
-use Rattle.ir_paths.specs.Paths.{entry_point, has_point, nexts, nexts_in, same_point, targets}
-use Rattle.ir_paths.specs.Windows.{end_block, instr_at, instr_in, is_call_of}
-use Rattle.ir_paths.specs.declared.point.Point.{Point}
-use Rattle.run_step.specs.Step.{Fetched, fetch, incoming_from, label_of, phis_of}
-use Rattle.run_laws.specs.changed.Changed.{Each, operands_of, operands_of_term, result_of}
+use Rattle.ir_laws.specs.ir_model.Names.{is_local, position_of}
+use Rattle.ir_laws.specs.ir_model.declared.instr.Incoming.{Incoming}
+use Rattle.ir_laws.specs.ir_model.declared.instr.Instr.{Instr}
+use Rattle.ir_laws.specs.ir_model.declared.instr.Phi.{Phi}
+use Rattle.ir_laws.specs.ir_model.declared.module.Block.{Block}
+use Rattle.ir_laws.specs.ir_model.declared.module.Function.{Function}
+use Rattle.ir_laws.specs.ir_model.declared.operand.Intrinsic.{Intrinsic}
+use Rattle.ir_laws.specs.ir_model.declared.operand.Operand.{Operand}
+use Rattle.ir_laws.proofs.ir_paths.Search.{same_point-same}
+use Rattle.ir_laws.specs.ir_paths.Paths.{entry_point, has_point, nexts, nexts_in, same_point, targets}
+use Rattle.ir_laws.specs.ir_paths.Windows.{end_block, instr_at, instr_in, is_call_of}
+use Rattle.ir_laws.specs.ir_paths.declared.point.Point.{Point}
+use Rattle.ir_laws.specs.run_step.Step.{Fetched, fetch, incoming_from, label_of, phis_of}
+use Rattle.ir_laws.specs.run_laws.changed.Changed.{Each, operands_of, operands_of_term, result_of}
 use Rattle.rule_window_values.specs.Kept.{InBlock, IsUsedBehind, Next as NextBlock, OnEdge as OnOwnEdge, Own, ReachesBehind, TakesFrom, own_blocks, phis_in}
 use Rattle.ir_laws.proofs.paths.source_rules.Behind.{each_listed}
 

@@ -11,14 +11,14 @@ use Rattle.ir_laws.specs.facts.renamed.Regular.{passes}
 use Rattle.rule_laws.proofs.rules.source_rules.Locals.{found_in}
 use Rattle.rule_laws.proofs.rules.source_rules.Once.{first_call_at, none_missing, right_call, there_is}
 use Rattle.ir_parts.specs.Parts.{instr_place}
-use Rattle.ir_model.specs.Names.{first_where}
-use Rattle.ir_model.specs.declared.instr.Instr.{Instr}
-use Rattle.ir_model.specs.declared.module.Block.{Block}
-use Rattle.ir_model.specs.declared.module.Function.{Function}
-use Rattle.ir_model.specs.declared.operand.Callee.{Callee}
-use Rattle.ir_model.specs.declared.operand.Intrinsic.{Intrinsic}
-use Rattle.ir_paths.specs.Windows.{end_block, instr_at, instr_in, is_call_of}
-use Rattle.ir_paths.specs.declared.point.Point.{Point}
+use Rattle.ir_laws.specs.ir_model.Names.{first_where}
+use Rattle.ir_laws.specs.ir_model.declared.instr.Instr.{Instr}
+use Rattle.ir_laws.specs.ir_model.declared.module.Block.{Block}
+use Rattle.ir_laws.specs.ir_model.declared.module.Function.{Function}
+use Rattle.ir_laws.specs.ir_model.declared.operand.Callee.{Callee}
+use Rattle.ir_laws.specs.ir_model.declared.operand.Intrinsic.{Intrinsic}
+use Rattle.ir_laws.specs.ir_paths.Windows.{end_block, instr_at, instr_in, is_call_of}
+use Rattle.ir_laws.specs.ir_paths.declared.point.Point.{Point}
 use Rattle.rule_windows.specs.Points.{phi_count}
 
 any_there : (test : Instr → Bool) (is : List Instr) (k : ℕ) (i : Instr) → slice_get is k ≡ Some i → test i ≡ true → list_any test is ≡ true

@@ -1,26 +1,26 @@
 -- Where each local is defined once (rule N1), a value's name says by which part of the function it is made.
 use Rattle.std.proofs.Common.{◌≡◌, inl, inr, ℕ, zero, suc, ◌+◌, ◌<◌, Bool, true, false, List, [], ◌∷◌, ◌++◌, length, refl, sym, ap, ◌∙◌, subst, append_assoc}
 use Rattle.std.specs.Prelude.{Some, None, Option, map, option_to_list, slice_get, unwrap_or, option_map, ◌==◌, ◌||◌, if◌then◌else◌}
-use Rattle.ir_base.specs.declared.outcome.Place.{Place}
+use Rattle.ir_laws.specs.ir_base.declared.outcome.Place.{Place}
 use Rattle.rule_uses.specs.Undefined.{params_of}
 use Rattle.ir_laws.proofs.facts.Truth.{equal_numbers, itself}
 use Rattle.rule_laws.proofs.rules.renamed.Uses.{result_spelt}
 use Rattle.ir_laws.proofs.paths.renamed.Uses.{stands_in}
 use Rattle.rule_laws.specs.rules.source_rules.Named.{HasTabledLocals}
-use Rattle.flow_solver.specs.Paths.{IsListed}
+use Rattle.ir_laws.specs.flow_solver.Paths.{IsListed}
 use Rattle.ir_parts.specs.Contents.{part_locals, result_of as part_result}
 use Rattle.ir_parts.specs.Locals.{is_head, local_at, locals_at, locals_in, locals_of}
 use Rattle.ir_parts.specs.Parts.{Part, Ending, block_parts, blocks_parts, instr_parts, instr_place, parts_of, phi_parts}
 use Rattle.ir_parts.specs.declared.defined.Definition.{Definition}
-use Rattle.ir_model.specs.Names.{first_where, position_of}
-use Rattle.ir_model.specs.declared.instr.Instr.{Instr}
-use Rattle.ir_model.specs.declared.instr.Phi.{Phi}
-use Rattle.ir_model.specs.declared.module.Block.{Block}
-use Rattle.ir_model.specs.declared.module.Function.{Function}
-use Rattle.ir_paths.specs.Windows.{instr_at}
-use Rattle.ir_paths.specs.declared.point.Point.{Point}
+use Rattle.ir_laws.specs.ir_model.Names.{first_where, position_of}
+use Rattle.ir_laws.specs.ir_model.declared.instr.Instr.{Instr}
+use Rattle.ir_laws.specs.ir_model.declared.instr.Phi.{Phi}
+use Rattle.ir_laws.specs.ir_model.declared.module.Block.{Block}
+use Rattle.ir_laws.specs.ir_model.declared.module.Function.{Function}
+use Rattle.ir_laws.specs.ir_paths.Windows.{instr_at}
+use Rattle.ir_laws.specs.ir_paths.declared.point.Point.{Point}
 use Rattle.rule_names.specs.Definitions.{first_twice, has_number}
-use Rattle.run_laws.specs.changed.Changed.{result_of}
+use Rattle.ir_laws.specs.run_laws.changed.Changed.{result_of}
 use Rattle.ir_laws.proofs.facts.Lists.{phi_names, row_of}
 use Rattle.ir_laws.proofs.paths.source_rules.Locals.{Apart, in_row, listed_left, listed_right}
 

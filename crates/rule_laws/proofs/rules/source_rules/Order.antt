@@ -1,9 +1,9 @@
 -- What no rule breaks in the functions of a module that isn't refused.
 use Rattle.std.proofs.Common.{◌≡◌, ℕ, zero, suc, ◌+◌, List, [], ◌∷◌, length, refl, sym, ap, subst, arith}
 use Rattle.std.specs.Prelude.{Some, None, Option, slice_get, unwrap_or}
-use Rattle.ir_base.specs.declared.outcome.Item.{Item}
-use Rattle.ir_base.specs.declared.outcome.Place.{Place}
-use Rattle.ir_base.specs.declared.rule.Rule.{Rule}
+use Rattle.ir_laws.specs.ir_base.declared.outcome.Item.{Item}
+use Rattle.ir_laws.specs.ir_base.declared.outcome.Place.{Place}
+use Rattle.ir_laws.specs.ir_base.declared.rule.Rule.{Rule}
 use Rattle.rule_shape.specs.OneOfEach.{wrong_call}
 use Rattle.rule_shape.specs.Promise.{wrong_promise}
 use Rattle.rule_shape.specs.Suspends.{second_final, suspend_too_many}
@@ -17,8 +17,8 @@ use Rattle.rule_all.specs.Faults.{AreFaultsOf, faults_at, no_faults}
 use Rattle.rule_all.specs.Order.{flow_refusal, frame_refusal, function_refusal, functions_refusal, items_refusal, or_later, parts_refusal, placing_refusal, refusal, shape_refusal, slots_refusal, standing_refusal, value_refusal}
 use Rattle.rule_all.specs.Refused.{IsRefused}
 use Rattle.rule_all.specs.declared.faults.PathFaults.{PathFaults}
-use Rattle.ir_model.specs.declared.module.Function.{Function}
-use Rattle.ir_model.specs.declared.module.Module.{Module}
+use Rattle.ir_laws.specs.ir_model.declared.module.Function.{Function}
+use Rattle.ir_laws.specs.ir_model.declared.module.Module.{Module}
 use Rattle.rule_locals.specs.Extents.{misaligned_globals}
 use Rattle.rule_locals.specs.Entries.{first_late_alloca}
 use Rattle.rule_locals.specs.Markers.{first_other_mark}

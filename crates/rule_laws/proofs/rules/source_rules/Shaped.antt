@@ -1,22 +1,22 @@
 -- A module whose parts are parts of the grammar: what its functions define are positions of their tables of names.
 use Rattle.std.proofs.Common.{◌≡◌, inl, inr, ⊎_elim, ℕ, zero, suc, ◌<◌, true, false, List, [], ◌∷◌, ◌++◌, length, refl, sym, ap, ◌∙◌, subst}
 use Rattle.std.specs.Prelude.{Some, None, Option, map, option_to_list, slice_get, unwrap_or}
-use Rattle.ir_base.specs.declared.name.Name.{Name}
+use Rattle.ir_laws.specs.ir_base.declared.name.Name.{Name}
 use Rattle.rule_uses.specs.Undefined.{params_of}
 use Rattle.ir_laws.proofs.facts.Lists.{get_within, phi_names, row_of}
 use Rattle.rule_laws.proofs.rules.source_rules.Locals.{block_names, made_by, name_of, names_are}
 use Rattle.ir_laws.proofs.paths.source_rules.Locals.{listed_either}
 use Rattle.rule_laws.specs.rules.source_rules.Named.{AreTabled, HasTabledLocals}
-use Rattle.flow_solver.specs.Paths.{IsListed}
+use Rattle.ir_laws.specs.flow_solver.Paths.{IsListed}
 use Rattle.ir_parts.specs.Locals.{locals_of}
 use Rattle.ir_parts.specs.declared.defined.Definition.{Definition}
-use Rattle.ir_model.specs.Names.{function_at, no_function}
-use Rattle.ir_model.specs.declared.instr.Instr.{Instr}
-use Rattle.ir_model.specs.declared.instr.Phi.{Phi}
-use Rattle.ir_model.specs.declared.module.Block.{Block}
-use Rattle.ir_model.specs.declared.module.Function.{Function}
-use Rattle.ir_model.specs.declared.module.Module.{Module}
-use Rattle.ir_model.specs.declared.module.Param.{Param}
+use Rattle.ir_laws.specs.ir_model.Names.{function_at, no_function}
+use Rattle.ir_laws.specs.ir_model.declared.instr.Instr.{Instr}
+use Rattle.ir_laws.specs.ir_model.declared.instr.Phi.{Phi}
+use Rattle.ir_laws.specs.ir_model.declared.module.Block.{Block}
+use Rattle.ir_laws.specs.ir_model.declared.module.Function.{Function}
+use Rattle.ir_laws.specs.ir_model.declared.module.Module.{Module}
+use Rattle.ir_laws.specs.ir_model.declared.module.Param.{Param}
 use Rattle.text_canonical.specs.order.Shape.{Each, IsBlock, IsFunction, IsInstr, IsParam, IsPhi, IsPlaced, IsSet, IsShaped}
 use Rattle.rule_laws.proofs.texts.order_rules.Ordered.{each_of as some_each}
 

@@ -8,26 +8,26 @@ use Rattle.ir_laws.proofs.paths.renamed.Outside.{where_pass}
 use Rattle.ir_laws.specs.facts.renamed.Regular.{passes}
 use Rattle.ir_laws.proofs.paths.source_rules.Locals.{listed_either}
 use Rattle.ir_laws.proofs.paths.source_rules.Makers.{HasFrame}
-use Rattle.flow_solver.specs.Paths.{IsListed}
-use Rattle.ir_model.specs.Layout.{size_of}
-use Rattle.ir_model.specs.Names.{is_local}
-use Rattle.ir_model.specs.Ty.{Ty}
-use Rattle.ir_model.specs.declared.instr.Instr.{Instr}
-use Rattle.ir_model.specs.declared.module.Block.{Block}
-use Rattle.ir_model.specs.declared.module.Function.{Function}
-use Rattle.ir_model.specs.declared.module.Module.{Module}
-use Rattle.ir_model.specs.declared.operand.Arg.{Arg}
-use Rattle.ir_model.specs.declared.operand.Callee.{Callee}
-use Rattle.ir_model.specs.declared.operand.Intrinsic.{Intrinsic}
-use Rattle.ir_model.specs.declared.operand.Operand.{Operand}
-use Rattle.ir_paths.proofs.Search.{same_point-itself}
-use Rattle.ir_paths.specs.Paths.{has_point, same_point}
-use Rattle.ir_paths.specs.Slots.{allocas_in, allocas_of, is_in_args, local_of, promise_of}
-use Rattle.ir_paths.specs.Windows.{call_operand, instr_at, instr_in, is_call_of, points_where}
-use Rattle.ir_paths.specs.declared.point.Point.{Point}
+use Rattle.ir_laws.specs.flow_solver.Paths.{IsListed}
+use Rattle.ir_laws.specs.ir_model.Layout.{size_of}
+use Rattle.ir_laws.specs.ir_model.Names.{is_local}
+use Rattle.ir_laws.specs.ir_model.Ty.{Ty}
+use Rattle.ir_laws.specs.ir_model.declared.instr.Instr.{Instr}
+use Rattle.ir_laws.specs.ir_model.declared.module.Block.{Block}
+use Rattle.ir_laws.specs.ir_model.declared.module.Function.{Function}
+use Rattle.ir_laws.specs.ir_model.declared.module.Module.{Module}
+use Rattle.ir_laws.specs.ir_model.declared.operand.Arg.{Arg}
+use Rattle.ir_laws.specs.ir_model.declared.operand.Callee.{Callee}
+use Rattle.ir_laws.specs.ir_model.declared.operand.Intrinsic.{Intrinsic}
+use Rattle.ir_laws.specs.ir_model.declared.operand.Operand.{Operand}
+use Rattle.ir_laws.proofs.ir_paths.Search.{same_point-itself}
+use Rattle.ir_laws.specs.ir_paths.Paths.{has_point, same_point}
+use Rattle.ir_laws.specs.ir_paths.Slots.{allocas_in, allocas_of, is_in_args, local_of, promise_of}
+use Rattle.ir_laws.specs.ir_paths.Windows.{call_operand, instr_at, instr_in, is_call_of, points_where}
+use Rattle.ir_laws.specs.ir_paths.declared.point.Point.{Point}
 use Rattle.rule_locals.specs.Markers.{block_size, is_marker, is_size_or_all, made_size, marks, marks_size, marks_slot, slot_size}
-use Rattle.ir_locals.specs.Tables.{first_in, or_first}
-use Rattle.run_step.specs.Step.{is_lifetime}
+use Rattle.ir_laws.specs.ir_locals.Tables.{first_in, or_first}
+use Rattle.ir_laws.specs.run_step.Step.{is_lifetime}
 
 -- ---- allocas
 

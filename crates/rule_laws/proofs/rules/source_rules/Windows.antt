@@ -1,9 +1,9 @@
 -- Lemmas on windows, that speak of no pass.
 use Rattle.std.proofs.Common.{◌≡◌, true, refl}
-use Rattle.ir_model.specs.declared.instr.Instr.{Instr}
-use Rattle.ir_model.specs.declared.operand.Callee.{Callee}
-use Rattle.ir_model.specs.declared.operand.Intrinsic.{Intrinsic}
-use Rattle.ir_paths.specs.Windows.{is_call_of}
+use Rattle.ir_laws.specs.ir_model.declared.instr.Instr.{Instr}
+use Rattle.ir_laws.specs.ir_model.declared.operand.Callee.{Callee}
+use Rattle.ir_laws.specs.ir_model.declared.operand.Intrinsic.{Intrinsic}
+use Rattle.ir_laws.specs.ir_paths.Windows.{is_call_of}
 use Rattle.rule_windows.specs.Windows.{Call, ends_window}
 
 pub end_ends : (i : Instr) → is_call_of Intrinsic.CoroEnd i ≡ true → ends_window i ≡ true

@@ -1,22 +1,22 @@
 -- What a module that a text stands for defines are positions of its functions' tables.
 use Rattle.std.proofs.Common.{◌≡◌, ⊎_elim, ℕ, zero, suc, ◌+◌, ◌<◌, Bool, List, [], ◌∷◌, ◌++◌, length, refl, sym, subst}
 use Rattle.std.specs.Prelude.{Some, None, Option, map, option_to_list, slice_get, unwrap_or}
-use Rattle.ir_base.specs.declared.name.Name.{Name}
-use Rattle.ir_base.specs.declared.outcome.Place.{Place}
+use Rattle.ir_laws.specs.ir_base.declared.name.Name.{Name}
+use Rattle.ir_laws.specs.ir_base.declared.outcome.Place.{Place}
 use Rattle.rule_laws.specs.rules.source_rules.Named.{AreTabled, HasTabledLocals}
-use Rattle.flow_solver.specs.Paths.{IsListed}
+use Rattle.ir_laws.specs.flow_solver.Paths.{IsListed}
 use Rattle.ir_parts.specs.Contents.{part_locals, result_of}
 use Rattle.ir_parts.specs.Locals.{is_head, local_at, locals_at, locals_in}
 use Rattle.ir_parts.specs.Parts.{Part, block_parts, blocks_parts, instr_parts, phi_parts}
 use Rattle.ir_parts.specs.declared.defined.Definition.{Definition}
 use Rattle.text_grammar.specs.Text.{StandsFor}
-use Rattle.ir_model.specs.Names.{no_function}
-use Rattle.ir_model.specs.declared.instr.Instr.{Instr}
-use Rattle.ir_model.specs.declared.instr.Phi.{Phi}
-use Rattle.ir_model.specs.declared.module.Block.{Block}
-use Rattle.ir_model.specs.declared.module.Function.{Function}
-use Rattle.ir_model.specs.declared.module.Module.{Module}
-use Rattle.ir_model.specs.declared.module.Param.{Param}
+use Rattle.ir_laws.specs.ir_model.Names.{no_function}
+use Rattle.ir_laws.specs.ir_model.declared.instr.Instr.{Instr}
+use Rattle.ir_laws.specs.ir_model.declared.instr.Phi.{Phi}
+use Rattle.ir_laws.specs.ir_model.declared.module.Block.{Block}
+use Rattle.ir_laws.specs.ir_model.declared.module.Function.{Function}
+use Rattle.ir_laws.specs.ir_model.declared.module.Module.{Module}
+use Rattle.ir_laws.specs.ir_model.declared.module.Param.{Param}
 use Rattle.text_canonical.proofs.order.Shaped.{text_is_shaped}
 use Rattle.text_canonical.specs.order.Shape.{Each, IsBlock, IsFunction, IsInstr, IsParam, IsPhi, IsPlaced, IsShaped}
 use Rattle.ir_laws.proofs.facts.Lists.{below}

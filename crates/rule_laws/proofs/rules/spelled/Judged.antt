@@ -10,9 +10,9 @@ use Rattle.text_canonical.specs.canonical.Marks.{close_curly, close_round, close
 use Rattle.text_canonical.specs.canonical.OperandSymbols.{arg_symbols, args_symbols, callee_symbol, global_symbol, label_symbols, local_symbol, more_args_symbols, operand_symbol, result_symbols}
 use Rattle.text_canonical.specs.canonical.TypeSymbols.{type_symbols}
 use Rattle.text_canonical.specs.canonical.Written.{AreWritten, IsWritten}
-use Rattle.ir_base.specs.declared.name.Name.{Name}
-use Rattle.ir_base.specs.declared.ops.Flags.{Flags}
-use Rattle.ir_base.specs.declared.outcome.Place.{Place}
+use Rattle.ir_laws.specs.ir_base.declared.name.Name.{Name}
+use Rattle.ir_laws.specs.ir_base.declared.ops.Flags.{Flags}
+use Rattle.ir_laws.specs.ir_base.declared.outcome.Place.{Place}
 use Rattle.rule_uses.specs.Undefined.{params_of}
 use Rattle.rule_laws.proofs.rules.local_rules.Carried.{passing}
 use Rattle.rule_laws.proofs.rules.local_rules.Fitting.{either, no_either}
@@ -21,30 +21,30 @@ use Rattle.rule_laws.proofs.rules.source_rules.Locals.{block_names, made_by}
 use Rattle.ir_laws.proofs.paths.source_rules.Locals.{listed_left, listed_right}
 use Rattle.ir_laws.proofs.facts.Lists.{phi_names, row_of}
 use Rattle.rule_laws.specs.rules.source_rules.Named.{HasTabledLocals}
-use Rattle.flow_solver.specs.Paths.{IsListed}
+use Rattle.ir_laws.specs.flow_solver.Paths.{IsListed}
 use Rattle.rule_laws.proofs.rules.woven_rules.Once.{names_below}
 use Rattle.rule_laws.specs.rules.plain_rules.Kept.{KeepsPlainRules}
 use Rattle.ir_parts.specs.Contents.{arg_operands, arg_types, callee_operands, ending_labels, ending_operands, ending_types, instr_operands, part_labels, part_operands, part_types}
 use Rattle.ir_parts.specs.Locals.{locals_of}
 use Rattle.ir_parts.specs.Parts.{Ending, OfInstr, OfPhi, Part, parts_of}
-use Rattle.ir_model.specs.Ty.{Ty, int, ptr}
-use Rattle.ir_model.specs.declared.instr.Case.{Case}
-use Rattle.ir_model.specs.declared.instr.Incoming.{Incoming}
-use Rattle.ir_model.specs.declared.instr.Instr.{Instr}
-use Rattle.ir_model.specs.declared.instr.Phi.{Phi}
-use Rattle.ir_model.specs.declared.instr.Terminator.{Terminator}
-use Rattle.ir_model.specs.declared.module.Block.{Block}
-use Rattle.ir_model.specs.declared.module.Function.{Function}
-use Rattle.ir_model.specs.declared.module.Module.{Module}
-use Rattle.ir_model.specs.declared.module.Param.{Param}
-use Rattle.ir_model.specs.declared.operand.Arg.{Arg}
-use Rattle.ir_model.specs.declared.operand.Callee.{Callee}
-use Rattle.ir_model.specs.declared.operand.Operand.{Operand}
+use Rattle.ir_laws.specs.ir_model.Ty.{Ty, int, ptr}
+use Rattle.ir_laws.specs.ir_model.declared.instr.Case.{Case}
+use Rattle.ir_laws.specs.ir_model.declared.instr.Incoming.{Incoming}
+use Rattle.ir_laws.specs.ir_model.declared.instr.Instr.{Instr}
+use Rattle.ir_laws.specs.ir_model.declared.instr.Phi.{Phi}
+use Rattle.ir_laws.specs.ir_model.declared.instr.Terminator.{Terminator}
+use Rattle.ir_laws.specs.ir_model.declared.module.Block.{Block}
+use Rattle.ir_laws.specs.ir_model.declared.module.Function.{Function}
+use Rattle.ir_laws.specs.ir_model.declared.module.Module.{Module}
+use Rattle.ir_laws.specs.ir_model.declared.module.Param.{Param}
+use Rattle.ir_laws.specs.ir_model.declared.operand.Arg.{Arg}
+use Rattle.ir_laws.specs.ir_model.declared.operand.Callee.{Callee}
+use Rattle.ir_laws.specs.ir_model.declared.operand.Operand.{Operand}
 use Rattle.text_symbols.specs.declared.sym.Sym.{Sym}
 use Rattle.text_symbols.specs.declared.word.Word.{Word}
 use Rattle.rule_locals.specs.Extents.{breaks_extents, is_aligned, is_sized, most_of_alloca}
 use Rattle.rule_locals.specs.Instrs.{on_instr}
-use Rattle.ir_model.specs.Layout.{same_type, size_of}
+use Rattle.ir_laws.specs.ir_model.Layout.{same_type, size_of}
 use Rattle.rule_laws.proofs.rules.turned.Defined.{defined_low}
 use Rattle.rule_laws.proofs.rules.spelled.Standing.{IsNamedAt, callee_written, named_at, operand_shaped, operand_written}
 use Rattle.rule_laws.proofs.texts.spelled.Types.{ptr_spelled, truth_spelled}
@@ -56,7 +56,7 @@ use Rattle.rule_laws.specs.rules.spelled.Spelled.{IsSpelledBlock, IsSpelledFunct
 use Rattle.rule_names.specs.Known.{is_label, is_value, knows_callee, knows_called, knows_operand, knows_type, names_unknown}
 use Rattle.rule_names.specs.declared.stage.Stage.{Stage}
 use Rattle.text_canonical.proofs.grammar.Again.{written_both}
-use Rattle.run_laws.specs.changed.Changed.{Each}
+use Rattle.ir_laws.specs.run_laws.changed.Changed.{Each}
 use Rattle.rule_values.specs.Fits.{fits, fits_arg, fits_integer, fits_scalar, is_integer, is_scalar, is_tokenless}
 use Rattle.rule_values.specs.Geps.{indices_fit}
 use Rattle.rule_values.specs.Instrs.{both_fit, casts, compares, fits_called, fits_instr, fits_result, is_passed, passes}

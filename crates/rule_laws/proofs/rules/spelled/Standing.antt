@@ -4,27 +4,27 @@ use Rattle.std.proofs.lemmas.Bool.{or_cases}
 use Rattle.std.specs.Prelude.{None, Option, Some, if◌then◌else◌, is_some, option_map, slice_get, ◌||◌}
 use Rattle.text_canonical.specs.canonical.OperandSymbols.{callee_symbol, number_symbol, operand_symbol}
 use Rattle.text_canonical.specs.canonical.Written.{IsNamed, IsWritten}
-use Rattle.ir_base.specs.declared.name.Name.{Name}
-use Rattle.text_names.specs.Spelling.{IsName, is_name_text}
-use Rattle.ir_model.specs.Names.{declaration_named, first_where, function_named, global_named, same_name, same_text}
-use Rattle.ir_model.specs.Table.{all_allocators, all_intrinsics, allocator_in, allocator_word, callee_named, callee_or, intrinsic_in, intrinsic_word}
-use Rattle.ir_model.specs.Ty.{Ty, array, int, named, ptr, structure, token}
-use Rattle.ir_model.specs.TypeView.{bits_of}
-use Rattle.ir_model.specs.declared.ir_type.IntWidth.{IntWidth}
-use Rattle.ir_model.specs.declared.ir_type.IntWidth.TheVariants.{I1, I8, I16, I32, I64}
-use Rattle.ir_model.specs.declared.module.Declaration.{Declaration}
-use Rattle.ir_model.specs.declared.module.Function.{Function}
-use Rattle.ir_model.specs.declared.module.GlobalItem.{GlobalItem}
-use Rattle.ir_model.specs.declared.module.Module.{Module}
-use Rattle.ir_model.specs.declared.operand.Allocator.{Allocator}
-use Rattle.ir_model.specs.declared.operand.Callee.{Callee}
-use Rattle.ir_model.specs.declared.operand.Intrinsic.{Intrinsic}
-use Rattle.ir_model.specs.declared.operand.Operand.{Operand}
+use Rattle.ir_laws.specs.ir_base.declared.name.Name.{Name}
+use Rattle.ir_laws.specs.text_names.Spelling.{IsName, is_name_text}
+use Rattle.ir_laws.specs.ir_model.Names.{declaration_named, first_where, function_named, global_named, same_name, same_text}
+use Rattle.ir_laws.specs.ir_model.Table.{all_allocators, all_intrinsics, allocator_in, allocator_word, callee_named, callee_or, intrinsic_in, intrinsic_word}
+use Rattle.ir_laws.specs.ir_model.Ty.{Ty, array, int, named, ptr, structure, token}
+use Rattle.ir_laws.specs.ir_model.TypeView.{bits_of}
+use Rattle.ir_laws.specs.ir_model.declared.ir_type.IntWidth.{IntWidth}
+use Rattle.ir_laws.specs.ir_model.declared.ir_type.IntWidth.TheVariants.{I1, I8, I16, I32, I64}
+use Rattle.ir_laws.specs.ir_model.declared.module.Declaration.{Declaration}
+use Rattle.ir_laws.specs.ir_model.declared.module.Function.{Function}
+use Rattle.ir_laws.specs.ir_model.declared.module.GlobalItem.{GlobalItem}
+use Rattle.ir_laws.specs.ir_model.declared.module.Module.{Module}
+use Rattle.ir_laws.specs.ir_model.declared.operand.Allocator.{Allocator}
+use Rattle.ir_laws.specs.ir_model.declared.operand.Callee.{Callee}
+use Rattle.ir_laws.specs.ir_model.declared.operand.Intrinsic.{Intrinsic}
+use Rattle.ir_laws.specs.ir_model.declared.operand.Operand.{Operand}
 use Rattle.ir_laws.specs.facts.spelled.Named.{AreItemsNamed}
 use Rattle.rule_laws.specs.texts.spelled.Spelled.{IsSpelled}
-use Rattle.ir_tables.proofs.Tables.{same_name-same, same_text-same}
+use Rattle.ir_laws.proofs.ir_tables.Tables.{same_name-same, same_text-same}
 use Rattle.rule_names.specs.Known.{is_intrinsic, knows_address, knows_callee, knows_name, knows_operand}
-use Rattle.run_laws.specs.changed.Changed.{Each}
+use Rattle.ir_laws.specs.run_laws.changed.Changed.{Each}
 use Rattle.rule_values.specs.Fits.{fits, fits_literal, is_literal}
 use Rattle.rule_values.specs.declared.kinds.Kind.{Kind}
 use Rattle.text_canonical.specs.order.Shape as shape

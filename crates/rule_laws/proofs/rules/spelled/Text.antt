@@ -8,17 +8,17 @@ use Rattle.text_canonical.specs.canonical.Marks.{close_curly, close_round, open_
 use Rattle.text_canonical.specs.canonical.OperandSymbols.{global_symbol, local_symbol, result_symbols}
 use Rattle.text_canonical.specs.canonical.TypeSymbols.{type_symbols}
 use Rattle.text_canonical.specs.canonical.Written.{AreWritten}
-use Rattle.ir_base.specs.declared.name.Name.{Name}
-use Rattle.text_names.specs.Spelling.{IsName}
+use Rattle.ir_laws.specs.ir_base.declared.name.Name.{Name}
+use Rattle.ir_laws.specs.text_names.Spelling.{IsName}
 use Rattle.rule_laws.proofs.rules.source_rules.Shaped.{function_shaped}
 use Rattle.text_grammar.specs.Items.{IsItem, Item, declaration, function, functions_of, global_item, group, groups_of, other, type_item, types_of}
 use Rattle.text_grammar.specs.Phrases.{each}
 use Rattle.text_grammar.specs.Text.{StandsFor}
-use Rattle.ir_model.specs.Ty.{Ty}
-use Rattle.ir_model.specs.declared.module.Function.{Function}
-use Rattle.ir_model.specs.declared.module.Module.{Module}
-use Rattle.ir_model.specs.declared.module.Param.{Param}
-use Rattle.ir_model.specs.declared.module.TypeItem.{TypeItem}
+use Rattle.ir_laws.specs.ir_model.Ty.{Ty}
+use Rattle.ir_laws.specs.ir_model.declared.module.Function.{Function}
+use Rattle.ir_laws.specs.ir_model.declared.module.Module.{Module}
+use Rattle.ir_laws.specs.ir_model.declared.module.Param.{Param}
+use Rattle.ir_laws.specs.ir_model.declared.module.TypeItem.{TypeItem}
 use Rattle.text_symbols.specs.Listing.{symbols_of}
 use Rattle.text_symbols.specs.declared.sym.Sym.{Sym}
 use Rattle.rule_laws.proofs.rules.spelled.Symbols.{blocks_spelled, written_first, written_rest}
@@ -31,7 +31,7 @@ use Rattle.text_canonical.proofs.grammar.Again.{AreSound, IsSound}
 use Rattle.text_canonical.proofs.grammar.Sound.{text_symbols_sound}
 use Rattle.text_canonical.proofs.grammar.Whole.{is_printable}
 use Rattle.text_canonical.specs.grammar.Bytes.{AreBytes}
-use Rattle.run_laws.specs.changed.Changed.{Each}
+use Rattle.ir_laws.specs.run_laws.changed.Changed.{Each}
 use Rattle.rule_laws.proofs.texts.widths.Written.{some_blocks}
 use Rattle.text_symbols.specs.declared.word.Word.TheVariants as words
 use Rattle.text_canonical.specs.order.Shape as shape

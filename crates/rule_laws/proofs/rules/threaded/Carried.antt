@@ -1,20 +1,20 @@
 -- A rule that no part of a function breaks is broken by no part of the function some of whose edges lead over blocks of their own.
 use Rattle.std.proofs.Common.{◌≡◌, ℕ, Bool, true, false, None, Some, ap, length, not, refl, subst, sym, ⊎_elim, ◌+◌, ◌∙◌}
 use Rattle.std.specs.Prelude.{slice_get, ◌==◌}
-use Rattle.ir_base.specs.declared.outcome.Place.{Place}
+use Rattle.ir_laws.specs.ir_base.declared.outcome.Place.{Place}
 use Rattle.ir_laws.proofs.facts.Truth.{equal_numbers}
 use Rattle.rule_laws.proofs.rules.renamed.Switches.{none_part}
 use Rattle.ir_laws.proofs.facts.local_rules.Woven.{other_number}
 use Rattle.rule_laws.proofs.rules.path_rules.Holding.{HoldsIn, of_parts, part_none, to_parts}
 use Rattle.rule_laws.proofs.rules.rows.Carried.{AreAlikePlaced}
-use Rattle.flow_solver.specs.Paths.{IsListed}
+use Rattle.ir_laws.specs.flow_solver.Paths.{IsListed}
 use Rattle.ir_parts.specs.Parts.{Ending, Head, OfInstr, OfPhi, Part, Signature, block_place, first_part, function_place, instr_place, parts_of}
-use Rattle.ir_model.specs.declared.instr.Instr.{Instr}
-use Rattle.ir_model.specs.declared.instr.Phi.{Phi}
-use Rattle.ir_model.specs.declared.instr.Terminator.{Terminator}
-use Rattle.ir_model.specs.declared.module.Block.{Block}
-use Rattle.ir_model.specs.declared.module.Function.{Function}
-use Rattle.ir_paths.specs.Paths.{targets}
+use Rattle.ir_laws.specs.ir_model.declared.instr.Instr.{Instr}
+use Rattle.ir_laws.specs.ir_model.declared.instr.Phi.{Phi}
+use Rattle.ir_laws.specs.ir_model.declared.instr.Terminator.{Terminator}
+use Rattle.ir_laws.specs.ir_model.declared.module.Block.{Block}
+use Rattle.ir_laws.specs.ir_model.declared.module.Function.{Function}
+use Rattle.ir_laws.specs.ir_paths.Paths.{targets}
 use Rattle.rule_locals.specs.Instrs.{on_instr}
 use Rattle.ir_laws.proofs.paths.threaded.Threads.{IsBlockOver, IsMovedBlock, Moves, between, ended}
 use Rattle.rule_laws.proofs.rules.threaded.Threads.{IsThreaded}

@@ -3,10 +3,10 @@ use Rattle.std.proofs.Common.{◌≡◌, ℕ, inl, inr, true, List, [], ◌∷�
 use Rattle.std.specs.Prelude.{◌==◌}
 use Rattle.rule_phis.specs.Edges.{has, leads}
 use Rattle.rule_laws.proofs.rules.known_labels.Rules.{labels_spelt}
-use Rattle.flow_solver.specs.Paths.{IsListed}
-use Rattle.ir_model.specs.declared.module.Block.{Block}
-use Rattle.ir_paths.proofs.Search.{eq_itself, or_left, or_right}
-use Rattle.ir_paths.specs.Paths.{targets}
+use Rattle.ir_laws.specs.flow_solver.Paths.{IsListed}
+use Rattle.ir_laws.specs.ir_model.declared.module.Block.{Block}
+use Rattle.ir_laws.proofs.ir_paths.Search.{eq_itself, or_left, or_right}
+use Rattle.ir_laws.specs.ir_paths.Paths.{targets}
 
 -- ---- phis
 

@@ -2,7 +2,7 @@
 use Rattle.std.proofs.Common.{◌≡◌, ℕ, zero, suc, Bool, true, false, List, [], ◌∷◌, Some, ap, filter, map, refl, sym, ◌∙◌, if◌then◌else◌}
 use Rattle.std.specs.Prelude.{slice_get}
 use Rattle.rule_phis.specs.Edges.{is_empty}
-use Rattle.ir_model.specs.declared.module.Block.{Block}
+use Rattle.ir_laws.specs.ir_model.declared.module.Block.{Block}
 
 -- ---- the rule (F1)
 

@@ -1,26 +1,26 @@
 -- Where edges lead over blocks of their own, no use is undefined that was none (rule F2), and what asks for begin stands behind it.
 use Rattle.std.proofs.Common.{◌≡◌, ⊎_elim, inl, inr, ℕ, zero, suc, ◌+◌, List, [], ◌∷◌, ◌++◌, None, Option, Some, ap, length, map, refl, subst, sym, ◌∙◌, arith}
 use Rattle.std.specs.Prelude.{option_to_list, slice_get}
-use Rattle.ir_base.specs.declared.outcome.Place.{Place}
+use Rattle.ir_laws.specs.ir_base.declared.outcome.Place.{Place}
 use Rattle.rule_uses.specs.Undefined.{Entry, IsFirstUndefined, IsUndefined, Next, ReachesWithout}
 use Rattle.rule_uses.specs.Uses.{Use, block_uses, block_values, blocks_uses, incoming_use, incoming_uses, instr_uses, local_of, locals_in, phi_uses, phi_values, use_of, uses_at, uses_of, values_at, values_in}
 use Rattle.ir_laws.proofs.facts.Members.{each_behind}
 use Rattle.rule_laws.proofs.rules.renamed.Outside.{each_left, each_right}
 use Rattle.rule_laws.proofs.rules.renamed.Uses.{AreOfBlock, none_undefined, of_block, three_kinds}
 use Rattle.rule_laws.proofs.rules.path_rules.SavedUses.{all_defined}
-use Rattle.flow_solver.specs.Paths.{IsListed}
+use Rattle.ir_laws.specs.flow_solver.Paths.{IsListed}
 use Rattle.ir_parts.specs.Contents.{ending_operands, instr_operands, result_of}
 use Rattle.ir_parts.specs.Parts.{instr_place}
-use Rattle.ir_model.specs.Names.{position_of}
-use Rattle.ir_model.specs.declared.instr.Incoming.{Incoming}
-use Rattle.ir_model.specs.declared.instr.Instr.{Instr}
-use Rattle.ir_model.specs.declared.instr.Phi.{Phi}
-use Rattle.ir_model.specs.declared.module.Block.{Block}
-use Rattle.ir_model.specs.declared.module.Function.{Function}
-use Rattle.ir_model.specs.declared.operand.Operand.{Operand}
-use Rattle.ir_paths.specs.Paths.{targets}
+use Rattle.ir_laws.specs.ir_model.Names.{position_of}
+use Rattle.ir_laws.specs.ir_model.declared.instr.Incoming.{Incoming}
+use Rattle.ir_laws.specs.ir_model.declared.instr.Instr.{Instr}
+use Rattle.ir_laws.specs.ir_model.declared.instr.Phi.{Phi}
+use Rattle.ir_laws.specs.ir_model.declared.module.Block.{Block}
+use Rattle.ir_laws.specs.ir_model.declared.module.Function.{Function}
+use Rattle.ir_laws.specs.ir_model.declared.operand.Operand.{Operand}
+use Rattle.ir_laws.specs.ir_paths.Paths.{targets}
 use Rattle.rule_laws.specs.rules.replaced.Splittable.{AreBegun, AreBlocksBegun}
-use Rattle.run_laws.specs.changed.Changed.{Each}
+use Rattle.ir_laws.specs.run_laws.changed.Changed.{Each}
 use Rattle.frame_crossing.proofs.Blocks.{edge_is_out, target_is_edge}
 use Rattle.ir_laws.proofs.paths.threaded.Threads.{IsBlockOver, IsMovedBlock, IsOver, Moves, between, ended}
 use Rattle.rule_laws.proofs.rules.threaded.Threads.{IsThreaded}

@@ -1,9 +1,9 @@
 -- Lemmas on turned, that speak of no pass.
 use Rattle.std.proofs.Common.{◌≡◌, Bool, true}
 use Rattle.std.specs.Prelude.{not}
-use Rattle.ir_model.specs.declared.instr.Instr.{Instr}
-use Rattle.ir_model.specs.declared.operand.Callee.{Callee}
-use Rattle.ir_model.specs.declared.operand.Intrinsic.{Intrinsic}
+use Rattle.ir_laws.specs.ir_model.declared.instr.Instr.{Instr}
+use Rattle.ir_laws.specs.ir_model.declared.operand.Callee.{Callee}
+use Rattle.ir_laws.specs.ir_model.declared.operand.Intrinsic.{Intrinsic}
 use Rattle.rule_locals.specs.Intrinsics.{is_inner}
 use Rattle.ir_laws.proofs.facts.Truth.{is_void}
 

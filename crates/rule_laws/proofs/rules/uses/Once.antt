@@ -6,7 +6,7 @@ use Rattle.rule_laws.proofs.rules.local_rules.Woven.{none_twice}
 use Rattle.ir_laws.proofs.paths.source_rules.Locals.{Apart}
 use Rattle.rule_laws.proofs.rules.source_rules.Locals.{names_are}
 use Rattle.ir_parts.specs.Locals.{locals_of}
-use Rattle.ir_model.specs.declared.module.Function.{Function}
+use Rattle.ir_laws.specs.ir_model.declared.module.Function.{Function}
 use Rattle.rule_names.specs.Definitions.{first_twice}
 use Rattle.rule_laws.proofs.rules.woven_rules.Once.{once_apart}
 use Rattle.ir_laws.specs.facts.woven_rules.Pairs.{times}

@@ -2,25 +2,25 @@
 use Rattle.std.proofs.Common.{◌≡◌, inl, inr, ℕ, zero, suc, ◌+◌, true, List, [], ◌∷◌, length, refl, sym, subst, arith}
 use Rattle.std.specs.Prelude.{None, Some, slice_get}
 use Rattle.rule_laws.proofs.rules.counted.PartFacts.{block_made, uses_are}
-use Rattle.pass_front.specs.Front.{is_alloca}
+use Rattle.ir_laws.specs.pass_front.Front.{is_alloca}
 use Rattle.rule_uses.specs.Undefined.{IsFirstUndefined, ReachesWithout, params_of}
 use Rattle.rule_uses.specs.Uses.{block_values, incoming_uses, locals_in, phi_uses, phi_values, uses_of, values_at}
 use Rattle.rule_laws.proofs.rules.renamed.Uses.{none_undefined, of_block, three_kinds}
 use Rattle.ir_laws.proofs.facts.Members.{each_left, each_right}
-use Rattle.flow_solver.specs.Paths.{IsListed}
+use Rattle.ir_laws.specs.flow_solver.Paths.{IsListed}
 use Rattle.ir_parts.specs.Contents.{ending_operands, instr_operands}
 use Rattle.ir_parts.specs.Parts.{instr_place}
-use Rattle.ir_model.specs.Names.{position_of}
-use Rattle.ir_model.specs.declared.instr.Incoming.{Incoming}
-use Rattle.ir_model.specs.declared.instr.Instr.{Instr}
-use Rattle.ir_model.specs.declared.instr.Phi.{Phi}
-use Rattle.ir_model.specs.declared.module.Block.{Block}
-use Rattle.ir_model.specs.declared.module.Function.{Function}
-use Rattle.ir_model.specs.declared.operand.Operand.{Operand}
+use Rattle.ir_laws.specs.ir_model.Names.{position_of}
+use Rattle.ir_laws.specs.ir_model.declared.instr.Incoming.{Incoming}
+use Rattle.ir_laws.specs.ir_model.declared.instr.Instr.{Instr}
+use Rattle.ir_laws.specs.ir_model.declared.instr.Phi.{Phi}
+use Rattle.ir_laws.specs.ir_model.declared.module.Block.{Block}
+use Rattle.ir_laws.specs.ir_model.declared.module.Function.{Function}
+use Rattle.ir_laws.specs.ir_model.declared.operand.Operand.{Operand}
 use Rattle.rule_laws.proofs.rules.uses.RampQuiet.{IsMade}
 use Rattle.ir_laws.proofs.paths.replaced.Known.{of_listed}
 use Rattle.rule_laws.specs.rules.replaced.Splittable.{AreBegun, AreBlocksBegun}
-use Rattle.run_laws.specs.changed.Changed.{Each}
+use Rattle.ir_laws.specs.run_laws.changed.Changed.{Each}
 use Rattle.rule_laws.proofs.rules.woven_rules.Uses.{IsFine, IsSound, IsSoundIn, sound_incoming}
 
 -- an alloca uses nothing

@@ -4,14 +4,14 @@ use Rattle.std.specs.Prelude.{Some, slice_get}
 use Rattle.rule_laws.proofs.rules.counted.PartFacts.{AllMadeBefore}
 use Rattle.rule_uses.specs.Undefined.{ReachesWithout, params_of}
 use Rattle.rule_uses.specs.Uses.{block_values, locals_in, phi_values, values_at}
-use Rattle.flow_solver.specs.Paths.{IsListed}
+use Rattle.ir_laws.specs.flow_solver.Paths.{IsListed}
 use Rattle.ir_parts.specs.Contents.{ending_operands}
-use Rattle.ir_model.specs.Names.{position_of}
-use Rattle.ir_model.specs.declared.instr.Incoming.{Incoming}
-use Rattle.ir_model.specs.declared.instr.Phi.{Phi}
-use Rattle.ir_model.specs.declared.module.Block.{Block}
-use Rattle.ir_model.specs.declared.module.Function.{Function}
-use Rattle.ir_model.specs.declared.operand.Operand.{Operand}
+use Rattle.ir_laws.specs.ir_model.Names.{position_of}
+use Rattle.ir_laws.specs.ir_model.declared.instr.Incoming.{Incoming}
+use Rattle.ir_laws.specs.ir_model.declared.instr.Phi.{Phi}
+use Rattle.ir_laws.specs.ir_model.declared.module.Block.{Block}
+use Rattle.ir_laws.specs.ir_model.declared.module.Function.{Function}
+use Rattle.ir_laws.specs.ir_model.declared.operand.Operand.{Operand}
 use Rattle.rule_laws.specs.rules.replaced.Splittable.{AreBegun}
 
 -- no use of a function is undefined (F2), and what asks for begin stands behind it

@@ -2,9 +2,9 @@
 use Rattle.std.proofs.Common.{ℕ, List, [], ◌∷◌, ◌++◌}
 use Rattle.rule_uses.specs.Uses.{locals_in}
 use Rattle.rule_laws.proofs.rules.source_rules.Locals.{made_by}
-use Rattle.flow_solver.specs.Paths.{IsListed}
+use Rattle.ir_laws.specs.flow_solver.Paths.{IsListed}
 use Rattle.ir_parts.specs.Contents.{instr_operands}
-use Rattle.ir_model.specs.declared.instr.Instr.{Instr}
+use Rattle.ir_laws.specs.ir_model.declared.instr.Instr.{Instr}
 
 -- behind values that are made before
 abbrev pub IsUnused : ℕ → List ℕ → List Instr → Type 0

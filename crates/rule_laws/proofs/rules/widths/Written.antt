@@ -4,8 +4,8 @@ use Rattle.std.specs.List.{list_all}
 use Rattle.std.specs.Prelude.{None, Option, Some, map, not, option_to_list, slice_get}
 use Rattle.rule_laws.specs.rules.counted.Widths.{first_other_width, is_of_other_width}
 use Rattle.ir_laws.specs.facts.counted.Widths.{has_width, is_width}
-use Rattle.ir_base.specs.declared.name.Name.{Name}
-use Rattle.ir_base.specs.declared.outcome.Place.{Place}
+use Rattle.ir_laws.specs.ir_base.declared.name.Name.{Name}
+use Rattle.ir_laws.specs.ir_base.declared.outcome.Place.{Place}
 use Rattle.rule_laws.proofs.rules.local_rules.Carried.{Passing, none_of}
 use Rattle.ir_laws.proofs.facts.Members.{each_joined}
 use Rattle.ir_laws.proofs.facts.Truth.{and_both, and_first, and_second}
@@ -13,21 +13,21 @@ use Rattle.rule_laws.proofs.rules.source_rules.Shaped.{function_shaped}
 use Rattle.ir_parts.specs.Contents.{arg_types, ending_types, instr_types, part_types}
 use Rattle.ir_parts.specs.Parts.{Ending, Part, Signature, block_parts, blocks_parts, instr_parts, instr_place, parts_of, phi_parts}
 use Rattle.text_grammar.specs.Text.{StandsFor}
-use Rattle.ir_model.specs.TypeView.{bits_of}
-use Rattle.ir_model.specs.declared.ir_type.IntWidth.{IntWidth}
-use Rattle.ir_model.specs.declared.ir_type.IntWidth.TheVariants.{I1, I8, I16, I32, I64}
-use Rattle.ir_model.specs.Ty.{Ty, int, ptr, token, array, structure, named}
-use Rattle.ir_model.specs.declared.instr.Case.{Case}
-use Rattle.ir_model.specs.declared.instr.Instr.{Instr}
-use Rattle.ir_model.specs.declared.instr.Phi.{Phi}
-use Rattle.ir_model.specs.declared.instr.Terminator.{Terminator}
-use Rattle.ir_model.specs.declared.module.Block.{Block}
-use Rattle.ir_model.specs.declared.module.Function.{Function}
-use Rattle.ir_model.specs.declared.module.Module.{Module}
-use Rattle.ir_model.specs.declared.module.Param.{Param}
-use Rattle.ir_model.specs.declared.operand.Arg.{Arg}
+use Rattle.ir_laws.specs.ir_model.TypeView.{bits_of}
+use Rattle.ir_laws.specs.ir_model.declared.ir_type.IntWidth.{IntWidth}
+use Rattle.ir_laws.specs.ir_model.declared.ir_type.IntWidth.TheVariants.{I1, I8, I16, I32, I64}
+use Rattle.ir_laws.specs.ir_model.Ty.{Ty, int, ptr, token, array, structure, named}
+use Rattle.ir_laws.specs.ir_model.declared.instr.Case.{Case}
+use Rattle.ir_laws.specs.ir_model.declared.instr.Instr.{Instr}
+use Rattle.ir_laws.specs.ir_model.declared.instr.Phi.{Phi}
+use Rattle.ir_laws.specs.ir_model.declared.instr.Terminator.{Terminator}
+use Rattle.ir_laws.specs.ir_model.declared.module.Block.{Block}
+use Rattle.ir_laws.specs.ir_model.declared.module.Function.{Function}
+use Rattle.ir_laws.specs.ir_model.declared.module.Module.{Module}
+use Rattle.ir_laws.specs.ir_model.declared.module.Param.{Param}
+use Rattle.ir_laws.specs.ir_model.declared.operand.Arg.{Arg}
 use Rattle.text_canonical.proofs.order.Shaped.{text_is_shaped}
-use Rattle.run_laws.specs.changed.Changed.{Each}
+use Rattle.ir_laws.specs.run_laws.changed.Changed.{Each}
 use Rattle.rule_laws.proofs.texts.widths.Written.{some_blocks}
 use Rattle.text_canonical.specs.order.Shape as shape
 

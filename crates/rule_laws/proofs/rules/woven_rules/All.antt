@@ -2,10 +2,10 @@
 use Rattle.std.proofs.Common.{ℕ, ◌<◌}
 use Rattle.rule_laws.proofs.rules.local_rules.Names.{numbers}
 use Rattle.rule_laws.specs.rules.local_rules.Local.{BreaksNoLocalRuleIn}
-use Rattle.flow_solver.specs.Paths.{IsListed}
+use Rattle.ir_laws.specs.flow_solver.Paths.{IsListed}
 use Rattle.rule_laws.specs.rules.function_rules.Kept.{KeepsFunctionRules}
-use Rattle.ir_model.specs.declared.module.Function.{Function}
-use Rattle.ir_model.specs.declared.module.Module.{Module}
+use Rattle.ir_laws.specs.ir_model.declared.module.Function.{Function}
+use Rattle.ir_laws.specs.ir_model.declared.module.Module.{Module}
 use Rattle.rule_laws.proofs.rules.woven_rules.Edges.{edges_woven, same_edges, same_position}
 use Rattle.rule_laws.proofs.rules.woven_rules.Instructions.{allocas_woven, closed_woven, extents_woven, misplaced_woven, pointers_woven, transfers_woven}
 use Rattle.rule_laws.proofs.rules.woven_rules.Laid.{AreLaidBlocks, laid}

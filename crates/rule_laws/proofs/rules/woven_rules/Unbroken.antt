@@ -1,14 +1,14 @@
 -- Rules that no part of a function breaks, by its blocks.
 use Rattle.std.proofs.Common.{◌≡◌, ℕ, ◌+◌, Bool, false, List, [], ◌∷◌, ◌++◌, length}
 use Rattle.std.specs.Prelude.{None}
-use Rattle.ir_base.specs.declared.outcome.Place.{Place}
+use Rattle.ir_laws.specs.ir_base.declared.outcome.Place.{Place}
 use Rattle.rule_laws.proofs.rules.local_rules.Carried.{Passing, passing}
 use Rattle.ir_laws.proofs.facts.Members.{each_left, each_right}
 use Rattle.ir_parts.specs.Parts.{Ending, OfInstr, Part, block_parts, blocks_parts, first_part, instr_parts, instr_place, parts_of, phi_parts}
-use Rattle.ir_model.specs.declared.instr.Instr.{Instr}
-use Rattle.ir_model.specs.declared.module.Block.{Block}
-use Rattle.ir_model.specs.declared.module.Function.{Function}
-use Rattle.run_laws.specs.changed.Changed.{Each}
+use Rattle.ir_laws.specs.ir_model.declared.instr.Instr.{Instr}
+use Rattle.ir_laws.specs.ir_model.declared.module.Block.{Block}
+use Rattle.ir_laws.specs.ir_model.declared.module.Function.{Function}
+use Rattle.ir_laws.specs.run_laws.changed.Changed.{Each}
 
 -- the part breaks no rule at some place
 abbrev pub Passes : (Place → Part → Bool) → Part → Type 0

@@ -10,20 +10,20 @@ use Rattle.ir_laws.proofs.facts.local_rules.Woven.{other_number}
 use Rattle.rule_laws.proofs.rules.source_rules.Locals.{block_names, made_by}
 use Rattle.ir_laws.proofs.paths.source_rules.Locals.{listed_either, listed_left, listed_right}
 use Rattle.ir_laws.proofs.facts.Lists.{phi_names, row_of}
-use Rattle.flow_solver.specs.Paths.{IsListed}
+use Rattle.ir_laws.specs.flow_solver.Paths.{IsListed}
 use Rattle.ir_parts.specs.Contents.{result_of}
-use Rattle.ir_model.specs.Layout.{size_of}
-use Rattle.ir_model.specs.Names.{position_of}
-use Rattle.ir_model.specs.Ty.{Ty}
-use Rattle.ir_model.specs.declared.instr.Instr.{Instr}
-use Rattle.ir_model.specs.declared.instr.Phi.{Phi}
-use Rattle.ir_model.specs.declared.module.Block.{Block}
-use Rattle.ir_model.specs.declared.module.Function.{Function}
-use Rattle.ir_model.specs.declared.module.Module.{Module}
-use Rattle.ir_model.specs.declared.operand.Callee.{Callee}
-use Rattle.ir_model.specs.declared.operand.Operand.{Operand}
+use Rattle.ir_laws.specs.ir_model.Layout.{size_of}
+use Rattle.ir_laws.specs.ir_model.Names.{position_of}
+use Rattle.ir_laws.specs.ir_model.Ty.{Ty}
+use Rattle.ir_laws.specs.ir_model.declared.instr.Instr.{Instr}
+use Rattle.ir_laws.specs.ir_model.declared.instr.Phi.{Phi}
+use Rattle.ir_laws.specs.ir_model.declared.module.Block.{Block}
+use Rattle.ir_laws.specs.ir_model.declared.module.Function.{Function}
+use Rattle.ir_laws.specs.ir_model.declared.module.Module.{Module}
+use Rattle.ir_laws.specs.ir_model.declared.operand.Callee.{Callee}
+use Rattle.ir_laws.specs.ir_model.declared.operand.Operand.{Operand}
 use Rattle.rule_locals.specs.Markers.{block_size, made_size, slot_size}
-use Rattle.ir_locals.specs.Tables.{first_in, or_first}
+use Rattle.ir_laws.specs.ir_locals.Tables.{first_in, or_first}
 use Rattle.rule_values.specs.Kinds.{block_kind, call_kind, instr_kind, kind_if, kind_of, param_kind, phi_kind, result_kind, value_kind}
 use Rattle.rule_values.specs.declared.kinds.Kind.{Kind}
 use Rattle.rule_laws.specs.rules.woven_rules.Blocks.{AreWoven, AreWovenBlocks, Done, Gone, IsPutIn, IsWoven, IsWovenBlock, Kept, MayGo, NoBlock, OneBlock, Put, Remain, Stays, Unpromised}

@@ -2,26 +2,26 @@
 use Rattle.std.proofs.Common.{◌≡◌, ℕ, ◌<◌, Bool, true, false, List, [], ◌∷◌, refl, sym, ap, ◌∙◌, subst}
 use Rattle.std.specs.List.{list_all}
 use Rattle.std.specs.Prelude.{None, Option, not, ◌&&◌, ◌||◌}
-use Rattle.ir_base.specs.declared.outcome.Place.{Place}
+use Rattle.ir_laws.specs.ir_base.declared.outcome.Place.{Place}
 use Rattle.rule_laws.proofs.rules.local_rules.Fitting.{either, no_either}
 use Rattle.rule_laws.proofs.rules.local_rules.Names.{numbers}
 use Rattle.ir_laws.proofs.facts.Truth.{and_both, and_first, and_second, holds, first_no, second_no}
 use Rattle.ir_laws.proofs.facts.Members.{each_right, each_passes}
-use Rattle.flow_solver.specs.Paths.{IsListed}
+use Rattle.ir_laws.specs.flow_solver.Paths.{IsListed}
 use Rattle.ir_parts.specs.Contents.{arg_operands, callee_operands, part_operands}
 use Rattle.ir_parts.specs.Parts.{Ending, OfInstr, OfPhi, Part, Signature, first_part, parts_of}
-use Rattle.ir_model.specs.Ty.{Ty}
-use Rattle.ir_model.specs.declared.instr.Instr.{Instr}
-use Rattle.ir_model.specs.declared.module.Function.{Function}
-use Rattle.ir_model.specs.declared.module.Module.{Module}
-use Rattle.ir_model.specs.declared.operand.Arg.{Arg}
-use Rattle.ir_model.specs.declared.operand.Callee.{Callee}
-use Rattle.ir_model.specs.declared.operand.Intrinsic.{Intrinsic}
-use Rattle.ir_model.specs.declared.operand.Operand.{Operand}
+use Rattle.ir_laws.specs.ir_model.Ty.{Ty}
+use Rattle.ir_laws.specs.ir_model.declared.instr.Instr.{Instr}
+use Rattle.ir_laws.specs.ir_model.declared.module.Function.{Function}
+use Rattle.ir_laws.specs.ir_model.declared.module.Module.{Module}
+use Rattle.ir_laws.specs.ir_model.declared.operand.Arg.{Arg}
+use Rattle.ir_laws.specs.ir_model.declared.operand.Callee.{Callee}
+use Rattle.ir_laws.specs.ir_model.declared.operand.Intrinsic.{Intrinsic}
+use Rattle.ir_laws.specs.ir_model.declared.operand.Operand.{Operand}
 use Rattle.rule_locals.specs.Instrs.{on_instr}
 use Rattle.rule_locals.specs.Markers.{first_other_mark, is_marker, marks, marks_otherwise, marks_size, marks_slot, slot_size}
 use Rattle.rule_names.specs.Known.{first_unknown, is_label, is_value, knows_operand, names_unknown}
-use Rattle.run_laws.specs.changed.Changed.{Each}
+use Rattle.ir_laws.specs.run_laws.changed.Changed.{Each}
 use Rattle.rule_types.specs.Signatures.{are_wanted, calls_otherwise, first_otherwise, is_result}
 use Rattle.rule_types.specs.Wants.{intrinsic_params, intrinsic_result, is_int, is_ptr, meets, want}
 use Rattle.rule_types.specs.declared.wants.Basic.{Basic}

@@ -2,20 +2,20 @@
 use Rattle.std.proofs.Common.{◌≡◌, ℕ, suc, ◌+◌, Bool, true, false, List, [], ◌∷◌, ◌++◌, length, refl, sym, ap, ◌∙◌, arith, length-append}
 use Rattle.std.specs.List.{list_any}
 use Rattle.std.specs.Prelude.{Some, None, Option, is_none, map, option_and_then, option_map, slice_get, unwrap_or, if◌then◌else◌, ◌||◌}
-use Rattle.ir_base.specs.declared.outcome.Place.{Place}
-use Rattle.ir_calls.specs.Calls.{first_call, first_call_by, first_call_in, or_instr, value_of_first}
+use Rattle.ir_laws.specs.ir_base.declared.outcome.Place.{Place}
+use Rattle.ir_laws.specs.ir_calls.Calls.{first_call, first_call_by, first_call_in, or_instr, value_of_first}
 use Rattle.rule_shape.specs.OneOfEach.{is_missing}
 use Rattle.rule_shape.specs.Places.{place_of_passing, places_by, places_in, places_where}
 use Rattle.rule_shape.specs.Switches.{end_label}
 use Rattle.ir_parts.specs.Parts.{instr_place}
-use Rattle.ir_model.specs.Calls.{first_result, first_result_by, first_result_in, or_else, result_of_call}
-use Rattle.ir_model.specs.Names.{first_where, same_intrinsic}
-use Rattle.ir_model.specs.declared.instr.Instr.{Instr}
-use Rattle.ir_model.specs.declared.module.Block.{Block}
-use Rattle.ir_model.specs.declared.module.Function.{Function}
-use Rattle.ir_model.specs.declared.operand.Callee.{Callee}
-use Rattle.ir_model.specs.declared.operand.Intrinsic.{Intrinsic}
-use Rattle.ir_paths.specs.Windows.{call_result, is_call_of}
+use Rattle.ir_laws.specs.ir_model.Calls.{first_result, first_result_by, first_result_in, or_else, result_of_call}
+use Rattle.ir_laws.specs.ir_model.Names.{first_where, same_intrinsic}
+use Rattle.ir_laws.specs.ir_model.declared.instr.Instr.{Instr}
+use Rattle.ir_laws.specs.ir_model.declared.module.Block.{Block}
+use Rattle.ir_laws.specs.ir_model.declared.module.Function.{Function}
+use Rattle.ir_laws.specs.ir_model.declared.operand.Callee.{Callee}
+use Rattle.ir_laws.specs.ir_model.declared.operand.Intrinsic.{Intrinsic}
+use Rattle.ir_laws.specs.ir_paths.Windows.{call_result, is_call_of}
 use Rattle.ir_laws.specs.facts.woven_rules.Pairs.{one_if}
 use Rattle.rule_laws.specs.rules.woven_shape.Calls.{ShapingCall, call_at, calls_in, calls_of_block, is_shaping, joined, shaping_call, shaping_calls}
 

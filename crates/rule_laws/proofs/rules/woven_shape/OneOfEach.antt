@@ -3,8 +3,8 @@ use Rattle.std.proofs.Common.{◌≡◌, ℕ, ◌+◌, ◌≤◌, Bool, true, fa
 use Rattle.std.proofs.lemmas.Bool.{or_parts}
 use Rattle.std.proofs.lemmas.Option.{slice_get_past}
 use Rattle.std.specs.Prelude.{Some, None, Option, is_none, not, option_and_then, slice_get, if◌then◌else◌, ◌&&◌, ◌||◌}
-use Rattle.ir_base.specs.declared.outcome.Place.{Place}
-use Rattle.ir_calls.specs.Calls.{is_null, is_value}
+use Rattle.ir_laws.specs.ir_base.declared.outcome.Place.{Place}
+use Rattle.ir_laws.specs.ir_calls.Calls.{is_null, is_value}
 use Rattle.rule_shape.specs.OneOfEach.{breaks_calls, calls_of, is_missing, is_right, is_right_instr, is_second, second_call, wrong_call}
 use Rattle.rule_shape.specs.Places.{is_spot, places_where}
 use Rattle.rule_shape.specs.declared.one_of_each.Calls.{Calls}
@@ -12,17 +12,17 @@ use Rattle.rule_laws.proofs.rules.renamed.Switches.{none_part}
 use Rattle.rule_laws.proofs.rules.path_rules.Holding.{HoldsOf, of_parts, part_none, to_parts}
 use Rattle.rule_laws.proofs.rules.source_rules.Once.{no_second_begin, no_second_end, no_second_id}
 use Rattle.ir_parts.specs.Parts.{first_part, instr_place, parts_of}
-use Rattle.ir_model.specs.Names.{same_intrinsic}
-use Rattle.ir_model.specs.declared.instr.Instr.{Instr}
-use Rattle.ir_model.specs.declared.module.Block.{Block}
-use Rattle.ir_model.specs.declared.module.Function.{Function}
-use Rattle.ir_model.specs.declared.operand.Arg.{Arg}
-use Rattle.ir_model.specs.declared.operand.Callee.{Callee}
-use Rattle.ir_model.specs.declared.operand.Intrinsic.{Intrinsic}
-use Rattle.ir_model.specs.declared.operand.Operand.{Operand}
-use Rattle.ir_paths.specs.Windows.{is_call_of}
+use Rattle.ir_laws.specs.ir_model.Names.{same_intrinsic}
+use Rattle.ir_laws.specs.ir_model.declared.instr.Instr.{Instr}
+use Rattle.ir_laws.specs.ir_model.declared.module.Block.{Block}
+use Rattle.ir_laws.specs.ir_model.declared.module.Function.{Function}
+use Rattle.ir_laws.specs.ir_model.declared.operand.Arg.{Arg}
+use Rattle.ir_laws.specs.ir_model.declared.operand.Callee.{Callee}
+use Rattle.ir_laws.specs.ir_model.declared.operand.Intrinsic.{Intrinsic}
+use Rattle.ir_laws.specs.ir_model.declared.operand.Operand.{Operand}
+use Rattle.ir_laws.specs.ir_paths.Windows.{is_call_of}
 use Rattle.ir_laws.proofs.facts.Lists.{none_past}
-use Rattle.run_laws.specs.changed.Changed.{Each}
+use Rattle.ir_laws.specs.run_laws.changed.Changed.{Each}
 use Rattle.rule_laws.proofs.rules.woven_shape.Found.{count_of, counted, found, missing_found, not_begin, not_end, not_id, value_found}
 use Rattle.rule_laws.proofs.rules.woven_shape.Gathered.{gathered, of_rows, spread, to_row}
 use Rattle.rule_laws.specs.rules.woven_shape.Calls.{ShapingCall, call_at, first_named, is_shaping, leads_block, second_named, shaping_call, shaping_calls}

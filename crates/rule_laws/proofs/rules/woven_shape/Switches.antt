@@ -6,16 +6,16 @@ use Rattle.rule_shape.specs.Switches.{are_both, breaks_switch, end_label, is_las
 use Rattle.rule_shape.specs.Uses.{uses_of}
 use Rattle.rule_laws.proofs.rules.renamed.Switches.{none_part}
 use Rattle.rule_laws.proofs.rules.path_rules.Holding.{HoldsOf, of_parts, part_none, to_parts}
-use Rattle.flow_solver.specs.Paths.{IsListed}
+use Rattle.ir_laws.specs.flow_solver.Paths.{IsListed}
 use Rattle.ir_parts.specs.Parts.{OfInstr, first_part, instr_place, parts_of}
-use Rattle.ir_model.specs.Names.{is_local, same_intrinsic}
-use Rattle.ir_model.specs.declared.instr.Instr.{Instr}
-use Rattle.ir_model.specs.declared.instr.Terminator.{Terminator}
-use Rattle.ir_model.specs.declared.module.Block.{Block}
-use Rattle.ir_model.specs.declared.module.Function.{Function}
-use Rattle.ir_model.specs.declared.operand.Callee.{Callee}
-use Rattle.ir_model.specs.declared.operand.Intrinsic.{Intrinsic}
-use Rattle.run_laws.specs.changed.Changed.{Each}
+use Rattle.ir_laws.specs.ir_model.Names.{is_local, same_intrinsic}
+use Rattle.ir_laws.specs.ir_model.declared.instr.Instr.{Instr}
+use Rattle.ir_laws.specs.ir_model.declared.instr.Terminator.{Terminator}
+use Rattle.ir_laws.specs.ir_model.declared.module.Block.{Block}
+use Rattle.ir_laws.specs.ir_model.declared.module.Function.{Function}
+use Rattle.ir_laws.specs.ir_model.declared.operand.Callee.{Callee}
+use Rattle.ir_laws.specs.ir_model.declared.operand.Intrinsic.{Intrinsic}
+use Rattle.ir_laws.specs.run_laws.changed.Changed.{Each}
 use Rattle.rule_laws.proofs.rules.woven_shape.Found.{end_found, label_of_first, not_suspend}
 use Rattle.rule_laws.proofs.rules.woven_shape.Gathered.{gathered, of_rows, spread, to_row}
 use Rattle.ir_laws.proofs.facts.Truth.{holds as not_true}

@@ -1,9 +1,9 @@
 -- Types that the passes write can be written, and lists of types of which each can.
 use Rattle.std.proofs.Common.{refl}
-use Rattle.ir_model.specs.Ty.{int, ptr, token}
-use Rattle.ir_model.specs.TypeView.{bits_of}
-use Rattle.ir_model.specs.declared.ir_type.IntWidth.{IntWidth}
-use Rattle.ir_model.specs.declared.ir_type.IntWidth.TheVariants.{I1, I8, I16, I32, I64}
+use Rattle.ir_laws.specs.ir_model.Ty.{int, ptr, token}
+use Rattle.ir_laws.specs.ir_model.TypeView.{bits_of}
+use Rattle.ir_laws.specs.ir_model.declared.ir_type.IntWidth.{IntWidth}
+use Rattle.ir_laws.specs.ir_model.declared.ir_type.IntWidth.TheVariants.{I1, I8, I16, I32, I64}
 use Rattle.rule_laws.specs.texts.spelled.Spelled.{IsSpelled}
 
 pub width_spelled : (w : IntWidth) → IsSpelled (int (bits_of w))

@@ -1,7 +1,7 @@
 -- Phrases of the grammar leave behind them nothing but symbols that stood there: what holds of each before holds of each that is left.
 use Rattle.std.proofs.Common.{inl, inr, List, [], ◌∷◌, ◌++◌, subst}
 use Rattle.std.specs.Prelude.{Bool, true, false}
-use Rattle.ir_base.specs.declared.name.Name.{Name}
+use Rattle.ir_laws.specs.ir_base.declared.name.Name.{Name}
 use Rattle.text_grammar.specs.Attributes.{Attr, Balanced, IsAttr, any, any_integer, attributes, curly_text, empty, in_group, metadata, nested, other, pairs, plain_attr, presplit, round_text}
 use Rattle.text_grammar.specs.Phrases.{Locals, Naming, Phrase, ◌⨾◌, ◌∥◌, behind_comma, comma, commas, each, flag, listed, mark, never, nothing, perhaps, plain, some, these, word}
 use Rattle.text_symbols.specs.declared.sym.Mark.{Mark}

@@ -1,10 +1,10 @@
 -- The phrases of types, values, instructions, blocks and items keep what holds of each symbol, and of each name of a function.
 use Rattle.std.proofs.Common.{◌≡◌, ℕ, ◌<◌, ℤ, pos, ◌-ℤ◌, ◌⊎◌, inl, inr, List, [], ◌∷◌, ◌++◌, sym, subst}
 use Rattle.std.specs.Prelude.{Bool, true, false, Option, Some, None, ◌^◌}
-use Rattle.ir_base.specs.declared.name.Name.{Name}
-use Rattle.ir_base.specs.declared.ops.BinOp.{BinOp}
-use Rattle.ir_base.specs.declared.ops.CastOp.{CastOp}
-use Rattle.ir_base.specs.declared.ops.Flags.{Flags}
+use Rattle.ir_laws.specs.ir_base.declared.name.Name.{Name}
+use Rattle.ir_laws.specs.ir_base.declared.ops.BinOp.{BinOp}
+use Rattle.ir_laws.specs.ir_base.declared.ops.CastOp.{CastOp}
+use Rattle.ir_laws.specs.ir_base.declared.ops.Flags.{Flags}
 use Rattle.text_grammar.specs.Attributes.{Attr, IsAttr}
 use Rattle.text_grammar.specs.Blocks.{AreBlocks, IsBlock, IsBody, IsCase, IsIncoming, IsLine, IsPhi, IsPhiLine, IsTerminator, label, unwritten_label}
 use Rattle.text_grammar.specs.Functions.{AreNamed, AreParams, IsDeclaration, IsFunction, IsHead, IsParam, IsParamName, IsWrittenName, Written, counted}
@@ -13,31 +13,31 @@ use Rattle.text_grammar.specs.Items.{IsAttributes, IsItem, IsKeyword, Item, attr
 use Rattle.text_grammar.specs.Phrases.{Phrase, ◌⨾◌, commas, each, mark, plain, these}
 use Rattle.text_grammar.specs.Types.{AreFields, IsInt, IsResult, IsScalar, IsType}
 use Rattle.text_grammar.specs.Values.{IsAddress, IsAligned, IsArg, IsInitial, IsPlace, IsTarget, IsTyped, IsValue, global, integer, local}
-use Rattle.ir_model.specs.Table.{callee_named}
-use Rattle.ir_model.specs.Ty.{Ty, Tys, int, ptr, token, array, structure, named, none, field}
-use Rattle.ir_model.specs.declared.instr.Case.{Case}
-use Rattle.ir_model.specs.declared.instr.Incoming.{Incoming}
-use Rattle.ir_model.specs.declared.instr.Instr.{Instr}
-use Rattle.ir_model.specs.declared.instr.Phi.{Phi}
-use Rattle.ir_model.specs.declared.instr.Terminator.{Terminator}
-use Rattle.ir_model.specs.declared.module.Block.{Block}
-use Rattle.ir_model.specs.declared.module.Declaration.{Declaration}
-use Rattle.ir_model.specs.declared.module.Function.{Function}
-use Rattle.ir_model.specs.declared.module.TypeItem.{TypeItem}
-use Rattle.ir_model.specs.declared.operand.Arg.{Arg}
-use Rattle.ir_model.specs.declared.operand.Callee.{Callee}
-use Rattle.ir_model.specs.declared.operand.Operand.{Operand}
-use Rattle.ir_model.specs.declared.module.Param.{Param}
+use Rattle.ir_laws.specs.ir_model.Table.{callee_named}
+use Rattle.ir_laws.specs.ir_model.Ty.{Ty, Tys, int, ptr, token, array, structure, named, none, field}
+use Rattle.ir_laws.specs.ir_model.declared.instr.Case.{Case}
+use Rattle.ir_laws.specs.ir_model.declared.instr.Incoming.{Incoming}
+use Rattle.ir_laws.specs.ir_model.declared.instr.Instr.{Instr}
+use Rattle.ir_laws.specs.ir_model.declared.instr.Phi.{Phi}
+use Rattle.ir_laws.specs.ir_model.declared.instr.Terminator.{Terminator}
+use Rattle.ir_laws.specs.ir_model.declared.module.Block.{Block}
+use Rattle.ir_laws.specs.ir_model.declared.module.Declaration.{Declaration}
+use Rattle.ir_laws.specs.ir_model.declared.module.Function.{Function}
+use Rattle.ir_laws.specs.ir_model.declared.module.TypeItem.{TypeItem}
+use Rattle.ir_laws.specs.ir_model.declared.operand.Arg.{Arg}
+use Rattle.ir_laws.specs.ir_model.declared.operand.Callee.{Callee}
+use Rattle.ir_laws.specs.ir_model.declared.operand.Operand.{Operand}
+use Rattle.ir_laws.specs.ir_model.declared.module.Param.{Param}
 use Rattle.text_symbols.specs.declared.sym.Sym.{Sym}
 use Rattle.text_canonical.specs.order.Shape.{Each}
 use Rattle.rule_laws.proofs.texts.widths.Kept.{Keeps, KeepsIn, in_behind_comma, in_comma, in_each, in_listed, in_never, in_nothing, in_or, in_plain, in_seq, in_some, kept_attr, kept_attributes, kept_commas, kept_curly, kept_each, kept_flag, kept_mark, kept_metadata, kept_never, kept_nothing, kept_or, kept_pairs, kept_perhaps, kept_round, kept_seq, kept_these, kept_word}
-use Rattle.ir_base.specs.declared.ops.BinOp.TheVariants as ops
-use Rattle.ir_base.specs.declared.ops.CastOp.TheVariants as casts
-use Rattle.ir_model.specs.declared.instr.Instr.TheVariants as instrs
-use Rattle.ir_model.specs.declared.instr.Terminator.TheVariants as terms
-use Rattle.ir_model.specs.declared.operand.Callee.TheVariants as callees
-use Rattle.ir_model.specs.declared.operand.Operand.TheVariants as operands
-use Rattle.ir_model.specs.declared.ir_type.IntWidth.TheVariants as widths
+use Rattle.ir_laws.specs.ir_base.declared.ops.BinOp.TheVariants as ops
+use Rattle.ir_laws.specs.ir_base.declared.ops.CastOp.TheVariants as casts
+use Rattle.ir_laws.specs.ir_model.declared.instr.Instr.TheVariants as instrs
+use Rattle.ir_laws.specs.ir_model.declared.instr.Terminator.TheVariants as terms
+use Rattle.ir_laws.specs.ir_model.declared.operand.Callee.TheVariants as callees
+use Rattle.ir_laws.specs.ir_model.declared.operand.Operand.TheVariants as operands
+use Rattle.ir_laws.specs.ir_model.declared.ir_type.IntWidth.TheVariants as widths
 use Rattle.text_symbols.specs.declared.sym.Mark.TheVariants as marks
 use Rattle.text_symbols.specs.declared.sym.Sym.TheVariants as syms
 use Rattle.text_symbols.specs.declared.word.Word.TheVariants as words

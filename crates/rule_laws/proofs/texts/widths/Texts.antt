@@ -1,15 +1,15 @@
 -- The names of functions of a text are names that symbols of the text have.
 use Rattle.std.proofs.Common.{◌≡◌, ℕ, ◌<◌, zero, suc, Bool, true, false, List, [], ◌∷◌, refl, sym, ap, subst, ◌∙◌, ltb-true, arith}
 use Rattle.std.specs.Prelude.{Option, Some, None, map, slice_get, nat_lt, if◌then◌else◌, ◌^◌, ◌==◌, ◌||◌}
-use Rattle.ir_base.specs.declared.name.Name.{Name}
+use Rattle.ir_laws.specs.ir_base.declared.name.Name.{Name}
 use Rattle.text_grammar.specs.Items.{IsItem, Item, declaration, function, functions_of, global_item, group, groups_of, other, type_item, types_of}
 use Rattle.text_grammar.specs.Phrases.{each}
 use Rattle.text_grammar.specs.Text.{StandsFor}
 use Rattle.text_lexer.specs.Tokens.{tokens}
 use Rattle.text_lexer.specs.declared.token.Kind.{Kind}
-use Rattle.ir_model.specs.declared.module.Function.{Function}
-use Rattle.ir_model.specs.declared.module.Module.{Module}
-use Rattle.ir_model.specs.declared.module.TypeItem.{TypeItem}
+use Rattle.ir_laws.specs.ir_model.declared.module.Function.{Function}
+use Rattle.ir_laws.specs.ir_model.declared.module.Module.{Module}
+use Rattle.ir_laws.specs.ir_model.declared.module.TypeItem.{TypeItem}
 use Rattle.text_symbols.specs.Listing.{symbols_of}
 use Rattle.text_symbols.specs.Numbers.{are_digits, fitting, value_of}
 use Rattle.text_symbols.specs.Sym.{behind_first, negative, positive, sym_of}

@@ -1,8 +1,8 @@
 -- Lemmas on asked, that speak of no pass.
 use Rattle.std.specs.Prelude.{◌≡◌}
 use Rattle.pass_intrinsics.specs.declared.shape.SuspendPoint.{SuspendPoint}
-use Rattle.ir_model.specs.Names.{position_of}
-use Rattle.ir_model.specs.declared.module.Function.{Function}
+use Rattle.ir_laws.specs.ir_model.Names.{position_of}
+use Rattle.ir_laws.specs.ir_model.declared.module.Function.{Function}
 
 -- neither a suspend's resume edge nor its destroy edge leads to the entry block
 pub record IsAwayFromEntry (f : Function) (s : SuspendPoint) : Type 0 where

@@ -1,14 +1,14 @@
 -- Functions in which nothing crosses a suspend.
 use Rattle.std.specs.Prelude.{◌≡◌, ℕ, true, [], length, slice_get, Some, ◌+◌, ◌∷◌}
 use Rattle.flow_blocks.specs.Reach.{IsReached}
-use Rattle.flow_solver.specs.Paths.{IsListed}
+use Rattle.ir_laws.specs.flow_solver.Paths.{IsListed}
 use Rattle.ir_parts.specs.Contents.{result_of}
-use Rattle.ir_model.specs.Names.{position_of}
-use Rattle.ir_model.specs.declared.instr.Instr.{Instr}
-use Rattle.ir_model.specs.declared.module.Block.{Block}
-use Rattle.ir_model.specs.declared.module.Function.{Function}
-use Rattle.ir_paths.specs.Windows.{destroy_label, instr_at, resume_label}
-use Rattle.ir_paths.specs.declared.point.Point.{Point}
+use Rattle.ir_laws.specs.ir_model.Names.{position_of}
+use Rattle.ir_laws.specs.ir_model.declared.instr.Instr.{Instr}
+use Rattle.ir_laws.specs.ir_model.declared.module.Block.{Block}
+use Rattle.ir_laws.specs.ir_model.declared.module.Function.{Function}
+use Rattle.ir_laws.specs.ir_paths.Windows.{destroy_label, instr_at, resume_label}
+use Rattle.ir_laws.specs.ir_paths.declared.point.Point.{Point}
 use Rattle.frame_crossing.specs.Crossing.{suspends_of}
 use Rattle.frame_crossing.specs.Paths.{IsNeededBehind, phis_at}
 use Rattle.frame_crossing.specs.Values.{values_of}

@@ -2,9 +2,9 @@
 use Rattle.std.specs.Prelude.{ℕ, Some, Option, ◌==◌, if◌then◌else◌}
 use Rattle.pass_intrinsics.specs.Shapes.{index_name}
 use Rattle.pass_intrinsics.specs.declared.shape.Shape.{Shape}
-use Rattle.ir_model.specs.TypeView.{bits_of}
-use Rattle.ir_model.specs.declared.module.Function.{Function}
-use Rattle.ir_locals.specs.Tables.{or_first}
+use Rattle.ir_laws.specs.ir_model.TypeView.{bits_of}
+use Rattle.ir_laws.specs.ir_model.declared.module.Function.{Function}
+use Rattle.ir_laws.specs.ir_locals.Tables.{or_first}
 use Rattle.rule_values.specs.Kinds.{value_kind}
 use Rattle.rule_values.specs.declared.kinds.Kind.{Kind}
 

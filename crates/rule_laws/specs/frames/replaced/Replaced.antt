@@ -1,19 +1,19 @@
 -- What stands in the place of a call of a coro intrinsic.
 use Rattle.std.specs.Prelude.{◌≡◌, ◌⊎◌, ℕ, Bool, true, List, length, ℤ, pos, negsuc, Some, Option, ◌+◌, ◌<◌}
-use Rattle.ir_base.specs.declared.ops.BinOp.{BinOp}
-use Rattle.ir_base.specs.declared.ops.Pred.{Pred}
-use Rattle.flow_solver.specs.Paths.{IsListed}
+use Rattle.ir_laws.specs.ir_base.declared.ops.BinOp.{BinOp}
+use Rattle.ir_laws.specs.ir_base.declared.ops.Pred.{Pred}
+use Rattle.ir_laws.specs.flow_solver.Paths.{IsListed}
 use Rattle.pass_intrinsics.specs.Lowered.{address, call_pointer, load_pointer, no_flags, number_arg, store_pointer, truth_of}
 use Rattle.pass_intrinsics.specs.Shapes.{given_name, index_bytes}
 use Rattle.pass_intrinsics.specs.declared.shape.Part.{Part}
 use Rattle.pass_intrinsics.specs.declared.shape.Shape.{Shape}
-use Rattle.ir_model.specs.Ty.{Ty, int, ptr}
-use Rattle.ir_model.specs.TypeView.{bits_of}
-use Rattle.ir_model.specs.declared.instr.Instr.{Instr}
-use Rattle.ir_model.specs.declared.operand.Arg.{Arg}
-use Rattle.ir_model.specs.declared.operand.Callee.{Callee}
-use Rattle.ir_model.specs.declared.operand.Intrinsic.{Intrinsic}
-use Rattle.ir_model.specs.declared.operand.Operand.{Operand}
+use Rattle.ir_laws.specs.ir_model.Ty.{Ty, int, ptr}
+use Rattle.ir_laws.specs.ir_model.TypeView.{bits_of}
+use Rattle.ir_laws.specs.ir_model.declared.instr.Instr.{Instr}
+use Rattle.ir_laws.specs.ir_model.declared.operand.Arg.{Arg}
+use Rattle.ir_laws.specs.ir_model.declared.operand.Callee.{Callee}
+use Rattle.ir_laws.specs.ir_model.declared.operand.Intrinsic.{Intrinsic}
+use Rattle.ir_laws.specs.ir_model.declared.operand.Operand.{Operand}
 use Rattle.rule_locals.specs.Intrinsics.{is_inner}
 use Rattle.rule_values.specs.Kinds.{result_kind}
 use Rattle.rule_values.specs.declared.kinds.Kind.{Kind}

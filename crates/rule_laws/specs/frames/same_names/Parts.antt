@@ -1,11 +1,11 @@
 -- Modules whose coroutines are split into parts, by the names and types of their functions.
 use Rattle.std.specs.Prelude.{ℕ, true, false, List, [], map, codes, slice_get, Some, None, Option, is_some, ◌≡◌, ◌||◌, ◌∷◌}
-use Rattle.ir_base.specs.declared.name.Name.{Name}
+use Rattle.ir_laws.specs.ir_base.declared.name.Name.{Name}
 use Rattle.pass_intrinsics.specs.Shapes.{part_name}
-use Rattle.ir_model.specs.Names.{declaration_named, function_named, global_named}
-use Rattle.ir_model.specs.Ty.{Ty, ptr}
-use Rattle.ir_model.specs.declared.module.Function.{Function}
-use Rattle.ir_model.specs.declared.module.Module.{Module}
+use Rattle.ir_laws.specs.ir_model.Names.{declaration_named, function_named, global_named}
+use Rattle.ir_laws.specs.ir_model.Ty.{Ty, ptr}
+use Rattle.ir_laws.specs.ir_model.declared.module.Function.{Function}
+use Rattle.ir_laws.specs.ir_model.declared.module.Module.{Module}
 use Rattle.rule_names.specs.Reserved.{is_reserved}
 
 -- the function of this name has this result and parameters of these types

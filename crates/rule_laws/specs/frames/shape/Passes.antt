@@ -1,8 +1,8 @@
 -- What the passes that build a coroutine's frame ask, and what they leave.
 use Rattle.std.specs.Prelude.{◌≡◌, ℕ, true}
 use Rattle.rule_laws.specs.rules.function_rules.Kept.{KeepsFunctionRules}
-use Rattle.ir_model.specs.declared.module.Function.{Function}
-use Rattle.ir_model.specs.declared.module.Module.{Module}
+use Rattle.ir_laws.specs.ir_model.declared.module.Function.{Function}
+use Rattle.ir_laws.specs.ir_model.declared.module.Module.{Module}
 use Rattle.rule_laws.specs.rules.woven_rules.Pairs.{AreIncomingOnce}
 use Rattle.rule_laws.specs.frames.woven_shape.Shaped.{IsShaped}
 

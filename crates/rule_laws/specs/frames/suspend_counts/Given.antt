@@ -1,6 +1,6 @@
 -- The layouts by which coroutines are framed and split.
 use Rattle.std.specs.Prelude.{◌≡◌, ◌⊎◌, List}
-use Rattle.flow_solver.specs.Paths.{IsListed}
+use Rattle.ir_laws.specs.flow_solver.Paths.{IsListed}
 use Rattle.frame_layout.specs.Frames.{index_alone}
 use Rattle.frame_layout.specs.declared.layout.Layout.{Layout}
 

@@ -1,10 +1,10 @@
 -- Lemmas on widths, that speak of no pass.
 use Rattle.std.specs.Prelude.{ℕ, Bool, not, Option}
 use Rattle.std.specs.List.{list_all}
-use Rattle.ir_base.specs.declared.outcome.Place.{Place}
+use Rattle.ir_laws.specs.ir_base.declared.outcome.Place.{Place}
 use Rattle.ir_parts.specs.Contents.{part_types}
 use Rattle.ir_parts.specs.Parts.{Part, first_part, parts_of}
-use Rattle.ir_model.specs.declared.module.Function.{Function}
+use Rattle.ir_laws.specs.ir_model.declared.module.Function.{Function}
 use Rattle.ir_laws.specs.facts.counted.Widths.{has_width}
 
 abbrev pub is_of_other_width : Place → Part → Bool

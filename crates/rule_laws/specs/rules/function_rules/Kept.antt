@@ -5,8 +5,8 @@ use Rattle.rule_uses.specs.Uses.{uses_of}
 use Rattle.rule_laws.specs.rules.local_rules.Local.{BreaksNoLocalRuleIn}
 use Rattle.rule_laws.specs.rules.source_rules.Named.{HasTabledLocals}
 use Rattle.rule_phis.specs.Edges.{first_wrong_edge}
-use Rattle.ir_model.specs.declared.module.Function.{Function}
-use Rattle.ir_model.specs.declared.module.Module.{Module}
+use Rattle.ir_laws.specs.ir_model.declared.module.Function.{Function}
+use Rattle.ir_laws.specs.ir_model.declared.module.Module.{Module}
 use Rattle.rule_names.specs.Definitions.{first_twice}
 use Rattle.rule_names.specs.Known.{first_unknown}
 use Rattle.rule_names.specs.declared.stage.Stage.{Stage}

@@ -1,7 +1,7 @@
 -- The rules that speak of no paths, but for those on the number of things and on reserved names.
 use Rattle.std.specs.Prelude.{◌≡◌, ℕ, None, Some, slice_get}
-use Rattle.ir_model.specs.declared.module.Function.{Function}
-use Rattle.ir_model.specs.declared.module.Module.{Module}
+use Rattle.ir_laws.specs.ir_model.declared.module.Function.{Function}
+use Rattle.ir_laws.specs.ir_model.declared.module.Module.{Module}
 use Rattle.rule_locals.specs.Addresses.{first_function_pointer}
 use Rattle.rule_locals.specs.Calls.{first_closed_call}
 use Rattle.rule_locals.specs.Entries.{first_late_alloca}

@@ -1,9 +1,9 @@
 -- Names that begin with words.
 use Rattle.std.specs.Prelude.{◌≡◌, ◌∷◌, ◌<◌, ◌^◌, ℕ, Bool, true, false, List, [], Some, codes, length, slice_get}
 use Rattle.std.specs.List.{list_any}
-use Rattle.ir_base.specs.declared.name.Name.{Name}
-use Rattle.ir_model.specs.declared.module.Function.{Function}
-use Rattle.ir_model.specs.declared.module.Module.{Module}
+use Rattle.ir_laws.specs.ir_base.declared.name.Name.{Name}
+use Rattle.ir_laws.specs.ir_model.declared.module.Function.{Function}
+use Rattle.ir_laws.specs.ir_model.declared.module.Module.{Module}
 use Rattle.rule_names.specs.Reserved.{name_begins}
 use Rattle.ir_laws.specs.facts.names_apart.Apart.{AreApart}
 

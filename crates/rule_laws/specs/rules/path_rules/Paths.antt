@@ -2,7 +2,7 @@
 use Rattle.std.specs.Prelude.{ℕ, None}
 use Rattle.rule_uses.specs.Undefined.{IsFirstUndefined}
 use Rattle.rule_uses.specs.Uses.{uses_of}
-use Rattle.ir_model.specs.declared.module.Function.{Function}
+use Rattle.ir_laws.specs.ir_model.declared.module.Function.{Function}
 use Rattle.rule_slots.specs.Early.{IsFirstEarly}
 use Rattle.rule_slots.specs.Marked.{IsFirstMarked}
 use Rattle.rule_windows.specs.Outside.{IsFirstOutside}

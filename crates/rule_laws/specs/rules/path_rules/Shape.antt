@@ -5,7 +5,7 @@ use Rattle.rule_shape.specs.Promise.{wrong_promise}
 use Rattle.rule_shape.specs.Suspends.{second_final, suspend_too_many}
 use Rattle.rule_shape.specs.Switches.{wrong_switch}
 use Rattle.rule_phis.specs.Edges.{first_wrong_edge}
-use Rattle.ir_model.specs.declared.module.Function.{Function}
+use Rattle.ir_laws.specs.ir_model.declared.module.Function.{Function}
 
 -- F1, K2, K3, K4, K10 and K11 have no fault in the function
 pub record KeepsShape (func : ℕ) (f : Function) : Type 0 where

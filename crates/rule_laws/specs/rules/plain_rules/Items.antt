@@ -1,10 +1,10 @@
 -- Modules whose types, globals, declarations and names of functions break no rule.
 use Rattle.std.specs.Prelude.{ℕ, false, Some, slice_get, ◌≡◌, ◌&&◌, ◌||◌}
-use Rattle.ir_model.specs.declared.module.Declaration.{Declaration}
-use Rattle.ir_model.specs.declared.module.Function.{Function}
-use Rattle.ir_model.specs.declared.module.GlobalItem.{GlobalItem}
-use Rattle.ir_model.specs.declared.module.Module.{Module}
-use Rattle.ir_model.specs.declared.module.TypeItem.{TypeItem}
+use Rattle.ir_laws.specs.ir_model.declared.module.Declaration.{Declaration}
+use Rattle.ir_laws.specs.ir_model.declared.module.Function.{Function}
+use Rattle.ir_laws.specs.ir_model.declared.module.GlobalItem.{GlobalItem}
+use Rattle.ir_laws.specs.ir_model.declared.module.Module.{Module}
+use Rattle.ir_laws.specs.ir_model.declared.module.TypeItem.{TypeItem}
 use Rattle.rule_locals.specs.Extents.{misaligned_globals}
 use Rattle.rule_names.specs.Definitions.{is_second_function, second_definitions}
 use Rattle.rule_names.specs.Items.{Sentence}

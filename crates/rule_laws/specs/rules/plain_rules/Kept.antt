@@ -4,8 +4,8 @@ use Rattle.rule_uses.specs.Undefined.{IsFirstUndefined}
 use Rattle.rule_uses.specs.Uses.{uses_of}
 use Rattle.rule_phis.specs.Edges.{first_wrong_edge}
 use Rattle.ir_parts.specs.Locals.{locals_of}
-use Rattle.ir_model.specs.declared.module.Function.{Function}
-use Rattle.ir_model.specs.declared.module.Module.{Module}
+use Rattle.ir_laws.specs.ir_model.declared.module.Function.{Function}
+use Rattle.ir_laws.specs.ir_model.declared.module.Module.{Module}
 use Rattle.rule_locals.specs.Calls.{first_closed_call}
 use Rattle.rule_locals.specs.Entries.{first_late_alloca}
 use Rattle.rule_locals.specs.Extents.{first_past_extent}

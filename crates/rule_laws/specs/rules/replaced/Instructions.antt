@@ -1,12 +1,12 @@
 -- The rules of modules without coroutines that look at the parts of a function one by one.
 use Rattle.std.specs.List.{list_all}
 use Rattle.std.specs.Prelude.{◌≡◌, ℕ, Bool, true, None, not, ◌&&◌}
-use Rattle.ir_base.specs.declared.outcome.Place.{Place}
+use Rattle.ir_laws.specs.ir_base.declared.outcome.Place.{Place}
 use Rattle.ir_parts.specs.Contents.{part_labels, part_operands}
 use Rattle.ir_parts.specs.Parts.{Part, first_part, parts_of}
-use Rattle.ir_model.specs.declared.module.Function.{Function}
-use Rattle.ir_model.specs.declared.module.Module.{Module}
-use Rattle.ir_model.specs.declared.operand.Operand.{Operand}
+use Rattle.ir_laws.specs.ir_model.declared.module.Function.{Function}
+use Rattle.ir_laws.specs.ir_model.declared.module.Module.{Module}
+use Rattle.ir_laws.specs.ir_model.declared.operand.Operand.{Operand}
 use Rattle.rule_locals.specs.Calls.{first_closed_call}
 use Rattle.rule_locals.specs.Extents.{first_past_extent}
 use Rattle.rule_locals.specs.Transfers.{first_wrong_transfer}

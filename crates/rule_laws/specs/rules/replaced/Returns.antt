@@ -1,9 +1,9 @@
 -- Returns that give a value.
 use Rattle.std.specs.Prelude.{◌≡◌, ℕ, Bool, true, false, Some, None}
-use Rattle.ir_base.specs.declared.outcome.Place.{Place}
+use Rattle.ir_laws.specs.ir_base.declared.outcome.Place.{Place}
 use Rattle.ir_parts.specs.Parts.{Ending, Part, first_part, parts_of}
-use Rattle.ir_model.specs.declared.instr.Terminator.{Terminator}
-use Rattle.ir_model.specs.declared.module.Function.{Function}
+use Rattle.ir_laws.specs.ir_model.declared.instr.Terminator.{Terminator}
+use Rattle.ir_laws.specs.ir_model.declared.module.Function.{Function}
 
 abbrev pub gives_value : Place → Part → Bool
 gives_value p (Ending (Terminator.Ret (Some a))) = true

@@ -1,13 +1,13 @@
 -- What readers guarantee of a module's names, and that begins have names.
 use Rattle.std.specs.Prelude.{◌≡◌, ◌<◌, ℕ, true, length, Some}
-use Rattle.flow_solver.specs.Paths.{IsListed}
+use Rattle.ir_laws.specs.flow_solver.Paths.{IsListed}
 use Rattle.ir_parts.specs.Locals.{locals_of}
 use Rattle.ir_parts.specs.declared.defined.Definition.{Definition}
-use Rattle.ir_model.specs.Calls.{first_result}
-use Rattle.ir_model.specs.Names.{function_at}
-use Rattle.ir_model.specs.declared.module.Function.{Function}
-use Rattle.ir_model.specs.declared.module.Module.{Module}
-use Rattle.ir_model.specs.declared.operand.Intrinsic.{Intrinsic}
+use Rattle.ir_laws.specs.ir_model.Calls.{first_result}
+use Rattle.ir_laws.specs.ir_model.Names.{function_at}
+use Rattle.ir_laws.specs.ir_model.declared.module.Function.{Function}
+use Rattle.ir_laws.specs.ir_model.declared.module.Module.{Module}
+use Rattle.ir_laws.specs.ir_model.declared.operand.Intrinsic.{Intrinsic}
 
 -- what a function defines, labels and values alike, are positions of its table of names
 abbrev pub HasTabledLocals : ℕ → Function → Type 0

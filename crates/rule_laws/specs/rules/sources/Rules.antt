@@ -3,8 +3,8 @@ use Rattle.std.specs.Prelude.{◌≡◌, ℕ, Some, slice_get}
 use Rattle.rule_laws.specs.rules.local_rules.Local.{BreaksNoLocalRule}
 use Rattle.rule_laws.specs.rules.path_rules.Paths.{KeepsPaths}
 use Rattle.rule_laws.specs.rules.path_rules.Shape.{KeepsShape}
-use Rattle.ir_model.specs.declared.module.Function.{Function}
-use Rattle.ir_model.specs.declared.module.Module.{Module}
+use Rattle.ir_laws.specs.ir_model.declared.module.Function.{Function}
+use Rattle.ir_laws.specs.ir_model.declared.module.Module.{Module}
 
 -- no rule of sources is broken but perhaps L1, on the number of things, and N3, on reserved names (K12 is asked of layouts)
 pub record BreaksNoOtherRule (m : Module) : Type 0 where

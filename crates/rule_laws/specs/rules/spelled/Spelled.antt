@@ -1,14 +1,14 @@
 -- Functions whose names can be written, and whose types, flags and callees are such as the grammar has.
 use Rattle.std.specs.Prelude.{◌≡◌, option_to_list}
-use Rattle.text_names.specs.Spelling.{IsName}
+use Rattle.ir_laws.specs.text_names.Spelling.{IsName}
 use Rattle.ir_parts.specs.Contents.{ending_types, instr_types}
-use Rattle.ir_model.specs.Table.{callee_named}
-use Rattle.ir_model.specs.declared.instr.Instr.{Instr}
-use Rattle.ir_model.specs.declared.module.Block.{Block}
-use Rattle.ir_model.specs.declared.module.Function.{Function}
-use Rattle.ir_model.specs.declared.operand.Callee.{Callee}
+use Rattle.ir_laws.specs.ir_model.Table.{callee_named}
+use Rattle.ir_laws.specs.ir_model.declared.instr.Instr.{Instr}
+use Rattle.ir_laws.specs.ir_model.declared.module.Block.{Block}
+use Rattle.ir_laws.specs.ir_model.declared.module.Function.{Function}
+use Rattle.ir_laws.specs.ir_model.declared.operand.Callee.{Callee}
 use Rattle.text_canonical.specs.order.Shape.{MayBe, MayHave}
-use Rattle.run_laws.specs.changed.Changed.{Each}
+use Rattle.ir_laws.specs.run_laws.changed.Changed.{Each}
 use Rattle.rule_laws.specs.texts.spelled.Spelled.{IsSpelled}
 
 -- an operation has flags that it may have, and what is called by its name is what the table of names says

@@ -1,16 +1,16 @@
 -- Functions in which nothing uses what coro.frame makes.
 use Rattle.std.specs.Prelude.{◌≡◌, ℕ, Bool, true, None, Some, not}
 use Rattle.std.specs.List.{list_all}
-use Rattle.ir_base.specs.declared.outcome.Place.{Place}
+use Rattle.ir_laws.specs.ir_base.declared.outcome.Place.{Place}
 use Rattle.ir_parts.specs.Contents.{part_operands, result_of}
 use Rattle.ir_parts.specs.Parts.{Part, first_part, parts_of}
-use Rattle.ir_model.specs.Names.{is_local}
-use Rattle.ir_model.specs.declared.instr.Instr.{Instr}
-use Rattle.ir_model.specs.declared.module.Function.{Function}
-use Rattle.ir_model.specs.declared.operand.Intrinsic.{Intrinsic}
-use Rattle.ir_model.specs.declared.operand.Operand.{Operand}
-use Rattle.ir_paths.specs.Windows.{instr_at, is_call_of}
-use Rattle.ir_paths.specs.declared.point.Point.{Point}
+use Rattle.ir_laws.specs.ir_model.Names.{is_local}
+use Rattle.ir_laws.specs.ir_model.declared.instr.Instr.{Instr}
+use Rattle.ir_laws.specs.ir_model.declared.module.Function.{Function}
+use Rattle.ir_laws.specs.ir_model.declared.operand.Intrinsic.{Intrinsic}
+use Rattle.ir_laws.specs.ir_model.declared.operand.Operand.{Operand}
+use Rattle.ir_laws.specs.ir_paths.Windows.{instr_at, is_call_of}
+use Rattle.ir_laws.specs.ir_paths.declared.point.Point.{Point}
 
 -- an operand that isn't the value
 abbrev pub is_other : ℕ → Operand → Bool

@@ -1,16 +1,16 @@
 -- Parts of a function with other operands in the place of theirs.
 use Rattle.std.specs.Prelude.{◌≡◌, ℕ, Bool, false, List, Option}
-use Rattle.ir_base.specs.declared.ops.BinOp.{BinOp}
-use Rattle.ir_base.specs.declared.ops.CastOp.{CastOp}
-use Rattle.ir_base.specs.declared.ops.Flags.{Flags}
-use Rattle.ir_base.specs.declared.ops.Pred.{Pred}
-use Rattle.ir_model.specs.Ty.{Ty}
-use Rattle.ir_model.specs.declared.instr.Incoming.{Incoming}
-use Rattle.ir_model.specs.declared.instr.Instr.{Instr}
-use Rattle.ir_model.specs.declared.instr.Phi.{Phi}
-use Rattle.ir_model.specs.declared.operand.Arg.{Arg}
-use Rattle.ir_model.specs.declared.operand.Callee.{Callee}
-use Rattle.ir_model.specs.declared.operand.Operand.{Operand}
+use Rattle.ir_laws.specs.ir_base.declared.ops.BinOp.{BinOp}
+use Rattle.ir_laws.specs.ir_base.declared.ops.CastOp.{CastOp}
+use Rattle.ir_laws.specs.ir_base.declared.ops.Flags.{Flags}
+use Rattle.ir_laws.specs.ir_base.declared.ops.Pred.{Pred}
+use Rattle.ir_laws.specs.ir_model.Ty.{Ty}
+use Rattle.ir_laws.specs.ir_model.declared.instr.Incoming.{Incoming}
+use Rattle.ir_laws.specs.ir_model.declared.instr.Instr.{Instr}
+use Rattle.ir_laws.specs.ir_model.declared.instr.Phi.{Phi}
+use Rattle.ir_laws.specs.ir_model.declared.operand.Arg.{Arg}
+use Rattle.ir_laws.specs.ir_model.declared.operand.Callee.{Callee}
+use Rattle.ir_laws.specs.ir_model.declared.operand.Operand.{Operand}
 use Rattle.rule_locals.specs.Addresses.{is_indirect}
 use Rattle.ir_laws.specs.facts.woven_rules.Pairs.{Pairwise}
 use Rattle.ir_laws.specs.facts.woven_rules.Parts.{ArgStays}

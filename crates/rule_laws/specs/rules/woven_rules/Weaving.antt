@@ -1,10 +1,10 @@
 -- What a function becomes by instructions that are woven in: what is known of the new names, and which operand may stand in the place of which.
 use Rattle.std.specs.Prelude.{◌≡◌, ℕ, Bool, true, false, List, Option, is_some, ◌≤◌}
 use Rattle.rule_uses.specs.Undefined.{ReachesWithout, params_of}
-use Rattle.flow_solver.specs.Paths.{IsListed}
-use Rattle.ir_model.specs.declared.module.Function.{Function}
-use Rattle.ir_model.specs.declared.operand.Operand.{Operand}
-use Rattle.ir_locals.specs.Tables.{or_first}
+use Rattle.ir_laws.specs.flow_solver.Paths.{IsListed}
+use Rattle.ir_laws.specs.ir_model.declared.module.Function.{Function}
+use Rattle.ir_laws.specs.ir_model.declared.operand.Operand.{Operand}
+use Rattle.ir_laws.specs.ir_locals.Tables.{or_first}
 use Rattle.rule_values.specs.Kinds.{value_kind}
 use Rattle.rule_values.specs.declared.kinds.Kind.{Kind}
 

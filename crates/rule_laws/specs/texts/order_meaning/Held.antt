@@ -1,13 +1,13 @@
 -- Functions in whose table of names all that they set has a place.
 use Rattle.std.specs.Prelude.{List}
-use Rattle.ir_base.specs.declared.name.Name.{Name}
-use Rattle.ir_model.specs.declared.instr.Instr.{Instr}
-use Rattle.ir_model.specs.declared.instr.Phi.{Phi}
-use Rattle.ir_model.specs.declared.module.Block.{Block}
-use Rattle.ir_model.specs.declared.module.Function.{Function}
-use Rattle.ir_model.specs.declared.module.Param.{Param}
+use Rattle.ir_laws.specs.ir_base.declared.name.Name.{Name}
+use Rattle.ir_laws.specs.ir_model.declared.instr.Instr.{Instr}
+use Rattle.ir_laws.specs.ir_model.declared.instr.Phi.{Phi}
+use Rattle.ir_laws.specs.ir_model.declared.module.Block.{Block}
+use Rattle.ir_laws.specs.ir_model.declared.module.Function.{Function}
+use Rattle.ir_laws.specs.ir_model.declared.module.Param.{Param}
 use Rattle.text_canonical.specs.order.Shape.{Each, IsPlaced, IsSet}
-use Rattle.run_laws.specs.changed.Changed.{result_of}
+use Rattle.ir_laws.specs.run_laws.changed.Changed.{result_of}
 
 abbrev pub SetsPlaced : List Name → Instr → Type 0
 SetsPlaced names i = IsSet names (result_of i)

@@ -2,7 +2,7 @@ use Rattle.std.proofs.Common.{true}
 use Rattle.run_hooks.proofs.alive.Apart.{are_apart, live_conflict}
 use Rattle.run_hooks.proofs.alive.Runs.{source_alive}
 use Rattle.run_hooks.proofs.alive.live_slots_conflict.Goals as goal
-use Rattle.run_source.specs.Source.{state_at}
+use Rattle.pass_renewed_proof.specs.run_source.Source.{state_at}
 
 pub returns-clause-states : goal.returns-clause-states
 returns-clause-states c =

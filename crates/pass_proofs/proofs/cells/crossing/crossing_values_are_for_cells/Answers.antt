@@ -1,6 +1,6 @@
 -- Pairs are of values, and suspends lead away from the entry block.
 use Rattle.rule_laws.proofs.frames.crossing.Asking.{lead_away, pairs_of_values}
-use Rattle.frame_crossing.specs.Values.{values_of}
+use Rattle.rule_laws.specs.frame_crossing.Values.{values_of}
 use Rattle.pass_proofs.proofs.cells.crossing.crossing_values_are_for_cells.Goals as goal
 
 pub returns : goal.returns

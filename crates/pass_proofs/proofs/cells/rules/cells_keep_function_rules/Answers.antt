@@ -1,7 +1,7 @@
 -- What is woven in breaks no rule.
 use Rattle.pass_proofs.proofs.cells.rules.Whole.{is_woven}
 use Rattle.pass_proofs.specs.cells.rules.Weaving.{cells_weaving}
-use Rattle.pass_cells.specs.Cells.{with_cells}
+use Rattle.rule_laws.specs.pass_cells.Cells.{with_cells}
 use Rattle.rule_laws.proofs.rules.woven_rules.All.{rules_woven}
 use Rattle.pass_proofs.proofs.cells.rules.cells_keep_function_rules.Goals as goal
 

@@ -2,8 +2,8 @@
 use Rattle.std.proofs.Common.{◌≡◌, ℕ, ◌+◌, Bool, true, false, List, [], ◌∷◌, length, Some, None, Option, refl, sym, ap, ◌∙◌, subst, ◌↔◌}
 use Rattle.std.specs.List.{list_all}
 use Rattle.std.specs.Prelude.{IsFalse, IsTrue, count_by, find, map, not, slice_get, ◌&&◌, ◌||◌, ◌==◌, if◌then◌else◌}
-use Rattle.rule_shape.specs.Uses.{uses_of}
-use Rattle.rule_phis.specs.Operands.{same_operand}
+use Rattle.rule_laws.specs.rule_shape.Uses.{uses_of}
+use Rattle.rule_laws.specs.rule_phis.Operands.{same_operand}
 use Rattle.elide_shape.specs.Calls.{only_call, value_at}
 use Rattle.elide_shape.specs.Edges.{edges_into, edges_of, jumps_to, ways_in, ways_on}
 use Rattle.elide_shape.specs.Frames.{is_frame, rets_give_frame}
@@ -23,9 +23,9 @@ use Rattle.ir_model.specs.declared.module.Block.{Block}
 use Rattle.ir_model.specs.declared.module.Function.{Function}
 use Rattle.ir_model.specs.declared.operand.Intrinsic.{Intrinsic}
 use Rattle.ir_model.specs.declared.operand.Operand.{Operand}
-use Rattle.ir_paths.specs.Windows.{end_block, is_call_of, points_where}
-use Rattle.ir_paths.specs.declared.point.Point.{Point}
-use Rattle.run_laws.specs.changed.Changed.{Each}
+use Rattle.rule_laws.specs.ir_paths.Windows.{end_block, is_call_of, points_where}
+use Rattle.rule_laws.specs.ir_paths.declared.point.Point.{Point}
+use Rattle.rule_laws.specs.run_laws.changed.Changed.{Each}
 
 -- ---- what is asked
 
@@ -252,7 +252,7 @@ module _ (f g : Function) (back : Point → Point) (Name : ℕ → Type 0) (P : 
 
     led_over : (h k : Function) → edges_of k ≡ edges_of h → (test : Edge → Bool) (all : List ℕ) (b : ℕ) → IsLed h test all b → IsLed k test all b
     led_over h k e test all _ (Start b l) = Start b l
-    led_over h k e test all _ (Step x l there p) = Step x (led_over h k e test all x.from l) (subst (Rattle.flow_solver.specs.Paths.IsListed x) (sym e) there) p
+    led_over h k e test all _ (Step x l there p) = Step x (led_over h k e test all x.from l) (subst (Rattle.rule_laws.specs.flow_solver.Paths.IsListed x) (sym e) there) p
 
     on_forth : (way : Way) (b : ℕ) → IsOn way f b → IsOn way g b
     on_forth way b l =

@@ -3,15 +3,15 @@ use Rattle.pass_proofs.proofs.early.elision.early.Saved.{saved_elidable}
 use Rattle.pass_proofs.proofs.early.elision.early.Renamed.{renamed_elidable}
 use Rattle.std.proofs.Common.{◌≡◌, ℕ, Bool, true, false, List, Some, None, Option, refl, sym, ap, ◌∙◌, subst, ◌↔◌}
 use Rattle.std.specs.Prelude.{if◌then◌else◌}
-use Rattle.ir_base.specs.declared.outcome.Place.{Place}
+use Rattle.rule_laws.specs.ir_base.declared.outcome.Place.{Place}
 use Rattle.pass_proofs.proofs.early.renaming.Rules.{all_regular}
 use Rattle.pass_proofs.specs.early.renaming.Passes.{named_function, named_module, renamed_by_its_own, renamed_function, renamed_module}
 use Rattle.pass_proofs.proofs.early.renaming.Composition.{early_in_turn}
 use Rattle.pass_early.specs.Early.{early_module, renaming_of}
 use Rattle.rule_laws.specs.rules.source_rules.Named.{AreTabled}
 use Rattle.pass_proofs.proofs.early.source_rules.Accepted.{all_named_keep}
-use Rattle.rule_all.specs.Refused.{IsRefused}
-use Rattle.rule_names.specs.declared.stage.Stage.{Stage}
+use Rattle.rule_laws.specs.rule_all.Refused.{IsRefused}
+use Rattle.rule_laws.specs.rule_names.declared.stage.Stage.{Stage}
 use Rattle.pass_proofs.proofs.early.meaning.Names.{named_locals, renamed_locals}
 use Rattle.pass_proofs.proofs.early.saves.Plain.{plain_stays}
 use Rattle.pass_proofs.specs.early.saves.SavesWritten.{saved_function, saves_written}
@@ -26,7 +26,7 @@ use Rattle.ir_model.specs.Names.{function_at}
 use Rattle.ir_model.specs.declared.module.Function.{Function}
 use Rattle.ir_model.specs.declared.module.Module.{Module}
 use Rattle.ir_model.specs.declared.operand.Intrinsic.{Intrinsic}
-use Rattle.ir_laws.specs.facts.sound_states.Named.{AreLocalsNamed, AreUsesNamed, HasNamedLocals, HasNamedUses}
+use Rattle.rule_laws.specs.ir_laws.facts.sound_states.Named.{AreLocalsNamed, AreUsesNamed, HasNamedLocals, HasNamedUses}
 
 -- what the name of a function is, and the like, stays where begins get names
 of_named : {X : Type 0} (part : Function → X) → ((f : Function) (o : Option ℕ) → part (if_unnamed o f) ≡ part f) → (f : Function) → part (named_function f) ≡ part f

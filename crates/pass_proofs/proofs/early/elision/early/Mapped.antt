@@ -3,13 +3,13 @@ use Rattle.std.proofs.Common.{◌≡◌, ℕ, suc, ◌+◌, Bool, true, false, L
 use Rattle.std.proofs.lemmas.Option.{slice_get-map}
 use Rattle.std.specs.List.{list_any}
 use Rattle.std.specs.Prelude.{count_by, find, flat_map, map, not, option_and_then, option_map, slice_get, unwrap_or, ◌&&◌, ◌||◌, ◌==◌, if◌then◌else◌}
-use Rattle.flow_blocks.specs.Kinds.{kind_in, kind_of, kind_of_ending, suspended}
-use Rattle.rule_shape.specs.Uses.{block_operands, phi_operands, uses_of}
-use Rattle.ir_laws.proofs.facts.Lists.{any_same, first_same, count_both, count_changed, count_given, find_changed, found, map_none}
-use Rattle.ir_laws.proofs.facts.Truth.{equal_numbers}
+use Rattle.rule_laws.specs.flow_blocks.Kinds.{kind_in, kind_of, kind_of_ending, suspended}
+use Rattle.rule_laws.specs.rule_shape.Uses.{block_operands, phi_operands, uses_of}
+use Rattle.rule_laws.proofs.ir_laws.facts.Lists.{any_same, first_same, count_both, count_changed, count_given, find_changed, found, map_none}
+use Rattle.rule_laws.proofs.ir_laws.facts.Truth.{equal_numbers}
 use Rattle.run_states.proofs.renamed.Modules.{length_same}
 use Rattle.pass_proofs.proofs.early.elision.early.Alike.{AreAlike, AreBlocksAlike, AreNextAlike, IsBlockAlike, IsCallAlike, IsFreeAlike, IsPhiAlike}
-use Rattle.ir_laws.proofs.paths.alike_functions.Lists.{each_where}
+use Rattle.rule_laws.proofs.ir_laws.paths.alike_functions.Lists.{each_where}
 use Rattle.elide_shape.specs.Calls.{deals_by, gives_size, is_other, is_size_value, is_without_phis, one_other, only_call, passing}
 use Rattle.elide_shape.specs.Edges.{edges_by, edges_of, edges_out, jumps_to, ways_on}
 use Rattle.elide_shape.specs.Frames.{rets_give_frame}
@@ -17,7 +17,7 @@ use Rattle.elide_shape.specs.Frees.{releases, sides_of}
 use Rattle.elide_shape.specs.Guard.{takes_second, value_if_sized}
 use Rattle.elide_shape.specs.declared.calls.Dealing.{Dealing}
 use Rattle.elide_sites.specs.Destroyed.{has_at, has_in, is_free, is_stop}
-use Rattle.ir_parts.specs.Contents.{ending_operands, instr_operands}
+use Rattle.rule_laws.specs.ir_parts.Contents.{ending_operands, instr_operands}
 use Rattle.ir_model.specs.Names.{intrinsic_number, is_local, position_of, same_intrinsic}
 use Rattle.ir_model.specs.declared.instr.Instr.{Instr}
 use Rattle.ir_model.specs.declared.instr.Phi.{Phi}
@@ -27,11 +27,11 @@ use Rattle.ir_model.specs.declared.module.Function.{Function}
 use Rattle.ir_model.specs.declared.operand.Callee.{Callee}
 use Rattle.ir_model.specs.declared.operand.Intrinsic.{Intrinsic}
 use Rattle.ir_model.specs.declared.operand.Operand.{Operand}
-use Rattle.ir_paths.specs.Paths.{targets}
-use Rattle.ir_paths.specs.Windows.{call_operand, call_result, end_block, instr_at, instr_in, is_call_of, points_from, points_in, points_where}
-use Rattle.ir_paths.specs.declared.point.Point.{Point}
-use Rattle.run_laws.specs.changed.Changed.{Each}
-use Rattle.ir_base.specs.declared.name.Name as names
+use Rattle.rule_laws.specs.ir_paths.Paths.{targets}
+use Rattle.rule_laws.specs.ir_paths.Windows.{call_operand, call_result, end_block, instr_at, instr_in, is_call_of, points_from, points_in, points_where}
+use Rattle.rule_laws.specs.ir_paths.declared.point.Point.{Point}
+use Rattle.rule_laws.specs.run_laws.changed.Changed.{Each}
+use Rattle.rule_laws.specs.ir_base.declared.name.Name as names
 
 -- a deallocator or an allocator that is called is no intrinsic
 dealt_otherwise : (d : Dealing) (k : Intrinsic) (i : Instr) → deals_by d i ≡ true → is_call_of k i ≡ false

@@ -2,10 +2,10 @@
 use Rattle.std.proofs.Common.{◌≡◌, ℕ, suc, Bool, true, false, List, [], ◌∷◌, ◌++◌, length, Some, None, Option, refl, sym, ap, ◌∙◌, subst, ◌↔◌, arith}
 use Rattle.std.proofs.lemmas.Option.{slice_get-map}
 use Rattle.std.specs.Prelude.{map, option_map, slice_get, unwrap_or, if◌then◌else◌}
-use Rattle.ir_base.specs.declared.outcome.Place.{Place}
-use Rattle.rule_shape.specs.Places.{places_where}
+use Rattle.rule_laws.specs.ir_base.declared.outcome.Place.{Place}
+use Rattle.rule_laws.specs.rule_shape.Places.{places_where}
 use Rattle.run_states.proofs.renamed.Modules.{IsMild, length_same, named_there}
-use Rattle.ir_laws.specs.facts.renamed.Passes.{with_functions}
+use Rattle.rule_laws.specs.ir_laws.facts.renamed.Passes.{with_functions}
 use Rattle.elide_sites.specs.Chosen.{AreChosen, up_to}
 use Rattle.elide_sites.specs.Chosen.AreChosen.{LeftOut, Nothing, Taken}
 use Rattle.elide_sites.specs.Elidable.{AreElidable, IsElidable}
@@ -16,8 +16,8 @@ use Rattle.ir_model.specs.declared.instr.Instr.{Instr}
 use Rattle.ir_model.specs.declared.module.Function.{Function}
 use Rattle.ir_model.specs.declared.module.Module.{Module}
 use Rattle.ir_model.specs.declared.operand.Callee.{Callee}
-use Rattle.ir_paths.specs.Windows.{instr_at}
-use Rattle.rule_windows.specs.Points.{point_of}
+use Rattle.rule_laws.specs.ir_paths.Windows.{instr_at}
+use Rattle.rule_laws.specs.rule_windows.Points.{point_of}
 
 -- ---- choices
 

@@ -5,12 +5,12 @@ use Rattle.std.proofs.lemmas.Option.{slice_get-map}
 use Rattle.std.specs.List.{list_all, list_any}
 use Rattle.std.specs.Prelude.{count_by, find, flat_map, map, option_and_then, option_map, slice_get, ◌-◌, ◌&&◌, ◌||◌, ◌==◌, if◌then◌else◌}
 use Rattle.pass_proofs.proofs.early.begin_naming.NamedParts.{call_of_same, same_but_begin, with_begin}
-use Rattle.flow_blocks.specs.Kinds.{kind_of_ending, suspended}
-use Rattle.ir_calls.specs.Calls.{is_null}
-use Rattle.rule_shape.specs.Uses.{phi_operands, uses_of}
+use Rattle.rule_laws.specs.flow_blocks.Kinds.{kind_of_ending, suspended}
+use Rattle.rule_laws.specs.ir_calls.Calls.{is_null}
+use Rattle.rule_laws.specs.rule_shape.Uses.{phi_operands, uses_of}
 use Rattle.run_states.proofs.renamed.Modules.{length_same}
 use Rattle.pass_proofs.proofs.early.elision.early.Alike.{IsPhiAlike, elidable_same, given_alike}
-use Rattle.ir_laws.proofs.facts.Lists.{map_none}
+use Rattle.rule_laws.proofs.ir_laws.facts.Lists.{map_none}
 use Rattle.pass_proofs.proofs.early.elision.early.Mapped.{IsChange, change_alike}
 use Rattle.pass_early.specs.BeginName.{begin_name, if_unnamed, named_block, named_instr, with_begin_name}
 use Rattle.elide_shape.specs.Calls.{deals_by, gives_size, is_size_value}
@@ -19,7 +19,7 @@ use Rattle.elide_shape.specs.Frees.{is_null_test, not_null_first, sides_of}
 use Rattle.elide_shape.specs.Edges.{ways_on}
 use Rattle.elide_shape.specs.Phis.{given, is_given, same_given}
 use Rattle.elide_sites.specs.Elidable.{IsElidable}
-use Rattle.ir_parts.specs.Contents.{instr_operands}
+use Rattle.rule_laws.specs.ir_parts.Contents.{instr_operands}
 use Rattle.ir_model.specs.Calls.{first_result, first_result_by, first_result_in, result_of_call}
 use Rattle.ir_model.specs.Names.{is_local, position_of}
 use Rattle.ir_model.specs.declared.instr.Incoming.{Incoming}
@@ -31,12 +31,12 @@ use Rattle.ir_model.specs.declared.module.Function.{Function}
 use Rattle.ir_model.specs.declared.operand.Callee.{Callee}
 use Rattle.ir_model.specs.declared.operand.Intrinsic.{Intrinsic}
 use Rattle.ir_model.specs.declared.operand.Operand.{Operand}
-use Rattle.ir_paths.specs.Windows.{call_operand, call_result, instr_at, instr_in, is_call_of}
-use Rattle.ir_paths.specs.declared.point.Point.{Point}
-use Rattle.run_laws.specs.changed.Changed.{Each, operands_of_term, result_of, Each as EachOperand}
-use Rattle.ir_laws.specs.facts.expanded.Tokens.{IsNamed, IsNamedResult}
-use Rattle.ir_laws.specs.facts.sound_states.Named.{HasNamedLocals, HasNamedResults, HasNamedUses}
-use Rattle.ir_laws.proofs.facts.Options.{left_none, right_none}
+use Rattle.rule_laws.specs.ir_paths.Windows.{call_operand, call_result, instr_at, instr_in, is_call_of}
+use Rattle.rule_laws.specs.ir_paths.declared.point.Point.{Point}
+use Rattle.rule_laws.specs.run_laws.changed.Changed.{Each, operands_of_term, result_of, Each as EachOperand}
+use Rattle.rule_laws.specs.ir_laws.facts.expanded.Tokens.{IsNamed, IsNamedResult}
+use Rattle.rule_laws.specs.ir_laws.facts.sound_states.Named.{HasNamedLocals, HasNamedResults, HasNamedUses}
+use Rattle.rule_laws.proofs.ir_laws.facts.Options.{left_none, right_none}
 
 -- ---- lists
 

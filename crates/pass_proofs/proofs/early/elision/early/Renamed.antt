@@ -3,25 +3,25 @@ use Rattle.std.proofs.Common.{◌≡◌, ℕ, zero, suc, ◌+◌, Bool, true, fa
 use Rattle.std.proofs.lemmas.Option.{slice_get-map}
 use Rattle.std.specs.List.{list_all, list_any}
 use Rattle.std.specs.Prelude.{count_by, find, flat_map, map, option_and_then, option_map, slice_get, ◌-◌, ◌&&◌, ◌||◌, ◌==◌, if◌then◌else◌}
-use Rattle.flow_blocks.specs.Kinds.{kind_at, kind_of_ending, suspended}
-use Rattle.flow_blocks.specs.declared.kinds.EdgeKind.{EdgeKind}
-use Rattle.ir_calls.specs.Calls.{is_null}
-use Rattle.rule_shape.specs.Uses.{phi_operands, uses_of}
-use Rattle.ir_laws.proofs.facts.Truth.{equal_numbers, itself}
+use Rattle.rule_laws.specs.flow_blocks.Kinds.{kind_at, kind_of_ending, suspended}
+use Rattle.rule_laws.specs.flow_blocks.declared.kinds.EdgeKind.{EdgeKind}
+use Rattle.rule_laws.specs.ir_calls.Calls.{is_null}
+use Rattle.rule_laws.specs.rule_shape.Uses.{phi_operands, uses_of}
+use Rattle.rule_laws.proofs.ir_laws.facts.Truth.{equal_numbers, itself}
 use Rattle.run_states.proofs.renamed.Modules.{length_same}
 use Rattle.pass_proofs.proofs.early.renaming.Parts.{call_of_same, call_operand_same, local_same, result_same, targets_same}
 use Rattle.pass_proofs.proofs.early.renaming.Slots.{plain_result}
 use Rattle.pass_proofs.specs.early.renaming.Passes.{renamed_block, renamed_coroutine}
 use Rattle.pass_proofs.specs.early.renaming.Regular.{IsPlain, IsRegular}
 use Rattle.pass_proofs.proofs.early.elision.early.Alike.{IsPhiAlike, elidable_same}
-use Rattle.ir_laws.proofs.facts.Lists.{count_changed, count_cons, find_changed}
+use Rattle.rule_laws.proofs.ir_laws.facts.Lists.{count_changed, count_cons, find_changed}
 use Rattle.pass_proofs.proofs.early.elision.early.Mapped.{IsChange, change_alike}
 use Rattle.pass_proofs.proofs.early.elision.early.Named.{any_both, call_made}
 use Rattle.pass_early.specs.Early.{renaming_of, renaming_to}
 use Rattle.pass_early.specs.Renaming.{is_renamed, renamed, renamed_arg, renamed_incoming, renamed_instr, renamed_phi, renamed_term, renamed_value}
 use Rattle.pass_early.specs.declared.renaming.Renaming.{Renaming}
 use Rattle.pass_proofs.proofs.early.source_rules.Makers.{begin_of, renamed_frame}
-use Rattle.rule_phis.specs.Operands.{same_operand}
+use Rattle.rule_laws.specs.rule_phis.Operands.{same_operand}
 use Rattle.elide_shape.specs.Calls.{deals_by, gives_size, is_size_call, is_size_value, is_the_result}
 use Rattle.elide_shape.specs.Edges.{jumps_to, ways_on}
 use Rattle.elide_shape.specs.Frames.{all_from, frame_value, frame_values, is_frame, is_frame_call, local_if, returns_frame}
@@ -30,7 +30,7 @@ use Rattle.elide_shape.specs.Guard.{is_memory_phi}
 use Rattle.elide_shape.specs.Phis.{given, gives_same, is_given, same_given, same_value}
 use Rattle.elide_shape.specs.declared.calls.Dealing.{Dealing}
 use Rattle.elide_sites.specs.Elidable.{IsElidable}
-use Rattle.ir_parts.specs.Contents.{arg_operands, ending_operands, instr_operands}
+use Rattle.rule_laws.specs.ir_parts.Contents.{arg_operands, ending_operands, instr_operands}
 use Rattle.ir_model.specs.Calls.{first_result, result_of_call}
 use Rattle.ir_model.specs.Names.{is_local, position_of}
 use Rattle.ir_model.specs.declared.instr.Incoming.{Incoming}
@@ -43,9 +43,9 @@ use Rattle.ir_model.specs.declared.operand.Arg.{Arg}
 use Rattle.ir_model.specs.declared.operand.Callee.{Callee}
 use Rattle.ir_model.specs.declared.operand.Intrinsic.{Intrinsic}
 use Rattle.ir_model.specs.declared.operand.Operand.{Operand}
-use Rattle.ir_paths.specs.Windows.{call_operand, instr_at, instr_in, is_call_of}
-use Rattle.ir_paths.specs.declared.point.Point.{Point}
-use Rattle.run_laws.specs.changed.Changed.{Each, result_of}
+use Rattle.rule_laws.specs.ir_paths.Windows.{call_operand, instr_at, instr_in, is_call_of}
+use Rattle.rule_laws.specs.ir_paths.declared.point.Point.{Point}
+use Rattle.rule_laws.specs.run_laws.changed.Changed.{Each, result_of}
 
 module _ (r : Renaming) where
   null_same : (x : Operand) → is_null (renamed r x) ≡ is_null x
@@ -426,7 +426,7 @@ module _ (f : Function) (ok : IsRegular f (renaming_of f)) where
 
   -- ---- the change
 
-  each_phi : ((l : ℕ) → position_of g l ≡ position_of f l) → ((v : ℕ) → IsPlain r v → uses_of g v ≡ uses_of f v) → (ps : List Phi) → Rattle.run_laws.specs.changed.Changed.Each (λ p. IsPlain r p.result) ps → Each (IsPhiAlike f g (λ p. p) (IsPlain r) (renamed_phi r)) ps
+  each_phi : ((l : ℕ) → position_of g l ≡ position_of f l) → ((v : ℕ) → IsPlain r v → uses_of g v ≡ uses_of f v) → (ps : List Phi) → Rattle.rule_laws.specs.run_laws.changed.Changed.Each (λ p. IsPlain r p.result) ps → Each (IsPhiAlike f g (λ p. p) (IsPlain r) (renamed_phi r)) ps
   each_phi position uses [] plain = tt
   each_phi position uses (p ∷ ps) plain = (
     record { result = refl; name = plain.0; gives = gives_alike position p; memory = memory_same position uses p },
@@ -454,7 +454,7 @@ module _ (f : Function) (ok : IsRegular f (renaming_of f)) where
     made = λ p i v e begin frame h. plain_result r f ok p i v e (call_made i v h) frame begin;
     phis_alike = λ position uses k b e.
         each_phi position uses b.phis
-        (subst (λ ps. Rattle.run_laws.specs.changed.Changed.Each (λ q. IsPlain r q.result) ps) (ap Rattle.run_step.specs.Step.phis_of e) (ok.phis k));
+        (subst (λ ps. Rattle.rule_laws.specs.run_laws.changed.Changed.Each (λ q. IsPlain r q.result) ps) (ap Rattle.rule_laws.specs.run_step.Step.phis_of e) (ok.phis k));
   }
 
   pub renamed_elidable : IsElidable f ↔ IsElidable g

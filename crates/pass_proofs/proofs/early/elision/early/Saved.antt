@@ -4,13 +4,13 @@ use Rattle.std.proofs.lemmas.Bool.{cases_lt, eqb-false, eqb-true}
 use Rattle.std.proofs.lemmas.Option.{slice_get_within}
 use Rattle.std.specs.List.{list_all, list_any}
 use Rattle.std.specs.Prelude.{count_by, find, flat_map, map, option_and_then, option_map, slice_get, ◌-◌, ◌&&◌, ◌||◌, ◌==◌, if◌then◌else◌}
-use Rattle.flow_blocks.specs.Kinds.{kind_in, kind_of, kind_of_ending, suspended}
-use Rattle.ir_calls.specs.Calls.{is_null}
-use Rattle.rule_shape.specs.Uses.{block_operands, phi_operands, uses_of}
-use Rattle.ir_laws.proofs.facts.Truth.{itself, other_number}
+use Rattle.rule_laws.specs.flow_blocks.Kinds.{kind_in, kind_of, kind_of_ending, suspended}
+use Rattle.rule_laws.specs.ir_calls.Calls.{is_null}
+use Rattle.rule_laws.specs.rule_shape.Uses.{block_operands, phi_operands, uses_of}
+use Rattle.rule_laws.proofs.ir_laws.facts.Truth.{itself, other_number}
 use Rattle.pass_proofs.proofs.early.elision.early.Alike.{AreAlike, AreBlocksAlike, AreNextAlike, IsBlockAlike, IsCallAlike, IsFreeAlike, IsNextAlike, IsPhiAlike, elidable_same, given_alike, last_sides}
-use Rattle.ir_laws.proofs.facts.Lists.{count_both, count_cons, found, map_none, place_end, place_order}
-use Rattle.ir_laws.proofs.paths.alike_functions.Lists.{each_where}
+use Rattle.rule_laws.proofs.ir_laws.facts.Lists.{count_both, count_cons, found, map_none, place_end, place_order}
+use Rattle.rule_laws.proofs.ir_laws.paths.alike_functions.Lists.{each_where}
 use Rattle.pass_proofs.proofs.early.elision.early.Named.{call_made, each_at, each_by, made_named}
 use Rattle.pass_early.specs.Early.{save_call, saved}
 use Rattle.elide_shape.specs.Calls.{deals_by, gives_size, is_other, is_size_value, is_without_phis, one_other, only_call, passing}
@@ -22,7 +22,7 @@ use Rattle.elide_shape.specs.Phis.{given, is_given, same_given}
 use Rattle.elide_shape.specs.declared.calls.Dealing.{Dealing}
 use Rattle.elide_sites.specs.Destroyed.{has_at, has_in, is_free, is_stop}
 use Rattle.elide_sites.specs.Elidable.{IsElidable}
-use Rattle.ir_parts.specs.Contents.{ending_operands, instr_operands}
+use Rattle.rule_laws.specs.ir_parts.Contents.{ending_operands, instr_operands}
 use Rattle.ir_model.specs.Calls.{result_of_call}
 use Rattle.ir_model.specs.Names.{is_local}
 use Rattle.ir_model.specs.declared.instr.Instr.{Instr}
@@ -32,9 +32,9 @@ use Rattle.ir_model.specs.declared.module.Block.{Block}
 use Rattle.ir_model.specs.declared.module.Function.{Function}
 use Rattle.ir_model.specs.declared.operand.Intrinsic.{Intrinsic}
 use Rattle.ir_model.specs.declared.operand.Operand.{Operand}
-use Rattle.ir_paths.specs.Paths.{targets}
-use Rattle.ir_paths.specs.Windows.{call_operand, call_result, instr_at, instr_in, is_call_of, points_where}
-use Rattle.ir_paths.specs.declared.point.Point.{Point}
+use Rattle.rule_laws.specs.ir_paths.Paths.{targets}
+use Rattle.rule_laws.specs.ir_paths.Windows.{call_operand, call_result, instr_at, instr_in, is_call_of, points_where}
+use Rattle.rule_laws.specs.ir_paths.declared.point.Point.{Point}
 use Rattle.pass_proofs.proofs.early.saves.Behind.{any_saved, end_saved}
 use Rattle.pass_proofs.proofs.early.saves.Blocks.{get_block, position_saved}
 use Rattle.pass_proofs.proofs.early.saves.Instrs.{get_lone, get_save, get_then, instr_then, next_place}
@@ -42,12 +42,12 @@ use Rattle.pass_proofs.proofs.early.saves.Parts.{at_back}
 use Rattle.pass_proofs.proofs.early.saves.Points.{own_group, points_moved}
 use Rattle.pass_proofs.proofs.early.saves.Saves.{each_trivial}
 use Rattle.pass_proofs.proofs.early.saves.Tokens.{bare_is}
-use Rattle.ir_laws.proofs.paths.expanded.Windows.{instr_at_is}
+use Rattle.rule_laws.proofs.ir_laws.paths.expanded.Windows.{instr_at_is}
 use Rattle.pass_proofs.specs.early.saves.SavesWritten.{behind_save, behind_saves, is_bare, saved_block, saved_blocks, saved_function, with_save, with_saves}
 use Rattle.pass_proofs.specs.early.saves.Spots.{back_of, number_of_block, own_saves, place_in}
-use Rattle.ir_laws.specs.facts.expanded.Spots.{instrs_in}
-use Rattle.run_laws.specs.changed.Changed.{Each}
-use Rattle.ir_laws.specs.facts.sound_states.Named.{HasNamedLocals}
+use Rattle.rule_laws.specs.ir_laws.facts.expanded.Spots.{instrs_in}
+use Rattle.rule_laws.specs.run_laws.changed.Changed.{Each}
+use Rattle.rule_laws.specs.ir_laws.facts.sound_states.Named.{HasNamedLocals}
 
 -- ---- a suspend whose save is written
 

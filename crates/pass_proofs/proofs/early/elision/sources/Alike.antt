@@ -17,18 +17,18 @@ use Rattle.rule_laws.specs.rules.source_rules.Named.{AreTabled}
 use Rattle.rule_laws.proofs.rules.sources.Tables.{all_tabled}
 use Rattle.rule_laws.specs.rules.sources.Rules.{BreaksNoOtherRule}
 use Rattle.pass_proofs.specs.early.elision.sources.Same.{AreAlikeBy, HaveSameClasses, HaveSameCrossing, HaveSameElision}
-use Rattle.rule_all.specs.Refused.{IsRefused}
-use Rattle.text_grammar.specs.Text.{StandsFor}
+use Rattle.rule_laws.specs.rule_all.Refused.{IsRefused}
+use Rattle.rule_laws.specs.text_grammar.Text.{StandsFor}
 use Rattle.ir_model.specs.Names.{function_at}
 use Rattle.ir_model.specs.declared.module.Function.{Function}
 use Rattle.ir_model.specs.declared.module.Module.{Module}
-use Rattle.rule_names.specs.declared.stage.Stage.{Stage}
+use Rattle.rule_laws.specs.rule_names.declared.stage.Stage.{Stage}
 use Rattle.rule_laws.proofs.texts.named_texts.Placed.{locals_named, uses_named}
 use Rattle.pass_proofs.proofs.early.saves.Parts.{function_saved}
 use Rattle.pass_proofs.specs.early.saves.SavesWritten.{saved_function}
-use Rattle.frame_classes.specs.Classes.{AreClasses}
-use Rattle.ir_laws.specs.facts.sound_states.Named.{AreLocalsNamed, AreUsesNamed}
-use Rattle.frame_crossing.specs.Crossing.{AreCrossing}
+use Rattle.rule_laws.specs.frame_classes.Classes.{AreClasses}
+use Rattle.rule_laws.specs.ir_laws.facts.sound_states.Named.{AreLocalsNamed, AreUsesNamed}
+use Rattle.rule_laws.specs.frame_crossing.Crossing.{AreCrossing}
 
 -- ---- functions that are no coroutines
 

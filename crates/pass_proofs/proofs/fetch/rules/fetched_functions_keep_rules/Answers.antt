@@ -1,6 +1,6 @@
 use Rattle.pass_proofs.proofs.fetch.rules.Fetched.{fetches_woven}
 use Rattle.pass_proofs.specs.fetch.rules.Fetches.{fetch_weaving}
-use Rattle.pass_fetch.specs.Blocks.{with_fetches}
+use Rattle.rule_laws.specs.pass_fetch.Blocks.{with_fetches}
 use Rattle.rule_laws.proofs.rules.woven_rules.All.{rules_woven}
 use Rattle.pass_proofs.proofs.fetch.rules.fetched_functions_keep_rules.Goals as goal
 

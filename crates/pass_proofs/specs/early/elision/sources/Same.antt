@@ -1,14 +1,14 @@
 -- What is found alike in two modules.
 use Rattle.std.specs.Prelude.{◌↔◌, ℕ, List}
-use Rattle.ir_base.specs.declared.outcome.Place.{Place}
+use Rattle.rule_laws.specs.ir_base.declared.outcome.Place.{Place}
 use Rattle.elide_sites.specs.Elidable.{AreElidable}
 use Rattle.elide_sites.specs.Sites.{AreSites}
 use Rattle.ir_model.specs.Names.{function_at}
 use Rattle.ir_model.specs.declared.module.Function.{Function}
 use Rattle.ir_model.specs.declared.module.Module.{Module}
-use Rattle.frame_classes.specs.Classes.{AreClasses}
-use Rattle.frame_classes.specs.declared.class.SlotClass.{SlotClass}
-use Rattle.frame_crossing.specs.Crossing.{AreCrossing}
+use Rattle.rule_laws.specs.frame_classes.Classes.{AreClasses}
+use Rattle.rule_laws.specs.frame_classes.declared.class.SlotClass.{SlotClass}
+use Rattle.rule_laws.specs.frame_crossing.Crossing.{AreCrossing}
 
 -- what is said of each function of the one module is said of that of the other
 abbrev pub AreAlikeBy : (Function → Type 0) → Module → Module → Type 0

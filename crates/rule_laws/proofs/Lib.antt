@@ -1,0 +1,24 @@
+-- What libraries below prove, for those above.
+pub use Rattle.flow_blocks.proofs as flow_blocks
+pub use Rattle.flow_facts.proofs as flow_facts
+pub use Rattle.flow_points.proofs as flow_points
+pub use Rattle.flow_reach.proofs as flow_reach
+pub use Rattle.ir_laws.proofs.flow_solver as flow_solver
+pub use Rattle.frame_classes.proofs as frame_classes
+pub use Rattle.frame_crossing.proofs as frame_crossing
+pub use Rattle.frame_placing.proofs as frame_placing
+pub use Rattle.frame_slots.proofs as frame_slots
+pub use Rattle.ir_laws.proofs as ir_laws
+pub use Rattle.ir_parts.proofs as ir_parts
+pub use Rattle.ir_laws.proofs.ir_paths as ir_paths
+pub use Rattle.ir_laws.proofs.ir_tables as ir_tables
+pub use Rattle.rule_phis.proofs as rule_phis
+pub use Rattle.rule_slots.proofs as rule_slots
+pub use Rattle.ir_laws.proofs.run_agreement as run_agreement
+pub use Rattle.ir_laws.proofs.run_ints as run_ints
+pub use Rattle.ir_laws.proofs.run_laws as run_laws
+pub use Rattle.ir_laws.proofs.run_memory as run_memory
+pub use Rattle.ir_laws.proofs.run_source as run_source
+pub use Rattle.ir_laws.proofs.run_step as run_step
+pub use Rattle.text_canonical.proofs as text_canonical
+pub use Rattle.text_grammar.proofs as text_grammar
