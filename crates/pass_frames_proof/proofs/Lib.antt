@@ -9,4 +9,5 @@ pub use Rattle.pass_proofs.proofs.rule_laws as rule_laws
 pub use Rattle.pass_proofs.proofs.run_agreement as run_agreement
 pub use Rattle.pass_proofs.proofs.run_laws as run_laws
 pub use Rattle.pass_proofs.proofs.run_states as run_states
+pub mod fronted
 pub mod here

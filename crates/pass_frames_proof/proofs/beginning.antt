@@ -1,4 +1,17 @@
+pub mod AllCopied
+pub mod Becoming
+pub mod Coming
+pub mod Copied
+pub mod Frame
 pub mod Frames
+pub mod Given
+pub mod Homes
+pub mod Instances
+pub mod Loads
 pub mod Places
+pub mod Ranges
+pub mod Rest
 pub mod States
 pub mod Steps
+pub mod Top
+pub mod TopCells

@@ -1,4 +1,5 @@
 pub mod Copies
+pub mod CopyCode
 pub mod Moved
 pub mod Placed
 pub mod Sizes

@@ -15,6 +15,7 @@ use Rattle.pass_proofs.specs.pass_frames.Framed.{begin_of}
 use Rattle.pass_frames_proof.specs.Code.{addressed, slot_table}
 use Rattle.pass_frames_proof.specs.Entry.{cells_of}
 use Rattle.pass_frames_proof.specs.FromEdges.{IsEarlyInFrame}
+use Rattle.pass_frames_proof.specs.Led.{RunsThrough}
 use Rattle.pass_frames_proof.specs.Lines.{HasOwnBlocks, RunsOver, at_work}
 use Rattle.pass_frames_proof.specs.Places.{Framing}
 use Rattle.pass_frames_proof.specs.Related.{Anything, IsCell}
@@ -112,12 +113,21 @@ IsFilledThere x a block start (s ∷ ss) ps z =
     ⊎ Contains a.slots (record { alloca = s.cell; block = z.block }))
     ⊎ IsFilledThere x a block start ss ps.1 z
 
--- the line is executed, and then all are copied
+-- of the world nothing is another but what the frame's block has, and the blocks of cells of these
+pub record IsButCells (a : Activation) (block : ℕ) (ss : List EarlySlot) (w u : Work) : Type 0 where
+  pub world : u.world ≡ record w.world { memory = u.world.memory }
+  pub others : (e : ℕ) → e ≢ block
+      → ((s : EarlySlot) → IsListed s ss → Contains a.slots (record { alloca = s.cell; block = e }) → ⊥)
+      → slice_get u.world.memory e ≡ slice_get w.world.memory e
+
+-- the line is executed, and then all are copied; on the way no other block changes
 pub record AreCopied (x : Framing) (c : Context) (a : Activation) (k block start m : ℕ) (w : Work)
     (ss : List EarlySlot) (ps : Each (IsCopiedSlot x start) ss) : Type 0 where
   pub work : Work
   pub spans : List Span
   pub over : RunsOver c (copies_line x k m ss) m spans w work
+  pub through : RunsThrough c (IsButCells a block ss w) (copies_line x k m ss) w work
+  pub spares : IsButCells a block ss w work
   pub inside : Each (IsFilledThere x a block start ss ps) spans
   pub copied : AllAreCopied x c a block start work ss ps
 

@@ -58,6 +58,7 @@ pub mod Fetched
 pub mod Followed
 pub mod Framings
 pub mod FromEdges
+pub mod Fronted
 pub mod Geps
 pub mod Givens
 pub mod Heaps
@@ -70,6 +71,7 @@ pub mod Led
 pub mod Lined
 pub mod Lines
 pub mod Loaded
+pub mod Located
 pub mod Marking
 pub mod Meaning
 pub mod Measured
@@ -90,6 +92,7 @@ pub mod Slotted
 pub mod Stepping
 pub mod Stores
 pub mod Suspending
+pub mod Temporaries
 pub mod Tests
 pub mod Waking
 pub mod Worked

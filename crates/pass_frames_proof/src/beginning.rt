@@ -3,19 +3,22 @@
 ghost use Rattle.std.specs.Prelude.{ℕ, Bool, Option};
 ghost use Rattle.pass_proofs.specs.ir_model.Ty.{Ty};
 ghost use Rattle.pass_proofs.specs.ir_model.declared.operand.Arg.{Arg};
-ghost use Rattle.pass_frames_proof.specs.Beginning.{HasPlainSlots, IsAtBegin};
+ghost use Rattle.pass_proofs.specs.ir_model.declared.operand.Operand.{Operand};
+ghost use Rattle.pass_frames_proof.specs.Beginning.{HasLiveTemporaries, HasPlainSlots, IsAtBegin};
 ghost use Rattle.pass_frames_proof.specs.Followed.{IsFollowed};
 ghost use Rattle.pass_frames_proof.specs.Related.{AreBuiltOf, Building};
-ghost use Rattle.pass_frames_proof.specs.Slotted.{HasListedSlots, HasSlotsThere};
+ghost use Rattle.pass_frames_proof.specs.Slotted.{HasListedSlots, HasSlotsApart, HasSlotsThere};
 ghost use Rattle.pass_frames_proof.specs.Stepping.{AreGiven};
+ghost use Rattle.pass_frames_proof.specs.Temporaries.{HasLedSlots};
 ghost use Rattle.pass_renewed_proof.specs.Renewed.{RenewedGiven};
 ghost use Rattle.pass_proofs.specs.run_source.declared.state.State.{State};
 
 /// Both runs begin at the start of one block. What the target may reach of it becomes less, and the source owns it.
-/// Slots of the frame were hidden, and stand behind begin in their fields.
+/// Slots of the frame were hidden, and stand behind begin in their fields. Those that are used before begin stood in
+/// temporaries: right behind begin the framed run copies them to their fields. The memory may be kept in a cell.
 pub fn begins_are_followed()
     ensures { (b : Building) (g : RenewedGiven) → AreGiven b g → (s t : State) → AreBuiltOf b s t
-        → (result : Option ℕ) (must_tail : Bool) (ty : Option Ty) (id : Arg) (u : Ty) (memory block : ℕ)
-        → IsAtBegin b g s result must_tail ty id u memory block → HasListedSlots s → HasSlotsThere s
-        → HasPlainSlots b t → IsFollowed b g s t }
+        → (result : Option ℕ) (must_tail : Bool) (ty : Option Ty) (id : Arg) (u : Ty) (memory : Operand)
+        (block : ℕ) → IsAtBegin b g s result must_tail ty id u memory block → HasListedSlots s → HasSlotsThere s
+        → HasPlainSlots b t → HasSlotsApart t → HasLedSlots t → HasLiveTemporaries b t → IsFollowed b g s t }
 {}

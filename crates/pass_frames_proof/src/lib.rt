@@ -30,6 +30,7 @@ pub mod leaving;
 pub mod led;
 pub mod lined;
 pub mod lines;
+pub mod located;
 pub mod marking;
 pub mod moved;
 pub mod offsets;

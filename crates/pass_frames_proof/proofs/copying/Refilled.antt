@@ -2,7 +2,7 @@
 -- suspended instances.
 use Rattle.std.proofs.Common.{◌≡◌, ◌∷◌, ◌∙◌, None, Some, inl, inr, refl, subst, sym, true, ℕ}
 use Rattle.pass_proofs.specs.flow_solver.Paths.{IsListed}
-use Rattle.pass_frames_proof.proofs.moved.Rest.{instance_on, related_on, same_place}
+use Rattle.pass_frames_proof.proofs.moved.Rest.{instance_on, on_homes, related_on, same_place}
 use Rattle.pass_frames_proof.proofs.stepping.Rest.{LeavesRest}
 use Rattle.pass_frames_proof.proofs.stepping.Stored.{ahead_kept, free_below, free_kept, free_on, store_left}
 use Rattle.pass_frames_proof.specs.Framings.{IsFraming}
@@ -68,3 +68,7 @@ module _ (b : Building) (s t : State) (r : AreBuiltOf b s t) (w u : World)
 
   pub refilled_related : AreBuiltOf b (record s { world = w }) (record t { world = u })
   refilled_related = related_on b s t r r.homes r.hides s.instances t.instances w u rest_refilled all_refilled
+
+  pub refilled_homes : refilled_related.homes ≡ r.homes
+  unfolding refilled_related
+  refilled_homes = on_homes b s t r r.homes r.hides s.instances t.instances w u rest_refilled all_refilled

@@ -1,38 +1,29 @@
 -- Right behind begin bytes of temporaries are copied into the frame, and addresses there go to cells.
-use Rattle.std.proofs.Common.{◌≡◌, ◌≢◌, ◌+◌, ◌*◌, ◌<◌, ◌≤◌, ◌^◌, ◌%◌, ◌∷◌, ◌++◌, ◌∙◌, [], List, None, Some, ap, arith, inl, inr, length, refl, subst, sym, ℕ}
+use Rattle.std.proofs.Common.{◌≡◌, ◌≢◌, ◌⊎◌, ◌+◌, ◌*◌, ◌<◌, ◌≤◌, ◌^◌, ◌%◌, ◌∷◌, ◌++◌, ◌∙◌, [], List, None, ap, arith, inl, inr, length, refl, subst, sym, ℕ}
 use Rattle.std.specs.List.{Contains}
-use Rattle.std.specs.Prelude.{false, pos, slice_get}
+use Rattle.std.specs.Prelude.{false}
 use Rattle.pass_proofs.specs.flow_solver.Paths.{IsListed}
 use Rattle.pass_proofs.proofs.ir_laws.facts.Members.{each_joined, each_turns}
 use Rattle.pass_proofs.specs.ir_laws.paths.woven_rules.Pairs.{AreDifferent}
-use Rattle.pass_proofs.specs.ir_model.Ty.{int, ptr}
+use Rattle.pass_proofs.specs.ir_model.Ty.{ptr}
 use Rattle.pass_proofs.specs.ir_model.declared.instr.Instr.{Instr}
-use Rattle.pass_proofs.specs.ir_model.declared.operand.Arg.{Arg}
-use Rattle.pass_proofs.specs.ir_model.declared.operand.Callee.{Callee}
 use Rattle.pass_proofs.specs.ir_model.declared.operand.Intrinsic.{Intrinsic}
 use Rattle.pass_proofs.specs.ir_model.declared.operand.Operand.{Operand}
-use Rattle.pass_proofs.specs.pass_addresses.Placing.{lies_outside}
-use Rattle.pass_proofs.specs.pass_copies.BeginCopies.{begin_copies, copy, put}
 use Rattle.pass_proofs.specs.pass_copies.declared.slot.EarlySlot.{EarlySlot}
-use Rattle.pass_proofs.specs.pass_fetch.Fetching.{address_behind, fetch_of, fetches_by, next_by, operand_by}
+use Rattle.pass_proofs.specs.pass_fetch.Fetching.{address_behind}
 use Rattle.pass_proofs.specs.pass_frames.Framed.{begin_of}
-use Rattle.pass_frames_proof.proofs.code.Idle.{only_idle}
 use Rattle.pass_frames_proof.proofs.distances.Sums.{set_from, value_set}
-use Rattle.pass_frames_proof.proofs.from_edges.Puts.{one_of, one_over, one_put, put_code, put_is, stored_at, w2 as put_work}
-use Rattle.pass_frames_proof.proofs.layers.Grown.{both_becomes}
-use Rattle.pass_frames_proof.proofs.layers.Idle.{all_stay}
+use Rattle.pass_frames_proof.proofs.from_edges.Puts.{one_of, one_over, one_put, put_code, stored_at, w2 as put_work}
+use Rattle.pass_frames_proof.proofs.led.Steps.{fills_elsewhere, still_world}
+use Rattle.pass_frames_proof.proofs.led.Through.{through_joined, through_turns}
 use Rattle.pass_frames_proof.proofs.lines.Cells.{cell_stays, other_block}
 use Rattle.pass_frames_proof.proofs.lines.Filled.{elsewhere_apart, others_stay, over_fewer, over_joined, over_none, over_sets}
-use Rattle.pass_frames_proof.proofs.lines.Fillers.{field_fetched}
-use Rattle.pass_frames_proof.specs.Code.{slot_table}
-use Rattle.pass_frames_proof.specs.Early.{AllApart, AllAreCopied, AllMayCopy, AreCopied, IsApartFromAll, IsCopied, IsCopiedSlot, IsFilledThere, MayCopy, MayCopyAll, copies_line, range_of}
+use Rattle.pass_frames_proof.specs.Early.{AllApart, AllAreCopied, AllMayCopy, AreCopied, IsApartFromAll, IsButCells, IsCopied, IsCopiedSlot, IsFilledThere, MayCopy, MayCopyAll, range_of}
 use Rattle.pass_frames_proof.specs.Entry.{cells_of}
-use Rattle.pass_frames_proof.specs.Layers.{Layer, becomes, grown, only}
-use Rattle.pass_frames_proof.specs.Lines.{HasOwnBlocks, NoneFilled, OneFilled, RunsOver, at_work}
-use Rattle.pass_frames_proof.specs.Passes.{fetching_at}
-use Rattle.pass_frames_proof.specs.Places.{Framing, addressing_layer, offsets, unmarked}
+use Rattle.pass_frames_proof.specs.Led.{RunsThrough}
+use Rattle.pass_frames_proof.specs.Lines.{Fills, HasOwnBlocks, NoneFilled, OneFilled, RunsOver, at_work}
+use Rattle.pass_frames_proof.specs.Places.{Framing}
 use Rattle.pass_frames_proof.specs.Related.{Anything, IsCell}
-use Rattle.pass_proofs.specs.pass_intrinsics.Lowered.{number_arg, pointer_arg}
 use Rattle.pass_proofs.proofs.addresses.numbers.Done.{address_done}
 use Rattle.pass_proofs.proofs.run_laws.access.Done.{copy_done}
 use Rattle.pass_proofs.proofs.run_laws.access.Ranges.{write_held}
@@ -41,71 +32,14 @@ use Rattle.pass_proofs.specs.run_laws.access.Lines.{AreDisjoint, Holds, IsCopyOf
 use Rattle.pass_proofs.specs.run_laws.changed.Changed.{Each}
 use Rattle.pass_proofs.specs.run_laws.memory.Standing.{AreByteRights}
 use Rattle.pass_proofs.specs.run_memory.declared.block.Byte.{Byte}
+use Rattle.pass_proofs.specs.run_memory.declared.block.MemoryBlock.{MemoryBlock}
 use Rattle.pass_proofs.specs.run_memory.declared.pointer.Value.{Value}
 use Rattle.pass_proofs.specs.run_source.declared.state.Activation.{Activation}
 use Rattle.pass_proofs.specs.run_step.Step.{Context, Done, Work, instr_action, set_memory, set_value}
 use Rattle.pass_proofs.specs.run_step.Values.{arg_values, value_in}
 use Rattle.pass_proofs.specs.run_step.declared.world.Slot.{Slot}
-
--- ---- the code
-
-abbrev pub copy_args : ℕ → EarlySlot → List Arg
-copy_args m s =
-    pointer_arg (Operand.Local m)
-    ∷ pointer_arg (Operand.Local s.temporary)
-    ∷ number_arg 64 (pos s.size)
-    ∷ record { ty = int 1; value = Operand.False }
-    ∷ []
-
-abbrev pub copy_from : ℕ → EarlySlot → Instr
-copy_from m s = Instr.Call None false None (Callee.Intrinsic Intrinsic.MemcpyI64) (copy_args m s)
-
-module _ (x : Framing) (k : ℕ) where
-  abbrev A : Layer (ℕ × Unit {0})
-  A = addressing_layer x k
-
-  -- an address is made, and the bytes are copied there
-  abbrev pub copy_code : ℕ → ℕ → EarlySlot → List Instr
-  copy_code m d s = address_behind m (begin_of x.function) d ∷ copy_from m s ∷ []
-
-  copy_is : (m d : ℕ) (s : EarlySlot) → slice_get (offsets x) s.slot ≡ Some (Some d)
-      → fetch_of (slot_table x) (Operand.Local s.temporary) ≡ None
-      → (becomes A (m, tt) (copy s) ≡ copy_code m d s) × (A.after (m, tt) (copy s) ≡ (m + 1, tt))
-  copy_is m d s told none =
-      let at = field_fetched x k s.slot d told in (
-        both_becomes (fetching_at (unmarked x) (slot_table x) k) (only (lies_outside (offsets x))) m tt (copy s)
-            ∙ (λ i. grown (only (lies_outside (offsets x))) tt
-            ((fetches_by m (at i) ++ (fetches_by (next_by m (at i)) (none i) ++ []))
-            ++ (Instr.Call None false None (Callee.Intrinsic Intrinsic.MemcpyI64)
-            (record { ty = ptr; value = operand_by m (at i) (Operand.Local s.slot) }
-            ∷ record { ty = ptr; value = operand_by (next_by m (at i)) (none i) (Operand.Local s.temporary) }
-            ∷ number_arg 64 (pos s.size) ∷ record { ty = int 1; value = Operand.False } ∷ []) ∷ [])))
-            ∙ all_stay (only (lies_outside (offsets x))) (copy_code m d s)
-            (only_idle (lies_outside (offsets x)) _ refl, (only_idle (lies_outside (offsets x)) _ refl, tt)) tt,
-        (λ i. (next_by (next_by m (at i)) (none i), tt)),
-      )
-
-  module _ (start : ℕ) where
-    abbrev pub one_code : (m : ℕ) (s : EarlySlot) → IsCopiedSlot x start s → List Instr
-    one_code m s p = copy_code m p.place.offset s ++ put_code x k (m + 1) p.place.offset s
-
-    abbrev pub copies_code : (m : ℕ) (ss : List EarlySlot) → Each (IsCopiedSlot x start) ss → List Instr
-    copies_code m [] ps = []
-    copies_code m (s ∷ ss) ps = one_code m s ps.0 ++ copies_code (m + 2) ss ps.1
-
-    pub copies_are : (m : ℕ) (ss : List EarlySlot) (ps : Each (IsCopiedSlot x start) ss)
-        → copies_line x k m ss ≡ copies_code m ss ps
-    copies_are m [] ps = refl
-    copies_are m (s ∷ ss) ps =
-        let d : ℕ = ps.0.place.offset in
-        let one = copy_is m d s ps.0.place.told ps.0.unfetched in
-        let two = put_is x k (m + 1) d s ps.0.place.told ps.0.place.unfetched in
-        let e : m + 1 + 1 ≡ m + 2 = omega arith in
-        (λ i. one.0 i ++ grown A (one.1 i) (put s.slot s.cell ∷ begin_copies ss))
-        ∙ (λ i. copy_code m d s ++ (two.0 i ++ grown A (two.1 i) (begin_copies ss)))
-        ∙ (λ i. copy_code m d s ++ (put_code x k (m + 1) d s ++ grown A (e i, tt) (begin_copies ss)))
-        ∙ ap (λ (js : List Instr). copy_code m d s ++ (put_code x k (m + 1) d s ++ js))
-        (copies_are (m + 2) ss ps.1)
+use Rattle.pass_proofs.specs.run_step.declared.world.World.{World}
+use Rattle.pass_frames_proof.proofs.early.CopyCode.{copies_are, copies_code, copy_args, copy_code, copy_from, one_code}
 
 -- ---- one slot is copied
 
@@ -221,6 +155,79 @@ module _ (x : Framing) (k : ℕ) (c : Context) (law : AreByteRights c.rights) (a
               (λ (q : Span). q.block ≢ n) no_cell spans of_cell),
         ) held
 
+    -- on the way
+    pub spared : (u : Work) (qs : List Span) → Fills c.rights qs w.world.memory u.world.memory
+        → Each (λ (q : Span). (q.block ≡ block) ⊎ Contains a.slots (record { alloca = s.cell; block = q.block })) qs
+        → u.world ≡ record w.world { memory = u.world.memory } → IsButCells a block (s ∷ []) w u
+    spared u qs fills inside world = record {
+      world = world;
+      others = λ e ne none.
+          fills_elsewhere c.rights qs w.world.memory u.world.memory e fills
+          (each_turns
+          (λ (q : Span). (q.block ≡ block) ⊎ Contains a.slots (record { alloca = s.cell; block = q.block }))
+          (λ (q : Span). q.block ≡ e → ⊥) (apart e ne none) qs inside);
+    }
+      where
+        apart : (e : ℕ) → e ≢ block
+            → ((z : EarlySlot) → IsListed z (s ∷ []) → Contains a.slots (record { alloca = z.cell; block = e }) → ⊥)
+            → (q : Span) → (q.block ≡ block) ⊎ Contains a.slots (record { alloca = s.cell; block = q.block })
+            → q.block ≡ e → ⊥
+        apart e ne none q (inl at) same = ne (sym same ∙ at)
+        apart e ne none q (inr co) same =
+            none s (inl refl) (subst (λ (n : ℕ). Contains a.slots (record { alloca = s.cell; block = n })) same co)
+
+    at_cell : Each (λ (q : Span). (q.block ≡ block) ⊎ Contains a.slots (record { alloca = s.cell; block = q.block }))
+        spans
+    at_cell =
+        each_turns (λ (q : Span). Contains a.slots (record { alloca = s.cell; block = q.block }))
+        (λ (q : Span). (q.block ≡ block) ⊎ Contains a.slots (record { alloca = s.cell; block = q.block }))
+        (λ q co. inr co) spans of_cell
+
+    pub spared_here : IsButCells a block (s ∷ []) w z
+    spared_here = spared z (span ∷ spans) total.fills (inl refl, at_cell) total.world
+
+    spared_copied : (u : Work) → u.world ≡ v.world → IsButCells a block (s ∷ []) w u
+    spared_copied u same =
+        spared u (span ∷ [])
+        (subst (λ (m : List MemoryBlock). Fills c.rights (span ∷ []) w.world.memory m)
+        (ap (λ (q : World). q.memory) (sym same)) both.fills) (inl refl, tt)
+        (same ∙ (λ j. record w.world { memory = (sym same j).memory }))
+
+    pub through : RunsThrough c (IsButCells a block (s ∷ []) w) (one_code x k start m s p) w z
+    through = (
+      spared w [] (NoneFilled w.world.memory) tt refl,
+      (
+        w1,
+        (
+          address_done c w m block start d (Operand.Local (begin_of x.function)) begun p.place.near,
+          (
+            spared w1 [] (NoneFilled w.world.memory) tt refl,
+            (
+              v,
+              (
+                copied,
+                (
+                  spared_copied v refl,
+                  (
+                    third.runs.0,
+                    (
+                      third.runs.1.0,
+                      (
+                        spared_copied third.runs.0
+                            (still_world c v third.runs.0 (address_behind (m + 1) (begin_of x.function) d) tt
+                            third.runs.1.0),
+                        third.runs.1.1,
+                      ),
+                    ),
+                  ),
+                ),
+              ),
+            ),
+          ),
+        ),
+      ),
+    )
+
     -- it is copied
     pub here : IsCopied x c a block start z s p
     here = record {
@@ -305,12 +312,33 @@ module _ (x : Framing) (k : ℕ) (c : Context) (law : AreByteRights c.rights) (a
       other_block a u.cell cell q.block n own of co (λ e. lone (inl (sym e)))
   cell_apart cell n co (u ∷ us) rs lone q (inr f) = cell_apart cell n co us rs.1 (λ l. lone (inr l)) q f
 
+  -- fewer cells change fewer blocks, and so it is of two lines
+  more_cells : (ss zs : List EarlySlot) → ((u : EarlySlot) → IsListed u ss → IsListed u zs) → (w u : Work)
+      → IsButCells a block ss w u → IsButCells a block zs w u
+  more_cells ss zs more w u h = record {
+    world = h.world;
+    others = λ e ne none. h.others e ne (λ s l. none s (more s l));
+  }
+
+  both_cells : (ss : List EarlySlot) (w v u : Work) → IsButCells a block ss w v → IsButCells a block ss v u
+      → IsButCells a block ss w u
+  both_cells ss w v u h g = record {
+    world = g.world ∙ ap (λ (q : World). record q { memory = u.world.memory }) h.world;
+    others = λ e ne none. g.others e ne none ∙ h.others e ne none;
+  }
+
   record AreDone (w : Work) (m : ℕ) (ss : List EarlySlot) (ps : Each (IsCopiedSlot x start) ss) : Type 0 where
     work : Work
     spans : List Span
     over : RunsOver c (copies_code x k start m ss ps) m spans w work
+    through : RunsThrough c (IsButCells a block ss w) (copies_code x k start m ss ps) w work
+    spares : IsButCells a block ss w work
     inside : Each (IsFilledThere x a block start ss ps) spans
     copied : AllAreCopied x c a block start work ss ps
+
+  first_of : (ss : List EarlySlot) (s u : EarlySlot) → IsListed u (s ∷ []) → IsListed u (s ∷ ss)
+  first_of ss s u (inl e) = inl e
+  first_of ss s u (inr none) = absurd none
 
   all_run : (ss : List EarlySlot) (ps : Each (IsCopiedSlot x start) ss) (m : ℕ) (w : Work)
       → value_in w.values (begin_of x.function) ≡ pointer_at block start → begin_of x.function < m
@@ -318,7 +346,15 @@ module _ (x : Framing) (k : ℕ) (c : Context) (law : AreByteRights c.rights) (a
       → ((s u : EarlySlot) → IsListed s ss → IsListed u ss → s.cell ≢ u.temporary) → AllApart x block start ss ps
       → AllMayCopy x c a block start m w ss ps → AreDone w m ss ps
   all_run [] ps m w begun old room once names apart f =
-      record { work = w; spans = []; over = over_none c m w; inside = tt; copied = tt }
+      record {
+        work = w;
+        spans = [];
+        over = over_none c m w;
+        through = refl;
+        spares = record { world = refl; others = λ e ne none. refl };
+        inside = tt;
+        copied = tt;
+      }
   all_run (s ∷ ss) ps m w begun old room once names apart f =
       let p : IsCopiedSlot x start s = ps.0 in
       let h : MayCopy x c a block start m w s p = f.0 in
@@ -332,7 +368,18 @@ module _ (x : Framing) (k : ℕ) (c : Context) (law : AreByteRights c.rights) (a
       (all_later w m s p h begun old two ss ps.1 once.0 (λ u l. names s u (inl refl) (inr l)) apart.0 f.1) in
       let here_copied : IsCopied x c a block start v s p = here w m s p h begun old two in
       let mine : List Span = spans w m s p h begun old two in
+      let spared_one : IsButCells a block (s ∷ ss) w v =
+      more_cells (s ∷ []) (s ∷ ss) (λ u l. first_of ss s u l) w v (spared_here w m s p h begun old two) in
       record {
+        through = through_joined c (IsButCells a block (s ∷ ss) w) (one_code x k start m s p)
+            (copies_code x k start (m + 2) ss ps.1) w v r.work
+            (through_turns c (IsButCells a block (s ∷ []) w) (IsButCells a block (s ∷ ss) w)
+            (more_cells (s ∷ []) (s ∷ ss) (λ u l. first_of ss s u l) w) (one_code x k start m s p) w v
+            (through w m s p h begun old two))
+            (through_turns c (IsButCells a block ss v) (IsButCells a block (s ∷ ss) w)
+            (λ u g. both_cells (s ∷ ss) w v u spared_one (more_cells ss (s ∷ ss) (λ q l. inr l) v u g))
+            (copies_code x k start (m + 2) ss ps.1) v r.work r.through);
+        spares = both_cells (s ∷ ss) w v r.work spared_one (more_cells ss (s ∷ ss) (λ q l. inr l) v r.work r.spares);
         work = r.work;
         spans = (span w m s p h begun old two ∷ mine) ++ r.spans;
         over = over_joined c (one_code x k start m s p) (copies_code x k start (m + 2) ss ps.1) m
@@ -378,6 +425,9 @@ slots_copied x c law a k block start ss ps m w h =
       spans = r.spans;
       over = subst (λ (line : List Instr). RunsOver c line m r.spans w r.work) (sym (copies_are x k start m ss ps))
           r.over;
+      through = subst (λ (line : List Instr). RunsThrough c (IsButCells a block ss w) line w r.work)
+          (sym (copies_are x k start m ss ps)) r.through;
+      spares = r.spares;
       inside = r.inside;
       copied = r.copied;
     }

@@ -201,16 +201,16 @@ module _ (x : Framing) (is : IsFraming x) where
   abbrev names : ℕ
   names = length (with_copies x).names
 
-  abbrev Class : ℕ → Type 0
+  abbrev pub Class : ℕ → Type 0
   Class v = IsOfClass SlotClass.Frame x.contents.classes 0 (allocas_of x.function) v
 
-  frame_class : (s : EarlySlot) → IsListed s (copies x).slots → Class s.slot
+  pub frame_class : (s : EarlySlot) → IsListed s (copies x).slots → Class s.slot
   frame_class s l =
       ⊎_elim (λ h. absurd (never (length x.function.names) s.slot h)) (λ y. y)
       (slot_flagged SlotClass.Frame x.contents.classes 0 (allocas_of x.function)
       (replicate (length x.function.names) false) s.slot (flagged_slot x s l))
 
-  slot_low : (s : EarlySlot) → Class s.slot → s.slot < First x is
+  pub slot_low : (s : EarlySlot) → Class s.slot → s.slot < First x is
   slot_low s c =
       pointer_low x.code is.position x.layout x.function x.contents is.begin names is.frameable s.slot
       (alloca_pointer x.code is.position x.layout x.function x.contents is.begin names is.frameable s.slot

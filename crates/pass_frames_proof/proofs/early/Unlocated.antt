@@ -19,7 +19,7 @@ use Rattle.pass_proofs.proofs.fetch.shape.Fetching.{none_fetched}
 use Rattle.pass_proofs.specs.fetch.rules.Fetches.{AreUnfetched}
 
 -- what is fetched makes an access of nothing else
-access_same : (t : List (Option Fetch)) (n : ℕ) (i : Instr) → is_access (with_fetched t n i) ≡ is_access i
+pub access_same : (t : List (Option Fetch)) (n : ℕ) (i : Instr) → is_access (with_fetched t n i) ≡ is_access i
 access_same t n (Instr.Binary r op flags ty a b) = refl
 access_same t n (Instr.Icmp r pred ty a b) = refl
 access_same t n (Instr.Select r k a b) = refl

@@ -59,15 +59,15 @@ lined_fetched t n (Instr.Call r must_tail ty (Callee.Local v) args) q = on (fetc
     on (Some f) = tt
 
 -- what passes leave of it
-record IsLeft (x : Framing) (i : Instr) : Type 0 where
-  row : save_row (plan x) i ≡ []
-  behind_it : behind (copies x) i ≡ []
-  stays_it : stays (marked x) i ≡ true
-  same : without_promise_of i ≡ i
-  outside : lies_outside (offsets x) i ≡ true
-  no_alloca : is_no_alloca i ≡ true
+pub record IsLeft (x : Framing) (i : Instr) : Type 0 where
+  pub row : save_row (plan x) i ≡ []
+  pub behind_it : behind (copies x) i ≡ []
+  pub stays_it : stays (marked x) i ≡ true
+  pub same : without_promise_of i ≡ i
+  pub outside : lies_outside (offsets x) i ≡ true
+  pub no_alloca : is_no_alloca i ≡ true
 
-left : (x : Framing) (i : Instr) → IsLined i → IsLeft x i
+pub left : (x : Framing) (i : Instr) → IsLined i → IsLeft x i
 left x (Instr.Binary r op flags ty a b) q =
     record { row = refl; behind_it = refl; stays_it = refl; same = refl; outside = refl; no_alloca = refl }
 left x (Instr.Icmp r pred ty a b) q =
@@ -112,12 +112,12 @@ left x (Instr.Call (Some r) must_tail ty (Callee.Intrinsic _) args) q =
 
 -- ---- stores
 
-still_no_alloca : (i : Instr) → IsStill i → is_no_alloca i ≡ true
+pub still_no_alloca : (i : Instr) → IsStill i → is_no_alloca i ≡ true
 still_no_alloca (Instr.Load r ty p align) s = refl
 still_no_alloca (Instr.Gep r inbounds ty p indices) s = refl
 still_no_alloca _ s = absurd s
 
-stored_no_alloca : (x : Framing) (o : Option ℕ) → Each (λ (j : Instr). is_no_alloca j
+pub stored_no_alloca : (x : Framing) (o : Option ℕ) → Each (λ (j : Instr). is_no_alloca j
     ≡ true) (stored_result (plan x) o)
 stored_no_alloca x None = tt
 stored_no_alloca x (Some v) = by_place (entry (plan x).places v)
@@ -131,7 +131,7 @@ stored_no_alloca x (Some v) = by_place (entry (plan x).places v)
     by_place (Some at) = by_kept (slice_get (plan x).kept at)
 
 -- no distance is summed
-unmeasured : (x : Framing) (n : ℕ) (i : Instr) → ((r : ℕ) → result_of i ≡ Some r → entry (plan x).cells r ≡ None)
+pub unmeasured : (x : Framing) (n : ℕ) (i : Instr) → ((r : ℕ) → result_of i ≡ Some r → entry (plan x).cells r ≡ None)
     → distance_behind x.code (plan x) n i ≡ []
 unmeasured x n (Instr.Gep r inbounds ty base indices) h =
     ap (λ (o : Option ℕ). distance_into x.code (distance_from (plan x) r) n o ty indices) (h r refl)
@@ -244,7 +244,7 @@ module _ (x : Framing) (k : ℕ) (n : Placed) (i : Instr) (q : IsLined i) (u : I
 
 -- ---- calls which give a frame, and markers
 
-gives_fetched : (m : Module) (t : List (Option Fetch)) (n : ℕ) (i : Instr) → IsLined i
+pub gives_fetched : (m : Module) (t : List (Option Fetch)) (n : ℕ) (i : Instr) → IsLined i
     → gives_frame m (with_fetched t n i) ≡ gives_frame m i
 gives_fetched m t n (Instr.Binary r op flags ty a b) q = refl
 gives_fetched m t n (Instr.Icmp r pred ty a b) q = refl
@@ -265,12 +265,12 @@ gives_fetched m t n (Instr.Call r must_tail ty (Callee.Local v) args) q = on (fe
     on None = refl
     on (Some f) = refl
 
-still_gives : (m : Module) (i : Instr) → IsStill i → GivesNone m i
+pub still_gives : (m : Module) (i : Instr) → IsStill i → GivesNone m i
 still_gives m (Instr.Load r ty p align) s = refl
 still_gives m (Instr.Gep r inbounds ty p indices) s = refl
 still_gives m _ s = absurd s
 
-stored_gives : (m : Module) (x : Framing) (o : Option ℕ) → Each (GivesNone m) (stored_result (plan x) o)
+pub stored_gives : (m : Module) (x : Framing) (o : Option ℕ) → Each (GivesNone m) (stored_result (plan x) o)
 stored_gives m x None = tt
 stored_gives m x (Some v) = by_place (entry (plan x).places v)
   where

@@ -39,7 +39,7 @@ module _ (t u : List (Option Fetch)) (given more : ℕ → Value) (d : Context) 
     (apart : (v : ℕ) → n ≤ v → fetch_of u (Operand.Local v) ≡ None) where
   -- ---- what the second table is asked behind the first
 
-  can_later : (w x : Work) (a : Operand) (m : ℕ) → SetsFrom n w x → n ≤ m → CanFetch u more n d w a
+  pub can_later : (w x : Work) (a : Operand) (m : ℕ) → SetsFrom n w x → n ≤ m → CanFetch u more n d w a
       → CanFetch u more m d x a
   can_later w x (Operand.Local v) m s le h = λ f e. let y = h f e in
       let low : base_of f < n = y.1 in
@@ -65,7 +65,7 @@ module _ (t u : List (Option Fetch)) (given more : ℕ → Value) (d : Context) 
   below_by a k m None le fit h = more_below n m a le h
   below_by a k m (Some f) le fit h = omega (arith, fit)
 
-  all_low : (xs : List Operand) (k m : ℕ) → n ≤ m → next_after_all t k xs ≤ m → Each (IsBelow n) xs
+  pub all_low : (xs : List Operand) (k m : ℕ) → n ≤ m → next_after_all t k xs ≤ m → Each (IsBelow n) xs
       → Each (IsBelow m) (fetched_all t k xs)
   all_low [] k m le fit h = tt
   all_low (a ∷ xs) k m le fit h =

@@ -1,0 +1,4 @@
+pub mod Finish
+pub mod Giving
+pub mod State
+pub mod Touched

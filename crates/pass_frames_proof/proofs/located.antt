@@ -1,0 +1,12 @@
+pub mod Access
+pub mod Copied
+pub mod Does
+pub mod Followed
+pub mod Free
+pub mod Line
+pub mod Moved
+pub mod Seen
+pub mod State
+pub mod Stored
+pub mod Thrice
+pub mod Wheres
