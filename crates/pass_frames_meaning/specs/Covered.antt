@@ -16,6 +16,7 @@ use Rattle.pass_frames_proof.specs.pass_renewed_proof.Renewed.{renewed_step}
 use Rattle.pass_frames_proof.specs.run_agreement.Costs.{AgreesBy, Through}
 use Rattle.pass_frames_proof.specs.run_agreement.Machines.{IsFine}
 use Rattle.pass_frames_proof.specs.run_framed.Framed.{framed_state_at}
+use Rattle.pass_frames_proof.specs.run_source.Source.{first_state}
 use Rattle.pass_frames_proof.specs.run_source.declared.state.State.{State}
 use Rattle.pass_frames_proof.specs.run_states.moved_states.Beside.{framed_machine}
 
@@ -26,11 +27,21 @@ pub data IsCovered (c : Setting) (s : State) : Type 0 where
       → IsCovered c s
   Makes : IsEntering s.top.mode → IsCovered c s
 
+-- What is told of states of that run: it holds at the start, and behind a step from such a state that is related.
+pub record IsKeptOver (c : Setting) (b : Building) (Holds : State → Type 0) : Type 0 where
+  pub first : Holds (first_state c.code c.entry c.args)
+  pub step : (n m : ℕ) → IsCovered c (renewed_state_at (second_given c) c.entry c.args n)
+      → AreBuiltOf b (renewed_state_at (second_given c) c.entry c.args n) (framed_state_at b.given c.entry c.args m)
+      → (renewed_state_at (second_given c) c.entry c.args n).outcome ≡ Outcome.Running
+      → Holds (renewed_state_at (second_given c) c.entry c.args n)
+      → Holds (renewed_step (second_given c) (renewed_state_at (second_given c) c.entry c.args n))
+
 -- each step from such a state is followed
-abbrev pub AreCoveredStepsFollowed : Setting → Building → Type 0
-AreCoveredStepsFollowed c b = (n m : ℕ) → IsCovered c (renewed_state_at (second_given c) c.entry c.args n)
+abbrev pub AreCoveredStepsFollowed : Setting → Building → (State → Type 0) → Type 0
+AreCoveredStepsFollowed c b Holds = (n m : ℕ) → IsCovered c (renewed_state_at (second_given c) c.entry c.args n)
     → AreBuiltOf b (renewed_state_at (second_given c) c.entry c.args n) (framed_state_at b.given c.entry c.args m)
     → (renewed_state_at (second_given c) c.entry c.args n).outcome ≡ Outcome.Running
+    → Holds (renewed_state_at (second_given c) c.entry c.args n)
     → IsFine (renewed_step (second_given c) (renewed_state_at (second_given c) c.entry c.args n)).outcome
     → IsFollowed b (second_given c) (renewed_state_at (second_given c) c.entry c.args n)
     (framed_state_at b.given c.entry c.args m)

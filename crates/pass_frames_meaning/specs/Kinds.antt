@@ -1,13 +1,15 @@
 -- Steps of coroutines that are kinds of their own: what they ask of the two modules and of states.
 use Rattle.std.specs.List.{Contains, list_any}
-use Rattle.std.specs.Prelude.{◌≡◌, ◌≢◌, ◌⊎◌, ◌+◌, ◌<◌, ◌≤◌, ◌==◌, if◌then◌else◌, ℕ, Bool, true, false, List, [], length, not, slice_get, Some, None, Option}
+use Rattle.std.specs.Prelude.{if◌then◌else◌, ◌≡◌, ◌≢◌, ◌⊎◌, ◌+◌, ◌<◌, ◌≤◌, ◌==◌, ℕ, Bool, true, false, List, length, map, not, slice_get, Some, Option}
 use Rattle.pass_frames_proof.specs.flow_solver.Paths.{IsListed}
 use Rattle.pass_frames_proof.specs.frame_classes.declared.class.SlotClass.{SlotClass}
 use Rattle.pass_frames_proof.specs.frame_contents.Held.{position_of}
 use Rattle.pass_frames_proof.specs.ir_model.Layout.{size_of}
 use Rattle.pass_frames_proof.specs.ir_model.Names.{function_at}
 use Rattle.pass_frames_proof.specs.ir_model.Ty.{Ty}
+use Rattle.pass_frames_proof.specs.ir_laws.paths.woven_rules.Pairs.{AreDifferent}
 use Rattle.pass_frames_proof.specs.ir_model.declared.instr.Instr.{Instr}
+use Rattle.pass_frames_proof.specs.ir_model.declared.module.Module.{Module}
 use Rattle.pass_frames_proof.specs.ir_model.declared.operand.Arg.{Arg}
 use Rattle.pass_frames_proof.specs.ir_model.declared.operand.Callee.{Callee}
 use Rattle.pass_frames_proof.specs.ir_model.declared.operand.Intrinsic.{Intrinsic}
@@ -24,12 +26,14 @@ use Rattle.pass_frames_proof.specs.pass_frames.Tables.{class_flags, offset_at}
 use Rattle.pass_frames_meaning.specs.Setting.{Setting}
 use Rattle.pass_frames_meaning.specs.Spared.{AreFieldsApart, HasFieldAt}
 use Rattle.pass_frames_proof.specs.pass_copies.declared.slot.EarlySlot.{EarlySlot}
-use Rattle.pass_frames_proof.specs.Beginning.{is_in_frame}
-use Rattle.pass_frames_proof.specs.Followed.{IsFollowed}
+use Rattle.pass_frames_proof.specs.Beginning.{HasLiveTemporaries, is_in_frame}
+use Rattle.pass_frames_proof.specs.Entry.{cells_of}
+use Rattle.pass_frames_proof.specs.FromEdges.{IsEarlyInFrame}
 use Rattle.pass_frames_proof.specs.Places.{Framing, copies, edged, framed, instrs_at, offsets, own_place, plan}
 use Rattle.pass_frames_proof.specs.Related.{Building, IsKeptValue, IsSuspendNumber, is_coroutine, is_first}
 use Rattle.pass_frames_proof.specs.Saving.{save_call}
 use Rattle.pass_frames_proof.specs.Slotted.{AreRangesApart, HasFrameThere, IsSlotField}
+use Rattle.pass_frames_proof.specs.Temporaries.{HasLedSlots}
 use Rattle.pass_frames_proof.specs.pass_proofs.addresses.rules.Addresses.{lies_in_frame}
 use Rattle.pass_frames_proof.specs.pass_intrinsics.Shapes.{suspends_of}
 use Rattle.pass_frames_proof.specs.pass_renewed_proof.Renewed.{renewed_step}
@@ -73,6 +77,16 @@ pub record HasSlotField (b : Building) (func name size align : ℕ) : Type 0 whe
   pub position : ℕ
   pub held : position_of (b.framing func).contents.held name ≡ Some position
   pub field : IsSlotField (layout_of b.given.layouts func) (offset_at (b.framing func).layout position) size align
+
+-- What is known of the slots of a coroutine that are used before begin. Each has its place in the frame, bytes (Y4) and
+-- a cell of its own. It is as large as its alloca says.
+pub record AreEarlyFields (b : Building) (code : Module) (func : ℕ) : Type 0 where
+  pub place : (e : EarlySlot) → Contains (copies (b.framing func)).slots e → IsEarlyInFrame (b.framing func) 0 e
+  pub some : (e : EarlySlot) → Contains (copies (b.framing func)).slots e → 0 < e.size
+  pub sized : (e : EarlySlot) → Contains (copies (b.framing func)).slots e → (at v align : ℕ) (ty : Ty)
+      → slice_get (instrs_at (b.framing func) 0) at ≡ Some (Instr.Alloca v ty align) → v ≡ e.slot
+      → (size_of code ty ≡ e.size) × (1 ≤ align)
+  pub cells : AreDifferent (cells_of (copies (b.framing func)).slots)
 
 -- two ranges, the one behind the other
 abbrev pub AreBehind : (o m p n : ℕ) → Type 0
@@ -136,12 +150,13 @@ pub record KeepsKinds (c : Setting) : Type 0 where
       → slice_get (instrs_at (c.b.framing func) 0) at ≡ Some (Instr.Alloca v ty align) → (e : EarlySlot)
       → Contains (copies (c.b.framing func)).slots e → e.slot ≡ v
       → (lies_in_frame (offsets (c.b.framing func)) v ≡ true) × (e.ty ≡ ty) × (e.align ≡ align)
-  -- K2: there is one begin
-  pub begins : (func block at : ℕ) (result : Option ℕ) (must_tail : Bool) (ty : Option Ty) (args : List Arg) (v : ℕ)
+  pub early_fields : (func : ℕ) → is_coroutine c.b func ≡ true → AreEarlyFields c.b c.g.given.code func
+  -- K2: there is one begin, and it has a name
+  pub begins : (func block at : ℕ) (result : Option ℕ) (must_tail : Bool) (ty : Option Ty) (args : List Arg)
       → is_coroutine c.b func ≡ true
       → fetch (function_at c.g.given.code func) block at
-      ≡ AtInstr (Instr.Call result must_tail ty (Callee.Intrinsic Intrinsic.CoroBegin) args) → result ≡ Some v
-      → v ≡ begin_of (c.b.framing func).function
+      ≡ AtInstr (Instr.Call result must_tail ty (Callee.Intrinsic Intrinsic.CoroBegin) args)
+      → result ≡ Some (begin_of (c.b.framing func).function)
   -- the frame's size is that of its layout
   pub sizes : (func : ℕ) → is_coroutine c.b func ≡ true
       → (layout_of c.b.given.layouts func).size ≡ (frame_of c.g.given.sizes func).size
@@ -195,22 +210,19 @@ pub record IsOwnAlloca (c : Setting) (s : State) (slot : Slot) : Type 0 where
   pub sized : (z : MemoryBlock) → slice_get s.world.memory slot.block ≡ Some z
       → (z.size ≡ size_of c.g.given.code ty) × (z.align ≡ align)
 
--- Begin's memory is a name's, which is kept in no cell. (It is kept in one where it crosses a suspend.)
-pub record IsPlainMemory (x : Framing) (args : List Arg) : Type 0 where
-  pub memory : ℕ
-  pub takes : operand_at args 1 ≡ Operand.Local memory
-  pub unkept : entry (plan x).places memory ≡ None
-  pub outside : lies_in_frame (offsets x) memory ≡ false
-
 -- Where begin stands at the place. All of this is an invariant of a run.
 pub record MayBegin (c : Setting) (s t : State) : Type 0 where
   -- no way leads to begin behind a suspend
   pub ramp : s.top.mode ≡ Mode.Ramp
   pub allocas : (slot : Slot) → Contains s.top.slots slot → IsOwnAlloca c s slot
-  -- what will lie in the frame holds nothing, because no access uses it before begin
+  -- what will lie in the frame holds nothing, if no access uses it before begin
   pub blank : (slot : Slot) → Contains s.top.slots slot
-      → lies_in_frame (offsets (c.b.framing s.top.func)) slot.alloca ≡ true → (z : MemoryBlock)
-      → slice_get s.world.memory slot.block ≡ Some z → is_live z.life ≡ true → IsBlank z
+      → lies_in_frame (offsets (c.b.framing s.top.func)) slot.alloca ≡ true
+      → ((e : EarlySlot) → Contains (copies (c.b.framing s.top.func)).slots e → e.slot ≢ slot.alloca)
+      → (z : MemoryBlock) → slice_get s.world.memory slot.block ≡ Some z → is_live z.life ≡ true → IsBlank z
+  -- an access follows the slot's alloca, and so each slot that is used before begin was made
+  pub made : (e : EarlySlot) → Contains (copies (c.b.framing s.top.func)).slots e
+      → (slot : Slot) × Contains s.top.slots slot × (slot.alloca ≡ e.slot)
   -- slots that live at once conflict
   pub apart : (one other : Slot) → Contains s.top.slots one → Contains s.top.slots other
       → is_in_frame (c.b.framing s.top.func) one ≡ true → is_in_frame (c.b.framing s.top.func) other ≡ true
@@ -220,16 +232,22 @@ pub record MayBegin (c : Setting) (s t : State) : Type 0 where
       → position_of (c.b.framing s.top.func).contents.held other.alloca ≡ Some q
       → AreRangesApart (offset_at (c.b.framing s.top.func).layout p) x.size
       (offset_at (c.b.framing s.top.func).layout q) y.size
+  -- an alloca gives one of them, and their fields lie apart, dead or alive: such a slot conflicts with each other one
+  pub early_slots : AreDifferent (map (λ (e : EarlySlot). e.slot) (copies (c.b.framing s.top.func)).slots)
+  pub early_apart : (e f : EarlySlot) → Contains (copies (c.b.framing s.top.func)).slots e
+      → Contains (copies (c.b.framing s.top.func)).slots f → e.slot ≢ f.slot → (p q : ℕ)
+      → position_of (c.b.framing s.top.func).contents.held e.slot ≡ Some p
+      → position_of (c.b.framing s.top.func).contents.held f.slot ≡ Some q
+      → AreRangesApart (offset_at (c.b.framing s.top.func).layout p) e.size
+      (offset_at (c.b.framing s.top.func).layout q) f.size
   -- slots of the framed run are of allocas
   pub framed_slots : (slot : Slot) → Contains t.top.slots slot
       → is_among (own_facts c.b.given.given t).ramp_slots slot ≡ true
+  -- and their names lead to them; temporaries live, since no marker names one
+  pub led : HasLedSlots t
+  pub live : HasLiveTemporaries c.b t
 
 -- ---- in all
-
--- Begin is another case where a slot is used before it, or its memory is kept in a cell.
-pub record IsPlainBegin (x : Framing) (args : List Arg) : Type 0 where
-  pub none : (copies x).slots ≡ []
-  pub memory : IsPlainMemory x args
 
 -- what is asked of a state of a coroutine, by what stands at its place
 pub record MayKinds (c : Setting) (s t : State) : Type 0 where
@@ -242,12 +260,4 @@ pub record MayKinds (c : Setting) (s t : State) : Type 0 where
       ≡ AtInstr (Instr.Call result must_tail ty (Callee.Intrinsic Intrinsic.CoroSave) args) → MaySave c s
   pub begins : (result : Option ℕ) (must_tail : Bool) (ty : Option Ty) (args : List Arg)
       → fetch (function_of c.g.given s) s.top.block s.top.at
-      ≡ AtInstr (Instr.Call result must_tail ty (Callee.Intrinsic Intrinsic.CoroBegin) args)
-      → IsPlainBegin (c.b.framing s.top.func) args → MayBegin c s t
-
-abbrev pub AreOtherBeginsFollowed : Setting → State → State → Type 0
-AreOtherBeginsFollowed c s t =
-    (result : Option ℕ) (must_tail : Bool) (ty : Option Ty) (args : List Arg)
-    → fetch (function_of c.g.given s) s.top.block s.top.at
-    ≡ AtInstr (Instr.Call result must_tail ty (Callee.Intrinsic Intrinsic.CoroBegin) args)
-    → (IsPlainBegin (c.b.framing s.top.func) args → ⊥) → IsFollowed c.b c.g s t
+      ≡ AtInstr (Instr.Call result must_tail ty (Callee.Intrinsic Intrinsic.CoroBegin) args) → MayBegin c s t

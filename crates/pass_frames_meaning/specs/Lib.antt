@@ -5,8 +5,10 @@ pub use Rattle.pass_frames_proof.specs.pass_renewed_proof as pass_renewed_proof
 pub use Rattle.pass_renewed_meaning.specs.run_hooks as run_hooks
 pub use Rattle.run_slots.specs as run_slots
 pub use Rattle.pass_renewed_meaning.specs.run_types as run_types
+pub mod Accesses
 pub mod Anew
 pub mod Based
+pub mod Blank
 pub mod Called
 pub mod Coroutines
 pub mod Covered
@@ -22,6 +24,7 @@ pub mod Marks
 pub mod Once
 pub mod Ordinary
 pub mod Others
+pub mod Owned
 pub mod Plain
 pub mod Pointers
 pub mod Setting

@@ -1,7 +1,7 @@
 //! Steps of coroutines that are kinds of their own: coro.id, begin, saves, allocas, and getelementptrs whose distance is
 //! kept.
 
-ghost use Rattle.std.specs.Prelude.{◌≡◌, ℕ, Bool, List, Option, Some, [], true};
+ghost use Rattle.std.specs.Prelude.{◌≡◌, ℕ, Bool, List, Option, Some, true};
 ghost use Rattle.pass_frames_proof.specs.ir_base.declared.outcome.Outcome.{Outcome};
 ghost use Rattle.pass_frames_proof.specs.ir_model.Ty.{Ty};
 ghost use Rattle.pass_frames_proof.specs.ir_model.declared.instr.Instr.{Instr};
@@ -11,10 +11,10 @@ ghost use Rattle.pass_frames_proof.specs.ir_model.declared.operand.Intrinsic.{In
 ghost use Rattle.pass_frames_proof.specs.ir_model.declared.operand.Operand.{Operand};
 ghost use Rattle.pass_frames_proof.specs.pass_cells.Kept.{entry};
 ghost use Rattle.pass_frames_meaning.specs.Coroutines.{IsOwnKind, MayFollow};
-ghost use Rattle.pass_frames_meaning.specs.Kinds.{AreOtherBeginsFollowed, AreSlotsMade, IsPlainMemory, KeepsKinds, MayBegin, MayKinds, MayMake, MaySave};
+ghost use Rattle.pass_frames_meaning.specs.Kinds.{AreSlotsMade, KeepsKinds, MayBegin, MayKinds, MayMake, MaySave};
 ghost use Rattle.pass_frames_meaning.specs.Setting.{AreOfRuns, KeepsAll, Setting};
 ghost use Rattle.pass_frames_proof.specs.Followed.{IsFollowed};
-ghost use Rattle.pass_frames_proof.specs.Places.{copies, plan};
+ghost use Rattle.pass_frames_proof.specs.Places.{plan};
 ghost use Rattle.pass_frames_proof.specs.Related.{AreBuiltOf, is_coroutine};
 ghost use Rattle.pass_frames_proof.specs.Stepping.{IsNotEntering};
 ghost use Rattle.pass_frames_proof.specs.pass_renewed_proof.Renewed.{renewed_step};
@@ -66,27 +66,24 @@ pub fn allocas_of_coroutines_are_followed()
         → IsFollowed c.b c.g s t }
 {}
 
-/// So is begin, where no slot is used before it and its memory is kept in no cell.
+/// So is begin, also where slots are used before it, or its memory is kept in a cell.
 pub fn begins_of_coroutines_are_followed()
     ensures { (c : Setting) → KeepsAll c → KeepsKinds c → (s t : TheState) (r : AreBuiltOf c.b s t)
         → AreOfRuns c s t r → s.outcome ≡ Outcome.Running → IsFine (renewed_step c.g s).outcome
         → is_coroutine c.b s.top.func ≡ true → IsNotEntering s.top.mode → MayFollow c s
-        → (copies (c.b.framing s.top.func)).slots ≡ [] → MayBegin c s t
+        → MayBegin c s t
         → (result : Option ℕ) (must_tail : Bool) (ty : Option Ty) (args : List Arg)
-        → IsPlainMemory (c.b.framing s.top.func) args
         → fetch (function_of c.g.given s) s.top.block s.top.at
         ≡ AtInstr (Instr.Call result must_tail ty (Callee.Intrinsic Intrinsic.CoroBegin) args)
         → IsFollowed c.b c.g s t }
 {}
 
-/// In all, coro.id, begin and saves are followed, but begins of two other cases, and allocas and getelementptrs whose
-/// distance is kept.
+/// In all, coro.id, begin and saves are followed, and allocas and getelementptrs whose distance is kept.
 pub fn kinds_of_coroutines_are_followed()
     ensures intrinsics { (c : Setting) → KeepsAll c → KeepsKinds c → (s t : TheState) (r : AreBuiltOf c.b s t)
         → AreOfRuns c s t r → s.outcome ≡ Outcome.Running → IsFine (renewed_step c.g s).outcome
         → is_coroutine c.b s.top.func ≡ true → IsNotEntering s.top.mode → MayFollow c s → MayKinds c s t
-        → AreOtherBeginsFollowed c s t → (i : Intrinsic) → IsOwnKind i → (result : Option ℕ) (must_tail : Bool)
-        (ty : Option Ty) (args : List Arg)
+        → (i : Intrinsic) → IsOwnKind i → (result : Option ℕ) (must_tail : Bool) (ty : Option Ty) (args : List Arg)
         → fetch (function_of c.g.given s) s.top.block s.top.at
         ≡ AtInstr (Instr.Call result must_tail ty (Callee.Intrinsic i) args) → IsFollowed c.b c.g s t }
     ensures allocas { (c : Setting) → KeepsAll c → KeepsKinds c → (s t : TheState) (r : AreBuiltOf c.b s t)

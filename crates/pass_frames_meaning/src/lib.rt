@@ -1,8 +1,10 @@
 //! Building frames keeps meaning: from the run in which a resume hands on some values to the framed one.
 #![tactic(auto)]
 
+pub mod accesses;
 pub mod anew;
 pub mod begun;
+pub mod blank;
 pub mod called;
 pub mod coroutines;
 pub mod covered;
@@ -17,6 +19,7 @@ pub mod once;
 pub mod order;
 pub mod ordinary;
 pub mod others;
+pub mod owned;
 pub mod placed;
 pub mod plain;
 pub mod pointers;

@@ -6,7 +6,7 @@ use Rattle.std.specs.Prelude.{slice_get}
 use Rattle.pass_frames_proof.specs.frame_layout.declared.layout.Layouts.{Layouts}
 use Rattle.pass_frames_proof.specs.ir_base.declared.outcome.Outcome.{Outcome}
 use Rattle.pass_frames_proof.specs.ir_model.Names.{function_at}
-use Rattle.pass_frames_meaning.specs.Covered.{AgreesWithFrames, AreCoveredStepsFollowed, IsCovered, Makes, Stands}
+use Rattle.pass_frames_meaning.specs.Covered.{IsKeptOver, AgreesWithFrames, AreCoveredStepsFollowed, IsCovered, Makes, Stands}
 use Rattle.pass_frames_proof.proofs.followed.Assembly.{cost_ones, events_same, framed_stays, running_is, seen_same}
 use Rattle.pass_frames_proof.proofs.followed.Assembly.{shown_alike}
 use Rattle.pass_frames_proof.specs.Followed.{IsFollowed as FrameFollowed, IsGiven, IsOn, instr_count, measure}
@@ -62,7 +62,7 @@ module _ (c : Setting) (p : Prices) (b : Building) (layouts : Layouts) (all : Ke
     (is : IsGiven b layouts c.answers) (declared : b.framed_code.declarations ≡ c.code.declarations)
     (pay : PaysForFrames b (second_given c) (renewed_price p (second_given c).given))
     (start : AreBuiltOf b (first_state c.code c.entry c.args) (first_state b.framed_code c.entry c.args))
-    (follow : AreCoveredStepsFollowed c b) where
+    (Holds : State → Type 0) (over : IsKeptOver c b Holds) (follow : AreCoveredStepsFollowed c b Holds) where
   abbrev h : RenewedGiven
   h = second_given c
 
@@ -95,6 +95,7 @@ module _ (c : Setting) (p : Prices) (b : Building) (layouts : Layouts) (all : Ke
     renewed : State
     in_step : AreInStep c.code c.flags c.roots s renewed
     built : AreBuiltOf b renewed t
+    holds : Holds renewed
     index : ℕ
     reached : s ≡ first_at c index
     second : ℕ
@@ -231,30 +232,46 @@ module _ (c : Setting) (p : Prices) (b : Building) (layouts : Layouts) (all : Ke
       steps : ℕ
       few : steps ≤ cost_from (renewed_step (second_given c)) (renewed_price p (second_given c).given) j k.renewed
       built : AreBuiltOf b (iterate (renewed_step (second_given c)) j k.renewed) (iterate (framed_step b.given) steps t)
+      holds : Holds (iterate (renewed_step (second_given c)) j k.renewed)
       passes : (i : ℕ) → 0 < i → i < steps → Passes (iterate (framed_step b.given) i t)
       falls : (0 < steps) ⊎ ((j ≡ 0)
           ⊎ (measure (second_given c) (iterate (renewed_step (second_given c)) j k.renewed)
           < measure (second_given c) k.renewed))
 
-    follows : (j : ℕ) → j < f.steps → (steps : ℕ)
-        → AreBuiltOf b (iterate (renewed_step (second_given c)) j k.renewed) (iterate (framed_step b.given) steps t)
-        → FrameFollowed b (second_given c) (iterate (renewed_step (second_given c)) j k.renewed)
-        (iterate (framed_step b.given) steps t)
-    follows j lt steps built =
-        by (at j) (iterate framed steps t)
-        (ap (iterate step j) k.second_is ∙ sym (iterate-add step k.second j (first_state c.code c.entry c.args)))
-        (ap (iterate framed steps) k.there
-        ∙ sym (iterate-add framed k.place steps (first_state b.given.given.code c.entry c.args)))
-        (covered j lt) built (running_at j lt)
-        (subst (λ (z : State). IsFine z.outcome) (step_last step j k.renewed) (fine_at (suc j) (omega (arith, lt))))
-      where
-        by : (x y : State) → x ≡ renewed_state_at (second_given c) c.entry c.args (k.second + j)
-            → y ≡ framed_state_at b.given c.entry c.args (k.place + steps) → IsCovered c x → AreBuiltOf b x y
-            → x.outcome ≡ Outcome.Running → IsFine (renewed_step (second_given c) x).outcome
-            → FrameFollowed b (second_given c) x y
-        by x y ex ey = subst (λ (z : State × State). IsCovered c z.0 → AreBuiltOf b z.0 z.1
-            → z.0.outcome ≡ Outcome.Running → IsFine (renewed_step (second_given c) z.0).outcome
-            → FrameFollowed b (second_given c) z.0 z.1) (λ i. (sym ex i, sym ey i)) (follow (k.second + j) (k.place + steps))
+    module _ (j : ℕ) (lt : j < f.steps) (steps : ℕ)
+        (built : AreBuiltOf b (iterate (renewed_step (second_given c)) j k.renewed) (iterate (framed_step b.given) steps t))
+        (holds : Holds (iterate (renewed_step (second_given c)) j k.renewed)) where
+      now : at j ≡ renewed_state_at (second_given c) c.entry c.args (k.second + j)
+      now = ap (iterate step j) k.second_is ∙ sym (iterate-add step k.second j (first_state c.code c.entry c.args))
+
+      there : iterate framed steps t ≡ framed_state_at b.given c.entry c.args (k.place + steps)
+      there = ap (iterate framed steps) k.there
+          ∙ sym (iterate-add framed k.place steps (first_state b.given.given.code c.entry c.args))
+
+      follows : FrameFollowed b (second_given c) (iterate (renewed_step (second_given c)) j k.renewed)
+          (iterate (framed_step b.given) steps t)
+      follows =
+          by (at j) (iterate framed steps t) now there (covered j lt) built (running_at j lt) holds
+          (subst (λ (z : State). IsFine z.outcome) (step_last step j k.renewed) (fine_at (suc j) (omega (arith, lt))))
+        where
+          by : (x y : State) → x ≡ renewed_state_at (second_given c) c.entry c.args (k.second + j)
+              → y ≡ framed_state_at b.given c.entry c.args (k.place + steps) → IsCovered c x → AreBuiltOf b x y
+              → x.outcome ≡ Outcome.Running → Holds x → IsFine (renewed_step (second_given c) x).outcome
+              → FrameFollowed b (second_given c) x y
+          by x y ex ey = subst (λ (z : State × State). IsCovered c z.0 → AreBuiltOf b z.0 z.1
+              → z.0.outcome ≡ Outcome.Running → Holds z.0 → IsFine (renewed_step (second_given c) z.0).outcome
+              → FrameFollowed b (second_given c) z.0 z.1) (λ i. (sym ex i, sym ey i))
+              (follow (k.second + j) (k.place + steps))
+
+      holds_on : Holds (renewed_step (second_given c) (iterate (renewed_step (second_given c)) j k.renewed))
+      holds_on = by (at j) (iterate framed steps t) now there (covered j lt) built (running_at j lt) holds
+        where
+          by : (x y : State) → x ≡ renewed_state_at (second_given c) c.entry c.args (k.second + j)
+              → y ≡ framed_state_at b.given c.entry c.args (k.place + steps) → IsCovered c x → AreBuiltOf b x y
+              → x.outcome ≡ Outcome.Running → Holds x → Holds (renewed_step (second_given c) x)
+          by x y ex ey = subst (λ (z : State × State). IsCovered c z.0 → AreBuiltOf b z.0 z.1
+              → z.0.outcome ≡ Outcome.Running → Holds z.0 → Holds (renewed_step (second_given c) z.0))
+              (λ i. (sym ex i, sym ey i)) (over.step (k.second + j) (k.place + steps))
 
     abbrev Falls : ℕ → Type 0
     Falls x = measure (second_given c) (iterate (renewed_step (second_given c)) x k.renewed)
@@ -268,6 +285,7 @@ module _ (c : Setting) (p : Prices) (b : Building) (layouts : Layouts) (all : Ke
           (cost_last step price j k.renewed);
       built = subst (λ (z : State × State). AreBuiltOf b z.0 z.1)
           (λ i. (sym (step_last step j k.renewed) i, sym (iterate-add framed w.steps n.steps t) i)) n.related;
+      holds = subst Holds (sym (step_last step j k.renewed)) (holds_on j lt w.steps w.built w.holds);
       passes = λ i pos less. ⊎_elim (λ below. w.passes i pos below) (λ ge. later i pos less ge (i - w.steps) refl)
           (cases_lt i w.steps);
       falls = falls w.falls n.goes_on;
@@ -275,7 +293,7 @@ module _ (c : Setting) (p : Prices) (b : Building) (layouts : Layouts) (all : Ke
       where
         n : FrameFollowed b (second_given c) (iterate (renewed_step (second_given c)) j k.renewed)
             (iterate (framed_step b.given) w.steps t)
-        n = follows j lt w.steps w.built
+        n = follows j lt w.steps w.built w.holds
 
         sums : (x y cost one few more : ℕ) → x ≤ few → y ≤ cost → cost ≤ one → more ≡ few + one → x + y ≤ more
         sums x y cost one few more a d e g = omega (arith, a, d, e, g)
@@ -330,6 +348,7 @@ module _ (c : Setting) (p : Prices) (b : Building) (layouts : Layouts) (all : Ke
       steps = 0;
       few = omega arith;
       built = k.built;
+      holds = k.holds;
       passes = λ i pos lt. absurd (omega (arith, pos, lt));
       falls = inr (inl refl);
     }
@@ -354,6 +373,7 @@ module _ (c : Setting) (p : Prices) (b : Building) (layouts : Layouts) (all : Ke
         renewed = at f.steps;
         in_step = f.related;
         built = subst (AreBuiltOf b (at f.steps)) (same_step w.steps t) w.built;
+        holds = w.holds;
         index = k.index + 1;
         reached = ap (first_step c) k.reached
             ∙ sym (iterate-add (first_step c) k.index 1 (first_state c.code c.entry c.args));
@@ -402,6 +422,7 @@ module _ (c : Setting) (p : Prices) (b : Building) (layouts : Layouts) (all : Ke
       renewed = first_state c.code c.entry c.args;
       in_step = Goes (first_beside c.code c.keep c.flags c.roots all.slots c.entry c.args all.globals);
       built = start;
+      holds = over.first;
       index = 0;
       reached = refl;
       second = 0;

@@ -59,7 +59,7 @@ same_names b g given = record {
 }
 
 -- what isn't loaded isn't kept
-not_kept : (x : Framing) → IsFraming x → (u : ℕ) → fetch_of (fetches_of (plan x)) (Operand.Local u) ≡ None
+pub not_kept : (x : Framing) → IsFraming x → (u : ℕ) → fetch_of (fetches_of (plan x)) (Operand.Local u) ≡ None
     → entry (plan x).places u ≡ None
 not_kept x is u e = on (entry (plan x).places u) refl
   where

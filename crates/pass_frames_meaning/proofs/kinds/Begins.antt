@@ -1,7 +1,7 @@
--- Begin of a coroutine is followed, where no slot is used before it and its memory is kept in no cell.
+-- Begin of a coroutine is followed, also where slots are used before it, or its memory is kept in a cell.
 use Rattle.std.proofs.Common.{◌≡◌, inl, inr, ℕ, ◌<◌, ◌≤◌, ◌==◌, ◌&&◌, ◌||◌, Bool, true, false, List, [], ◌∷◌, length, Option, Some, None, Result, Ok, Err, refl, sym, ap, ◌∙◌, subst, arith}
 use Rattle.std.specs.List.{Contains, list_all}
-use Rattle.std.specs.Prelude.{is_none, is_some, not, option_map, slice_get}
+use Rattle.std.specs.Prelude.{◌+◌, ◌*◌, is_none, is_some, not, option_map, pos, slice_get}
 use Rattle.std.proofs.lemmas.Bool.{and_parts, false≢true}
 use Rattle.pass_frames_proof.specs.flow_solver.Paths.{IsListed}
 use Rattle.pass_frames_proof.specs.ir_base.declared.cause.Cause.{Cause}
@@ -18,11 +18,13 @@ use Rattle.pass_frames_proof.specs.ir_model.declared.operand.Callee.{Callee}
 use Rattle.pass_frames_proof.specs.ir_model.declared.operand.Intrinsic.{Intrinsic}
 use Rattle.pass_frames_proof.specs.ir_model.declared.operand.Operand.{Operand}
 use Rattle.pass_frames_proof.specs.ir_parts.Contents.{instr_operands}
-use Rattle.pass_frames_proof.specs.ir_paths.Windows.{operand_at}
-use Rattle.pass_frames_proof.specs.pass_addresses.Placing.{stays, without_promise_of}
-use Rattle.pass_frames_proof.specs.pass_cells.Cells.{fetches_of}
-use Rattle.pass_frames_proof.specs.pass_cells.Kept.{entry}
-use Rattle.pass_frames_proof.specs.pass_fetch.Fetching.{next_after_all}
+use Rattle.pass_frames_proof.specs.pass_cells.Kept.{entry, joined}
+use Rattle.pass_frames_proof.specs.pass_copies.BeginCopies.{begin_copies, copy, put}
+use Rattle.pass_frames_proof.specs.pass_copies.declared.slot.EarlySlot.{EarlySlot}
+use Rattle.pass_frames_proof.specs.pass_fetch.Fetching.{fetch_of, next_after_all, next_by}
+use Rattle.pass_frames_proof.specs.pass_fetch.Instrs.{next_after_instr, next_after_instrs}
+use Rattle.pass_frames_proof.specs.pass_fetch.declared.fetch.Fetch.{Fetch}
+use Rattle.pass_frames_proof.specs.pass_frames.Framed.{begin_of}
 use Rattle.pass_frames_proof.specs.pass_frames.Tables.{offset_at}
 use Rattle.pass_frames_proof.specs.Slotted.{IsSlotField}
 use Rattle.pass_frames_proof.specs.run_framed.Framed.{layout_of}
@@ -30,27 +32,29 @@ use Rattle.pass_frames_meaning.proofs.begun.Begun.{begin_plain}
 use Rattle.pass_frames_meaning.proofs.coroutines.Steps.{acts_as}
 use Rattle.pass_frames_meaning.proofs.coroutines.Suspends.{token_is}
 use Rattle.pass_frames_meaning.proofs.coroutines.Tokens.{token_nowhere}
-use Rattle.pass_frames_meaning.proofs.order.Order.{names_in_order}
+use Rattle.pass_frames_meaning.proofs.ordinary.Standing.{fetch_ready}
+use Rattle.pass_frames_meaning.proofs.order.Order.{names_in_order, rest_room}
 use Rattle.pass_frames_meaning.proofs.others.AtPlace.{AreTwo, args_wanted, two_wanted}
 use Rattle.pass_frames_meaning.proofs.others.Names.{alloca_apart, no_distance, plain_by, result_low}
 use Rattle.pass_frames_meaning.proofs.others.Returns.{instr_in, no_return}
 use Rattle.pass_frames_meaning.proofs.others.Unlocated.{unaccessed}
-use Rattle.pass_frames_meaning.proofs.slotted.Facts.{block_of, listed_slots, one_of, slots_once, slots_there}
+use Rattle.pass_frames_meaning.proofs.slotted.Facts.{block_of, listed_slots, one_of, slots_apart, slots_once, slots_there}
 use Rattle.pass_frames_meaning.specs.Coroutines.{MayFollow}
-use Rattle.pass_frames_meaning.specs.Kinds.{IsPlainMemory, KeepsKinds, MayBegin}
+use Rattle.pass_frames_meaning.specs.Kinds.{KeepsKinds, MayBegin}
 use Rattle.pass_frames_meaning.specs.Setting.{AreOfRuns, KeepsAll, Setting}
 use Rattle.pass_frames_proof.proofs.beginning.States.{begin_followed}
-use Rattle.pass_frames_proof.proofs.code.Idle.{instr_same}
-use Rattle.pass_frames_proof.proofs.marking.Gone.{unkept_plain}
+use Rattle.pass_frames_proof.proofs.allocating.Grown.{listed_in}
 use Rattle.pass_frames_proof.proofs.stepping.Names.{edged_named, named_written}
-use Rattle.pass_frames_proof.specs.Beginning.{HasPlainSlots, IsAtBegin, IsPlainOperand, IsSlotAtBegin, begin_call, is_in_frame}
-use Rattle.pass_frames_proof.specs.Code.{address_state, load_name, loaded, slot_table}
+use Rattle.pass_frames_proof.proofs.stepping.Operands.{slot_fetch}
+use Rattle.pass_frames_proof.specs.Beginning.{AreEarlyAtBegin, HasPlainSlots, IsAtBegin, IsPlainOperand, IsSlotAtBegin, begin_call, is_in_frame}
+use Rattle.pass_frames_proof.specs.Code.{address_state, loaded, slot_table}
 use Rattle.pass_frames_proof.specs.Followed.{IsFollowed}
 use Rattle.pass_frames_proof.specs.Framings.{IsFraming}
 use Rattle.pass_frames_proof.specs.Ordinary.{IsPlainName}
-use Rattle.pass_frames_proof.specs.Places.{Framing, Placed, copies, edged, framed, instrs_at, marked, plan}
+use Rattle.pass_frames_proof.specs.Operands.{IsAtFetch}
+use Rattle.pass_frames_proof.specs.Places.{Framing, Placed, copies, edged, framed, instrs_at, offsets, plan}
 use Rattle.pass_frames_proof.specs.Related.{AreBuiltOf, is_coroutine}
-use Rattle.pass_frames_proof.specs.Stepping.{AreNamesInOrder, IsNotEntering, state_in}
+use Rattle.pass_frames_proof.specs.Stepping.{AreNamesInOrder, IsNotEntering, IsPlacedOperand, IsSlotOf, IsUnlocated, state_in}
 use Rattle.pass_frames_proof.proofs.pass_proofs.fetch.rules.Puts.{fetch_rises}
 use Rattle.pass_frames_proof.specs.pass_renewed_proof.Renewed.{renewed_act, renewed_step}
 use Rattle.pass_frames_proof.specs.rule_types.Signatures.{are_wanted}
@@ -79,7 +83,7 @@ use Rattle.pass_frames_proof.specs.run_states.sound_states.Sound.{AreSoundBelow,
 use Rattle.pass_frames_proof.specs.run_step.Results.{and_then, found, ok_if}
 use Rattle.pass_frames_proof.specs.run_step.Step.{AtInstr, Coro, fetch}
 use Rattle.pass_frames_proof.specs.run_step.Step.{block_of as pointed}
-use Rattle.pass_frames_proof.specs.run_step.Values.{pointer_to, value_in}
+use Rattle.pass_frames_proof.specs.run_step.Values.{operand_value, pointer_to}
 use Rattle.pass_frames_proof.specs.run_step.declared.world.Slot.{Slot}
 
 -- ---- what begin does
@@ -181,9 +185,7 @@ below_low m xs result (z ∷ as') h a (inr l) j e = below_low m xs z.result as' 
 module _ (c : Setting) (all : KeepsAll c) (kinds : KeepsKinds c) (s t : State) (r : AreBuiltOf c.b s t)
     (k : AreOfRuns c s t r) (runs : s.outcome ≡ Outcome.Running) (fine : IsFine (renewed_step c.g s).outcome)
     (coroutine : is_coroutine c.b s.top.func ≡ true) (mode : IsNotEntering s.top.mode) (o : MayFollow c s)
-    (none_early : (copies (c.b.framing s.top.func)).slots ≡ []) (m : MayBegin c s t)
-    (result : Option ℕ) (must_tail : Bool) (ty : Option Ty) (args : List Arg)
-    (plain : IsPlainMemory (c.b.framing s.top.func) args)
+    (m : MayBegin c s t) (result : Option ℕ) (must_tail : Bool) (ty : Option Ty) (args : List Arg)
     (there : fetch (function_of c.g.given s) s.top.block s.top.at
     ≡ AtInstr (Instr.Call result must_tail ty (Callee.Intrinsic Intrinsic.CoroBegin) args)) where
   abbrev x : Framing
@@ -213,9 +215,6 @@ module _ (c : Setting) (all : KeepsAll c) (kinds : KeepsKinds c) (s t : State) (
   first_type : two.first.ty ≡ token
   first_type = token_is two.first.ty
       (and_parts (is_basic Basic.Token two.first.ty) (meets Demand.Any two.first.value) (and_parts _ _ both).0).0
-
-  value : two.second.value ≡ Operand.Local plain.memory
-  value = ap (λ (q : List Arg). operand_at q 1) (sym two.are) ∙ plain.takes
 
   passed : list_all (passes (value_kind f) (Callee.Intrinsic Intrinsic.CoroBegin)) args ≡ true
   passed =
@@ -249,13 +248,13 @@ module _ (c : Setting) (all : KeepsAll c) (kinds : KeepsKinds c) (s t : State) (
       on Operand.Poison e = record { loaded = refl; placed = refl }
 
   abbrev i : Instr
-  i = begin_call result must_tail ty two.first two.second.ty plain.memory
-
-  shaped : args ≡ two.first ∷ record { ty = two.second.ty; value = Operand.Local plain.memory } ∷ []
-  shaped = two.are ∙ ap (λ (v : Operand). two.first ∷ record { ty = two.second.ty; value = v } ∷ []) value
+  i = begin_call result must_tail ty two.first two.second.ty two.second.value
 
   here : fetch f s.top.block s.top.at ≡ AtInstr i
-  here = there ∙ ap (λ (q : List Arg). AtInstr (Instr.Call result must_tail ty (Callee.Intrinsic Intrinsic.CoroBegin) q)) shaped
+  here =
+      there
+      ∙ ap (λ (q : List Arg). AtInstr (Instr.Call result must_tail ty (Callee.Intrinsic Intrinsic.CoroBegin) q))
+      two.are
 
   stands : slice_get (instrs_at x s.top.block) s.top.at ≡ Some i
   stands = instr_in x f same s.top.block s.top.at i here
@@ -263,14 +262,17 @@ module _ (c : Setting) (all : KeepsAll c) (kinds : KeepsKinds c) (s t : State) (
   -- ---- what it does
 
   done : (after : State) × (renewed_act c.g s (Coro Intrinsic.CoroBegin (two.first
-      ∷ record { ty = two.second.ty; value = Operand.Local plain.memory } ∷ []) result) ≡ Ok after)
+      ∷ two.second ∷ []) result) ≡ Ok after)
       × (renewed_step c.g s ≡ after)
   done = acts_as c all s t r k runs fine coroutine mode o i here refl (Coro Intrinsic.CoroBegin (two.first
-      ∷ record { ty = two.second.ty; value = Operand.Local plain.memory } ∷ []) result) refl
+      ∷ two.second ∷ []) result) refl
+
+  abbrev memory_value : Value
+  memory_value = operand_value c.g.given.code s.top.values two.second.ty two.second.value
 
   does : (s.top.instance ≡ None)
-      × IsOwnable s.world.memory (value_in s.top.values plain.memory) (own_frame c.g.given s).size
-  does = begin_done c.g.given s done.0 result (value_in s.top.values plain.memory) done.1
+      × IsOwnable s.world.memory memory_value (own_frame c.g.given s).size
+  does = begin_done c.g.given s done.0 result memory_value done.1
 
   abbrev block : ℕ
   block = does.1.0
@@ -280,15 +282,53 @@ module _ (c : Setting) (all : KeepsAll c) (kinds : KeepsKinds c) (s t : State) (
   abbrev n : Placed
   n = state_in x s.top.block s.top.at
 
-  unloaded : loaded x n i ≡ i
-  unloaded =
-      instr_same (fetches_of (plan x)) (load_name n) i
-      (token_plain.loaded, (unkept_plain x plain.memory plain.unkept, tt))
+  unlocated : IsUnlocated x n i
+  unlocated = unaccessed x n i refl
 
   order : AreNamesInOrder x n i
-  order = names_in_order x is s.top.block s.top.at i stands (unaccessed x n i refl)
-      (ap (stays (marked x)) unloaded)
-      (ap without_promise_of unloaded ∙ sym unloaded)
+  order = names_in_order x is s.top.block s.top.at i stands unlocated refl refl
+
+  -- a copy has the address of its slot made, and so has the store of that address
+  module _ (e : EarlySlot) (d : ℕ) (told : slice_get (offsets x) e.slot ≡ Some (Some d)) where
+    fetched_slot : fetch_of (slot_table x) (Operand.Local e.slot) ≡ Some (Fetch.Address (begin_of x.function) d)
+    fetched_slot =
+        slot_fetch x e.slot
+        ∙ ap (λ (o : Option (Option ℕ)). option_map (Fetch.Address (begin_of x.function)) (joined o)) told
+
+    one_more : (q : ℕ) (more : List Operand) → q + 1 ≤ next_after_all (slot_table x) q (Operand.Local e.slot ∷ more)
+    one_more q more =
+        let up : q + 1 ≤ next_after_all (slot_table x) (q + 1) more = fetch_rises (slot_table x) (q + 1) more in
+        let same : next_after_all (slot_table x) q (Operand.Local e.slot ∷ more)
+        ≡ next_after_all (slot_table x) (q + 1) more =
+        ap (λ (o : Option Fetch). next_after_all (slot_table x) (next_by q o) more) fetched_slot in
+        omega (arith, up, same)
+
+  abbrev early : List EarlySlot
+  early = (copies x).slots
+
+  copies_take : (es : List EarlySlot) → ((e : EarlySlot) → IsListed e es → IsListed e early) → (q : ℕ)
+      → q + 2 * length es ≤ next_after_instrs (slot_table x) q (begin_copies es)
+  copies_take [] more q = omega arith
+  copies_take (e ∷ es) more q =
+      let told = (kinds.early_fields s.top.func coroutine).place e (listed_in early e (more e (inl refl))) in
+      let one : q + 1 ≤ next_after_instr (slot_table x) q (copy e) =
+      one_more e told.offset told.told q
+      (Operand.Local e.temporary ∷ Operand.Number (pos e.size) ∷ Operand.False ∷ []) in
+      let first : ℕ = next_after_instr (slot_table x) q (copy e) in
+      let two : first + 1 ≤ next_after_instr (slot_table x) first (put e.slot e.cell) =
+      one_more e told.offset told.told first (Operand.Local e.cell ∷ []) in
+      let second : ℕ = next_after_instr (slot_table x) first (put e.slot e.cell) in
+      let rest : second + 2 * length es ≤ next_after_instrs (slot_table x) second (begin_copies es) =
+      copies_take es (λ y l. more y (inr l)) second in
+      omega (arith, one, two, rest)
+
+  copies_room : (address_state n).0 + 2 * length early ≤ length (framed x).names
+  copies_room =
+      rest_room x is s.top.block s.top.at i stands unlocated refl refl (2 * length early)
+      (copies_take early (λ e l. l))
+
+  named : result ≡ Some (begin_of x.function)
+  named = kinds.begins s.top.func s.top.block s.top.at result must_tail ty args coroutine there
 
   name_room : (v : ℕ) → v < length (edged x).names → v < length (framed x).names
   name_room v low =
@@ -300,13 +340,15 @@ module _ (c : Setting) (all : KeepsAll c) (kinds : KeepsKinds c) (s t : State) (
       fetch_rises (slot_table x) (address_state n).0 (instr_operands (loaded x n i)) in
       omega (arith, low, a, b, d, e, h)
 
+  same_name : (u v : ℕ) → ◌≡◌ {A = Option ℕ} (Some u) (Some v) → u ≡ v
+  same_name u v e = cc
+
   name_is : (v : ℕ) → result ≡ Some v
       → IsPlainName x v × (entry (plan x).places v ≡ None) × (v < length (framed x).names)
   name_is v e = (
     plain_by x is s.top.block s.top.at i stands v e tt (no_distance x is s.top.block s.top.at i stands v e tt),
     subst (λ (q : ℕ). entry (plan x).places q ≡ None)
-        (sym (kinds.begins s.top.func s.top.block s.top.at result must_tail ty args v coroutine there e))
-        (begin_plain x is).unkept,
+        (same_name (begin_of x.function) v (sym named ∙ e)) (begin_plain x is).unkept,
     name_room v (result_low x is s.top.block s.top.at v i stands e),
   )
 
@@ -325,8 +367,62 @@ module _ (c : Setting) (all : KeepsAll c) (kinds : KeepsKinds c) (s t : State) (
             (layout_of c.b.given.layouts s.top.func)
             (offset_at x.layout h.position) q.0 q.1)
             (λ j. (sym sized.0 j, sym sized.1 j)) h.field;
-        blank = λ z e lives. m.blank slot own inside z e lives;
+        blank = λ none z e lives. m.blank slot own inside none z e lives;
       }
+
+  early_there : AreEarlyAtBegin c.b s
+  early_there =
+      let f = kinds.early_fields s.top.func coroutine in
+      record {
+        each = λ e own. record {
+          place = f.place e own;
+          some = f.some e own;
+          made = m.made e own;
+          sized = λ slot has is z at.
+              let a = m.allocas slot has in
+              let same = a.sized z at in
+              let typed = f.sized e own a.at slot.alloca a.align a.ty a.there is in (
+                same.0 ∙ typed.0,
+                subst (λ (q : ℕ). 1 ≤ q) (sym same.1) typed.1,
+              );
+        };
+        slots = m.early_slots;
+        cells = f.cells;
+        apart = m.early_apart;
+      }
+
+  -- ---- its operands are names of the table, and none lies in the frame
+
+  fetched : IsAtFetch c.b s i
+  fetched =
+      fetch_ready c all s k.sound coroutine mode i here tt (record {
+        position = o.position;
+        rules = o.rules;
+        unlocated = unlocated;
+        operands = o.operands i here tt unlocated;
+      })
+
+  -- what lies in the frame is used behind begin
+  outside : fetch_of (slot_table x) two.second.value ≡ None
+  outside = by two.second.value refl
+    where
+      local : (v : ℕ) → two.second.value ≡ Operand.Local v → (q : Option ℕ) → entry (offsets x) v ≡ q
+          → fetch_of (slot_table x) (Operand.Local v) ≡ None
+      local v same None told = slot_fetch x v ∙ ap (option_map (Fetch.Address (begin_of x.function))) told
+      local v same (Some d) told =
+          let p : IsSlotOf x s v d = subst (IsPlacedOperand x s) same fetched.operands.1.0 d told in
+          let no : None ≡ Some p.number = sym does.0 ∙ p.own in
+          absurd (cc)
+
+      by : (v : Operand) → two.second.value ≡ v → fetch_of (slot_table x) v ≡ None
+      by (Operand.Local v) same = local v same (entry (offsets x) v) refl
+      by (Operand.Global n) same = refl
+      by (Operand.Number n) same = refl
+      by Operand.True same = refl
+      by Operand.False same = refl
+      by Operand.Null same = refl
+      by Operand.None same = refl
+      by Operand.Poison same = refl
 
   plain_slots : HasPlainSlots c.b t
   plain_slots = record {
@@ -340,7 +436,7 @@ module _ (c : Setting) (all : KeepsAll c) (kinds : KeepsKinds c) (s t : State) (
       same_there : (y z : MemoryBlock) → ◌≡◌ {A = Option MemoryBlock} (Some y) (Some z) → y ≡ z
       same_there y z e = cc
 
-  at_begin : IsAtBegin c.b c.g s result must_tail ty two.first two.second.ty plain.memory block
+  at_begin : IsAtBegin c.b c.g s result must_tail ty two.first two.second.ty two.second.value block
   at_begin = record {
     runs = runs;
     coroutine = coroutine;
@@ -348,15 +444,19 @@ module _ (c : Setting) (all : KeepsAll c) (kinds : KeepsKinds c) (s t : State) (
     there = stands;
     unreturned = no_return c all s.top.func s.top.block s.top.at i coroutine here;
     token = token_plain;
-    unkept = plain.unkept;
-    outside = plain.outside;
+    low = fetched.below.1.0;
+    token_low = fetched.below.0;
+    outside = outside;
+    order = order;
+    copies_room = copies_room;
+    begun = (named, result_low x is s.top.block s.top.at (begin_of x.function) i stands named);
     named = name_is;
     room = k.sound.top.values ∙ ap (λ (g : Function). length g.names) same;
     names = λ at u align ty' e. (
       result_low x is 0 at u (Instr.Alloca u ty' align) e refl,
       λ q. alloca_apart x is s.top.block s.top.at i stands u q tt 0 at align ty' e,
     );
-    no_early = none_early;
+    early = early_there;
     none = does.0;
     value = does.1.1;
     may = does.1.2;
@@ -375,5 +475,25 @@ module _ (c : Setting) (all : KeepsAll c) (kinds : KeepsKinds c) (s t : State) (
   }
 
   pub begin_at_place : IsFollowed c.b c.g s t
-  begin_at_place = begin_followed c.b c.g all.given s t r result must_tail ty two.first two.second.ty plain.memory block
-      at_begin (listed_slots s k.slots) (slots_there s k.slots) plain_slots
+  begin_at_place = begin_followed (record {
+    b = c.b;
+    g = c.g;
+    given = all.given;
+    s = s;
+    t = t;
+    r = r;
+    result = result;
+    must_tail = must_tail;
+    ty = ty;
+    id = two.first;
+    typed = two.second.ty;
+    memory = two.second.value;
+    block = block;
+    h = at_begin;
+    listed = listed_slots s k.slots;
+    mine = slots_there s k.slots;
+    theirs = plain_slots;
+    apart = slots_apart t k.other_slots;
+    led = m.led;
+    live = m.live;
+  })

@@ -1,5 +1,5 @@
 -- Operands of a coroutine's instruction that name slots in a frame are placed.
-use Rattle.std.proofs.Common.{◌≡◌, ◌+◌, ◌<◌, ◌^◌, inl, inr, ℕ, Bool, true, List, [], ◌∷◌, length, Option, Some, None}
+use Rattle.std.proofs.Common.{◌≡◌, ◌<◌, ◌^◌, inl, inr, ℕ, Bool, true, List, [], ◌∷◌, length, Option, Some, None}
 use Rattle.std.proofs.Common.{refl, sym, ap, ◌∙◌, subst, arith}
 use Rattle.std.specs.Prelude.{slice_get, option_map}
 use Rattle.pass_frames_proof.specs.flow_solver.Paths.{IsListed}
@@ -30,7 +30,7 @@ use Rattle.pass_frames_proof.proofs.rule_laws.rules.renamed.Uses.{operands_spelt
 use Rattle.pass_frames_proof.proofs.rule_laws.rules.sources.Places.{instr_there, point}
 use Rattle.pass_frames_proof.specs.run_laws.changed.Changed.{Each, operands_of}
 use Rattle.run_slots.specs.Slots.{IsFrameBlock}
-use Rattle.pass_frames_proof.specs.run_source.State.{address_in, frame_address_of, function_of}
+use Rattle.pass_frames_proof.specs.run_source.State.{frame_address_of, function_of}
 use Rattle.pass_frames_proof.specs.run_source.declared.state.Instance.{Instance}
 use Rattle.pass_frames_proof.specs.run_source.declared.state.State.{State}
 use Rattle.pass_frames_proof.specs.run_states.sound_states.Sound.{IsInstanceOf, coroutine_at}
@@ -60,11 +60,11 @@ own_there xs func i e = on (slice_get xs i) refl e
     on None d h = absurd (cc)
     on (Some x) d h = let same : x.coroutine ≡ func = cc in (x, d, same)
 
-each_of : (P : Operand → Type 0) (xs : List Operand) → ((o : Operand) → IsListed o xs → P o) → Each P xs
+pub each_of : (P : Operand → Type 0) (xs : List Operand) → ((o : Operand) → IsListed o xs → P o) → Each P xs
 each_of P [] h = tt
 each_of P (x ∷ xs) h = (h x (inl refl), each_of P xs (λ o l. h o (inr l)))
 
-of_each : (P : Operand → Type 0) (xs : List Operand) → Each P xs → (o : Operand) → IsListed o xs → P o
+pub of_each : (P : Operand → Type 0) (xs : List Operand) → Each P xs → (o : Operand) → IsListed o xs → P o
 of_each P [] h o l = absurd l
 of_each P (x ∷ xs) h o (inl e) = subst P (sym e) h.0
 of_each P (x ∷ xs) h o (inr l) = of_each P xs h.1 o l
@@ -82,7 +82,7 @@ module _ (c : Setting) (counts own : ℕ → ℕ → Bool) (all : KeepsAll c) (k
   led = known.led runs
 
   -- behind begin
-  behind : (number : ℕ) → s.top.instance ≡ Some number → (v d : ℕ) → v < length (edged x).names
+  pub behind : (number : ℕ) → s.top.instance ≡ Some number → (v d : ℕ) → v < length (edged x).names
       → entry (offsets x) v ≡ Some d → IsSlotOf x s v d
   behind number e v d low_name offset =
       let at = own_there s.instances s.top.func number

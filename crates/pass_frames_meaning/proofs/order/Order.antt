@@ -38,7 +38,7 @@ use Rattle.pass_frames_proof.specs.Places.{Framing, Placed, Unmarked, addressing
 use Rattle.pass_frames_proof.specs.Stepping.{AreNamesInOrder, IsUnlocated, state_in}
 use Rattle.pass_frames_proof.proofs.pass_proofs.copies.rules.Slots.{AreNumbered, cell_named, front_range, numbered, temporary_named}
 
-doubled : (n : ℕ) → length (slot_names n) ≡ 2 * n
+pub doubled : (n : ℕ) → length (slot_names n) ≡ 2 * n
 doubled zero = refl
 doubled (suc n) =
     let d : length (slot_names n) ≡ 2 * n = doubled n in
@@ -78,7 +78,7 @@ module _ (x : Framing) (is : IsFraming x) (k : ℕ) where
 
   -- ---- the block of the last pass but one
 
-  cells_are : IsBlockMade (celled_layer x k) (edged x) (written x) k
+  pub cells_are : IsBlockMade (celled_layer x k) (edged x) (written x) k
   unfolding fetched_function
   cells_are =
       rows (fetching_at (named x) (fetches_of (plan x)) k)
@@ -115,7 +115,7 @@ module _ (x : Framing) (is : IsFraming x) (k : ℕ) where
   abbrev met_at : ℕ → Unmarked
   met_at at = passed (unmarked_layer x k) (unmarked_layer x k).start (take at (instrs_at x k))
 
-  states : (at : ℕ) → state_in x k at
+  pub states : (at : ℕ) → state_in x k at
       ≡ (met_at at, passed (addressing_layer x k) (addressing_layer x k).start (before at))
   states at =
       both_passed (unmarked_layer x k) (addressing_layer x k) (unmarked_layer x k).start
@@ -155,15 +155,23 @@ module _ (x : Framing) (is : IsFraming x) (k : ℕ) where
       (used_before (written x) (class_flags x.function x.contents.classes SlotClass.Frame) (before_labels x))
       (sizes_by_name x.function x.contents.held) (length (written x).names) (entry_instrs (written x).blocks)
 
+  pub early_numbers : (s : EarlySlot) → Contains (copies x).slots s
+      → (s.temporary < length (written x).names + 2 * length (copies x).slots)
+      × (s.cell < length (written x).names + 2 * length (copies x).slots)
+  early_numbers s c =
+      let l = contained (copies x).slots s c in (
+        (front_range (length (written x).names) s.temporary (copies x).slots slot_rows
+            (temporary_named (copies x).slots s l)).1,
+        (front_range (length (written x).names) s.cell (copies x).slots slot_rows
+            (cell_named (copies x).slots s l)).1,
+      )
+
   pub early_below : (s : EarlySlot) → Contains (copies x).slots s
       → (s.temporary < length (with_copies x).names) × (s.cell < length (with_copies x).names)
   early_below s c =
-      let l = contained (copies x).slots s c in
-      let t : s.temporary < length (written x).names + 2 * length (copies x).slots =
-      (front_range (length (written x).names) s.temporary (copies x).slots slot_rows
-      (temporary_named (copies x).slots s l)).1 in
-      let u : s.cell < length (written x).names + 2 * length (copies x).slots =
-      (front_range (length (written x).names) s.cell (copies x).slots slot_rows (cell_named (copies x).slots s l)).1 in
+      let e = early_numbers s c in
+      let t : s.temporary < length (written x).names + 2 * length (copies x).slots = e.0 in
+      let u : s.cell < length (written x).names + 2 * length (copies x).slots = e.1 in
       let a = copied_names in
       (omega (arith, t, a), omega (arith, u, a))
 
@@ -182,7 +190,7 @@ module _ (x : Framing) (is : IsFraming x) (k : ℕ) where
     abbrev n : Placed
     n = state_in x k at
 
-    block_there : (b : Block) × (slice_get (edged x).blocks k ≡ Some b) × (b.instrs ≡ instrs_at x k)
+    pub block_there : (b : Block) × (slice_get (edged x).blocks k ≡ Some b) × (b.instrs ≡ instrs_at x k)
     block_there = on (slice_get (edged x).blocks k) refl there
       where
         on : (o : Option Block) → slice_get (edged x).blocks k ≡ o → slice_get (unwrap_or o no_block).instrs at ≡ Some i
@@ -190,7 +198,7 @@ module _ (x : Framing) (is : IsFraming x) (k : ℕ) where
         on None d h = absurd (cc)
         on (Some b) d h = (b, d, sym (ap (λ (o : Option Block). (unwrap_or o no_block).instrs) d))
 
-    loads : next_after_all T (load_name n) (instr_operands i) ≤ length (written x).names
+    pub loads : next_after_all T (load_name n) (instr_operands i) ≤ length (written x).names
     loads =
         let b = block_there in
         let a : next_after_all T (next_after_instrs T (fetched_first (named x) T k) (take at (instrs_at x k)))
@@ -209,11 +217,9 @@ module _ (x : Framing) (is : IsFraming x) (k : ℕ) where
         (instr_operands i) = ap (λ (m : ℕ). next_after_all T m (instr_operands i)) (load_is at) in
         omega (arith, a, c, d, e, f, g)
 
-    module _ (u : IsUnlocated x n i) (whole : stays (marked x) (loaded x n i) ≡ true)
-        (same : without_promise_of (loaded x n i) ≡ loaded x n i) where
-      abbrev j : Instr
-      j = loaded x n i
-
+    -- the instruction is left as it is behind the fetches in front of it
+    module _ (j : Instr) (is_located : located x n i ≡ j) (whole : stays (marked x) j ≡ true)
+        (same : without_promise_of j ≡ j) where
       abbrev rest : List Instr
       rest = copied_there x n i ++ stores x n i
 
@@ -227,7 +233,7 @@ module _ (x : Framing) (is : IsFraming x) (k : ℕ) where
 
       one_is : unmarked_one x (located x n i) ≡ j ∷ []
       one_is =
-          ap (λ (y : Instr). unmarked_one x y) u.located
+          ap (λ (y : Instr). unmarked_one x y) is_located
           ∙ all_stay (unmarked_at (marked x)) (j ∷ []) (idle, tt) (tt, tt)
 
       -- it stands in the block of the last pass but one
@@ -282,8 +288,8 @@ module _ (x : Framing) (is : IsFraming x) (k : ℕ) where
       framed_names : length (framed x).names ≡ length (with_fetches (unmarked x) S (codes "$c.at.")).names
       framed_names = ap (λ (z : Function). length z.names) (framed_is x)
 
-      room : next_after_all S (address_state n).0 (instr_operands j) ≤ length (framed x).names
-      room =
+      pub one_room : next_after_all S (address_state n).0 (instr_operands j) ≤ length (framed x).names
+      one_room =
           let b = block_there in
           let c = unmarked_are b.0 b.1 in
           let to : next_after_instrs S A0 c.0.instrs ≤ length (with_fetches (unmarked x) S (codes "$c.at.")).names =
@@ -304,9 +310,9 @@ module _ (x : Framing) (is : IsFraming x) (k : ℕ) where
           omega (arith, to, sum, one, e, l)
 
       -- so much of what is put in front has its address fetched
-      pub front_room : (more : ℕ) → ((m : ℕ) → m + more ≤ next_after_instrs S m (saved x n i))
+      pub one_front_room : (more : ℕ) → ((m : ℕ) → m + more ≤ next_after_instrs S m (saved x n i))
           → (address_state n).0 + more ≤ length (framed x).names
-      front_room more takes =
+      one_front_room more takes =
           let b = block_there in
           let c = unmarked_are b.0 b.1 in
           let first : ℕ = next_after_instrs S A0 (before at) in
@@ -336,8 +342,53 @@ module _ (x : Framing) (is : IsFraming x) (k : ℕ) where
           let l = framed_names in
           omega (arith, to, sum, up, parts, one, two, three, e, l)
 
-      written_up : length (written x).names ≤ (address_state n).0
-      written_up = let a = copied_names in let b = addresses_up at in omega (arith, a, b)
+      -- and so much of what is copied behind it
+      pub one_rest_room : (more : ℕ) → ((m : ℕ) → m + more ≤ next_after_instrs S m (copied_there x n i))
+          → (address_state n).0 + more ≤ length (framed x).names
+      one_rest_room more takes =
+          let b = block_there in
+          let c = unmarked_are b.0 b.1 in
+          let first : ℕ = next_after_instrs S A0 (before at) in
+          let own : ℕ = next_after_instrs S first front in
+          let last : ℕ = next_after_instrs S own (j ∷ []) in
+          let to : next_after_instrs S A0 c.0.instrs ≤ length (with_fetches (unmarked x) S (codes "$c.at.")).names =
+          instrs_to S (unmarked x) (codes "$c.at.") k c.0 c.1 in
+          let shape : c.0.instrs ≡ before at ++ (front ++ j ∷ (rest ++ later)) =
+          c.2.instrs ∙ ap (λ (ys : List Instr). woven (unmarked_layer x k) ys) b.2 ∙ block_is in
+          let sum : next_after_instrs S A0 c.0.instrs ≡ next_after_instrs S last (rest ++ later) =
+          ap (λ (ys : List Instr). next_after_instrs S A0 ys) shape
+          ∙ joined S A0 (before at) (front ++ j ∷ (rest ++ later))
+          ∙ joined S first front (j ∷ (rest ++ later)) in
+          let parts : next_after_instrs S last (rest ++ later)
+          ≡ next_after_instrs S (next_after_instrs S (next_after_instrs S last (copied_there x n i)) (stores x n i)) later =
+          joined S last rest later
+          ∙ ap (λ (q : ℕ). next_after_instrs S q later) (joined S last (copied_there x n i) (stores x n i)) in
+          let one : first ≤ own = instrs_up S first front in
+          let two : own ≤ last = instrs_up S own (j ∷ []) in
+          let three : last + more ≤ next_after_instrs S last (copied_there x n i) = takes last in
+          let four : next_after_instrs S last (copied_there x n i)
+          ≤ next_after_instrs S (next_after_instrs S last (copied_there x n i)) (stores x n i) =
+          instrs_up S (next_after_instrs S last (copied_there x n i)) (stores x n i) in
+          let five : next_after_instrs S (next_after_instrs S last (copied_there x n i)) (stores x n i)
+          ≤ next_after_instrs S (next_after_instrs S (next_after_instrs S last (copied_there x n i)) (stores x n i))
+          later =
+          instrs_up S (next_after_instrs S (next_after_instrs S last (copied_there x n i)) (stores x n i)) later in
+          let e = address_is at in
+          let l = framed_names in
+          omega (arith, to, sum, parts, one, two, three, four, five, e, l)
+
+    written_up : length (written x).names ≤ (address_state n).0
+    written_up = let a = copied_names in let b = addresses_up at in omega (arith, a, b)
+
+    module _ (u : IsUnlocated x n i) (whole : stays (marked x) (loaded x n i) ≡ true)
+        (same : without_promise_of (loaded x n i) ≡ loaded x n i) where
+      pub front_room : (more : ℕ) → ((m : ℕ) → m + more ≤ next_after_instrs S m (saved x n i))
+          → (address_state n).0 + more ≤ length (framed x).names
+      front_room more takes = one_front_room (loaded x n i) u.located whole same more takes
+
+      pub rest_room : (more : ℕ) → ((m : ℕ) → m + more ≤ next_after_instrs S m (copied_there x n i))
+          → (address_state n).0 + more ≤ length (framed x).names
+      rest_room more takes = one_rest_room (loaded x n i) u.located whole same more takes
 
       pub names_in_order : AreNamesInOrder x n i
       names_in_order = record {
@@ -345,5 +396,5 @@ module _ (x : Framing) (is : IsFraming x) (k : ℕ) where
         loads = loads;
         addresses = written_up;
         slots = λ s c. (slots_new x s c, slot_below at s c);
-        room = room;
+        room = one_room (loaded x n i) u.located whole same;
       }

@@ -25,7 +25,7 @@ module _ (x : Framing) (k : ℕ) (s : Placed) (i : Instr) (left : ArePartsLeft x
   one = unmarked_one x (located x s i)
 
   -- behind the loads the instruction with all that is written around it
-  written_is : grown (writing_layer x k) s.0.0.0.1 (becomes (loading_layer x k) s.0.0.0.0 i) ≡ loads x s i
+  pub written_is : grown (writing_layer x k) s.0.0.0.1 (becomes (loading_layer x k) s.0.0.0.0 i) ≡ loads x s i
       ++ (saved x s i ++ (loaded x s i ∷ stores x s i))
   written_is =
       idle_ahead (writing_layer x k) s.0.0.0.1 (loads x s i) (loaded x s i ∷ []) left.written

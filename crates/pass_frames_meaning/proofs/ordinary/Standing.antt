@@ -1,5 +1,5 @@
 -- An instruction of a coroutine stands as laws on fetched instructions ask.
-use Rattle.std.proofs.Common.{◌≡◌, ℕ, Bool, true, List, length, Option, Some, None, refl, sym, ap, ◌∙◌, subst}
+use Rattle.std.proofs.Common.{◌≡◌, ◌<◌, ℕ, Bool, true, List, length, Option, Some, None, refl, sym, ap, ◌∙◌, subst}
 use Rattle.std.specs.Prelude.{slice_get, unwrap_or}
 use Rattle.pass_frames_proof.specs.ir_base.declared.outcome.Outcome.{Outcome}
 use Rattle.pass_frames_proof.proofs.ir_laws.facts.Members.{at_each, each_turns}
@@ -34,6 +34,7 @@ use Rattle.pass_frames_proof.specs.Distances.{IsBelow}
 use Rattle.pass_frames_proof.specs.Framings.{IsFraming}
 use Rattle.pass_frames_proof.specs.Here.{IsHere, IsLined, IsOnLine}
 use Rattle.pass_frames_proof.specs.Operands.{IsAtFetch}
+use Rattle.pass_frames_proof.specs.Ordinary.{IsPlainName}
 use Rattle.pass_frames_proof.specs.Passes.{no_block}
 use Rattle.pass_frames_proof.specs.Places.{Framing, edged, instrs_at, marked, plan}
 use Rattle.pass_frames_proof.specs.Related.{is_coroutine}
@@ -86,8 +87,7 @@ below_named n _ h = tt
 
 module _ (c : Setting) (all : KeepsAll c) (s : State) (sound : IsSound c.g.given.code s)
     (coroutine : is_coroutine c.b s.top.func ≡ true) (mode : IsNotEntering s.top.mode) (i : Instr)
-    (there : fetch (function_of c.g.given s) s.top.block s.top.at ≡ AtInstr i) (staying : IsStaying i)
-    (o : MayStand c s i) where
+    (there : fetch (function_of c.g.given s) s.top.block s.top.at ≡ AtInstr i) where
   abbrev x : Framing
   x = c.b.framing s.top.func
 
@@ -97,18 +97,13 @@ module _ (c : Setting) (all : KeepsAll c) (s : State) (sound : IsSound c.g.given
   same : function_at c.g.given.code s.top.func ≡ edged x
   same = all.given.coroutines s.top.func coroutine
 
-  stands : slice_get (instrs_at x s.top.block) s.top.at ≡ Some i
+  pub stands : slice_get (instrs_at x s.top.block) s.top.at ≡ Some i
   stands = instr_in x (function_at c.g.given.code s.top.func) same s.top.block s.top.at i there
 
-  order : AreNamesInOrder x (state_in x s.top.block s.top.at) i
-  order = names_in_order x is s.top.block s.top.at i stands o.unlocated
-      (kept (marked x) (fetches_of (plan x)) (load_name (state_in x s.top.block s.top.at)) i staying)
-      (same_there (fetches_of (plan x)) (load_name (state_in x s.top.block s.top.at)) i staying)
-
-  room : length s.top.values ≡ length (edged x).names
+  pub room : length s.top.values ≡ length (edged x).names
   room = sound.top.values ∙ ap (λ (f : Function). length f.names) same
 
-  below : Each (IsBelow (length (edged x).names)) (instr_operands i)
+  pub below : Each (IsBelow (length (edged x).names)) (instr_operands i)
   below = on (slice_get (edged x).blocks s.top.block) refl stands
     where
       uses : HasNamedUses (edged x)
@@ -124,45 +119,61 @@ module _ (c : Setting) (all : KeepsAll c) (s : State) (sound : IsSound c.g.given
           (below_named (length (edged x).names)) (operands_of i)
           (at_each _ b.instrs s.top.at i (at_each _ (edged x).blocks s.top.block b uses.operands d) h))
 
-  pub fetch_ready : IsAtFetch c.b s i
-  fetch_ready = record {
-    coroutine = coroutine;
-    mode = mode;
-    there = stands;
-    unreturned = no_return c all s.top.func s.top.block s.top.at i coroutine there;
-    order = order;
-    below = below;
-    begin = begin_plain x is;
-    offsets = offsets_placed x is o.position o.rules;
-    room = room;
-    operands = o.operands;
-  }
-
+  -- it is no alloca, and no distance of its result is kept
   module _ (other : IsNoAlloca i)
       (undistanced : (r : ℕ) → result_of i ≡ Some r → entry (plan (c.b.framing s.top.func)).cells r ≡ None) where
-    pub line_ready : IsOnLine c.b s.top i
-    line_ready = record {
+    pub unmeasured : (r : ℕ) → result_of i ≡ Some r → IsPlainName x r
+    unmeasured r e = plain_by x is s.top.block s.top.at i stands r e other (undistanced r e)
+
+    pub allocas : (at u align : ℕ) (ty : Ty) → slice_get (instrs_at x 0) at ≡ Some (Instr.Alloca u ty align)
+        → (u < length (edged x).names) × (result_of i ≡ Some u → ⊥)
+    allocas at u align ty e = (
+      result_low x is 0 at u (Instr.Alloca u ty align) e refl,
+      λ q. alloca_apart x is s.top.block s.top.at i stands u q other 0 at align ty e,
+    )
+
+  module _ (staying : IsStaying i) (o : MayStand c s i) where
+    order : AreNamesInOrder x (state_in x s.top.block s.top.at) i
+    order = names_in_order x is s.top.block s.top.at i stands o.unlocated
+        (kept (marked x) (fetches_of (plan x)) (load_name (state_in x s.top.block s.top.at)) i staying)
+        (same_there (fetches_of (plan x)) (load_name (state_in x s.top.block s.top.at)) i staying)
+
+    pub fetch_ready : IsAtFetch c.b s i
+    fetch_ready = record {
       coroutine = coroutine;
       mode = mode;
       there = stands;
       unreturned = no_return c all s.top.func s.top.block s.top.at i coroutine there;
-      unmeasured = λ r e. plain_by x is s.top.block s.top.at i stands r e other (undistanced r e);
       order = order;
-      room = room;
-      allocas = λ at u align ty e. (
-        result_low x is 0 at u (Instr.Alloca u ty align) e refl,
-        λ q. alloca_apart x is s.top.block s.top.at i stands u q other 0 at align ty e,
-      );
-    }
-
-    pub here_ready : s.outcome ≡ Outcome.Running → IsLined i → IsHere c.b s i
-    here_ready runs lined = record {
-      runs = runs;
-      on = line_ready;
-      lined = lined;
-      unlocated = o.unlocated;
       below = below;
       begin = begin_plain x is;
       offsets = offsets_placed x is o.position o.rules;
+      room = room;
       operands = o.operands;
     }
+
+    module _ (other : IsNoAlloca i)
+        (undistanced : (r : ℕ) → result_of i ≡ Some r → entry (plan (c.b.framing s.top.func)).cells r ≡ None) where
+      pub line_ready : IsOnLine c.b s.top i
+      line_ready = record {
+        coroutine = coroutine;
+        mode = mode;
+        there = stands;
+        unreturned = no_return c all s.top.func s.top.block s.top.at i coroutine there;
+        unmeasured = unmeasured other undistanced;
+        order = order;
+        room = room;
+        allocas = allocas other undistanced;
+      }
+
+      pub here_ready : s.outcome ≡ Outcome.Running → IsLined i → IsHere c.b s i
+      here_ready runs lined = record {
+        runs = runs;
+        on = line_ready;
+        lined = lined;
+        unlocated = o.unlocated;
+        below = below;
+        begin = begin_plain x is;
+        offsets = offsets_placed x is o.position o.rules;
+        operands = o.operands;
+      }
