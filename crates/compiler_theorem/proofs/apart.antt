@@ -8,5 +8,13 @@ pub mod Whole
 pub mod Conflicts
 pub mod Made
 pub mod Started
+pub mod Begun
 pub mod Saved
 pub mod Behind
+pub mod Unaccessed
+pub mod EarlyUsed
+pub mod EarlySlots
+pub mod EarlyFramed
+pub mod EarlyApart
+pub mod EarlyHeld
+pub mod EarlyOnce

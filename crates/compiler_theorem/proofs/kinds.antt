@@ -19,3 +19,4 @@ pub mod Begins
 pub mod FramedSlots
 pub mod Roomy
 pub mod Fits
+pub mod Blank

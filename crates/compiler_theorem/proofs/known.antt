@@ -5,12 +5,15 @@ pub mod Fields
 pub mod InFrames
 pub mod Layers
 pub mod Left
+pub mod Lonely
 pub mod Made
 pub mod Names
+pub mod Once
 pub mod Plain
 pub mod Resumed
 pub mod Runs
 pub mod Slots
+pub mod Temporaries
 pub mod Sources
 pub mod Unused
 pub mod Used

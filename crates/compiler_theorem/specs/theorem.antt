@@ -6,7 +6,6 @@ pub mod Elision
 pub mod Entries
 pub mod GoodLayouts
 pub mod KeptFields
-pub mod Left
 pub mod Lowered
 pub mod Rows
 pub mod SharedBytes

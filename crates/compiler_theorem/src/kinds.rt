@@ -3,13 +3,19 @@
 ghost use Rattle.std.specs.Prelude.{◌≡◌, ◌+◌, ◌≤◌, ℕ, Bool, List, None, Option, Some, slice_get, true};
 ghost use Rattle.compiler_theorem.specs.theorem.Anew.{Anew, IsAnewOf};
 ghost use Rattle.compiler_theorem.specs.theorem.Asked.{asking};
-ghost use Rattle.compiler_theorem.specs.theorem.Entries.{Run};
+ghost use Rattle.compiler_theorem.specs.theorem.Entries.{IsEntryCall, Run};
 ghost use Rattle.compiler_theorem.specs.theorem.Built.{building};
 ghost use Rattle.compiler.specs.run_framed.Framed.{framed_state_at, layout_of};
 ghost use Rattle.compiler.specs.run_memory.declared.block.MemoryBlock.{MemoryBlock};
 ghost use Rattle.pass_frames_meaning.specs.run_slots.Slots.{IsSlottedState};
 ghost use Rattle.compiler_theorem.specs.theorem.Lowered.{HasFewBytes, IsLowered, Lowered, early, edged, sizes_of};
-ghost use Rattle.compiler_theorem.specs.theorem.Between.{renewing};
+ghost use Rattle.compiler_theorem.specs.theorem.Between.{renewing, setting};
+ghost use Rattle.compiler.specs.pass_proofs.addresses.rules.Addresses.{lies_in_frame};
+ghost use Rattle.compiler.specs.run_laws.transfer.Places.{IsBlank};
+ghost use Rattle.compiler.specs.run_memory.Memory.{is_live};
+ghost use Rattle.pass_frames_meaning.specs.Blank.{IsBlankState, IsUnusedEarly};
+ghost use Rattle.pass_frames_meaning.specs.Covered.{IsKeptOver};
+ghost use Rattle.pass_frames_meaning.specs.pass_frames_proof.Places.{offsets};
 ghost use Rattle.compiler.specs.ir_model.Names.{function_at};
 ghost use Rattle.compiler.specs.ir_model.Ty.{Ty};
 ghost use Rattle.compiler.specs.ir_model.declared.instr.Instr.{Instr};
@@ -113,4 +119,18 @@ pub fn frames_of_sources_fit()
         ≡ Some x
         → slice_get (iterate (renewed_step (renewing l a r)) n (first_state (edged l) r.entry r.args)).world.memory
         x.block ≡ Some z → x.start + (layout_of (asking l low a r).b.given.layouts x.coroutine).size ≤ z.size }
+{}
+
+/// Before begin a slot in the frame holds nothing that no access uses there. This is told of states that are related: at
+/// the start, and behind each step. So it is where begin stands.
+pub fn unused_slots_of_sources_stay_blank()
+    ensures states { (l : Lowered) (low : IsLowered l) → HasFewBytes l → (a : Anew) → IsAnewOf (early l) a → (r : Run)
+        → IsEntryCall l.source r
+        → IsKeptOver (setting l a r) (building l low.is_framed r.answers) (IsBlankState (asking l low a r)) }
+    ensures begin { (l : Lowered) (low : IsLowered l) (a : Anew) (r : Run) (s : TheState)
+        → IsBlankState (asking l low a r) s → is_coroutine (asking l low a r).b s.top.func ≡ true
+        → s.top.instance ≡ None → (slot : Slot) → Contains s.top.slots slot
+        → lies_in_frame (offsets ((asking l low a r).b.framing s.top.func)) slot.alloca ≡ true
+        → IsUnusedEarly ((asking l low a r).b.framing s.top.func) slot.alloca → (z : MemoryBlock)
+        → slice_get s.world.memory slot.block ≡ Some z → is_live z.life ≡ true → IsBlank z }
 {}

@@ -1,20 +1,24 @@
 //! What is known of each state of the run of an accepted source that makes slots anew.
 
 ghost use Rattle.std.specs.List.{Contains};
-ghost use Rattle.std.specs.Prelude.{◌≡◌, ℕ, Bool, true, false, List, Option, Some, slice_get};
+ghost use Rattle.std.specs.Prelude.{◌≡◌, ◌≢◌, ℕ, Bool, true, false, List, None, Option, Some, slice_get};
 ghost use Rattle.compiler_theorem.specs.known.Counts.{counts, own};
 ghost use Rattle.compiler_theorem.specs.known.Frames.{AreMarkersLeft, AreSlotsApart};
+ghost use Rattle.compiler_theorem.specs.known.Temporaries.{AreLiveTemporaries, IsLiveTemporary};
 ghost use Rattle.compiler_theorem.specs.theorem.Anew.{Anew, IsAnewOf};
 ghost use Rattle.compiler_theorem.specs.theorem.Asked.{asking};
 ghost use Rattle.compiler_theorem.specs.theorem.Between.{renewing};
+ghost use Rattle.compiler_theorem.specs.theorem.Built.{building};
 ghost use Rattle.compiler_theorem.specs.theorem.Entries.{IsEntryCall, Run};
 ghost use Rattle.compiler_theorem.specs.theorem.Lowered.{HasFewBytes, IsLowered, Lowered, early, edged};
+ghost use Rattle.compiler_theorem.specs.theorem.Started.{HasSlotsOnce};
 ghost use Rattle.compiler.specs.frame_contents.Held.{position_of};
 ghost use Rattle.compiler.specs.ir_base.declared.outcome.Outcome.{Outcome};
 ghost use Rattle.compiler.specs.ir_model.Names.{function_at};
 ghost use Rattle.compiler.specs.ir_model.Ty.{Ty};
 ghost use Rattle.compiler.specs.ir_model.declared.instr.Instr.{Instr};
 ghost use Rattle.compiler.specs.ir_model.declared.operand.Arg.{Arg};
+ghost use Rattle.compiler.specs.pass_copies.declared.slot.EarlySlot.{EarlySlot};
 ghost use Rattle.compiler.specs.pass_frames.Tables.{offset_at};
 ghost use Rattle.pass_frames_meaning.specs.Anew.{IsAnewState};
 ghost use Rattle.pass_frames_meaning.specs.Coroutines.{MayFollow, MayMark};
@@ -27,14 +31,15 @@ ghost use Rattle.pass_frames_meaning.specs.Pointers.{IsPointingState};
 ghost use Rattle.pass_frames_meaning.specs.Sized.{IsSizedAt, IsSizedState};
 ghost use Rattle.pass_frames_meaning.specs.Setting.{MayStep};
 ghost use Rattle.pass_frames_meaning.specs.Spared.{AreFieldsApart};
-ghost use Rattle.pass_frames_meaning.specs.pass_frames_proof.Marking.{marking};
+ghost use Rattle.pass_frames_meaning.specs.pass_frames_proof.Marking.{IsTemporaryThere, marking};
+ghost use Rattle.pass_frames_meaning.specs.pass_frames_proof.Places.{copies};
 ghost use Rattle.pass_frames_meaning.specs.pass_frames_proof.Related.{AreBuiltOf, is_coroutine};
 ghost use Rattle.pass_frames_meaning.specs.pass_frames_proof.Stepping.{IsNotEntering};
 ghost use Rattle.pass_frames_meaning.specs.pass_frames_proof.Slotted.{HasFrameThere, IsSlotField, IsSlotInFrame};
 ghost use Rattle.pass_frames_meaning.specs.pass_renewed_proof.Beside.{IsBeside};
 ghost use Rattle.pass_frames_meaning.specs.pass_renewed_proof.Renewed.{renewed_step};
 ghost use Rattle.pass_frames_meaning.specs.pass_renewed_proof.Way.{IsResumedAt};
-ghost use Rattle.compiler.specs.run_framed.Framed.{layout_of};
+ghost use Rattle.compiler.specs.run_framed.Framed.{framed_state_at, layout_of};
 ghost use Rattle.compiler.specs.run_memory.Memory.{is_killed};
 ghost use Rattle.compiler.specs.run_memory.declared.block.MemoryBlock.{MemoryBlock};
 ghost use Rattle.compiler.specs.run_memory.declared.pointer.Value.{Value};
@@ -84,6 +89,35 @@ pub fn slots_of_sources_are_made()
         → value_in
         (iterate (renewed_step (renewing l a r)) n (first_state (edged l) r.entry r.args)).top.values name
         ≡ Value.Poison }
+{}
+
+/// An alloca makes one slot of an instance (rules N1, F1 and F3), in each state of the run. Where an alloca stands no
+/// slot of the instance is of it yet. Before begin it makes one slot of the activation.
+pub fn slots_of_sources_are_made_once()
+    ensures makes { (l : Lowered) (low : IsLowered l) → HasFewBytes l → (a : Anew) → IsAnewOf (early l) a → (r : Run)
+        → IsEntryCall l.source r → (n : ℕ)
+        → IsNotEntering (iterate (renewed_step (renewing l a r)) n (first_state (edged l) r.entry r.args)).top.mode
+        → (name : ℕ) (ty : Ty) (align : ℕ)
+        → fetch (function_of (renewing l a r).given
+        (iterate (renewed_step (renewing l a r)) n (first_state (edged l) r.entry r.args)))
+        (iterate (renewed_step (renewing l a r)) n (first_state (edged l) r.entry r.args)).top.block
+        (iterate (renewed_step (renewing l a r)) n (first_state (edged l) r.entry r.args)).top.at
+        ≡ AtInstr (Instr.Alloca name ty align) → (i : ℕ) (x : Instance)
+        → (iterate (renewed_step (renewing l a r)) n (first_state (edged l) r.entry r.args)).top.instance ≡ Some i
+        → slice_get (iterate (renewed_step (renewing l a r)) n (first_state (edged l) r.entry r.args)).instances i
+        ≡ Some x → (other : Slot) → Contains x.slots other → other.alloca ≢ name }
+    ensures starts { (l : Lowered) (low : IsLowered l) → HasFewBytes l → (a : Anew) → IsAnewOf (early l) a → (r : Run)
+        → IsEntryCall l.source r → (n number : ℕ) (x : Instance)
+        → slice_get
+        (iterate (renewed_step (renewing l a r)) n (first_state (edged l) r.entry r.args)).instances number
+        ≡ Some x → HasSlotsOnce x }
+    ensures own { (l : Lowered) → IsLowered l → HasFewBytes l → (a : Anew) → IsAnewOf (early l) a → (r : Run)
+        → IsEntryCall l.source r → (n : ℕ)
+        → (iterate (renewed_step (renewing l a r)) n (first_state (edged l) r.entry r.args)).top.instance ≡ None
+        → (one other : Slot)
+        → Contains (iterate (renewed_step (renewing l a r)) n (first_state (edged l) r.entry r.args)).top.slots one
+        → Contains (iterate (renewed_step (renewing l a r)) n (first_state (edged l) r.entry r.args)).top.slots other
+        → one.alloca ≡ other.alloca → one.block ≡ other.block }
 {}
 
 /// Slots in a frame are used behind begin, but for accesses that go by the addresses in their cells (rule K9).
@@ -224,4 +258,53 @@ pub fn frames_of_sources_are_there()
         → slice_get (iterate (renewed_step (renewing l a r)) n (first_state (edged l) r.entry r.args)).instances i
         ≡ Some x → x.freed ≡ false → HasFrameThere (asking l low a r).b
         (iterate (renewed_step (renewing l a r)) n (first_state (edged l) r.entry r.args)) x }
+{}
+
+/// Before begin a slot that is used there stands in its temporary. If the temporary's block is a live slot of its size,
+/// no frame begins there, and nothing else that lives stands there.
+pub fn temporaries_of_sources_are_there()
+    ensures there { (l : Lowered) (low : IsLowered l) → HasFewBytes l → (a : Anew) → IsAnewOf (early l) a → (r : Run)
+        → IsEntryCall l.source r → (n m : ℕ)
+        → (built : AreBuiltOf (asking l low a r).b
+        (iterate (renewed_step (renewing l a r)) n (first_state (edged l) r.entry r.args))
+        (framed_state_at (building l low.is_framed r.answers).given r.entry r.args m))
+        → is_coroutine (asking l low a r).b
+        (iterate (renewed_step (renewing l a r)) n (first_state (edged l) r.entry r.args)).top.func ≡ true
+        → (iterate (renewed_step (renewing l a r)) n (first_state (edged l) r.entry r.args)).top.instance ≡ None
+        → (slot : Slot)
+        → Contains (iterate (renewed_step (renewing l a r)) n (first_state (edged l) r.entry r.args)).top.slots slot
+        → (q : ℕ) (e : EarlySlot)
+        → Contains (copies ((asking l low a r).b.framing
+        (iterate (renewed_step (renewing l a r)) n (first_state (edged l) r.entry r.args)).top.func)).slots e
+        → e.slot ≡ slot.alloca
+        → Contains (framed_state_at (building l low.is_framed r.answers).given r.entry r.args m).top.slots
+        (record { alloca = e.temporary; block = q })
+        → IsLiveTemporary e
+        (framed_state_at (building l low.is_framed r.answers).given r.entry r.args m).world.memory q
+        → IsTemporaryThere (asking l low a r).b
+        (iterate (renewed_step (renewing l a r)) n (first_state (edged l) r.entry r.args))
+        (framed_state_at (building l low.is_framed r.answers).given r.entry r.args m) built
+        slot.block q }
+    ensures marked { (l : Lowered) (low : IsLowered l) → HasFewBytes l → (a : Anew) → IsAnewOf (early l) a → (r : Run)
+        → IsEntryCall l.source r → (n m : ℕ)
+        → (built : AreBuiltOf (asking l low a r).b
+        (iterate (renewed_step (renewing l a r)) n (first_state (edged l) r.entry r.args))
+        (framed_state_at (building l low.is_framed r.answers).given r.entry r.args m))
+        → is_coroutine (asking l low a r).b
+        (iterate (renewed_step (renewing l a r)) n (first_state (edged l) r.entry r.args)).top.func ≡ true
+        → AreLiveTemporaries (asking l low a r).b
+        (framed_state_at (building l low.is_framed r.answers).given r.entry r.args m)
+        → (name : ℕ) (slot : Slot)
+        → (iterate (renewed_step (renewing l a r)) n (first_state (edged l) r.entry r.args)).top.instance ≡ None
+        → Contains (iterate (renewed_step (renewing l a r)) n (first_state (edged l) r.entry r.args)).top.slots slot
+        → slot.alloca ≡ name → (q : ℕ) (e : EarlySlot)
+        → Contains (copies ((asking l low a r).b.framing
+        (iterate (renewed_step (renewing l a r)) n (first_state (edged l) r.entry r.args)).top.func)).slots e
+        → e.slot ≡ name
+        → Contains (framed_state_at (building l low.is_framed r.answers).given r.entry r.args m).top.slots
+        (record { alloca = e.temporary; block = q })
+        → IsTemporaryThere (asking l low a r).b
+        (iterate (renewed_step (renewing l a r)) n (first_state (edged l) r.entry r.args))
+        (framed_state_at (building l low.is_framed r.answers).given r.entry r.args m) built
+        slot.block q }
 {}

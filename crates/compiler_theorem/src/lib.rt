@@ -1,17 +1,20 @@
 //! The theorem: what is lowered of a source agrees with it, by all passes in a row.
 //!
-//! `theorem` has one row a pass (`Steps`). Rows that stand are cited in the proof, the others are premises there, each
-//! with what it waits for. `parts` has the row on functions that are split, up to facts of framed forms. `known`, `kinds`,
-//! `ends`, `woken` and `apart` derive what laws on steps of frames ask of accepted sources and of their runs.
+//! `theorem` has one row a pass, and the rows in turn. `parts` has the row on functions that are split, up to facts of
+//! framed forms. `known`, `kinds`, `ends`, `woken`, `apart`, `made`, `accesses` and `temporaries` derive what laws on steps
+//! of frames ask of accepted sources and of their runs.
 //!
-//! No code stands on this crate yet. The headline will be a clause of `drive` once no premise is left.
+//! The clause `headline` of `cli_drive::drive` says it of the bytes that were read and written.
 #![tactic(auto)]
 
+pub mod accesses;
 pub mod apart;
 pub mod ends;
 pub mod kinds;
 pub mod known;
+pub mod made;
 pub mod narrow;
 pub mod parts;
+pub mod temporaries;
 pub mod theorem;
 pub mod woken;

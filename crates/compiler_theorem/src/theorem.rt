@@ -14,7 +14,6 @@ ghost use Rattle.compiler.specs.ir_laws.facts.sound_states.Named.{HasNamedLocals
 ghost use Rattle.compiler.specs.run_source.declared.state.State.{State};
 ghost use Rattle.compiler_theorem.specs.theorem.Anew.{Anew, IsAnewOf};
 ghost use Rattle.compiler_theorem.specs.theorem.Asked.{asking};
-ghost use Rattle.compiler_theorem.specs.theorem.Left.{AreAllStepsLeft};
 ghost use Rattle.compiler_theorem.specs.theorem.Built.{building};
 ghost use Rattle.compiler_theorem.specs.theorem.Entries.{IsEntry, IsEntryCall, Run};
 ghost use Rattle.compiler_theorem.specs.theorem.Lowered.{AreAllocasFirst, HasFewBytes, Lowered, IsLowered, early, edged, kept_run, price_kept, printed_from, sizes_of, source_run};
@@ -23,19 +22,20 @@ ghost use Rattle.compiler.specs.frame_layout.declared.layout.Layouts.{Layouts};
 ghost use Rattle.compiler.specs.pass_frames.Framed.{IsFramedForm};
 ghost use Rattle.std.specs.Prelude.{◌≡◌, ◌+◌, ◌*◌, ◌<◌, ◌≤◌, ◌^◌, ℕ, ℤ, false, List, Some, length, slice_get, true};
 ghost use Rattle.pass_frames_meaning.specs.run_types.States.{AreArguments};
+ghost use Rattle.pass_frames_meaning.specs.Blank.{IsBlankState};
 ghost use Rattle.pass_frames_meaning.specs.Covered.{AreCoveredStepsFollowed};
 ghost use Rattle.pass_frames_meaning.specs.Setting.{KeepsAll};
 ghost use Rattle.pass_frames_meaning.specs.pass_frames_proof.Related.{AreBuilt, AreBuiltOf};
 ghost use Rattle.pass_frames_meaning.specs.pass_frames_proof.Stepping.{AreGiven};
 ghost use Rattle.compiler_theorem.specs.theorem.Between.{renewing, setting};
-ghost use Rattle.compiler_theorem.specs.theorem.Theorem.{AreFramesShown, AreMadeAnew, KeepsMeaning, KeepsRuns, Steps, prices_of};
+ghost use Rattle.compiler_theorem.specs.theorem.Theorem.{AreMadeAnew, KeepsMeaning, KeepsRuns, prices_of};
 ghost use Rattle.compiler_theorem.specs.theorem.Elision.{ElidedSteps, ElidesCalls};
 ghost use Rattle.compiler_theorem.specs.theorem.Rows.{joined};
 ghost use Rattle.compiler_theorem.specs.theorem.SharedBytes.{HasField, StandAt};
 ghost use Rattle.compiler_theorem.specs.theorem.KeptFields.{AreFieldsKept, KeepSmallOffsets};
 ghost use Rattle.compiler_theorem.specs.theorem.SharedBytes as shown;
 ghost use Rattle.compiler.specs.pass_cells.declared.plan.KeptValue.{KeptValue};
-ghost use Rattle.compiler.specs.run_framed.Framed.{layout_of};
+ghost use Rattle.compiler.specs.run_framed.Framed.{framed_state_at, layout_of};
 ghost use Rattle.compiler.specs.run_memory.declared.pointer.Offset.{Offset};
 ghost use Rattle.compiler.specs.run_memory.declared.pointer.Pointer.{Pointer};
 ghost use Rattle.compiler_theorem.specs.theorem.ShownSlots.{AreFieldsShown, AreSlotsShown, step_homes};
@@ -104,11 +104,11 @@ pub fn begin_gives_its_name_once()
         → begin_name f ≡ Some v → IsBegunOnce f v }
 {}
 
-/// Each step from a covered state of an accepted source is followed in its framed form, where what is left is known.
+/// Each step from a covered state of an accepted source is followed in its framed form.
 pub fn steps_of_sources_are_followed()
     ensures { (l : Lowered) (low : IsLowered l) → HasFewBytes l → (a : Anew) → IsAnewOf (early l) a → (r : Run)
-        → IsEntryCall l.source r → AreAllStepsLeft l low a r
-        → AreCoveredStepsFollowed (setting l a r) (building l low.is_framed r.answers) }
+        → IsEntryCall l.source r → AreCoveredStepsFollowed (setting l a r)
+        (building l low.is_framed r.answers) (IsBlankState (asking l low a r)) }
 {}
 
 /// The prices of a run of an accepted source, in which a resume hands on values, are at most 4 times the size factor for
@@ -212,6 +212,17 @@ pub fn fields_show_values()
         (digits size o.bits) f.block (f.instance.start + offset) }
 {}
 
+/// Of accepted sources this holds: what crosses a suspend has its field, which is for a distance where the value is an
+/// address in a local slot. Offsets that suspended instances keep are of 64 bits, and bytes of framed runs are bytes.
+pub fn fields_of_sources_are_kept()
+    ensures fields { (l : Lowered) (low : IsLowered l) (a : Anew) → IsAnewOf (early l) a → (r : Run)
+        → AreFieldsKept a l low r.answers }
+    ensures offsets { (l : Lowered) (r : Run) (n : ℕ) → KeepSmallOffsets (state_at (source_run l r) n) }
+    ensures bytes { (l : Lowered) (low : IsLowered l) (a : Anew) → IsAnewOf (early l) a → (r : Run)
+        → IsEntryCall l.source r → (n : ℕ)
+        → fitting.HaveBytes (framed_state_at (building l low.is_framed r.answers).given r.entry r.args n).world.memory }
+{}
+
 /// So frames show all fields of suspended instances, where what crosses a suspend of the source has its field, and
 /// offsets of addresses are of 64 bits.
 pub fn frames_show_fields()
@@ -225,8 +236,7 @@ pub fn frames_show_fields()
 /// What is printed of a source that breaks no rule agrees with it within its step factor, with frames that share
 /// bytes and with plain ones, where no call is elided. The text has fewer bytes than an index can count.
 pub fn lowered_runs_agree()
-    ensures { (a : Anew) (l : Lowered) (low : IsLowered l) → HasFewBytes l → Steps a l low
-        → (r : Run) (other : ℕ) → IsEntry l.source (printed_from l l.framed) r.entry other
+    ensures { (l : Lowered) → IsLowered l → HasFewBytes l → (r : Run) (other : ℕ) → IsEntry l.source (printed_from l l.framed) r.entry other
         → AreArguments l.source r.entry r.args → KeepsRuns l r other }
 {}
 
@@ -237,19 +247,16 @@ pub fn texts_keep_their_meaning()
         → IsLowering options text (TheLowering.Done l) → AllFew l.«module».functions → KeepsTexts text l }
 {}
 
-/// And where frames show the slots and values that stand in them, they stand where they lie by the layouts.
+/// And in frames the slots and values that stand in them stand where they lie by the layouts.
 pub fn lowering_keeps_meaning()
-    ensures { (a : Anew) (l : Lowered) (low : IsLowered l) → HasFewBytes l → Steps a l low
-        → AreFramesShown a l low → (r : Run) (other : ℕ)
-        → IsEntry l.source (printed_from l l.framed) r.entry other → AreArguments l.source r.entry r.args
-        → KeepsMeaning l r other }
+    ensures { (l : Lowered) → IsLowered l → HasFewBytes l → (r : Run) (other : ℕ) → IsEntry l.source (printed_from l l.framed) r.entry other
+        → AreArguments l.source r.entry r.args → KeepsMeaning l r other }
 {}
 
 /// What is printed agrees with the source where calls are elided, too, with the most sites of one function in the step
 /// factor. It makes so many allocator calls less.
 pub fn elision_keeps_meaning<Q: RelatesElided>()
-    ensures { (a : Anew) (l : Lowered) (low : IsLowered l) → HasFewBytes l → Steps a l low
-        → (n : Module) (sites : ℕ)
+    ensures { (l : Lowered) → IsLowered l → HasFewBytes l → (n : Module) (sites : ℕ)
         → ElidedSteps Q.elided Q.eliding l n sites → (r : Run) (other : ℕ)
         → IsEntry l.source (printed_from l n) r.entry other → AreArguments l.source r.entry r.args
         → ElidesCalls l n sites r other }

@@ -1,6 +1,6 @@
 -- Instances and their slots in the run before, where slots are made anew behind it.
 use Rattle.std.proofs.Common.{◌≡◌, inl, inr, ℕ, zero, suc, ◌+◌, ◌<◌, Bool, true, false, List, [], ◌∷◌, length, Option, Some, None, refl, sym, ap, ◌∙◌, subst, arith}
-use Rattle.std.specs.Prelude.{slice_get}
+use Rattle.std.specs.Prelude.{IsTrue, slice_get}
 use Rattle.compiler.specs.flow_solver.Paths.{IsListed}
 use Rattle.compiler.specs.ir_model.declared.module.Module.{Module}
 use Rattle.compiler.specs.ir_paths.declared.point.Point.{Point}
@@ -55,6 +55,32 @@ slot_before l Seated flags ss ts (Both alloca b c more others off home unseated 
 slot_before l Seated flags ss ts (First s more others seated rest) slot k =
     later l flags s more slot (slot_before l Seated flags more others rest slot k)
 slot_before l Seated flags ss ts (Second t more others owns rest) slot k = absurd owns
+
+-- also where the second run lists slots of its own, which may be made anew
+pub early_slot_before : (l : Ledger) (Seated Owns : Slot → Type 0) (flags : ℕ → Bool)
+    → ((t : Slot) → Owns t → IsTrue (flags t.alloca)) → (ss ts : List Slot) → AreSlots l Seated Owns flags ss ts
+    → (slot : Slot) → flags slot.alloca ≡ false → IsListed slot ts → IsSlotBefore l flags ss slot
+early_slot_before l Seated Owns flags flagged ss ts NoSlots slot off k = absurd k
+early_slot_before l Seated Owns flags flagged ss ts (Both alloca b c more others same home unseated rest) slot off
+    (inl e) = record {
+      block = b;
+      number = 0;
+      there = ap (λ (z : Slot). Some (record { alloca = z.alloca; block = b })) (sym e);
+      home = home ∙ ap (λ (z : Slot). whole_home z.block) (sym e);
+      unseated = unseated;
+      off = off;
+    }
+early_slot_before l Seated Owns flags flagged ss ts (Both alloca b c more others same home unseated rest) slot off
+    (inr k) = later l flags (record { alloca = alloca; block = b }) more slot
+    (early_slot_before l Seated Owns flags flagged more others rest slot off k)
+early_slot_before l Seated Owns flags flagged ss ts (First s more others seated rest) slot off k =
+    later l flags s more slot (early_slot_before l Seated Owns flags flagged more others rest slot off k)
+early_slot_before l Seated Owns flags flagged ss ts (Second t more others owns rest) slot off (inl e) =
+    let yes : flags slot.alloca ≡ true = ap (λ (z : Slot). flags z.alloca) e ∙ flagged t owns in
+    let no : true ≡ false = sym yes ∙ off in
+    absurd (cc)
+early_slot_before l Seated Owns flags flagged ss ts (Second t more others owns rest) slot off (inr k) =
+    early_slot_before l Seated Owns flags flagged ss others rest slot off k
 
 -- its block has a mate, so it lives where that does
 pub lives_before : (m : Module) (l : Ledger) (memory target : List MemoryBlock) → AreEntered m l memory target

@@ -67,14 +67,14 @@ conflict_back f a b (Together t) = Together (record {
 -- ---- a layout
 
 -- a slot of the frame has a field
-record HasFramePlace (x : Framing) (f : Function) (slot : ℕ) (h : Holding) : Type 0 where
-  number : ℕ
-  index : slice_get (allocas_of f) number ≡ Some slot
-  frame : IsOf f slot SlotClass.Frame
-  position : ℕ
-  told : position_of x.contents.held slot ≡ Some position
-  there : slice_get x.contents.held position ≡ Some h
-  value : h.value ≡ slot
+pub record HasFramePlace (x : Framing) (f : Function) (slot : ℕ) (h : Holding) : Type 0 where
+  pub number : ℕ
+  pub index : slice_get (allocas_of f) number ≡ Some slot
+  pub frame : IsOf f slot SlotClass.Frame
+  pub position : ℕ
+  pub told : position_of x.contents.held slot ≡ Some position
+  pub there : slice_get x.contents.held position ≡ Some h
+  pub value : h.value ≡ slot
 
 module _ (x : Framing) (func : ℕ) (f : Function) (l : Layout) (layout : x.layout ≡ l)
     (good : IsGoodLayout func (fields_of f x.contents.held) (AreInConflict f x.contents) l) (one other : ℕ)
@@ -143,7 +143,7 @@ module _ (x : Framing) (func : ℕ) (f : Function) (l : Layout) (layout : x.layo
       (slice_get_within (fields_of f x.contents.held) b.position (field_of f k) second)
       not_same (Named (is_pair conflicts conflicts_are))
 
-  held_apart : AreRangesApart (offset_at x.layout a.position) h.size (offset_at x.layout b.position) k.size
+  pub held_apart : AreRangesApart (offset_at x.layout a.position) h.size (offset_at x.layout b.position) k.size
   held_apart = subst (λ (y : Layout). AreRangesApart (offset_at y a.position) h.size (offset_at y b.position) k.size)
       (sym layout)
       (ranges (offset_at l a.position) h.size (offset_at l b.position) k.size

@@ -5,7 +5,7 @@ use Rattle.compiler.proofs.fit.Fields.{fields_fit}
 use Rattle.compiler.proofs.whole.lowered_sources.Sources.{early_rules, early_wide}
 use Rattle.compiler_theorem.proofs.kinds.Held.{IsPlacedAs, slot_placed}
 use Rattle.compiler_theorem.proofs.kinds.Opened.{size_low, uncut}
-use Rattle.compiler_theorem.proofs.kinds.Values.{held_as_value}
+use Rattle.compiler_theorem.proofs.kinds.Values.{held_as_value, no_token}
 use Rattle.compiler_theorem.proofs.theorem.Built.{coroutine_there, sources_built}
 use Rattle.compiler_theorem.proofs.theorem.Facts.{good_layouts}
 use Rattle.compiler_theorem.proofs.theorem.Framing.{sources_given}
@@ -26,7 +26,7 @@ use Rattle.compiler.specs.frame_layout.declared.layout.Layout.{Layout}
 use Rattle.compiler.proofs.ir_laws.facts.Truth.{itself}
 use Rattle.compiler.specs.ir_model.Layout.{extent_of, extent_or, size_of}
 use Rattle.compiler.specs.ir_model.Names.{function_at}
-use Rattle.compiler.specs.ir_model.Ty.{Ty}
+use Rattle.compiler.specs.ir_model.Ty.{Ty, token}
 use Rattle.compiler.specs.ir_model.declared.instr.Instr.{Instr}
 use Rattle.compiler.specs.ir_model.declared.module.Block.{Block}
 use Rattle.compiler.specs.ir_model.declared.module.Function.{Function}
@@ -44,6 +44,7 @@ use Rattle.pass_frames_meaning.specs.pass_frames_proof.Places.{Framing, plan}
 use Rattle.pass_frames_meaning.specs.pass_frames_proof.Places.{edged as edged_function}
 use Rattle.pass_frames_meaning.specs.pass_frames_proof.Related.{IsKeptValue}
 use Rattle.compiler.specs.rule_laws.rules.function_rules.Kept.{KeepsFunctionRules}
+use Rattle.compiler.specs.rule_values.Fits.{fits_kind}
 use Rattle.compiler.specs.rule_values.Kinds.{value_kind}
 use Rattle.compiler.specs.rule_values.declared.kinds.Kind.{Kind}
 use Rattle.run_accepted.proofs.Accepted.{edged_types}
@@ -124,6 +125,11 @@ module _ (l : Lowered) (low : IsLowered l) (a : Anew) (r : Run) (func : ℕ)
   pub held : (v : ℕ) (k : KeptValue) → IsKeptValue ((asking l low a r).b.framing func) v k
       → IsHeldAsValue ((asking l low a r).b.framing func) v k
   held v k kept = held_as_value x is func own_rules v k kept (pointer v)
+
+  -- and is no token
+  pub scalar : (v : ℕ) (k : KeptValue) → IsKeptValue ((asking l low a r).b.framing func) v k
+      → fits_kind (value_kind (edged_function ((asking l low a r).b.framing func)) v) token ≡ true → ⊥
+  scalar v k kept = no_token x is func own_rules v k kept (pointer v)
 
   pub fit : AreFit (fields_of (function_at (early l) func) ((asking l low a r).b.framing func).contents.held)
   fit =

@@ -2,7 +2,7 @@
 use Rattle.std.proofs.Common.{◌≡◌, ◌+◌, ◌∷◌, arith, List, ℕ, Bool, true, false, not, ◌&&◌, Some, sym, ap, ◌∙◌, subst, inl, inr, ◌⊎◌, refl}
 use Rattle.std.specs.Prelude.{slice_get}
 use Rattle.compiler_theorem.proofs.apart.Beside.{IsAsleepBefore, IsSlotBefore, asleep_before, instance_before, lives_before, slot_before}
-use Rattle.compiler_theorem.proofs.apart.Facts.{function, good, held, is, layout, placed, size_is, there_now}
+use Rattle.compiler_theorem.proofs.apart.Facts.{function, good, held, layout, placed, size_is, there_now}
 use Rattle.compiler_theorem.proofs.apart.Kept.{alive, edged_is}
 use Rattle.compiler_theorem.proofs.apart.Layouts.{alive_apart}
 use Rattle.compiler_theorem.proofs.apart.Tables.{frame_slot, not_named}

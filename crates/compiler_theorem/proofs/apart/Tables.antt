@@ -38,7 +38,7 @@ module _ (l : Lowered) (low : IsLowered l) (a : Anew) (anew : IsAnewOf (early l)
   named v = has_name (facts_at (facts_from a.flags (edged l).functions) func).ramp_slots v
 
   -- a ramp slot where edges have blocks is one without them
-  ramp_named : (v : ℕ) → has_name (allocas_of (with_edge_blocks f)) v ≡ true → IsRampSlot (with_edge_blocks f) v
+  pub ramp_named : (v : ℕ) → has_name (allocas_of (with_edge_blocks f)) v ≡ true → IsRampSlot (with_edge_blocks f) v
       → has_name (facts_of f).ramp_slots v ≡ true
   ramp_named v among ramp = sym (same_ramp_slots f edges.labels edges.once edges.phis v)
       ∙ ((facts_of_right (with_edge_blocks f)).ramp_slots v).1 (among, ramp)

@@ -50,7 +50,7 @@ abbrev begin_call : Option ℕ → Bool → Option Ty → List Arg → Instr
 begin_call result must_tail ty args = Instr.Call result must_tail ty (Callee.Intrinsic Intrinsic.CoroBegin) args
 
 -- where its step is fine, no instance was begun
-none_begun : (g : RenewedGiven) (s : State) → s.outcome ≡ Outcome.Running → IsFine (renewed_step g s).outcome
+pub none_begun : (g : RenewedGiven) (s : State) → s.outcome ≡ Outcome.Running → IsFine (renewed_step g s).outcome
     → (result : Option ℕ) (must_tail : Bool) (ty : Option Ty) (args : List Arg)
     → fetch (function_of g.given s) s.top.block s.top.at
     ≡ AtInstr (Instr.Call result must_tail ty (Callee.Intrinsic Intrinsic.CoroBegin) args) → s.top.instance ≡ None

@@ -3,7 +3,7 @@ use Rattle.std.proofs.Common.{◌≡◌, arith, ◌⊎◌, inl, inr, ℕ, Bool, 
 use Rattle.std.specs.Prelude.{option_and_then, slice_get, unwrap_or, ◌||◌}
 use Rattle.compiler.specs.flow_solver.Paths.{IsListed}
 use Rattle.compiler.specs.ir_calls.Calls.{first_call, is_null, is_value, value_of_first}
-use Rattle.compiler.proofs.ir_laws.facts.Truth.{equal_numbers}
+use Rattle.compiler.proofs.ir_laws.facts.Truth.{and_second, equal_numbers}
 use Rattle.compiler.proofs.ir_laws.paths.sources.Listed.{point_listed}
 use Rattle.compiler.specs.ir_model.Names.{is_local}
 use Rattle.compiler.specs.ir_model.Ty.{Ty}
@@ -59,6 +59,30 @@ module _ (x : Framing) (is : IsFraming x) where
       let same : i ≡ S.instr = same_instr i S.instr (sym e ∙ ap (instr_at (edged x)) point ∙ stands) in
       same_number v is.begin (sym gives ∙ ap call_result same ∙ S.makes) ∙ sym begin_is
 
+  -- what is told to be the first begin's value is begin's
+  frame_value : (o : Option Instr) → first_call Intrinsic.CoroBegin (edged x) ≡ o → (v : ℕ)
+      → is_value (option_and_then call_result o) (Operand.Local v) ≡ true → v ≡ begin_of x.function
+  frame_value None d v h = absurd (cc)
+  frame_value (Some i) d v h = given (call_result i) refl h
+    where
+      given : (q : Option ℕ) → call_result i ≡ q → is_value q (Operand.Local v) ≡ true → v ≡ begin_of x.function
+      given None g k = absurd (cc)
+      given (Some u) g k =
+          let z = first_call_at (edged x) Intrinsic.CoroBegin i d in
+          sym (equal_numbers u v k) ∙ one_result z.point i u z.stands z.is_call g
+
+  -- what coro.free is given is begin's value (K2)
+  pub free_pointer : (p : Point) (result : Option ℕ) (must_tail : Bool) (ty : Option Ty) (args : List Arg) (v : ℕ)
+      → instr_at (edged x) p ≡ Some (Instr.Call result must_tail ty (Callee.Intrinsic Intrinsic.CoroFree) args)
+      → operand_at args 1 ≡ Operand.Local v → v ≡ begin_of x.function
+  free_pointer p result must_tail ty args v e d =
+      frame_value (first_call Intrinsic.CoroBegin (edged x)) refl v
+      (ap (is_value (value_of_first Intrinsic.CoroBegin (edged x))) (sym d)
+      ∙ and_second (is_value (value_of_first Intrinsic.CoroId (edged x)) (operand_at args 0))
+      (is_value (value_of_first Intrinsic.CoroBegin (edged x)) (operand_at args 1))
+      (right_call is.position (edged x) coroutine is.frameable.calls p
+      (Instr.Call result must_tail ty (Callee.Intrinsic Intrinsic.CoroFree) args) e))
+
   -- a save's pointer is begin's value or null (K2)
   pub save_pointer : (p : Point) (result : Option ℕ) (must_tail : Bool) (ty : Option Ty) (args : List Arg)
       → instr_at (edged x) p ≡ Some (Instr.Call result must_tail ty (Callee.Intrinsic Intrinsic.CoroSave) args)
@@ -68,23 +92,12 @@ module _ (x : Framing) (is : IsFraming x) where
       (right_call is.position (edged x) coroutine is.frameable.calls p
       (Instr.Call result must_tail ty (Callee.Intrinsic Intrinsic.CoroSave) args) e)
     where
-      value : (o : Option Instr) → first_call Intrinsic.CoroBegin (edged x) ≡ o → (v : ℕ)
-          → is_value (option_and_then call_result o) (Operand.Local v) ≡ true → v ≡ begin_of x.function
-      value None d v h = absurd (cc)
-      value (Some i) d v h = given (call_result i) refl h
-        where
-          given : (q : Option ℕ) → call_result i ≡ q → is_value q (Operand.Local v) ≡ true → v ≡ begin_of x.function
-          given None g k = absurd (cc)
-          given (Some u) g k =
-              let z = first_call_at (edged x) Intrinsic.CoroBegin i d in
-              sym (equal_numbers u v k) ∙ one_result z.point i u z.stands z.is_call g
-
       on : (o : Operand) → operand_at args 0 ≡ o
           → (is_null o || is_value (value_of_first Intrinsic.CoroBegin (edged x)) o) ≡ true
           → (operand_at args 0 ≡ Operand.Null) ⊎ (operand_at args 0 ≡ Operand.Local (begin_of x.function))
       on Operand.Null d h = inl d
       on (Operand.Local v) d h =
-          inr (d ∙ ap Operand.Local (value (first_call Intrinsic.CoroBegin (edged x)) refl v h))
+          inr (d ∙ ap Operand.Local (frame_value (first_call Intrinsic.CoroBegin (edged x)) refl v h))
       on (Operand.Global n) d h = absurd (no_value (value_of_first Intrinsic.CoroBegin (edged x)) (Operand.Global n)
           (λ v. refl) h)
       on (Operand.Number n) d h = absurd (no_value (value_of_first Intrinsic.CoroBegin (edged x)) (Operand.Number n)

@@ -1,10 +1,12 @@
 -- The temporary of a slot that is used before begin is of the slot's type: it is made of the slot's alloca.
-use Rattle.std.proofs.Common.{◌≡◌, inl, inr, ℕ, suc, ◌<◌, List, [], ◌∷◌, length, Some, refl, sym, ap, arith}
+use Rattle.std.proofs.Common.{◌≡◌, ◌&&◌, Bool, false, inl, inr, not, ℕ, suc, ◌<◌, ◌≤◌, List, [], ◌∷◌, length, Some, refl, sym, true, ap, arith, zero}
+use Rattle.std.proofs.lemmas.Bool.{and_parts, leb-true}
 use Rattle.std.specs.List.{Contains}
-use Rattle.std.specs.Prelude.{slice_get, unwrap_or}
+use Rattle.std.specs.Prelude.{nat_le, slice_get, unwrap_or}
 use Rattle.compiler.specs.flow_solver.Paths.{IsListed}
 use Rattle.compiler.specs.frame_classes.declared.class.SlotClass.{SlotClass}
 use Rattle.compiler.proofs.ir_laws.paths.woven_rules.Unbroken.{of_listed}
+use Rattle.compiler.specs.ir_model.Layout.{size_of}
 use Rattle.compiler.specs.ir_model.Ty.{Ty}
 use Rattle.compiler.specs.ir_model.declared.instr.Instr.{Instr}
 use Rattle.compiler.specs.ir_model.declared.module.Block.{Block}
@@ -18,12 +20,19 @@ use Rattle.compiler.specs.pass_copies.declared.slot.EarlySlot.{EarlySlot}
 use Rattle.compiler.specs.pass_frames.Tables.{class_flags, sizes_by_name}
 use Rattle.pass_frames_meaning.proofs.others.Names.{once, point_there, result_low}
 use Rattle.pass_frames_meaning.proofs.pass_frames_proof.lines.Cells.{contained}
+use Rattle.pass_frames_meaning.proofs.pass_frames_proof.early.Placed.{frame_class, slot_low}
+use Rattle.pass_frames_meaning.proofs.pass_frames_proof.stepping.Codes.{block_there}
 use Rattle.pass_frames_meaning.specs.pass_frames_proof.Framings.{IsFraming}
-use Rattle.pass_frames_meaning.specs.pass_frames_proof.Passes.{no_block}
+use Rattle.pass_frames_meaning.specs.pass_frames_proof.Passes.{block_at, no_block}
 use Rattle.pass_frames_meaning.specs.pass_frames_proof.Places.{Framing, before_labels, copies, edged, instrs_at, with_copies, written}
 use Rattle.compiler.proofs.pass_proofs.copies.rules.Slots.{IsAlloca, from_allocas}
 use Rattle.compiler.proofs.pass_proofs.frames.begin_order.Framed.{woven}
 use Rattle.compiler.specs.pass_proofs.cells.rules.Weaving.{cells_weaving}
+use Rattle.compiler.proofs.ir_laws.facts.Members.{at_each}
+use Rattle.compiler.proofs.rule_laws.rules.counted.PartFacts.{block_passes}
+use Rattle.compiler.specs.rule_locals.Extents.{breaks_extents, is_aligned, is_sized}
+use Rattle.compiler.specs.rule_locals.Instrs.{on_instr}
+use Rattle.compiler.specs.rule_names.declared.stage.Stage.{Stage}
 use Rattle.compiler.specs.rule_laws.rules.woven_rules.Blocks.{AreWoven, AreWovenBlocks, Done, Gone, IsWoven, Kept, NoBlock, OneBlock, Put, Remain, Stays, Unpromised}
 use Rattle.compiler.specs.rule_laws.rules.woven_rules.Parts.{Alloca, Binary, Call, Cast, Gep, Icmp, InstrStays, Load, Select, Store}
 use Rattle.compiler.specs.rule_laws.rules.woven_rules.Weaving.{Weaving}
@@ -93,6 +102,38 @@ module _ (x : Framing) (is : IsFraming x) where
       (used_before (written x) (class_flags x.function x.contents.classes SlotClass.Frame) (before_labels x))
       (sizes_by_name x.function x.contents.held) (length (written x).names) (entry_instrs (written x).blocks)
       (entry_instrs (written x).blocks) (λ j l. l)) e (contained (copies x).slots e listed)
+
+  -- its alloca stands in the entry block
+  pub early_alloca : (e : EarlySlot) → Contains (copies x).slots e
+      → (n : ℕ) × (slice_get (instrs_at x 0) n ≡ Some (Instr.Alloca e.slot e.ty e.align))
+  early_alloca e listed =
+      let l : IsListed e (copies x).slots = contained (copies x).slots e listed in
+      let low : e.slot < length (edged x).names = slot_low x is e (frame_class x is e l) in
+      let first : w.first ≡ length (edged x).names = are_woven.first in
+      let old : e.slot < w.first = omega (arith, low, first) in
+      entry_at e.slot e.align e.ty (edged x).blocks
+      (entry_was e.slot e.align e.ty w x.code (edged x) (written x) 0 (edged x).blocks (written x).blocks old
+      are_woven.blocks (own_slot e listed))
+
+  -- Y4: an alloca has bytes, and an alignment
+  pub alloca_fits : (at v align : ℕ) (ty : Ty) → slice_get (instrs_at x 0) at ≡ Some (Instr.Alloca v ty align)
+      → (1 ≤ size_of x.code ty) × (1 ≤ align)
+  alloca_fits at v align ty there =
+      let i : Instr = Instr.Alloca v ty align in
+      let passes = (block_passes (on_instr (breaks_extents Stage.Source x.code)) is.position (edged x)
+      is.frameable.rules.local.extents 0 (block_at (edged x) 0) (block_there (edged x) 0 at i there)).instrs in
+      let y = at_each _ (block_at (edged x) 0).instrs at i passes there in
+      let both = and_parts (is_sized 1048576 (size_of x.code ty)) (is_aligned align)
+      (not_false (is_sized 1048576 (size_of x.code ty) && is_aligned align) y.2) in
+      (leb-true 1 (size_of x.code ty) (and_parts (nat_le 1 (size_of x.code ty)) _ both.0).0, some_aligned align both.1)
+    where
+      not_false : (b : Bool) → not b ≡ false → b ≡ true
+      not_false true e = refl
+      not_false false e = absurd (cc)
+
+      some_aligned : (n : ℕ) → is_aligned n ≡ true → 1 ≤ n
+      some_aligned zero e = absurd (cc)
+      some_aligned (suc n) e = omega arith
 
   pub early_typed : (at v align : ℕ) (ty : Ty) → slice_get (instrs_at x 0) at ≡ Some (Instr.Alloca v ty align)
       → (e : EarlySlot) → Contains (copies x).slots e → e.slot ≡ v → (e.ty ≡ ty) × (e.align ≡ align)

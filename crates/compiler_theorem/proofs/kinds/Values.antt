@@ -39,6 +39,7 @@ use Rattle.compiler.proofs.pass_proofs.edges.paths.Slots.{same_allocas}
 use Rattle.compiler.proofs.rule_laws.rules.counted.Types.{is_cell_type}
 use Rattle.compiler.proofs.rule_laws.rules.shape.Stands.{StandsAt, begin_stands}
 use Rattle.compiler.specs.rule_laws.rules.function_rules.Kept.{KeepsFunctionRules}
+use Rattle.compiler.specs.rule_values.Fits.{fits_kind}
 use Rattle.compiler.specs.rule_values.Kinds.{block_kind, call_kind, instr_kind, kind_of, param_kind, phi_kind, result_kind, value_kind}
 use Rattle.compiler.specs.rule_values.declared.kinds.Kind.{Kind}
 
@@ -223,6 +224,15 @@ kept_kind (array n t) e = absurd (cc)
 kept_kind (structure ts) e = absurd (cc)
 kept_kind (named n) e = absurd (cc)
 
+-- it is no token
+cell_no_token : (t : Ty) → is_cell_type t ≡ true → fits_kind (Some (kind_of t)) token ≡ true → ⊥
+cell_no_token (int w) e h = absurd (cc)
+cell_no_token ptr e h = absurd (cc)
+cell_no_token token e h = absurd (cc)
+cell_no_token (array n t) e h = absurd (cc)
+cell_no_token (structure ts) e h = absurd (cc)
+cell_no_token (named n) e h = absurd (cc)
+
 crossing_named : (v : ℕ) (ps : List (ℕ × ℕ)) (order : ℕ) → IsListed (v, order) ps → has_name (crossing_values ps) v ≡ true
 crossing_named v [] order l = absurd l
 crossing_named v (p ∷ ps) order (inl e) =
@@ -275,6 +285,9 @@ module _ (x : Framing) (is : IsFraming x) (position : ℕ) (rules : KeepsFunctio
             kind = there.kind ∙ ap (λ (y : KeptValue). Some (kind_of y.ty)) same;
             ty = (told.kept kept.number k kept.there).ty;
           }
+
+  pub no_token : fits_kind (value_kind (edged x) v) token ≡ true → ⊥
+  no_token h = cell_no_token k.ty typed.ty (ap (λ (o : Option Kind). fits_kind o token) (sym typed.kind) ∙ h)
 
   -- ---- its field
 

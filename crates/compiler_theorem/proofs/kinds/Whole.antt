@@ -1,12 +1,14 @@
 -- What laws on kinds of steps ask of the two modules holds of an accepted source and its framed form.
-use Rattle.std.proofs.Common.{◌≡◌, ◌≢◌, inl, inr, ⊎_elim, ◌<◌, arith, List, [], ◌∷◌, ℕ, Bool, true, false, Option, Some, refl, sym, ap, ◌∙◌, subst}
+use Rattle.std.proofs.Common.{Bool, List, Option, Some, [], ap, arith, false, inl, inr, refl, subst, sym, true, ℕ, ⊎_elim, ◌<◌, ◌∙◌, ◌∷◌, ◌≡◌, ◌≢◌, ◌≤◌}
 use Rattle.std.specs.Prelude.{IsTrue, if◌then◌else◌, option_to_list, slice_get, ◌↔◌}
 use Rattle.compiler.proofs.whole.lowered_sources.Sources.{early_others}
 use Rattle.compiler_theorem.proofs.apart.Facts as facts
-use Rattle.compiler_theorem.proofs.kinds.Calls.{id_promise, one_result, save_pointer}
+use Rattle.compiler_theorem.proofs.kinds.Calls.{id_promise, save_pointer}
 use Rattle.compiler_theorem.proofs.kinds.Classes.{frame_class, local_is, local_outside, sizes_same}
 use Rattle.compiler_theorem.proofs.kinds.Crossed.{row_crosses, value_field, value_opened, values_behind}
-use Rattle.compiler_theorem.proofs.kinds.Early.{early_typed}
+use Rattle.compiler_theorem.proofs.ends.EdgeBlocks.{edge_slots}
+use Rattle.compiler_theorem.proofs.kinds.Early.{alloca_fits, early_alloca, early_typed}
+use Rattle.compiler_theorem.proofs.known.Begins.{begin_is, begin_named}
 use Rattle.compiler_theorem.proofs.kinds.Held.{IsPlacedAs, early_lies, slot_placed}
 use Rattle.compiler_theorem.proofs.kinds.Leading.{save_with}
 use Rattle.pass_frames_meaning.proofs.kinds.Unkept.{token_given}
@@ -58,7 +60,7 @@ use Rattle.compiler.specs.ir_paths.declared.point.Point.{Point}
 use Rattle.compiler.specs.pass_edges.EdgeBlocks.{with_edge_blocks}
 use Rattle.pass_frames_meaning.proofs.others.Names.{point_there}
 use Rattle.pass_frames_meaning.proofs.others.Returns.{instr_in}
-use Rattle.pass_frames_meaning.specs.Kinds.{AreBehind, HasRowField, HasSlotField, IsSaveWith, KeepsKinds}
+use Rattle.pass_frames_meaning.specs.Kinds.{AreBehind, AreEarlyFields, HasRowField, HasSlotField, IsSaveWith, KeepsKinds}
 use Rattle.pass_frames_meaning.specs.Setting.{Setting}
 use Rattle.compiler.specs.rule_values.Kinds.{value_kind}
 use Rattle.compiler.specs.rule_values.declared.kinds.Kind.{Kind}
@@ -67,17 +69,24 @@ use Rattle.compiler.specs.pass_cells.Written.{row_at}
 use Rattle.compiler.specs.pass_cells.declared.plan.KeptValue.{KeptValue}
 use Rattle.compiler.specs.pass_fetch.Fetching.{value_bytes}
 use Rattle.pass_frames_meaning.proofs.pass_frames_proof.code.Names.{has_cells}
-use Rattle.pass_frames_meaning.proofs.pass_frames_proof.lines.Cells.{kept_type}
+use Rattle.pass_frames_meaning.proofs.pass_frames_proof.lines.Cells.{contained, kept_type}
 use Rattle.pass_frames_meaning.proofs.pass_frames_proof.lines.Rows.{field_placed}
 use Rattle.pass_frames_meaning.specs.pass_frames_proof.Related.{IsKeptValue}
 use Rattle.pass_frames_meaning.proofs.pass_frames_proof.ramps.Markers.{new_unmarked}
+use Rattle.pass_frames_meaning.proofs.pass_frames_proof.early.Sizes.{all_sized}
+use Rattle.pass_frames_meaning.specs.pass_frames_proof.Early.{IsOfField}
 use Rattle.pass_frames_meaning.specs.pass_frames_proof.Framings.{IsFraming}
-use Rattle.pass_frames_meaning.specs.pass_frames_proof.Places.{Framing, instrs_at, offsets, plan}
+use Rattle.pass_frames_meaning.specs.pass_frames_proof.Places.{Framing, copies, instrs_at, offsets, plan}
 use Rattle.pass_frames_meaning.specs.pass_frames_proof.Places.{edged as edged_function}
 use Rattle.pass_frames_meaning.specs.pass_frames_proof.Stepping.{AreGiven}
 use Rattle.compiler.proofs.pass_proofs.edges.paths.Slots.{same_allocas, same_promise}
 use Rattle.compiler.specs.pass_proofs.addresses.rules.Addresses.{lies_in_frame}
 use Rattle.compiler.specs.run_step.Step.{AtInstr, fetch}
+use Rattle.compiler.specs.pass_copies.declared.slot.EarlySlot.{EarlySlot}
+use Rattle.std.specs.List.{Contains}
+use Rattle.pass_frames_meaning.specs.pass_frames_proof.FromEdges.{IsEarlyInFrame}
+use Rattle.compiler.proofs.ir_laws.paths.woven_rules.Unbroken.{of_listed}
+use Rattle.pass_frames_meaning.proofs.placed.Placed.{held_once}
 
 open_slot : (o : Option ℕ) (v : ℕ) → is_open_kind (slot_kind o v) ≡ true
 open_slot o v = on (has_name (option_to_list o) v)
@@ -174,6 +183,43 @@ module _ (l : Lowered) (low : IsLowered l) (a : Anew) (anew : IsAnewOf (early l)
             (opened func f x.contents.held (AreInConflict f x.contents) (layout_of l.layouts.coroutines func) good fit
             placed.position slot placed.there (open_slot (promise_of x.function) v));
       }
+
+    -- ---- slots that are used before begin
+
+    early_place : (e : EarlySlot) → Contains (copies x).slots e → IsEarlyInFrame x 0 e
+    early_place e listed =
+        of_listed (IsEarlyInFrame x 0) (copies x).slots (edge_slots x is func own_rules).early e
+        (contained (copies x).slots e listed)
+
+    early_sized : (e : EarlySlot) → Contains (copies x).slots e → (at v align : ℕ) (ty : Ty)
+        → slice_get (instrs_at x 0) at ≡ Some (Instr.Alloca v ty align) → v ≡ e.slot
+        → (size_of (edged l) ty ≡ e.size) × (1 ≤ align)
+    early_sized e listed at v align ty alloca is_slot =
+        let lies : lies_in_frame (offsets x) v ≡ true =
+        subst (λ (u : ℕ). lies_in_frame (offsets x) u ≡ true) (sym is_slot) (early_lies x is func own_rules e listed) in
+        let sized = of_listed (IsOfField x) (copies x).slots (all_sized x (held_once x is func own_rules)) e
+        (contained (copies x).slots e listed) in
+        let p = placed at v align ty alloca lies in
+        let same = sized p.position (slot at v align ty alloca lies) p.there is_slot in
+        (sym (size_is at v align ty alloca lies) ∙ sym same, (alloca_fits x is at v align ty alloca).1)
+
+    early_some : (e : EarlySlot) → Contains (copies x).slots e → 0 < e.size
+    early_some e listed =
+        let a = early_alloca x is e listed in
+        let s = early_sized e listed a.0 e.slot e.align e.ty a.1 refl in
+        let some : 1 ≤ size_of x.code e.ty = (alloca_fits x is a.0 e.slot e.align e.ty a.1).0 in
+        let same : size_of x.code e.ty ≡ size_of (edged l) e.ty =
+        ap (λ (m : Module). (extent_or (extent_of m.types e.ty)).size) code in
+        let is_size : size_of (edged l) e.ty ≡ e.size = s.0 in
+        omega (arith, some, same, is_size)
+
+    early_fields : AreEarlyFields c.b (edged l) func
+    early_fields = record {
+      place = early_place;
+      some = early_some;
+      sized = early_sized;
+      cells = (edge_slots x is func own_rules).once;
+    }
 
     -- ---- values that cross
 
@@ -294,10 +340,13 @@ module _ (l : Lowered) (low : IsLowered l) (a : Anew) (anew : IsAnewOf (early l)
       (early_typed (x func coroutine) (is func coroutine) at v align ty there e listed is_slot).0,
       (early_typed (x func coroutine) (is func coroutine) at v align ty there e listed is_slot).1,
     );
-    begins = λ func block at result must_tail ty args v coroutine e d.
-        one_result (x func coroutine) (is func coroutine) (record { block = block; at = at })
-        (Instr.Call result must_tail ty (Callee.Intrinsic Intrinsic.CoroBegin) args) v
+    early_fields = λ func coroutine. early_fields func coroutine;
+    begins = λ func block at result must_tail ty args coroutine e.
+        sym
+        (begin_named (x func coroutine) (is func coroutine) (record { block = block; at = at })
+        (Instr.Call result must_tail ty (Callee.Intrinsic Intrinsic.CoroBegin) args)
         (stands func coroutine block at (Instr.Call result must_tail ty (Callee.Intrinsic Intrinsic.CoroBegin) args) e)
-        refl d;
+        refl)
+        ∙ begin_is (x func coroutine) (is func coroutine);
     sizes = λ func coroutine. sizes_same l.layouts.coroutines func;
   }

@@ -66,7 +66,7 @@ use Rattle.compiler.proofs.rule_laws.rules.shape.Stands.{StandsAt, begin_stands}
 use Rattle.compiler.proofs.rule_laws.rules.source_rules.Locals.{same_result}
 use Rattle.compiler.proofs.rule_laws.rules.sources.Places.{any_param, point}
 use Rattle.compiler.specs.rule_laws.rules.function_rules.Kept.{KeepsFunctionRules}
-use Rattle.compiler.specs.rule_uses.Undefined.{Entry}
+use Rattle.compiler.specs.rule_uses.Undefined.{Entry, ReachesWithout}
 use Rattle.compiler.specs.rule_uses.Uses.{Use, instr_uses, phi_values, use_of, uses_at, uses_of}
 use Rattle.run_accepted.proofs.Once.{gives_no_param, no_phi_gives}
 use Rattle.compiler.specs.run_laws.changed.Changed.{Each, result_of}
@@ -382,6 +382,10 @@ module _ (x : Framing) (is : IsFraming x) (k : ℕ) (rules : KeepsFunctionRules 
             (no_phi (position_of (unmarked x) label)) whole);
         ahead = λ n i lt e. absurd (omega (arith, lt));
       }
+
+  -- a path without begin's value leads to a point before begin
+  pub reached_there : {block at : ℕ} → IsBefore (edged x) block at → ReachesWithout (unmarked x) is.begin block
+  reached_there w = (stage w).comes.reaches
 
   phis_unmade : (c : Block) (block : ℕ) → slice_get (unmarked x).blocks block ≡ Some c
       → IsListed is.begin (phi_values c)

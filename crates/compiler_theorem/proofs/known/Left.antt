@@ -27,6 +27,7 @@ use Rattle.compiler.proofs.rule_laws.rules.woven_rules.All.{rules_woven}
 use Rattle.compiler.proofs.rule_laws.rules.woven_rules.Edges.{incoming_woven}
 use Rattle.compiler.specs.rule_laws.rules.function_rules.Kept.{KeepsFunctionRules}
 use Rattle.compiler.specs.rule_laws.rules.woven_rules.Pairs.{AreIncomingOnce}
+use Rattle.compiler.specs.rule_uses.Undefined.{ReachesWithout}
 use Rattle.compiler.specs.rule_uses.Uses.{uses_of}
 use Rattle.compiler.specs.run_laws.changed.Changed.{Each}
 
@@ -119,6 +120,31 @@ module _ (m : Module) (k : ℕ) (l : Layout) (f : Function) (c : Contents) (befo
   left_positions label =
       ap (λ (g : Function). position_of g label) (sym unmarked_is) ∙ left_position label ∙ markers_position label
       ∙ copies_position label ∙ cells_position label
+
+  copies_path : (block : ℕ) → ReachesWithout (copied f c (celled m f c) before) begin block
+      → ReachesWithout (celled m f c) begin block
+  unfolding copied
+  copies_path block path = (woven_passes
+      (copy_weaving (celled m f c) Before (copied_slots (celled m f c) Slots Before Sizes)) m k
+      (celled m f c) (with_begin_copies (celled m f c) Slots Before Sizes) begin
+      (with_copies_woven m k (celled m f c) Slots Before Sizes keeps fit.copies) keeps once refl).path block path
+
+  markers_path : (block : ℕ) → ReachesWithout (without_markers Marked Copied) begin block
+      → ReachesWithout Copied begin block
+  markers_path block path = (woven_passes (turning_weaving Copied stays_all) m k Copied (without_markers Marked Copied)
+      begin (markers_woven m k Copied Marked copied_rules) copied_rules copied_once refl).path block path
+
+  left_over_path : (block : ℕ) → ReachesWithout (left_over Marked Copied) begin block
+      → ReachesWithout (without_markers Marked Copied) begin block
+  left_over_path block path = (woven_passes (turning_weaving (without_markers Marked Copied) stays_all) m k
+      (without_markers Marked Copied) (left_over Marked Copied) begin
+      (left_woven m k Copied Marked copied_rules copied_once) markers_rules markers_once refl).path block path
+
+  -- a path without begin's value leads there where values are in cells, too
+  pub left_path : (block : ℕ) → ReachesWithout (unmarked (built_of)) begin block
+      → ReachesWithout (celled m f c) begin block
+  left_path block path = copies_path block (markers_path block (left_over_path block
+      (subst (λ (g : Function). ReachesWithout g begin block) (sym unmarked_is) path)))
 
   pub left_uses : Each (HasBegin (unmarked (built_of)) (begin_of f) (offsets (built_of)))
       (uses_of k (unmarked (built_of)))

@@ -1,6 +1,6 @@
 -- Allocas in a run of an accepted source: those that are made anew have addresses, and where one stands its name has no
 -- value yet.
-use Rattle.std.proofs.Common.{◌≡◌, ◌⊎◌, ⊎_elim, ℕ, ◌<◌, ◌≤◌, sym, ap, subst, arith}
+use Rattle.std.proofs.Common.{◌≡◌, ⊎_elim, ℕ, ◌<◌, ◌≤◌, sym, ap, subst, arith}
 use Rattle.compiler_theorem.proofs.kinds.States.{called_beside}
 use Rattle.compiler_theorem.proofs.known.Runs.{made_anew, run}
 use Rattle.compiler_theorem.proofs.theorem.Renewing.{slots_kept}

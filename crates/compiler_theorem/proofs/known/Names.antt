@@ -136,7 +136,7 @@ module _ (l : Lowered) (low : IsLowered l) (few : HasFewBytes l) (a : Anew) (ane
           no_begin (edged l) func (f func) rules (plain_function func plain) block at i there b
       on (inr same) = subst IsUnframed (sym same) (λ block at i there b. absurd (cc))
 
-  begin_there : (func : ℕ) (block at : ℕ) (i : Instr) → fetch (function_at (edged l) func) block at ≡ AtInstr i
+  pub begin_there : (func : ℕ) (block at : ℕ) (i : Instr) → fetch (function_at (edged l) func) block at ≡ AtInstr i
       → IsBegin i → begin_name (function_at (edged l) func) ≡ call_result i
   begin_there func block at i there b = on (is_one func) refl
     where

@@ -113,10 +113,12 @@ module _ (x : Framing) (k : ℕ) where
     pub here : (unmarked_layer x k).here u i ≡ Some instr
     pub names : list_any (is_local v) (instr_operands instr) ≡ true
 
-  pub named_here : (n : Placed) (i : Instr) → IsStaying i → IsUnlocated x n i → (v : ℕ)
-      → IsListed (Operand.Local v) (instr_operands i) → fetch_of (fetches_of (plan x)) (Operand.Local v) ≡ None
+  pub named_by : (n : Placed) (i : Instr) → IsStaying i → (v : ℕ) → IsListed (Operand.Local v) (instr_operands i)
+      → fetch_of (fetches_of (plan x)) (Operand.Local v) ≡ None
+      → (is_fetched (is_ahead n) (with_fetched (fetches_of (plan x)) n.0.0.0.0 i) ≡ true
+      → fetch_of (copies x).fetches (Operand.Local v) ≡ None)
       → IsNamedHere n.0 i v
-  named_here n i staying unlocated v listed unkept = on (is_fetched state.0 loaded) refl
+  named_by n i staying v listed unkept unfetched = on (is_fetched state.0 loaded) refl
     where
       loaded : Instr
       loaded = with_fetched (fetches_of (plan x)) n.0.0.0.0 i
@@ -152,20 +154,33 @@ module _ (x : Framing) (k : ℕ) where
           staying_of : Instr → Option Instr
           staying_of y = promised_of (if stays (marked x) y then Some y else None)
 
-      again : (o : Option Fetch) → fetch_of (copies x).fetches (Operand.Local v) ≡ o → is_fetched state.0 loaded ≡ true
-          → list_any (is_local v) (instr_operands (with_fetched (copies x).fetches state.1 loaded)) ≡ true
-      again None e b = named_there (copies x).fetches v e state.1 loaded (listed_any v (instr_operands loaded) named)
-      again (Some f) e b =
-          let ahead : is_fetched (is_ahead n) loaded ≡ true = ap (λ (c : Bool). is_fetched c loaded) (sym same) ∙ b in
+      on : (b : Bool) → is_fetched state.0 loaded ≡ b → IsNamedHere n.0 i v
+      on true e = stays_here true (with_fetched (copies x).fetches state.1 loaded) e refl
+          (fetched_none (copies x).fetches state.1 loaded none)
+          (named_there (copies x).fetches v
+          (unfetched (ap (λ (c : Bool). is_fetched c loaded) (sym same) ∙ e)) state.1 loaded
+          (listed_any v (instr_operands loaded) named))
+      on false e = stays_here false loaded e refl none named
+
+  pub named_here : (n : Placed) (i : Instr) → IsStaying i → IsUnlocated x n i → (v : ℕ)
+      → IsListed (Operand.Local v) (instr_operands i) → fetch_of (fetches_of (plan x)) (Operand.Local v) ≡ None
+      → IsNamedHere n.0 i v
+  named_here n i staying unlocated v listed unkept =
+      named_by n i staying v listed unkept (again (fetch_of (copies x).fetches (Operand.Local v)) refl)
+    where
+      loaded : Instr
+      loaded = with_fetched (fetches_of (plan x)) n.0.0.0.0 i
+
+      named : list_any (is_local v) (instr_operands loaded) ≡ true
+      named = named_there (fetches_of (plan x)) v unkept n.0.0.0.0 i listed
+
+      again : (o : Option Fetch) → fetch_of (copies x).fetches (Operand.Local v) ≡ o
+          → is_fetched (is_ahead n) loaded ≡ true → fetch_of (copies x).fetches (Operand.Local v) ≡ None
+      again None e ahead = e
+      again (Some f) e ahead =
           let empty : fetches_of_all (copies x).fetches (where_name n) (instr_operands loaded) ≡ [] =
           sym (ap (λ (c : Bool). if c then fetches_of_all (copies x).fetches (where_name n)
           (instr_operands loaded) else [])
           ahead) ∙ unlocated.wheres in
           absurd (some_fetched (copies x).fetches v (where_name n) f (instr_operands loaded) e
           (listed_any v (instr_operands loaded) named) empty)
-
-      on : (b : Bool) → is_fetched state.0 loaded ≡ b → IsNamedHere n.0 i v
-      on true e = stays_here true (with_fetched (copies x).fetches state.1 loaded) e refl
-          (fetched_none (copies x).fetches state.1 loaded none)
-          (again (fetch_of (copies x).fetches (Operand.Local v)) refl e)
-      on false e = stays_here false loaded e refl none named

@@ -133,6 +133,9 @@ module _ (l : Lowered) (low : IsLowered l) where
       l.framed.functions low.is_framed.functions.framed k g there in
       spelled_by k x.source g x.stands x.becomes
 
+  pub own_wide : (k : ℕ) (g : Function) → slice_get l.framed.functions k ≡ Some g → first_other_width k g ≡ None
+  own_wide k g there = spelled_wide k g (framed_one k g there)
+
   exited_one : (f : Function) (b : Bool) → IsSpelledFunction f
       → IsSpelledFunction (if b then with_exit_blocks f else f)
   exited_one f true h = exits_spelled f h

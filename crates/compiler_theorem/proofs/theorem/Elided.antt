@@ -12,12 +12,12 @@ use Rattle.compiler.specs.run_source.declared.state.State.{State}
 use Rattle.compiler_theorem.proofs.theorem.Numbered.{counted_on, plain_stays, same_state}
 use Rattle.compiler_theorem.proofs.theorem.Rows.{at_least, framed_within}
 use Rattle.compiler_theorem.proofs.theorem.Stack.{gives_no_stack_back}
-use Rattle.compiler_theorem.proofs.theorem.Whole.{entry_split}
-use Rattle.compiler_theorem.specs.theorem.Anew.{Anew}
+use Rattle.compiler_theorem.proofs.theorem.Tables.{source_tables}
+use Rattle.compiler_theorem.proofs.theorem.Whole.{entry_lowered, entry_split}
+use Rattle.compiler_theorem.specs.theorem.Anew.{Anew, IsAnewOf}
 use Rattle.compiler_theorem.specs.theorem.Elision.{CountsElided, ElidedSteps, ElidesCalls, NamesNoPart, given_frames, uncounted}
 use Rattle.compiler_theorem.specs.theorem.Entries.{IsEntry, IsEntryCall, Run}
-use Rattle.compiler_theorem.specs.theorem.Lowered.{HasFewBytes, IsLowered, Lowered, framed_run, lowered_from, plain_run, printed_from, source_run, split_from}
-use Rattle.compiler_theorem.specs.theorem.Theorem.{Steps}
+use Rattle.compiler_theorem.specs.theorem.Lowered.{HasFewBytes, IsLowered, Lowered, early, framed_run, lowered_from, plain_run, printed_from, source_run, split_from}
 use Rattle.compiler.specs.ir_model.declared.module.Module.{Module}
 use Rattle.pass_frames_meaning.specs.run_types.States.{AreArguments}
 use Rattle.compiler.specs.run_plain.declared.state.PlainState.{PlainState}
@@ -52,13 +52,14 @@ composed j k a b c g h =
     weaken (j * k) (k * 0 + 0) (j * k) 0 a c (omega arith) none (compose j 0 k 0 a b c g h)
 
 module _ (X Y : Lowered → Module → Run → State → State → Type 0) (a : Anew) (l : Lowered) (low : IsLowered l)
-    (few : HasFewBytes l) (h : Steps a l low) (n : Module) (sites : ℕ) (g : ElidedSteps X Y l n sites) (r : Run) (other : ℕ)
+    (few : HasFewBytes l) (anew : IsAnewOf (early l) a) (n : Module) (sites : ℕ) (g : ElidedSteps X Y l n sites)
+    (r : Run) (other : ℕ)
     (entry : IsEntry l.source (printed_from l n) r.entry other) (fits : AreArguments l.source r.entry r.args) where
   call : IsEntryCall l.source r
   call = record { callable = entry.callable; fits = fits }
 
   abbrev here : IsEntry l.source (split_from l n) r.entry other
-  here = entry_split l n r.entry other entry
+  here = entry_split l n r.entry other (entry_lowered l n r.entry other entry)
 
   abbrev source : ℕ → Seen
   source = at (source_run l r)
@@ -76,7 +77,7 @@ module _ (X Y : Lowered → Module → Run → State → State → Type 0) (a : 
   f = 4 * (4 * size_factor l.source)
 
   first : AgreesWithin f source framed
-  first = framed_within a l low few h r call
+  first = framed_within a l low few anew r call
 
   second : Agrees (1 + sites) 0 framed elided
   second =
@@ -141,11 +142,19 @@ module _ (X Y : Lowered → Module → Run → State → State → Type 0) (a : 
             ∙ ap (λ (k : ℕ). k + given_frames (state_at (framed_run l n r) y.steps)) (third.counts y.steps j ry rj);
       }
 
-  pub elides_calls : ElidesCalls l n sites r other
-  elides_calls = record {
+  elides : ElidesCalls l n sites r other
+  elides = record {
     stands = g.stands;
     headline = weaken (step_factor l.source sites) 0 (step_factor l.source sites) (step_factor l.source sites) source
         printed (omega arith) (omega arith) runs;
     counts = counts;
     no_stack = λ fine. gives_no_stack_back (printed_from l n) r other (runs.never_stuck fine);
   }
+
+-- with the tables of an accepted source
+pub elides_calls : (X Y : Lowered → Module → Run → State → State → Type 0) (l : Lowered) (low : IsLowered l)
+    → HasFewBytes l → (n : Module) (sites : ℕ) → ElidedSteps X Y l n sites → (r : Run) (other : ℕ)
+    → IsEntry l.source (printed_from l n) r.entry other → AreArguments l.source r.entry r.args
+    → ElidesCalls l n sites r other
+elides_calls X Y l low few n sites g r other entry fits =
+    let tables = source_tables l low in elides X Y tables.0 l low few tables.1 n sites g r other entry fits

@@ -20,7 +20,7 @@ use Rattle.compiler.specs.ir_model.declared.module.Function.{Function}
 use Rattle.compiler.specs.ir_model.declared.module.GlobalItem.{GlobalItem}
 use Rattle.compiler.specs.ir_model.declared.module.Module.{Module}
 use Rattle.pass_frames_meaning.proofs.covered.Assembly.{kept_agrees}
-use Rattle.pass_frames_meaning.specs.Covered.{AgreesWithFrames, AreCoveredStepsFollowed}
+use Rattle.pass_frames_meaning.specs.Covered.{AgreesWithFrames, AreCoveredStepsFollowed, IsKeptOver}
 use Rattle.pass_frames_meaning.proofs.pass_frames_proof.givens.Runs.{given_runs}
 use Rattle.pass_frames_meaning.proofs.pass_frames_proof.start.States.{starts_built}
 use Rattle.pass_frames_meaning.proofs.pass_frames_proof.stepping.Operands.{AreSameNames, empty_same}
@@ -40,6 +40,7 @@ use Rattle.compiler.specs.run_memory.Memory.{access_bytes, encode, owner_rights}
 use Rattle.compiler.specs.run_memory.declared.block.MemoryBlock.{MemoryBlock}
 use Rattle.compiler.specs.run_memory.declared.pointer.Value.{Value}
 use Rattle.compiler.specs.run_source.Source.{first_state}
+use Rattle.compiler.specs.run_source.declared.state.State.{State}
 use Rattle.compiler.specs.run_step.Step.{first_world, global_block}
 use Rattle.compiler.specs.run_step.Values.{access_of, stored}
 
@@ -125,16 +126,20 @@ module _ (l : Lowered) (low : IsLowered l) where
       starts = starts_built built (edged l) r.entry r.args (sources_built l low r.answers) plain (sources_given.others r.entry plain) worlds
           embeds contents.small
 
-      pub framing_by : HasFewBytes l → (p : Prices)
-          → AreCoveredStepsFollowed (setting l a r) (building l low.is_framed r.answers)
+      pub framing_by : HasFewBytes l → (p : Prices) (Holds : State → Type 0)
+          → IsKeptOver (setting l a r) (building l low.is_framed r.answers) Holds
+          → AreCoveredStepsFollowed (setting l a r) (building l low.is_framed r.answers) Holds
           → PaysForFrames (building l low.is_framed r.answers) (renewing l a r) (price_renewed l a r p)
           → AgreesWithFrames (setting l a r) p (building l low.is_framed r.answers) l.layouts
-      framing_by few p followed pays =
+      framing_by few p Holds over followed pays =
           kept_agrees (setting l a r) p built l.layouts (all_kept l low a anew r call few) refl
-          low.is_framed.declarations pays starts followed
+          low.is_framed.declarations pays starts Holds over followed
 
 pub framing : (l : Lowered) (low : IsLowered l) → HasFewBytes l → (a : Anew) → IsAnewOf (early l) a → (p : Prices) (r : Run)
-    → IsEntryCall l.source r → AreCoveredStepsFollowed (setting l a r) (building l low.is_framed r.answers)
+    → IsEntryCall l.source r → (Holds : State → Type 0)
+    → IsKeptOver (setting l a r) (building l low.is_framed r.answers) Holds
+    → AreCoveredStepsFollowed (setting l a r) (building l low.is_framed r.answers) Holds
     → PaysForFrames (building l low.is_framed r.answers) (renewing l a r) (price_renewed l a r p)
     → AgreesWithFrames (setting l a r) p (building l low.is_framed r.answers) l.layouts
-framing l low few a anew p r call followed pays = framing_by l low a r anew call few p followed pays
+framing l low few a anew p r call Holds over followed pays =
+    framing_by l low a r anew call few p Holds over followed pays

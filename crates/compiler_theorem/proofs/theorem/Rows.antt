@@ -9,18 +9,25 @@ use Rattle.compiler.specs.run_agreement.Machines.{IsFine, Machine, at, state_at}
 use Rattle.compiler.specs.run_source.declared.state.State.{State}
 use Rattle.compiler_theorem.proofs.theorem.Framing.{framing}
 use Rattle.compiler_theorem.proofs.theorem.Needed.{split_needed}
+use Rattle.compiler_theorem.proofs.theorem.shown.Bytes.{framed_bytes}
+use Rattle.compiler_theorem.proofs.theorem.shown.Crossed.{fields_kept}
+use Rattle.compiler_theorem.proofs.theorem.shown.Shown.{fields_shown}
 use Rattle.compiler_theorem.proofs.theorem.shown.Slots.{slots_shown}
-use Rattle.compiler_theorem.specs.theorem.Anew.{Anew}
+use Rattle.compiler_theorem.proofs.theorem.shown.Small.{small_offsets}
+use Rattle.compiler_theorem.specs.theorem.Anew.{Anew, IsAnewOf}
+use Rattle.compiler_theorem.specs.theorem.Asked.{asking}
 use Rattle.compiler_theorem.specs.theorem.Built.{building}
 use Rattle.compiler_theorem.specs.theorem.Entries.{IsEntryCall, Run}
-use Rattle.compiler_theorem.specs.theorem.Lowered.{HasFewBytes, IsLowered, Lowered, edged, framed_run, kept_run, price_kept, sizes_of, source_run}
+use Rattle.compiler_theorem.specs.theorem.Lowered.{HasFewBytes, IsLowered, Lowered, early, edged, framed_run, kept_run, price_kept, sizes_of, source_run}
 use Rattle.compiler_theorem.specs.theorem.Rows.{joined}
 use Rattle.compiler_theorem.specs.theorem.SharedBytes.{AreShown}
 use Rattle.compiler_theorem.specs.theorem.ShownSlots.{step_homes}
-use Rattle.compiler_theorem.specs.theorem.Theorem.{AreFramesShown, AreMadeAnew, IsSomewhereShown, Steps, prices_of}
+use Rattle.compiler_theorem.specs.theorem.Theorem.{AreMadeAnew, IsSomewhereShown, prices_of}
 use Rattle.compiler_theorem.proofs.theorem.Paying.{runs_paid}
 use Rattle.compiler_theorem.proofs.theorem.Paid.{frames_paid}
+use Rattle.compiler_theorem.proofs.kinds.Blank.{blank_kept}
 use Rattle.compiler_theorem.proofs.theorem.Steps.{covered_followed}
+use Rattle.pass_frames_meaning.specs.Blank.{IsBlankState}
 use Rattle.pass_frames_meaning.specs.pass_frames_proof.Related.{AreBuiltOf, AreShownAlike}
 use Rattle.pass_frames_meaning.specs.pass_renewed_meaning.Followed.{AreAlike}
 use Rattle.compiler.proofs.pass_proofs.kept.sources.States.{split_corresponds}
@@ -33,7 +40,7 @@ at_least b n = least n (cost_at b (λ t. 1) n) (cost_above b.step (λ t. 1) 1 (�
     least : (n x : ℕ) → 1 * n ≤ x → n ≤ x
     least n x h = omega arith
 
-module _ (a : Anew) (l : Lowered) (low : IsLowered l) (few : HasFewBytes l) (h : Steps a l low) (r : Run)
+module _ (a : Anew) (l : Lowered) (low : IsLowered l) (few : HasFewBytes l) (anew : IsAnewOf (early l) a) (r : Run)
     (call : IsEntryCall l.source r) where
   -- what frames are built of
   abbrev Framed : State → State → Type 0
@@ -51,12 +58,14 @@ module _ (a : Anew) (l : Lowered) (low : IsLowered l) (few : HasFewBytes l) (h :
   -- Source to Kept
   pub to_kept : AgreesBy Handed NearlyHanded (source_run l r) (λ s. 4) (kept_run l a r) (λ t. 1)
   to_kept = split_corresponds l.text l.source low.source.stands low.source.accepted a.keep
-      (split_needed l low a h.anew) (sizes_of l) r.entry r.args r.answers
+      (split_needed l low a anew) (sizes_of l) r.entry r.args r.answers
 
   -- Kept to Framed
   pub to_framed : AgreesBy (Through (AreMadeAnew l a) Framed) (Through AreAlike NearlyFramed) (kept_run l a r)
       (price_kept l a r (prices_of l low a)) (framed_run l l.framed r) (λ t. 1)
-  to_framed = framing l low few a h.anew (prices_of l low a) r call (covered_followed l low few a h.anew r call (h.left r call)) (frames_paid l low a r)
+  to_framed = framing l low few a anew (prices_of l low a) r call (IsBlankState (asking l low a r))
+      (blank_kept l low few a anew r call) (covered_followed l low few a anew r call)
+      (frames_paid l low a r)
 
   -- Source to Framed
   pub framed_within : AgreesWithin (4 * (4 * size_factor l.source)) (at (source_run l r))
@@ -68,27 +77,28 @@ module _ (a : Anew) (l : Lowered) (low : IsLowered l) (few : HasFewBytes l) (h :
       (λ s. omega arith) (λ t. omega arith) to_kept)
       (agrees_within (Through (AreMadeAnew l a) Framed) (Through AreAlike NearlyFramed) (kept_run l a r) (price_kept l a r (prices_of l low a))
       (framed_run l l.framed r) (λ t. 1) (4 * size_factor l.source)
-      (runs_paid l low few a h.anew r call) (at_least (framed_run l l.framed r)) to_framed)
+      (runs_paid l low few a anew r call) (at_least (framed_run l l.framed r)) to_framed)
 
   -- slots and fields
-  both_shown : AreFramesShown a l low → (n : ℕ) (v u t : State) → Handed (state_at (source_run l r) n) v
-      → AreMadeAnew l a v u → Framed u t
-      → AreShown l.source l.layouts.coroutines (state_at (source_run l r) n) t
-  both_shown shown n v u t kept made built = record {
+  both_shown : (n m : ℕ) (v u : State) → Handed (state_at (source_run l r) n) v → AreMadeAnew l a v u
+      → Framed u (state_at (framed_run l l.framed r) m)
+      → AreShown l.source l.layouts.coroutines (state_at (source_run l r) n) (state_at (framed_run l l.framed r) m)
+  both_shown n m v u kept made built = record {
     homes = joined (step_homes (edged l) a.flags a.roots v u made) built.homes;
     each = λ i x e unfreed.
-        let slots = slots_shown l low a h.anew r n v u t kept made built i x e in
-        let fields = shown r n v u t kept made built i x e unfreed slots.0 in
+        let slots = slots_shown l low a anew r n v u (state_at (framed_run l l.framed r) m) kept made built i x e in
+        let fields = fields_shown l low a r (state_at (source_run l r) n) v u (state_at (framed_run l l.framed r) m)
+        (fields_kept l low a anew r) (small_offsets l r n) kept made built (framed_bytes l low a anew r call m) i x e
+        unfreed slots.0 in
         (slots.0, record { slots = slots.1; values = fields.0; distances = fields.1 });
   }
 
   -- what is shown in frames
-  pub somewhere_shown : AreFramesShown a l low → (n : ℕ) → IsFine (at (source_run l r) n).outcome → IsSomewhereShown l r n
-  somewhere_shown shown n fine =
+  pub somewhere_shown : (n : ℕ) → IsFine (at (source_run l r) n).outcome → IsSomewhereShown l r n
+  somewhere_shown n fine =
       let x = to_kept.forward n fine in
       let y = to_framed.forward x.steps (x.unstuck x.steps (omega arith)) in
       record {
         steps = y.steps;
-        shown = both_shown shown n (state_at (kept_run l a r) x.steps) y.related.0
-            (state_at (framed_run l l.framed r) y.steps) x.related y.related.1 y.related.2;
+        shown = both_shown n y.steps (state_at (kept_run l a r) x.steps) y.related.0 x.related y.related.1 y.related.2;
       }

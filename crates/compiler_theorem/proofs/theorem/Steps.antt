@@ -1,8 +1,10 @@
 -- Each step from a covered state of an accepted source is followed in its framed form, where what is left is known.
-use Rattle.std.proofs.Common.{◌≡◌, ◌⊎◌, inl, inr, ◌||◌, ℕ, zero, suc, Bool, true, false, List, [], ◌∷◌, length, Option, None, refl, sym, ap, ◌∙◌, subst}
+use Rattle.std.proofs.Common.{◌≡◌, ◌⊎◌, inl, inr, ◌||◌, ℕ, Bool, true, false, Option, refl, sym, ap, ◌∙◌, subst}
 use Rattle.std.proofs.lemmas.Bool.{false≢true}
-use Rattle.std.specs.List.{Contains}
-use Rattle.std.specs.Prelude.{replicate}
+use Rattle.compiler_theorem.proofs.accesses.Known.{access_located}
+use Rattle.compiler_theorem.proofs.apart.Begun.{begun_apart}
+use Rattle.compiler_theorem.proofs.apart.EarlyHeld.{early_apart}
+use Rattle.compiler_theorem.proofs.apart.EarlyOnce.{early_once}
 use Rattle.compiler_theorem.proofs.apart.Behind.{saves_apart}
 use Rattle.compiler_theorem.proofs.apart.Kept.{edged_is}
 use Rattle.compiler_theorem.proofs.apart.Made.{made_apart}
@@ -10,18 +12,24 @@ use Rattle.compiler_theorem.proofs.apart.Started.{started_apart}
 use Rattle.compiler_theorem.proofs.apart.Whole.{fields_apart}
 use Rattle.compiler_theorem.proofs.ends.Asked.{edges_kept, ends_kept}
 use Rattle.compiler_theorem.proofs.ends.Runs.{may_go_on, may_leave_edge}
-use Rattle.compiler_theorem.proofs.kinds.Begins.{begins_in_ramp, own_alloca}
+use Rattle.compiler_theorem.proofs.kinds.Begins.{begins_in_ramp, none_begun, own_alloca}
+use Rattle.compiler_theorem.proofs.kinds.Blank.{begun_blank}
 use Rattle.compiler_theorem.proofs.kinds.Fits.{frame_fits}
 use Rattle.compiler_theorem.proofs.kinds.FramedSlots.{framed_slots_own}
 use Rattle.compiler_theorem.proofs.kinds.Running.{saves_running}
-use Rattle.compiler_theorem.proofs.kinds.States.{first_beside, frame_named}
+use Rattle.compiler_theorem.proofs.kinds.States.{first_beside, frame_named, ramp_beside}
 use Rattle.compiler_theorem.proofs.kinds.Whole.{kinds_kept}
 use Rattle.compiler_theorem.proofs.known.Framed.{frames_there}
 use Rattle.compiler_theorem.proofs.known.InFrames.{marks_left}
 use Rattle.compiler_theorem.proofs.known.Made.{poison_there, slots_made}
+use Rattle.compiler_theorem.proofs.known.Once.{none_made, own_once, slots_once}
 use Rattle.compiler_theorem.proofs.known.Resumed.{none_resumed}
-use Rattle.compiler_theorem.proofs.known.Runs.{follow_known, led, pointing, sized, step_known, storables_known}
+use Rattle.compiler_theorem.proofs.known.Runs.{follow_known, led, pointing, sized, step_known, storables_known, unbegun}
 use Rattle.compiler_theorem.proofs.known.Sources.{source_known}
+use Rattle.compiler_theorem.proofs.known.Temporaries.{marked_temporaries}
+use Rattle.compiler_theorem.proofs.made.Early.{early_made}
+use Rattle.compiler_theorem.proofs.temporaries.Framed.{slots_led}
+use Rattle.compiler_theorem.proofs.temporaries.Live.{has_live, temporaries_live}
 use Rattle.compiler_theorem.proofs.theorem.Asked.{asked_kept}
 use Rattle.compiler_theorem.proofs.theorem.Stepping.{called, fitting, other_slots, slots, sound}
 use Rattle.compiler_theorem.proofs.woken.Entered.{coroutines_entered, slots_entered}
@@ -29,12 +37,10 @@ use Rattle.compiler_theorem.specs.known.Counts.{counts, own}
 use Rattle.compiler_theorem.specs.known.Frames.{AreMarkersLeft}
 use Rattle.compiler_theorem.specs.theorem.Anew.{Anew, IsAnewOf}
 use Rattle.compiler_theorem.specs.theorem.Asked.{asking}
-use Rattle.compiler_theorem.specs.theorem.Left.{AreAllStepsLeft, AreStepsLeft}
 use Rattle.compiler_theorem.specs.theorem.Between.{renewing, setting}
 use Rattle.compiler_theorem.specs.theorem.Built.{building}
 use Rattle.compiler_theorem.specs.theorem.Entries.{IsEntryCall, Run}
 use Rattle.compiler_theorem.specs.theorem.Lowered.{HasFewBytes, IsLowered, Lowered, early, edged, sizes_of}
-use Rattle.compiler.specs.flow_solver.Paths.{IsListed}
 use Rattle.compiler.specs.ir_base.declared.outcome.Outcome.{Outcome}
 use Rattle.compiler.specs.ir_model.Names.{function_at}
 use Rattle.compiler.specs.ir_model.Ty.{Ty}
@@ -42,37 +48,27 @@ use Rattle.compiler.specs.ir_model.declared.instr.Instr.{Instr}
 use Rattle.compiler.specs.ir_model.declared.module.Function.{Function}
 use Rattle.compiler.specs.ir_model.declared.module.Module.{Module}
 use Rattle.compiler.specs.ir_model.declared.operand.Arg.{Arg}
-use Rattle.compiler.specs.ir_model.declared.operand.Callee.{Callee}
-use Rattle.compiler.specs.ir_model.declared.operand.Intrinsic.{Intrinsic}
-use Rattle.compiler.specs.ir_model.declared.operand.Operand.{Operand}
-use Rattle.compiler.specs.pass_copies.Slots.{fetches_of}
-use Rattle.compiler.specs.pass_copies.declared.slot.EarlySlot.{EarlySlot}
-use Rattle.compiler.specs.pass_fetch.Fetching.{fetch_of}
-use Rattle.compiler.specs.pass_fetch.declared.fetch.Fetch.{Fetch}
 use Rattle.pass_frames_meaning.proofs.coroutines.Functions.{all_followed}
 use Rattle.pass_frames_meaning.proofs.ends.All.{ends_followed}
 use Rattle.pass_frames_meaning.proofs.ends.Coming.{end_known}
 use Rattle.pass_frames_meaning.proofs.ends.Suspends.{suspend_told}
 use Rattle.pass_frames_meaning.proofs.kinds.Whole.{alloca_kinds, intrinsic_kinds, measured_kinds}
-use Rattle.pass_frames_meaning.proofs.others.Names.{point_there}
-use Rattle.pass_frames_meaning.proofs.others.Returns.{instr_in}
 use Rattle.pass_frames_meaning.proofs.pointers.Storables.{storables}
+use Rattle.pass_frames_meaning.specs.Blank.{IsBlankState}
 use Rattle.pass_frames_meaning.specs.Coroutines.{AreCoroutinesReady, AreOthersFollowed, MayFollow}
 use Rattle.pass_frames_meaning.proofs.pass_frames_proof.followed.Assembly.{other_instance}
 use Rattle.pass_frames_meaning.specs.Covered.{AreCoveredStepsFollowed, IsCovered, Makes, Stands}
 use Rattle.pass_frames_meaning.specs.Ends.{KeepsEnds, MayGoOn}
 use Rattle.pass_frames_meaning.specs.Based.{IsOwnMode}
-use Rattle.pass_frames_meaning.specs.Kinds.{AreOtherBeginsFollowed, KeepsKinds, MayKinds}
+use Rattle.pass_frames_meaning.specs.Kinds.{KeepsKinds, MayKinds}
 use Rattle.pass_frames_meaning.specs.Executed.{IsFirstMode}
 use Rattle.pass_frames_meaning.specs.Setting.{AreOfRuns, KeepsAll, Setting}
 use Rattle.pass_frames_meaning.specs.Spared.{AreFieldsApart}
-use Rattle.pass_frames_meaning.proofs.pass_frames_proof.lines.Cells.{contained}
 use Rattle.pass_frames_meaning.specs.pass_frames_proof.Followed.{IsFollowed}
 use Rattle.pass_frames_meaning.specs.pass_frames_proof.Marking.{marking}
-use Rattle.pass_frames_meaning.specs.pass_frames_proof.Places.{Framing, copies, written}
+use Rattle.pass_frames_meaning.specs.pass_frames_proof.Places.{Framing}
 use Rattle.pass_frames_meaning.specs.pass_frames_proof.Related.{AreBuiltOf, is_coroutine}
 use Rattle.pass_frames_meaning.specs.pass_frames_proof.Stepping.{IsNotEntering}
-use Rattle.compiler.specs.pass_proofs.fetch.rules.Fetches.{AreUnfetched}
 use Rattle.pass_frames_meaning.specs.pass_renewed_meaning.Followed.{IsEntering}
 use Rattle.pass_frames_meaning.specs.pass_renewed_meaning.Offsets.{first_at}
 use Rattle.pass_frames_meaning.specs.pass_renewed_meaning.Runs.{first_step}
@@ -91,32 +87,6 @@ use Rattle.compiler.specs.run_source.declared.state.Mode.{Mode}
 use Rattle.compiler.specs.run_source.declared.state.State.{State}
 use Rattle.compiler.specs.run_step.Runs.{iterate}
 use Rattle.compiler.specs.run_step.Step.{AtInstr, fetch}
-
--- ---- nothing is fetched for slots before begin where there are none
-
-none_there : (n : ℕ) (o : Operand) → fetch_of (replicate n None) o ≡ None
-none_there n (Operand.Local v) = at_name n v
-  where
-    at_name : (n v : ℕ) → fetch_of (replicate n None) (Operand.Local v) ≡ None
-    at_name zero v = refl
-    at_name (suc n) zero = refl
-    at_name (suc n) (suc v) = at_name n v
-none_there n (Operand.Global g) = refl
-none_there n (Operand.Number z) = refl
-none_there n Operand.True = refl
-none_there n Operand.False = refl
-none_there n Operand.Null = refl
-none_there n Operand.None = refl
-none_there n Operand.Poison = refl
-
-all_unfetched : (n : ℕ) (xs : List Operand) → AreUnfetched (replicate n None) xs
-all_unfetched n [] = tt
-all_unfetched n (x ∷ xs) = (none_there n x, all_unfetched n xs)
-
-unfetched : (x : Framing) → (copies x).slots ≡ [] → (xs : List Operand) → AreUnfetched (copies x).fetches xs
-unfetched x none xs =
-    subst (λ (t : List (Option Fetch)). AreUnfetched t xs) (sym (ap (fetches_of (written x)) none))
-    (all_unfetched (length (written x).names) xs)
 
 -- ---- a state that makes slots anew
 
@@ -172,17 +142,15 @@ module _ (l : Lowered) (low : IsLowered l) (few : HasFewBytes l) (a : Anew) (ane
   ends : KeepsEnds (asking l low a r)
   ends = ends_kept l low a r few anew entered
 
-  module _ (left : AreAllStepsLeft l low a r) (n m : ℕ) (covered : IsCovered (setting l a r) (run n))
+  module _ (n m : ℕ) (covered : IsCovered (setting l a r) (run n))
       (built : AreBuiltOf (building l low.is_framed r.answers) (run n) (other m))
-      (runs : (run n).outcome ≡ Outcome.Running) (fine : IsFine (renewed_step (renewing l a r) (run n)).outcome) where
+      (runs : (run n).outcome ≡ Outcome.Running) (blank : IsBlankState (asking l low a r) (run n))
+      (fine : IsFine (renewed_step (renewing l a r) (run n)).outcome) where
     abbrev s : State
     s = run n
 
     abbrev t : State
     t = other m
-
-    here : AreStepsLeft (asking l low a r) (run n)
-    here = left.steps n m covered built runs fine
 
     apart : IsNotEntering (run n).top.mode → AreFieldsApart (asking l low a r).b (run n)
     apart calm = on covered
@@ -216,18 +184,6 @@ module _ (l : Lowered) (low : IsLowered l) (few : HasFewBytes l) (a : Anew) (ane
 
         abbrev x : Framing
         x = (asking l low a r).b.framing (run n).top.func
-
-        other_begins : AreOtherBeginsFollowed (asking l low a r) (run n) (other m)
-        other_begins result must_tail ty args stands other_case =
-            let plain = left.begins (run n).top.func coroutine in
-            absurd (other_case (record {
-              none = plain.none;
-              memory = plain.memory (record { block = (run n).top.block; at = (run n).top.at }) result must_tail ty args
-                  (point_there x (all.given.framings (run n).top.func coroutine) (run n).top.block (run n).top.at
-                  (Instr.Call result must_tail ty (Callee.Intrinsic Intrinsic.CoroBegin) args)
-                  (instr_in x _ (all.given.coroutines (run n).top.func coroutine) (run n).top.block (run n).top.at
-                  (Instr.Call result must_tail ty (Callee.Intrinsic Intrinsic.CoroBegin) args) stands));
-            }))
 
         -- a slot of a marker stands in the frame
         beside_one : (k : ℕ) × IsBeside (edged l) a.flags a.roots (first_at (setting l a r) k) (run n)
@@ -270,7 +226,6 @@ module _ (l : Lowered) (low : IsLowered l) (few : HasFewBytes l) (a : Anew) (ane
 
         may_kinds : MayKinds (asking l low a r) (run n) (other m)
         may_kinds =
-            let z = here.kinds coroutine calm in
             record {
               made = slots_made l low few a anew r entered n runs;
               makes = λ name ty align there. record {
@@ -284,8 +239,8 @@ module _ (l : Lowered) (low : IsLowered l) (few : HasFewBytes l) (a : Anew) (ane
                 apart = λ i y own is unmarked position told slot listed w held live p place.
                     made_apart l low few a anew r entered beside_one.0 (run n) beside_one.1
                     (sized l low few a anew r entered n) (sound l low few a anew r entered n) coroutine name align ty
-                    there i y own is (z.makes name ty align there i y own is) unmarked position told slot listed w held p
-                    place;
+                    there i y own is (none_made l low few a anew r entered n calm name ty align there i y own is) unmarked
+                    position told slot listed w held p place;
               };
               saves = λ result must_tail ty args there. record {
                 running = λ i y own is.
@@ -296,25 +251,29 @@ module _ (l : Lowered) (low : IsLowered l) (few : HasFewBytes l) (a : Anew) (ane
                     (λ i y is. (other_instance (asking l low a r).b (run n) (other m) built i y is).2.is_coroutine) coroutine
                     result must_tail ty args there;
               };
-              begins = λ result must_tail ty args there plain.
-                  let q = z.begins result must_tail ty args there plain in
+              begins = λ result must_tail ty args there.
+                  let none = none_begun (renewing l a r) (run n) runs fine result must_tail ty args there in
+                  let w = sized l low few a anew r entered n in
+                  let ramp = begins_in_ramp (renewing l a r) (edged l) a.flags a.roots
+                  (first_at (setting l a r) beside_one.0) (run n) beside_one.1 not_plain runs fine result must_tail ty args
+                  there in
                   record {
-                    ramp = begins_in_ramp (renewing l a r) (edged l) a.flags a.roots (first_at (setting l a r) beside_one.0)
-                        (run n) beside_one.1 not_plain runs fine result must_tail ty args there;
-                    allocas = own_alloca l low a r (run n) (sized l low few a anew r entered n) coroutine;
-                    blank = q.blank;
-                    apart = q.apart;
+                    ramp = ramp;
+                    allocas = own_alloca l low a r (run n) w coroutine;
+                    blank = λ slot own lies early. begun_blank l low a r (run n) blank coroutine none slot own lies early;
+                    apart = begun_apart l low few a anew r entered beside_one.0 (run n) beside_one.1 w coroutine none
+                        result must_tail ty args there (own_once l low few a anew r entered n none);
+                    made = λ e listed. early_made l low few a anew r entered n runs coroutine ramp none result
+                        must_tail ty args there e listed;
+                    early_slots = early_once x (all.given.framings (run n).top.func coroutine);
+                    early_apart = λ e f listed listed_too. early_apart l low few a anew r entered (run n).top.func
+                        (run n).top.block (run n).top.at coroutine result must_tail ty args there
+                        ((unbegun l low few a anew r entered n).stack.0 none) e listed f listed_too;
                     framed_slots = framed_slots_own l low r m;
+                    led = slots_led l low a anew r entered m (built.outcome ∙ runs);
+                    live = has_live l low few a anew r entered m;
                   };
             }
-
-        no_copies : (e : EarlySlot) → Contains (copies x).slots e → ⊥
-        no_copies e k = none (copies x).slots (left.begins (run n).top.func coroutine).none
-            (contained (copies x).slots e k)
-          where
-            none : (es : List EarlySlot) → es ≡ [] → IsListed e es → ⊥
-            none [] d li = li
-            none (z ∷ es) d li = absurd (cc)
 
         first_there : (starts must_tail : Bool) (ty : Option Ty) (size : Arg) (u : Ty) (name : ℕ)
             → fetch (function_of (renewing l a r).given (run n)) (run n).top.block (run n).top.at
@@ -337,22 +296,24 @@ module _ (l : Lowered) (low : IsLowered l) (few : HasFewBytes l) (a : Anew) (ane
               (run n).top.at ≡ AtInstr (marking b must_tail ty size u name)) is there in
               started_apart l low few a anew r entered beside_one.0 (run n) beside_one.1
               (sized l low few a anew r entered n) (sound l low few a anew r entered n) coroutine must_tail ty size u name
-              marker number y top instance (here.starts coroutine calm must_tail ty size u name marker number y top instance)
-              slot listed named;
-          temporaries = λ slot none listed named q e early is made. absurd (no_copies e early);
+              marker number y top instance (slots_once l low few a anew r entered n number y instance) slot listed named;
+          temporaries = marked_temporaries l low few a anew r entered n m same coroutine
+              (temporaries_live l low few a anew r entered m) name;
           first = first_there starts must_tail ty size u name there;
         }
 
         others : AreOthersFollowed (asking l low a r) (run n) (other m)
         others = record {
-          located = λ i stands access ahead fetched.
-              absurd (fetched (unfetched x (left.begins (run n).top.func coroutine).none _));
+          located = λ i stands access ahead fetched. access_located l low few a anew r entered n runs coroutine calm
+              (λ none. ramp_beside (edged l) a.flags a.roots (first_at (setting l a r) beside_one.0) (run n) beside_one.1
+              not_plain none) i stands access ahead (other m) built of_runs fine
+              (slots_led l low a anew r entered m (built.outcome ∙ runs));
           measured = measured_kinds (asking l low a r) all kinds (run n) (other m) built of_runs runs fine coroutine calm
               may may_kinds;
           allocas = alloca_kinds (asking l low a r) all kinds (run n) (other m) built of_runs runs fine coroutine calm
               may may_kinds;
           intrinsics = intrinsic_kinds (asking l low a r) all kinds (run n) (other m) built of_runs runs fine coroutine
-              calm may may_kinds other_begins;
+              calm may may_kinds;
           marks = λ same starts. marks_left l low few a anew r entered n (other m) same coroutine runs starts
               (λ must_tail ty size u name there. markers_left same starts must_tail ty size u name there);
           suspends = suspend_told (asking l low a r) ends (run n) coroutine;
@@ -376,6 +337,6 @@ module _ (l : Lowered) (low : IsLowered l) (few : HasFewBytes l) (a : Anew) (ane
         (coroutines_entered l low few a anew r entered n m built of_runs runs fine (λ is calm. may is)
         (storables_known l low few a anew r entered n)) coroutines
 
-  pub covered_followed : AreAllStepsLeft l low a r
-      → AreCoveredStepsFollowed (setting l a r) (building l low.is_framed r.answers)
-  covered_followed left n m covered built runs fine = followed left n m covered built runs fine
+  pub covered_followed : AreCoveredStepsFollowed (setting l a r) (building l low.is_framed r.answers)
+      (IsBlankState (asking l low a r))
+  covered_followed n m covered built runs blank fine = followed n m covered built runs blank fine

@@ -8,7 +8,10 @@ use Rattle.compiler.specs.Printed.{AllFew}
 use Rattle.compiler.specs.declared.lowered.Lowered.{Lowered as Given}
 use Rattle.compiler.specs.declared.lowered.Lowering.{Lowering}
 use Rattle.compiler.specs.whole.Passed.{AreFew}
-use Rattle.compiler_theorem.proofs.theorem.Whole.{keeps_runs}
+use Rattle.compiler_theorem.proofs.theorem.Whole.{runs_kept, runs_within}
+use Rattle.compiler_theorem.specs.theorem.Lowered.{IsLowered}
+use Rattle.compiler.specs.pass_early.Early.{early_module}
+use Rattle.compiler.specs.pass_frames.Framed.{IsFramedForm}
 use Rattle.compiler_theorem.specs.theorem.Texts.{KeepsTexts, lowering_of}
 use Rattle.compiler.specs.frame_layout.declared.layout.Layouts.{Layouts}
 use Rattle.compiler.specs.ir_base.declared.status.Options.{Options}
@@ -26,23 +29,37 @@ few_in (g ∷ fs) few (suc k) f e = few_in fs few.1 k f e
 
 module _ (text : List ℕ) (bytes : AreBytes text) (short : length text < 2 ^ 31) (m : Module) (stands : StandsFor text m)
     (share : Bool) (layouts : Layouts) (accepted : IsAccepted m share layouts) where
-  -- by its parts
-  by_parts : (l : Given) (d : IsDone m layouts l) (x : Given) → lowered_by m layouts d.framed ≡ x
-      → StandsFor x.text (module_order x.«module») → AllFew x.«module».functions → KeepsTexts text x
-  by_parts l d x same printed few =
-      subst (λ (y : Given). StandsFor y.text (module_order y.«module») → AllFew y.«module».functions
-      → KeepsTexts text y) same
-      (λ p f. record {
-        stands = stands;
-        printed = p;
-        runs = λ h r other entry fits.
-            (keeps_runs h.anew (lowering_of text h.share (lowered_by m layouts d.framed)) h.low short h.steps r other entry
-            fits).agrees;
-      }) printed few
+  module _ (framed : Module) (is_framed : IsFramedForm layouts (early_module m) framed)
+      (few : AllFew (lowered_by m layouts framed).«module».functions) where
+    abbrev given : Given
+    given = lowered_by m layouts framed
+
+    low : IsLowered (lowering_of text share (lowered_by m layouts framed))
+    low = record {
+      source = record { bytes = bytes; stands = stands; accepted = accepted.refused };
+      laid = accepted.laid;
+      is_framed = is_framed;
+      few = few_in given.«module».functions few;
+    }
+
+    by_parts : StandsFor (lowered_by m layouts framed).text (module_order (lowered_by m layouts framed).«module»)
+        → KeepsTexts text (lowered_by m layouts framed)
+    by_parts printed = record {
+      stands = stands;
+      printed = printed;
+      runs = record {
+        each = λ r other entry fits. (runs_kept (lowering_of text share given) low short r other entry fits).agrees;
+      };
+      lowered = record {
+        each = λ r other entry fits. runs_within (lowering_of text share given) low short r other entry fits;
+      };
+    }
 
   pub text_kept : (l : Given) → IsDone m layouts l → StandsFor l.text (module_order l.«module»)
       → AllFew l.«module».functions → KeepsTexts text l
-  text_kept l d = by_parts l d l (sym d.is)
+  text_kept l d =
+      subst (λ (y : Given). StandsFor y.text (module_order y.«module») → AllFew y.«module».functions
+      → KeepsTexts text y) (sym d.is) (λ p f. by_parts d.framed d.is_framed f p)
 
 pub texts_kept : (options : Options) (text : List ℕ) → AreBytes text → length text < 2 ^ 31 → (l : Given)
     → IsLowering options text (Lowering.Done l) → AllFew l.«module».functions → KeepsTexts text l

@@ -94,7 +94,7 @@ module _ (l : Lowered) (low : IsLowered l) where
         let flat = ap (λ (f : Function). f.coroutine) was ∙ entered.callable.plain in
         ap (λ (f : Function). f.coroutine) (plain_is r.entry flat) ∙ flat
 
-    own : (n : ℕ) → IsOwnState l.framed (framed_state_at h r.entry r.args n)
+    pub own : (n : ℕ) → IsOwnState l.framed (framed_state_at h r.entry r.args n)
     own n = runs_own h own_blocks r.entry r.args plain n
 
     pub framed_fit : (n : ℕ) → IsFramedFit (asking l low a r) (framed_state_at h r.entry r.args n)

@@ -67,7 +67,7 @@ use Rattle.compiler.specs.run_step.Step.{AtInstr, Fetched, fetch}
 use Rattle.compiler.specs.run_step.Values.{arg_values}
 
 -- no call gives a frame
-none_given : (g : FramedGiven) → GivesNoFrames g.given.code → (s : State) (block at : ℕ)
+pub none_given : (g : FramedGiven) → GivesNoFrames g.given.code → (s : State) (block at : ℕ)
     → given_call g s (fetch (function_of g.given s) block at) ≡ None
 none_given g gives s block at = on (fetch (function_of g.given s) block at) refl
   where

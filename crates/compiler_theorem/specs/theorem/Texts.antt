@@ -2,10 +2,9 @@
 -- with those of the module that the source's text stands for.
 use Rattle.std.specs.Prelude.{ℕ, Bool, List, map}
 use Rattle.compiler.specs.declared.lowered.Lowered.{Lowered as Given}
-use Rattle.compiler_theorem.specs.theorem.Anew.{Anew}
 use Rattle.compiler_theorem.specs.theorem.Entries.{IsEntry, Run}
-use Rattle.compiler_theorem.specs.theorem.Lowered.{IsLowered, Lowered}
-use Rattle.compiler_theorem.specs.theorem.Theorem.{Steps}
+use Rattle.compiler_theorem.specs.theorem.Lowered.{Lowered}
+use Rattle.compiler.specs.ir_model.declared.module.Frame.{Frame}
 use Rattle.compiler.specs.ir_model.declared.module.Module.{Module}
 use Rattle.compiler.specs.pass_cleanup.Cleaned.{plain_machine}
 use Rattle.compiler.specs.pass_kept_proof.Machines.{source_machine}
@@ -26,19 +25,17 @@ abbrev pub lowering_of : List ℕ → Bool → Given → Lowered
 lowering_of text share l =
     record { text = text; source = l.source; share = share; layouts = l.layouts; framed = l.framed }
 
--- what is left to prove of it
-pub record HasSteps (text : List ℕ) (l : Given) : Type 0 where
-  pub share : Bool
-  pub anew : Anew
-  pub low : IsLowered (lowering_of text share l)
-  pub steps : Steps anew (lowering_of text share l) low
+-- Of each call of an entry, with each list of answers, the run of the source, which is given these sizes of frames, and
+-- that of the other module agree within the source's step factor.
+pub record AgreeInRuns (m : Module) (frames : List Frame) (n : Module) : Type 0 where
+  pub each : (r : Run) (other : ℕ) → IsEntry m n r.entry other → AreArguments m r.entry r.args
+      → AgreesWithin (step_factor m 0) (at (source_machine m frames r.entry r.args r.answers))
+      (at (plain_machine n other r.args r.answers))
 
--- Of each call of an entry, with each list of answers, both runs agree within the source's step factor. The source is
--- given the sizes of frames that are printed.
+-- The source is given the sizes of frames that are printed.
 pub record KeepsTexts (text : List ℕ) (l : Given) : Type 0 where
   pub stands : StandsFor text l.source
   pub printed : StandsFor l.text (printed_of l)
-  pub runs : HasSteps text l → (r : Run) (other : ℕ) → IsEntry l.source (printed_of l) r.entry other
-      → AreArguments l.source r.entry r.args → AgreesWithin (step_factor l.source 0)
-      (at (source_machine l.source (map frame_of_layout l.layouts.coroutines) r.entry r.args r.answers))
-      (at (plain_machine (printed_of l) other r.args r.answers))
+  pub runs : AgreeInRuns l.source (map frame_of_layout l.layouts.coroutines) (printed_of l)
+  -- so does the module itself, before its names are put in order
+  pub lowered : AgreeInRuns l.source (map frame_of_layout l.layouts.coroutines) l.«module»

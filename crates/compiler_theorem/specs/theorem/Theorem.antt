@@ -1,5 +1,4 @@
--- What is lowered of a source agrees with it: one row for each pass. Those that stand are cited in the proof, the
--- others are premises here.
+-- What is lowered of a source agrees with it: one row for each pass.
 use Rattle.std.specs.Prelude.{ℕ, ◌+◌, []}
 use Rattle.pass_frames_meaning.specs.run_hooks.alive.Apart.{LiveAreApart}
 use Rattle.compiler.specs.run_agreement.Agreements.{Agrees, AgreesWithin}
@@ -8,21 +7,16 @@ use Rattle.compiler.specs.run_agreement.Factor.{step_factor}
 use Rattle.compiler.specs.run_agreement.Machines.{IsFine, at, state_at}
 use Rattle.compiler.specs.text_canonical.canonical.Items.{module_text}
 use Rattle.compiler.specs.run_source.declared.state.State.{State}
-use Rattle.compiler_theorem.specs.theorem.Anew.{Anew, IsAnewOf}
-use Rattle.compiler_theorem.specs.theorem.Left.{AreAllStepsLeft}
-use Rattle.compiler_theorem.specs.theorem.Entries.{IsEntryCall, Run}
+use Rattle.compiler_theorem.specs.theorem.Anew.{Anew}
+use Rattle.compiler_theorem.specs.theorem.Entries.{Run}
 use Rattle.compiler_theorem.specs.theorem.Built.{building}
-use Rattle.compiler_theorem.specs.theorem.Lowered.{IsLowered, Lowered, early, edged, framed_run, lowered_from}
-use Rattle.compiler_theorem.specs.theorem.Lowered.{plain_run, printed_from, sizes_of}
+use Rattle.compiler_theorem.specs.theorem.Lowered.{IsLowered, Lowered, edged, framed_run, lowered_from}
+use Rattle.compiler_theorem.specs.theorem.Lowered.{plain_run, printed_from}
 use Rattle.compiler_theorem.specs.theorem.Lowered.{source_run}
 use Rattle.pass_frames_prices.specs.FramePrices.{frame_prices}
-use Rattle.pass_frames_meaning.specs.pass_frames_proof.Related.{AreBuiltOf}
 use Rattle.pass_frames_meaning.specs.pass_renewed_proof.Prices.{Prices}
-use Rattle.compiler_theorem.specs.theorem.Rows.{joined}
 use Rattle.compiler_theorem.specs.theorem.SharedBytes.{AreShown}
-use Rattle.compiler_theorem.specs.theorem.ShownSlots.{AreFieldsShown, step_homes}
 use Rattle.compiler.specs.text_grammar.Text.{StandsFor}
-use Rattle.compiler.specs.pass_proofs.kept.sources.Beside.{IsKeptOf}
 use Rattle.pass_frames_meaning.specs.pass_renewed_meaning.Followed.{AreInStep}
 
 -- states of the run that hands values on and of that which makes slots anew, at corresponding steps
@@ -35,26 +29,11 @@ prices_of l low a =
     frame_prices (building l low.is_framed []) a.flags (edged l) (names_of_functions l.source.functions)
     (most_operands_of_functions l.source.functions + most_phis_of_functions l.source.functions)
 
--- | Pass | from | to | costs | |
--- | saves written out, edges with blocks, what is needed handed on | Source | Kept | 4 | stands |
--- | slots made anew and frames built, by prices that fit | Kept | Framed | 4 * (1 + p + q), on average | by `left` |
--- | functions split | Framed | Plain | 4 | stands |
--- | calls of coro.id gone, then names in order | Plain | Plain | 1 | stands |
-pub record Steps (a : Anew) (l : Lowered) (low : IsLowered l) : Type 0 where
-  -- such tables there are (`sources_have_tables`)
-  pub anew : IsAnewOf (early l) a
-  -- waits for: what is left to know of states from which the simulation of frames follows steps. By it each step is
-  -- followed (`steps_of_sources_are_followed`), and the two runs agree (`kept_runs_agree_with_framed_ones`)
-  pub left : (r : Run) → IsEntryCall l.source r → AreAllStepsLeft l low a r
-
--- waits for: the values that cross suspends and the distances, in the fields of instances that are suspended. Live
--- frame slots stand in frames (`frames_show_live_slots`)
-abbrev pub AreFramesShown : Anew → (l : Lowered) → IsLowered l → Type 0
-AreFramesShown a l low =
-    (r : Run) (n : ℕ) (v u t : State) → IsKeptOf l.source (sizes_of l) r.answers (state_at (source_run l r) n) v
-    → (made : AreMadeAnew l a v u) (built : AreBuiltOf (building l low.is_framed r.answers) u t)
-    → AreFieldsShown l.source l.layouts.coroutines (joined (step_homes (edged l) a.flags a.roots v u made) built.homes)
-    (state_at (source_run l r) n) t
+-- | Pass | from | to | costs |
+-- | saves written out, edges with blocks, what is needed handed on | Source | Kept | 4 |
+-- | slots made anew and frames built, by prices that fit | Kept | Framed | 4 * (1 + p + q), on average |
+-- | functions split | Framed | Plain | 4 |
+-- | calls of coro.id gone, then names in order | Plain | Plain | 1 |
 
 -- a state of the framed run in which the slots and values of a state of the source stand
 pub record IsSomewhereShown (l : Lowered) (r : Run) (n : ℕ) : Type 0 where

@@ -1,5 +1,5 @@
-use Rattle.compiler_theorem.proofs.theorem.Whole.{keeps_runs}
+use Rattle.compiler_theorem.proofs.theorem.Whole.{runs_kept}
 use Rattle.compiler_theorem.proofs.theorem.lowered_runs_agree.Goals as goal
 
 pub returns : goal.returns
-returns c = keeps_runs
+returns c = runs_kept

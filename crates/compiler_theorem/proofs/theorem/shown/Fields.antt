@@ -67,7 +67,7 @@ module _ (l : Lowered) (low : IsLowered l) (answers : List ℤ) (func : ℕ)
   pub was : f.coroutine ≡ true
   was = coroutine_was l.source.functions func is
 
-  same_allocas : allocas_of g ≡ allocas_of f
+  pub same_allocas : allocas_of (function_at (early l) func) ≡ allocas_of (function_at l.source func)
   same_allocas =
       let stays = stays_under_all l.source (locals_named l.text l.source low.source.stands)
       (uses_named l.text l.source low.source.stands)
@@ -89,7 +89,8 @@ module _ (l : Lowered) (low : IsLowered l) (answers : List ℤ) (func : ℕ)
       }
 
   -- what the coroutine was framed by is what the source's frame holds
-  contents_are : AreContents l.source f x.contents
+  pub contents_are : AreContents l.source (function_at l.source func)
+      ((building l low.is_framed answers).framing func).contents
   contents_are =
       let built = (sources_built l low answers).coroutines func is in
       let own = (framings l low answers func is).frameable.contents in
@@ -101,7 +102,8 @@ module _ (l : Lowered) (low : IsLowered l) (answers : List ℤ) (func : ℕ)
       (subst (λ (h : Function). AreContents (early l) h x.contents) built.function
       (subst (λ (m : Module). AreContents m x.function x.contents) built.code own))
 
-  early_are : AreContents (early l) g x.contents
+  pub early_are : AreContents (early l) (function_at (early l) func)
+      ((building l low.is_framed answers).framing func).contents
   early_are = (contents_early l.source (locals_named l.text l.source low.source.stands)
       (uses_named l.text l.source low.source.stands)
       (all_named_keep l.source low.source.accepted (all_tabled l.text l.source low.source.stands))

@@ -1,0 +1,12 @@
+pub mod Rules
+pub mod Framed
+pub mod Memory
+pub mod Blocks
+pub mod Hooks
+pub mod Parts
+pub mod Names
+pub mod Named
+pub mod Steps
+pub mod States
+pub mod Framings
+pub mod Live
