@@ -8,4 +8,4 @@ mod word;
 
 pub use place::push_place;
 pub use refusal::{bad_list_text, not_callable_text, refused_text, syntax_text};
-pub use run::run_text;
+pub use run::{push_outcome, run_text};

@@ -50,7 +50,8 @@ fn push_returned(out: &mut Vec<u8>, value: Option<Word>) -> Result<(), AllocErro
     }
 }
 
-fn push_outcome(out: &mut Vec<u8>, source: &Module, outcome: Outcome) -> Result<(), AllocError>
+/// Adds the line of an outcome.
+pub fn push_outcome(out: &mut Vec<u8>, source: &Module, outcome: Outcome) -> Result<(), AllocError>
     ensures { OnOk result (out.new.items ≡ out.old.items ++ outcome_text source.now outcome) }
 {
     match outcome {

@@ -39,9 +39,13 @@ check_app = with_rule (new_app (codes "check")) (flag (codes "lowered"))
 abbrev pub layout_app : App
 layout_app = with_rule (new_app (codes "layout")) (flag (codes "plain"))
 
--- `--form FORM --entry NAME`
+-- `--entry NAME`
 abbrev pub with_entry : App → App
-with_entry a = with_rule (with_rule a (required (codes "form"))) (required (codes "entry"))
+with_entry a = with_rule a (required (codes "entry"))
+
+-- `--form FORM --entry NAME`
+abbrev pub with_form : App → App
+with_form a = with_entry (with_rule a (required (codes "form")))
 
 -- `[--args LIST] [--answers LIST]`
 abbrev pub with_lists : App → App
@@ -49,7 +53,11 @@ with_lists a = with_rule (with_rule a (option (codes "args"))) (option (codes "a
 
 -- `run [--plain] --form FORM --entry NAME [--args LIST] [--answers LIST] [--steps N]`
 abbrev pub run_app : App
-run_app = with_rule (with_lists (with_entry (with_rule (new_app (codes "run")) (flag (codes "plain"))))) steps
+run_app = with_rule (with_lists (with_form (with_rule (new_app (codes "run")) (flag (codes "plain"))))) steps
+
+-- `compare [--plain] --entry NAME [--args LIST] [--answers LIST] [--steps N]`
+abbrev pub compare_app : App
+compare_app = with_rule (with_lists (with_entry (with_rule (new_app (codes "compare")) (flag (codes "plain"))))) steps
 
 -- `gen SEED COROUTINES SUSPENDS`
 abbrev pub gen_app : App
@@ -63,10 +71,14 @@ top_app = on_top (λ s. record s { subcommand_required = true; no_binary_name = 
 abbrev pub with_lowering : App → App
 with_lowering a = with_subcommand (with_subcommand a lower_app.top) check_app.top
 
--- `layout`, `run` and `gen`
+-- `layout` and `run`
 abbrev pub with_showing : App → App
-with_showing a = with_subcommand (with_subcommand (with_subcommand a layout_app.top) run_app.top) gen_app.top
+with_showing a = with_subcommand (with_subcommand a layout_app.top) run_app.top
+
+-- `compare` and `gen`
+abbrev pub with_measuring : App → App
+with_measuring a = with_subcommand (with_subcommand a compare_app.top) gen_app.top
 
 -- the program, with its commands
 abbrev pub the_app : App
-the_app = with_showing (with_lowering top_app)
+the_app = with_measuring (with_showing (with_lowering top_app))

@@ -6,6 +6,7 @@ use Rattle.std.specs.Str.Parse.{without_leading_plus}
 use Rattle.clap.specs.Words.{Kinds, Row, Text, fault_of, first_of, subcommand_of}
 use Rattle.cli_words.specs.App.{the_app}
 use Rattle.cli_words.specs.Lists.{magnitude, list}
+use Rattle.cli_words.specs.declared.words.CallReading.{CallReading}
 use Rattle.cli_words.specs.declared.words.Form.{Form}
 use Rattle.cli_words.specs.declared.words.Words.{Words}
 use Rattle.cli_words.specs.declared.words.Reading.{Reading}
@@ -44,27 +45,45 @@ steps rows = number_at (codes "steps") 1000000 rows
 abbrev pub word_at : Text → List Row → Text
 word_at name rows = unwrap_or (first_of name rows) []
 
--- `run`, or the word of a list that isn't one; `--args` before `--answers`
-abbrev pub with_lists : Form → Text → List Row → Option (List ℤ) → Option (List ℤ) → Reading
-with_lists form entry rows None answers = Reading.BadList (word_at (codes "args") rows)
-with_lists form entry rows (Some args) None = Reading.BadList (word_at (codes "answers") rows)
-with_lists form entry rows (Some args) (Some answers) = Reading.Read (Words.Run (record {
+-- the words of a call, or the word of a list that isn't one; `--args` before `--answers`
+abbrev pub with_lists : Text → List Row → Option (List ℤ) → Option (List ℤ) → CallReading
+with_lists entry rows None answers = CallReading.BadList (word_at (codes "args") rows)
+with_lists entry rows (Some args) None = CallReading.BadList (word_at (codes "answers") rows)
+with_lists entry rows (Some args) (Some answers) = CallReading.Read (record {
   plain = has_flag (codes "plain") rows;
-  form = form;
   entry = entry;
   args = args;
   answers = answers;
   steps = steps rows;
-}))
+})
+
+abbrev pub call_read : Text → List Row → CallReading
+call_read entry rows = with_lists entry rows (list_at (codes "args") rows) (list_at (codes "answers") rows)
+
+-- `run` in a form
+abbrev pub run_by : Form → CallReading → Reading
+run_by form (CallReading.BadList word) = Reading.BadList word
+run_by form (CallReading.Read w) = Reading.Read (Words.Run form w)
 
 -- `run`, where it has a form and an entry
 abbrev pub run_named : List Row → Option Form → Option Text → Reading
-run_named rows (Some form) (Some entry) =
-    with_lists form entry rows (list_at (codes "args") rows) (list_at (codes "answers") rows)
+run_named rows (Some form) (Some entry) = run_by form (call_read entry rows)
 run_named rows _ _ = Reading.Refused
 
 abbrev pub run_read : List Row → Reading
 run_read rows = run_named rows (form rows) (first_of (codes "entry") rows)
+
+abbrev pub compare_by : CallReading → Reading
+compare_by (CallReading.BadList word) = Reading.BadList word
+compare_by (CallReading.Read w) = Reading.Read (Words.Compare w)
+
+-- `compare`, where it has an entry
+abbrev pub compare_named : List Row → Option Text → Reading
+compare_named rows None = Reading.Refused
+compare_named rows (Some entry) = compare_by (call_read entry rows)
+
+abbrev pub compare_read : List Row → Reading
+compare_read rows = compare_named rows (first_of (codes "entry") rows)
 
 abbrev pub lower_read : List Row → Reading
 lower_read rows = Reading.Read (Words.Lower (has_flag (codes "plain") rows))
@@ -87,6 +106,7 @@ command_read (Some p) =
     else if bytes_eq p.0 (codes "check") then check_read p.1
     else if bytes_eq p.0 (codes "layout") then layout_read p.1
     else if bytes_eq p.0 (codes "run") then run_read p.1
+    else if bytes_eq p.0 (codes "compare") then compare_read p.1
     else if bytes_eq p.0 (codes "gen") then gen_read p.1
     else Reading.Refused
 

@@ -4,7 +4,7 @@ ghost use Rattle.std.specs.Prelude.{◌≡◌, IfOk, false, codes};
 ghost use Rattle.clap.specs.Words.{app_of, rule_of, with_rule, with_subcommand};
 ghost use Rattle.clap.specs.declared.builder.command.Command.TheViews.{out-Command};
 ghost use Rattle.cli_words.specs.App as spec;
-ghost use Rattle.cli_words.specs.App.{check_app, flag, gen_app, layout_app, lower_app, run_app, the_app, top_app};
+ghost use Rattle.cli_words.specs.App.{check_app, flag, gen_app, layout_app, lower_app, compare_app, run_app, the_app, top_app};
 
 use clap::builder::ValueParser;
 use clap::{Arg, ArgAction, Command};
@@ -118,9 +118,18 @@ fn with_entry<'a>(alloc: Global, command: Command<'a>) -> Result<Command<'a>, Al
     ensures app { IfOk result (λ r. app_of r ≡ spec.with_entry (app_of command.entry)) }
     ensures local { IfOk result (λ r. (out-Command r).has_globals ≡ false) }
 {
-    let form = required(alloc, "form", "FORM", "source, framed, lowered or text");
     let entry = required(alloc, "entry", "NAME", "The function that is called");
-    with_arg(with_arg(command, form)?, entry)
+    with_arg(command, entry)
+}
+
+fn with_form<'a>(alloc: Global, command: Command<'a>) -> Result<Command<'a>, AllocError>
+    requires { (out-Command command).has_globals ≡ false }
+    ensures app { IfOk result (λ r. app_of r ≡ spec.with_form (app_of command.entry)) }
+    ensures local { IfOk result (λ r. (out-Command r).has_globals ≡ false) }
+{
+    let form = required(alloc, "form", "FORM", "source, framed, lowered or text");
+    let command = with_arg(command, form)?;
+    with_entry(alloc, command)
 }
 
 fn with_lists<'a>(alloc: Global, command: Command<'a>) -> Result<Command<'a>, AllocError>
@@ -138,6 +147,17 @@ fn run_command<'a>(alloc: Global) -> Result<Command<'a>, AllocError>
     ensures local { IfOk result (λ r. (out-Command r).has_globals ≡ false) }
 {
     let command = Command::new(alloc, "run").about("Runs a function of a module");
+    let command = with_arg(command, plain_flag(alloc))?;
+    let command = with_form(alloc, command)?;
+    let command = with_lists(alloc, command)?;
+    with_arg(command, steps(alloc))
+}
+
+fn compare_command<'a>(alloc: Global) -> Result<Command<'a>, AllocError>
+    ensures app { IfOk result (λ c. app_of c ≡ compare_app) }
+    ensures local { IfOk result (λ r. (out-Command r).has_globals ≡ false) }
+{
+    let command = Command::new(alloc, "compare").about("Runs a function before and after lowering");
     let command = with_arg(command, plain_flag(alloc))?;
     let command = with_entry(alloc, command)?;
     let command = with_lists(alloc, command)?;
@@ -179,20 +199,28 @@ fn with_lowering<'a>(alloc: Global, command: Command<'a>) -> Result<Command<'a>,
 
 fn with_showing<'a>(alloc: Global, command: Command<'a>) -> Result<Command<'a>, AllocError>
     requires { (out-Command command).has_globals ≡ false }
-    ensures { IfOk result (λ r. app_of r ≡ spec.with_showing (app_of command.entry)) }
+    ensures app { IfOk result (λ r. app_of r ≡ spec.with_showing (app_of command.entry)) }
+    ensures local { IfOk result (λ r. (out-Command r).has_globals ≡ false) }
 {
     let layout = layout_command(alloc)?;
     let run = run_command(alloc)?;
-    let generated = gen_command(alloc)?;
-    let command = with_command(command, layout)?;
-    let command = with_command(command, run)?;
-    with_command(command, generated)
+    with_command(with_command(command, layout)?, run)
 }
 
-/// The program's command line, with `lower`, `check`, `layout`, `run` and `gen`.
+fn with_measuring<'a>(alloc: Global, command: Command<'a>) -> Result<Command<'a>, AllocError>
+    requires { (out-Command command).has_globals ≡ false }
+    ensures { IfOk result (λ r. app_of r ≡ spec.with_measuring (app_of command.entry)) }
+{
+    let compare = compare_command(alloc)?;
+    let generated = gen_command(alloc)?;
+    with_command(with_command(command, compare)?, generated)
+}
+
+/// The program's command line, with `lower`, `check`, `layout`, `run`, `compare` and `gen`.
 pub fn command<'a>(alloc: Global) -> Result<Command<'a>, AllocError>
     ensures app { IfOk result (λ c. app_of c ≡ the_app) }
 {
     let command = with_lowering(alloc, top_command(alloc))?;
-    with_showing(alloc, command)
+    let command = with_showing(alloc, command)?;
+    with_measuring(alloc, command)
 }

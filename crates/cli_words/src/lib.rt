@@ -14,4 +14,4 @@ mod words;
 pub use answer::Taken;
 pub use list::read_list;
 pub use taken::take_words;
-pub use words::{Form, Reading, RunWords, Words};
+pub use words::{CallReading, Form, Reading, RunWords, Words};

@@ -5,7 +5,7 @@ ghost use Rattle.clap.specs.Words.{first_of, found_of, rows_of, subcommand_rows_
 ghost use Rattle.cli_words.specs.Asked as spec;
 
 use crate::list::read_list;
-use crate::words::{Form, Reading, RunWords, Words};
+use crate::words::{CallReading, Form, Reading, RunWords, Words};
 use clap::ArgMatches;
 use ir_base::{Items, Text};
 use std::alloc::{AllocError, Global};
@@ -106,30 +106,36 @@ fn word_at(alloc: Global, matches: &ArgMatches<'_>, name: &str) -> Result<Text, 
     }
 }
 
-/// The words of `run`, but for a list that isn't one; `--args` before `--answers`.
-fn with_lists(
+/// The words of a call, but for a list that isn't one; `--args` before `--answers`.
+fn call_read(
     alloc: Global,
     matches: &ArgMatches<'_>,
-    form: Form,
     entry: Text,
-) -> Result<Reading, AllocError>
-    ensures { IfOk result (λ r. let rows = rows_of (found_of matches.now) in
-        r ≡ spec.with_lists form entry rows (spec.list_at (codes "args") rows) (spec.list_at (codes "answers") rows)) }
+) -> Result<CallReading, AllocError>
+    ensures { IfOk result (λ r. r ≡ spec.call_read entry (rows_of (found_of matches.now))) }
 {
     let Some(args) = list_at(alloc, matches, "args")? else {
-        return Ok(Reading::BadList(word_at(alloc, matches, "args")?));
+        return Ok(CallReading::BadList(word_at(alloc, matches, "args")?));
     };
     let Some(answers) = list_at(alloc, matches, "answers")? else {
-        return Ok(Reading::BadList(word_at(alloc, matches, "answers")?));
+        return Ok(CallReading::BadList(word_at(alloc, matches, "answers")?));
     };
-    Ok(Reading::Read(Words::Run(RunWords {
+    Ok(CallReading::Read(RunWords {
         plain: has_flag(matches, "plain"),
-        form,
         entry,
         args,
         answers,
         steps: steps(matches),
-    })))
+    }))
+}
+
+fn run_by(form: Form, call: CallReading) -> Reading
+    ensures { result ≡ spec.run_by form call }
+{
+    match call {
+        CallReading::BadList(word) => Reading::BadList(word),
+        CallReading::Read(words) => Reading::Read(Words::Run(form, words)),
+    }
 }
 
 fn run_read(alloc: Global, matches: &ArgMatches<'_>) -> Result<Reading, AllocError>
@@ -141,12 +147,27 @@ fn run_read(alloc: Global, matches: &ArgMatches<'_>) -> Result<Reading, AllocErr
     let Some(entry) = value_of(matches, "entry") else {
         return Ok(Reading::Refused);
     };
-    with_lists(
-        alloc,
-        matches,
-        form,
-        Text::from_bytes(alloc, entry.as_bytes())?,
-    )
+    let entry = Text::from_bytes(alloc, entry.as_bytes())?;
+    Ok(run_by(form, call_read(alloc, matches, entry)?))
+}
+
+fn compare_by(call: CallReading) -> Reading
+    ensures { result ≡ spec.compare_by call }
+{
+    match call {
+        CallReading::BadList(word) => Reading::BadList(word),
+        CallReading::Read(words) => Reading::Read(Words::Compare(words)),
+    }
+}
+
+fn compare_read(alloc: Global, matches: &ArgMatches<'_>) -> Result<Reading, AllocError>
+    ensures { IfOk result (λ r. r ≡ spec.compare_read (rows_of (found_of matches.now))) }
+{
+    let Some(entry) = value_of(matches, "entry") else {
+        return Ok(Reading::Refused);
+    };
+    let entry = Text::from_bytes(alloc, entry.as_bytes())?;
+    Ok(compare_by(call_read(alloc, matches, entry)?))
 }
 
 fn gen_read(matches: &ArgMatches<'_>) -> Reading
@@ -177,6 +198,8 @@ pub fn command_read(alloc: Global, matches: &ArgMatches<'_>) -> Result<Reading, 
         Ok(Reading::Read(Words::Layout { plain }))
     } else if name == "run" {
         run_read(alloc, given)
+    } else if name == "compare" {
+        compare_read(alloc, given)
     } else if name == "gen" {
         Ok(gen_read(given))
     } else {

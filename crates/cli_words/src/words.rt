@@ -15,13 +15,11 @@ pub enum Form {
     Text,
 }
 
-/// The words of `run`.
+/// The words of a call of an entry, for `run` and `compare`.
 #[derive(Debug, Drop)]
 pub struct RunWords {
     /// Without shared bytes and elision.
     pub plain: bool,
-    /// The form in which the module is run.
-    pub form: Form,
     /// The entry's name, as in canonical text without its sign.
     pub entry: Text,
     /// The entry's arguments.
@@ -50,14 +48,25 @@ pub enum Words {
         /// Without shared bytes.
         plain: bool,
     },
-    /// Runs the module.
-    Run(RunWords),
+    /// Runs the module in a form.
+    Run(Form, RunWords),
+    /// Runs the module, and then what it is lowered to as far.
+    Compare(RunWords),
     /// Generates a module by a seed, with so many coroutines of so many suspends each.
     Gen {
         seed: u64,
         coroutines: u64,
         suspends: u64,
     },
+}
+
+/// What the words of a call come to.
+#[derive(Debug, Drop)]
+pub enum CallReading {
+    /// This word isn't a list.
+    BadList(Text),
+    /// They are taken.
+    Read(RunWords),
 }
 
 /// What the words come to.
