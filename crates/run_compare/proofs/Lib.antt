@@ -1,0 +1,4 @@
+pub mod Following
+pub mod Growing
+pub mod Reporting
+pub mod Steps
