@@ -1,3 +1,2 @@
-pub mod Arguments
-pub mod Chosen
-pub mod Seen
+pub mod Headline
+pub mod Written

@@ -1,22 +1,13 @@
 //! The program as one call over a source and two sinks.
 //!
-//! `drive` does all. Where the words are taken, status and both outputs are those of the command's answer to the
-//! whole input (clause `answered`). Otherwise they tell the word that is no list, or a refusal. Each fault has its
-//! cause and its text. Nothing stands on standard output on a fault of the input.
+//! `drive` does all. Its one clause on what happens (`ends`) says by the words what was read, what both outputs got to
+//! the last byte, and the status. A command's answer is that of its definition to the whole input (`IsAnswer` of
+//! `cli_answers`). A write fault to standard output is told on standard error, and nothing else is written.
 //!
-//! The answer to `check` is `ok` exactly where no rule is broken, else the first with its place. The answer to
-//! `layout` is the text of the layouts. The answer to `gen`, for which nothing is read, is the text of the generated
-//! module. The answer to `run` is the text of what is seen after so many steps. It is seen of the source (`SourceAt`,
-//! with the frame sizes of its layouts), of its framed form (`FramedAt`) or of the module without coroutines
-//! (`PlainAt`).
+//! Its clause `headline` says that `lower` keeps the meaning: where the status is 0, the text that was written stands for a
+//! module that does what the source does of the text that was read (`IsLoweredWhole`), by `compiler_theorem`.
 #![tactic(auto)]
 
-mod commands;
-mod entry;
 mod program;
-mod runs;
-mod texts;
-mod verdict;
 
-pub use program::{drive, told};
-pub use verdict::{Answer, EntryCall, Verdict};
+pub use program::{drive, tell};

@@ -1,7 +1,7 @@
 //! `corolower`: lowers LLVM's switched-resume coroutines, and runs what it lowered.
 #![tactic(auto)]
 
-use cli_drive::{drive, told};
+use cli_drive::{drive, tell};
 use cli_io::{ReadSource, WriteSink};
 use ir_base::Status;
 use std::process::ExitCode;
@@ -24,9 +24,9 @@ fn main(rt: HostRuntime) -> ExitCode {
         Ok(words) => drive(rt.alloc(), &words, &mut input, &mut out, &mut err),
         Err(fault) => {
             if fault.kind() == io::ErrorKind::OutOfMemory {
-                told(&mut err, b"out of memory\n", Status::OutOfMemory)
+                tell(&mut out, &mut err, b"out of memory\n", Status::OutOfMemory)
             } else {
-                told(&mut err, b"bad word\n", Status::Words)
+                tell(&mut out, &mut err, b"bad word\n", Status::Words)
             }
         }
     };

@@ -1,0 +1,4 @@
+-- What libraries below prove, for those above.
+pub use Rattle.compiler_theorem.proofs as compiler_theorem
+pub mod Followed
+pub mod Reported

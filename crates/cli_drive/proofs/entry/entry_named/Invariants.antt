@@ -1,6 +1,0 @@
-use Rattle.std.proofs.Common.{◌≡◌, drop}
-use Rattle.cli_drive.specs.Answers.{entry_from}
-use Rattle.cli_drive.proofs.entry.entry_named.Given as goal
-
-abbrev pub invariant-loop-function : goal.invariant-loop-function
-invariant-loop-function l = entry_from 0 l.function-items l.text ≡ entry_from l.at (drop l.function-index l.function-items) l.text

@@ -1,0 +1,211 @@
+//! Runs of modules.
+
+ghost use Rattle.std.specs.Prelude.{◌≡◌, IfOk, map};
+ghost use Rattle.cli_runs.specs.Runs.{run_verdict, plain_run, run_answer, not_callable, run_module, size_of, sizes_of, source_run, source_answer, source_or, framed_run, framed_answer, run_framed, entry_call};
+ghost use Rattle.run_framed_facts.specs.FramedFacts.{given_with};
+
+use crate::entry::entry_call;
+use crate::texts::{shown, told};
+use crate::verdict::{Answer, EntryCall, Verdict};
+use cli_report::{not_callable_text, run_text};
+use cli_words::RunWords;
+use flow_facts::all_facts;
+use frame_layout::{Layout, Layouts};
+use ir_base::{Items, Outcome};
+use ir_model::{Frame, Module};
+use ir_paths::Facts;
+use run_framed::FramedMachine;
+use run_framed_facts::all_framed_facts;
+use run_plain::PlainMachine;
+use run_source::SourceMachine;
+use std::alloc::{AllocError, Global};
+
+fn run_verdict(outcome: Outcome) -> Verdict
+    ensures { result ≡ run_verdict outcome }
+{
+    match outcome {
+        Outcome::Returned(_) => Verdict::Done,
+        Outcome::Running => Verdict::Unfinished,
+        Outcome::Undefined(_, _) => Verdict::Undefined,
+    }
+}
+
+/// The entry isn't callable.
+pub fn not_callable(alloc: Global, entry: &[u8]) -> Result<Answer, AllocError>
+    ensures { IfOk result (λ a. a ≡ not_callable entry.now) }
+{
+    let text = not_callable_text(alloc, entry)?;
+    Ok(told(alloc, Verdict::NotCallable, text))
+}
+
+fn plain_run(
+    alloc: Global,
+    code: Module,
+    answers: &[i128],
+    call: &EntryCall,
+    steps: u64,
+) -> Result<Answer, AllocError>
+    ensures { IfOk result (λ a. a ≡ plain_run code answers.now call.now steps) }
+{
+    let mut machine = PlainMachine::start(alloc, code, call.func, call.args.as_slice(), answers)?;
+    let outcome = machine.run(steps)?;
+    let text = run_text(alloc, machine.code(), machine.events(), outcome)?;
+    Ok(shown(alloc, run_verdict(outcome), Items::from_vec(text)))
+}
+
+/// What is seen of a run of a module without coroutines.
+#[tactic(auto, using(crate::proofs::Seen::plain_by))]
+fn run_answer(
+    alloc: Global,
+    code: Module,
+    answers: &[i128],
+    call: &EntryCall,
+    steps: u64,
+) -> Result<Answer, AllocError>
+    ensures { IfOk result (λ a. a ≡ run_answer code answers.now call.now steps) }
+{
+    plain_run(alloc, code, answers, call, steps)
+}
+
+/// Calls an entry of a module without coroutines.
+pub fn run_module(alloc: Global, code: Module, words: &RunWords) -> Result<Answer, AllocError>
+    ensures { IfOk result (λ a. a ≡ run_module code words.now) }
+{
+    let entry = words.entry.as_bytes();
+    match entry_call(alloc, &code, entry, words.args.as_slice())? {
+        None => not_callable(alloc, entry),
+        Some(call) => run_answer(alloc, code, words.answers.as_slice(), &call, words.steps),
+    }
+}
+
+/// The sizes of the frames.
+pub fn sizes_of(alloc: Global, layouts: &[Layout]) -> Result<Items<Frame>, AllocError>
+    ensures { IfOk result (λ sizes. sizes ≡ map size_of layouts.now) }
+{
+    let mut sizes = Items::new(alloc);
+    for layout in layouts {
+        sizes.push(Frame {
+            coroutine: layout.coroutine,
+            size: layout.size,
+            align: layout.align,
+        })?;
+    }
+    Ok(sizes)
+}
+
+fn source_run(
+    alloc: Global,
+    source: Module,
+    sizes: &[Frame],
+    facts: Items<Facts>,
+    answers: &[i128],
+    call: &EntryCall,
+    steps: u64,
+) -> Result<Answer, AllocError>
+    ensures { IfOk result (λ a. a ≡ source_run (record { code = source; sizes = sizes.now; answers = answers.now; facts = facts }) call.now steps) }
+{
+    let args = call.args.as_slice();
+    let mut machine = SourceMachine::start(alloc, source, sizes, facts, call.func, args, answers)?;
+    let outcome = machine.run(steps)?;
+    let text = run_text(alloc, machine.code(), machine.events(), outcome)?;
+    Ok(shown(alloc, run_verdict(outcome), Items::from_vec(text)))
+}
+
+/// What is seen of a run of a source.
+fn source_answer(
+    alloc: Global,
+    source: Module,
+    sizes: &[Frame],
+    answers: &[i128],
+    call: &EntryCall,
+    steps: u64,
+) -> Result<Answer, AllocError>
+    ensures { IfOk result (λ a. a ≡ source_answer source sizes.now answers.now call.now steps) }
+{
+    let facts = all_facts(alloc, source.functions.as_slice())?;
+    source_run(alloc, source, sizes, facts, answers, call, steps)
+}
+
+/// Calls an entry of a source whose coroutines have these layouts.
+pub fn run_source(
+    alloc: Global,
+    source: Module,
+    layouts: &Layouts,
+    words: &RunWords,
+) -> Result<Answer, AllocError>
+    ensures { IfOk result (λ a. a ≡ source_or source (sizes_of layouts.now) words.now (entry_call source words.now.entry words.now.args)) }
+{
+    let entry = words.entry.as_bytes();
+    match entry_call(alloc, &source, entry, words.args.as_slice())? {
+        None => not_callable(alloc, entry),
+        Some(call) => {
+            let sizes = sizes_of(alloc, layouts.coroutines.as_slice())?;
+            source_answer(
+                alloc,
+                source,
+                sizes.as_slice(),
+                words.answers.as_slice(),
+                &call,
+                words.steps,
+            )
+        }
+    }
+}
+
+fn framed_run(
+    alloc: Global,
+    framed: Module,
+    layouts: &Layouts,
+    facts: Items<Facts>,
+    answers: &[i128],
+    call: &EntryCall,
+    steps: u64,
+) -> Result<Answer, AllocError>
+    ensures { IfOk result (λ a. a ≡ framed_run (given_with framed layouts.now.coroutines answers.now facts) call.now steps) }
+{
+    let args = call.args.as_slice();
+    let mut machine = FramedMachine::start(
+        alloc, framed, layouts, facts, call.func, args, answers,
+    )?;
+    let outcome = machine.run(steps)?;
+    let text = run_text(alloc, machine.code(), machine.events(), outcome)?;
+    Ok(shown(alloc, run_verdict(outcome), Items::from_vec(text)))
+}
+
+/// What is seen of a run of a framed module.
+fn framed_answer(
+    alloc: Global,
+    framed: Module,
+    layouts: &Layouts,
+    answers: &[i128],
+    call: &EntryCall,
+    steps: u64,
+) -> Result<Answer, AllocError>
+    ensures { IfOk result (λ a. a ≡ framed_answer framed layouts.now answers.now call.now steps) }
+{
+    let facts = all_framed_facts(alloc, framed.functions.as_slice())?;
+    framed_run(alloc, framed, layouts, facts, answers, call, steps)
+}
+
+/// Calls an entry of a framed module with the layouts of its coroutines' frames.
+pub fn run_framed(
+    alloc: Global,
+    framed: Module,
+    layouts: &Layouts,
+    words: &RunWords,
+) -> Result<Answer, AllocError>
+    ensures { IfOk result (λ a. a ≡ run_framed framed layouts.now words.now) }
+{
+    let entry = words.entry.as_bytes();
+    match entry_call(alloc, &framed, entry, words.args.as_slice())? {
+        None => not_callable(alloc, entry),
+        Some(call) => framed_answer(
+            alloc,
+            framed,
+            layouts,
+            words.answers.as_slice(),
+            &call,
+            words.steps,
+        ),
+    }
+}
