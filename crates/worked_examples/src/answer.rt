@@ -1,5 +1,7 @@
 //! What the program answers.
 
+ghost use Rattle.std.specs.Prelude.{◌<◌};
+
 use cli_drive::drive;
 use cli_io::{ByteSink, ByteSource};
 use ir_base::Status;
@@ -49,19 +51,51 @@ pub fn ask(alloc: Global, line: &str, text: &[u8]) -> Result<Answer, AllocError>
     answer_over(alloc, line, input, out, err)
 }
 
-/// The same over a source and sinks of 16 bytes a call, where a read and a write to standard output fail, each named by the
-/// number of its call, 0 for none.
+/// The calls of a source and two sinks that fail, each named by its number, 0 for none.
+#[derive(Clone, Copy, Drop)]
+pub struct Failing {
+    pub read: usize,
+    pub out: usize,
+    pub err: usize,
+}
+
+/// Where no call fails.
+pub const NONE: Failing = Failing {
+    read: 0,
+    out: 0,
+    err: 0,
+};
+
+/// A sink of a room of so many bytes, of which each call takes a piece, and one call fails.
+fn sink(alloc: Global, room: usize, piece: usize, fail: usize) -> Result<ByteSink, AllocError>
+    requires { 0 < piece }
+{
+    ByteSink::with_room(alloc, room, piece, Vec::from_slice(alloc, &[fail as u64])?)
+}
+
+/// The same over a source and sinks of 16 bytes a call, where some calls fail.
 pub fn ask_failing(
     alloc: Global,
     line: &str,
     text: &[u8],
-    read: usize,
-    write: usize,
+    failing: Failing,
 ) -> Result<Answer, AllocError> {
-    let reads = Vec::from_slice(alloc, &[read as u64])?;
-    let writes = Vec::from_slice(alloc, &[write as u64])?;
+    let reads = Vec::from_slice(alloc, &[failing.read as u64])?;
     let input = ByteSource::new(Vec::from_slice(alloc, text)?, 16, reads);
-    let out = ByteSink::with_room(alloc, 65_536, 16, writes)?;
-    let err = ByteSink::with_room(alloc, 65_536, 16, Vec::new(alloc))?;
+    let out = sink(alloc, 65_536, 16, failing.out)?;
+    let err = sink(alloc, 65_536, 16, failing.err)?;
+    answer_over(alloc, line, input, out, err)
+}
+
+/// The same, where standard output has so much room.
+pub fn ask_in_room(
+    alloc: Global,
+    line: &str,
+    text: &[u8],
+    room: usize,
+) -> Result<Answer, AllocError> {
+    let input = ByteSource::new(Vec::from_slice(alloc, text)?, 16, Vec::new(alloc));
+    let out = sink(alloc, room, 16, 0)?;
+    let err = sink(alloc, 65_536, 16, 0)?;
     answer_over(alloc, line, input, out, err)
 }

@@ -1,11 +1,13 @@
 //! The cases of worked examples as a text of lines.
 //!
 //! A case begins with a line `> WORDS < FILE`. Lines `out TEXT` and `err TEXT` follow, of which standard output and standard
-//! error are made; a line `more` where standard output goes on behind them; and a line `status N`, which ends the case.
+//! error are made; a line `more` where standard output goes on behind them, and `last TEXT` for its last line then; and a line
+//! `status N`, which ends the case.
 //! `> again < FILE` asks that the module of the file is printed and read again as the same module, and `> lower then WORDS < FILE`
 //! gives the words what `lower` writes of the file (`> lower --plain then WORDS < FILE` what it writes with plain frames).
 //! `> forms WORDS < FILE` asks for the same answer of `run` with these words in all forms, with plain frames and with those that
-//! share bytes, and that what `lower` writes is accepted by `check --lowered`. Empty lines and those that begin with `#` say nothing.
+//! share bytes, that what `lower` writes is accepted by `check --lowered`, and that `compare` tells this outcome and as many
+//! events. Empty lines and those that begin with `#` say nothing.
 
 use crate::again::is_read_again;
 use crate::answer::{Answer, ask};
@@ -20,6 +22,7 @@ pub struct Case {
     file: String,
     out: String,
     err: String,
+    last: String,
     goes_on: bool,
     code: u8,
 }
@@ -43,6 +46,7 @@ fn begun(alloc: Global, line: &str) -> Result<Option<Case>, AllocError> {
         file: String::from_str(alloc, file)?,
         out: String::new(alloc),
         err: String::new(alloc),
+        last: String::new(alloc),
         goes_on: false,
         code: 0,
     }))
@@ -80,6 +84,8 @@ impl Case {
             add(&mut self.out, text)?;
         } else if let Some(text) = line.strip_prefix("err ") {
             add(&mut self.err, text)?;
+        } else if let Some(text) = line.strip_prefix("last ") {
+            add(&mut self.last, text)?;
         } else if line == "more" {
             self.goes_on = true;
         } else if !line.is_empty() && !line.starts_with("#") {
@@ -91,7 +97,7 @@ impl Case {
     /// Whether these bytes are what standard output is to hold.
     fn is_out(&self, out: &[u8]) -> bool {
         if self.goes_on {
-            out.starts_with(self.out.as_bytes())
+            out.starts_with(self.out.as_bytes()) && out.ends_with(self.last.as_bytes())
         } else {
             out == self.out.as_bytes()
         }
@@ -135,13 +141,52 @@ impl Case {
         )
     }
 
+    /// The lines that `compare` begins with, where `run` is answered as it is told.
+    fn comparison(&self, alloc: Global) -> Result<String, AllocError> {
+        let mut last = String::new(alloc);
+        let mut lines = 0u64;
+        for line in self.out.as_str().lines() {
+            last = String::from_str(alloc, line)?;
+            lines = lines.saturating_add(1);
+        }
+        let events = lines.saturating_sub(1);
+        format!(in alloc; "outcome {last}\nevents {events}\nsteps source ")
+    }
+
+    /// Whether `compare` tells the same, where the case tells all events.
+    fn is_compared(&self, alloc: Global, words: &str, text: &[u8]) -> Result<bool, AllocError> {
+        let given = answered(alloc, words, text)?;
+        let begins = self.comparison(alloc)?;
+        Ok(
+            given.code == 0
+                && given.err.is_empty()
+                && (self.goes_on || given.out.starts_with(begins.as_bytes())),
+        )
+    }
+
+    /// Whether `compare` tells the same, with plain frames and with those that share bytes.
+    fn is_compared_by_both(
+        &self,
+        alloc: Global,
+        words: &str,
+        text: &[u8],
+    ) -> Result<bool, AllocError> {
+        let shared = format!(in alloc; "compare {words}")?;
+        let plain = format!(in alloc; "compare --plain {words}")?;
+        Ok(
+            self.is_compared(alloc, shared.as_str(), text)?
+                && self.is_compared(alloc, plain.as_str(), text)?,
+        )
+    }
+
     /// Whether `run` is answered as it is told in all forms.
     fn is_in_all_forms(&self, alloc: Global, words: &str, text: &[u8]) -> Result<bool, AllocError> {
         Ok(
             self.is_run(alloc, "source", words, text)?
                 && self.is_run(alloc, "framed", words, text)?
                 && self.is_run(alloc, "lowered", words, text)?
-                && self.is_text(alloc, words, text)?,
+                && self.is_text(alloc, words, text)?
+                && self.is_compared_by_both(alloc, words, text)?,
         )
     }
 

@@ -1,10 +1,11 @@
 //! Reads and writes that fail.
 //!
 //! A line of the file `faults` is `WORDS < FILE`. The words are answered to the module of the file over a source and sinks of
-//! 16 bytes a call: with each read failing in turn, which is a read fault and writes nothing to standard output, and with each
-//! write to standard output failing in turn, which leaves what was written before.
+//! 16 bytes a call: with each read failing in turn, which is a read fault and writes nothing to standard output; with each
+//! write to standard output failing in turn, which leaves what was written before, and is told; and with each write to
+//! standard error failing in turn, be it of the answer or of such a fault.
 
-use crate::answer::{Answer, ask_failing};
+use crate::answer::{Answer, Failing, NONE, ask_failing};
 use anyhow::Result;
 use std::alloc::{AllocError, Global};
 use std::fs;
@@ -15,30 +16,70 @@ fn is_read_fault(answer: &Answer) -> bool {
     answer.code == 5 && answer.out.is_empty() && answer.err.as_slice() == b"read fault\n".as_slice()
 }
 
-/// Whether a run with this write failing wrote the pieces before it and no more.
+/// How many bytes were written before a call failed.
+fn held_before(call: usize) -> usize {
+    call.saturating_sub(1).saturating_mul(PIECE)
+}
+
+/// Whether a run with this write to standard output failing wrote the pieces before it and no more, and told it.
 fn is_write_fault(answer: &Answer, whole: &Answer, call: usize) -> bool {
-    let held = call.saturating_sub(1).saturating_mul(PIECE);
-    answer.code == 6 && answer.out.len() == held && whole.out.starts_with(answer.out.as_slice())
+    answer.code == 6
+        && answer.out.len() == held_before(call)
+        && whole.out.starts_with(answer.out.as_slice())
+        && answer.err.as_slice() == b"write fault\n".as_slice()
+}
+
+/// Whether a run with this write to standard error failing wrote the pieces before it and no more.
+fn is_untold(answer: &Answer, whole: &Answer, call: usize) -> bool {
+    answer.code == 6
+        && answer.out.as_slice() == whole.out.as_slice()
+        && answer.err.len() == held_before(call)
+        && whole.err.starts_with(answer.err.as_slice())
+}
+
+/// Whether a run with the first write to each output failing wrote nothing.
+fn is_silent(answer: &Answer) -> bool {
+    answer.code == 6 && answer.out.is_empty() && answer.err.is_empty()
 }
 
 /// The first failing read that isn't told as it should be, of the calls that a whole run makes.
 fn wrong_read(alloc: Global, words: &str, text: &[u8]) -> Result<Option<usize>, AllocError> {
-    for call in 1..text.len() / PIECE + 2 {
-        if !is_read_fault(&ask_failing(alloc, words, text, call, 0)?) {
-            return Ok(Some(call));
+    for read in 1..text.len() / PIECE + 2 {
+        if !is_read_fault(&ask_failing(alloc, words, text, Failing { read, ..NONE })?) {
+            return Ok(Some(read));
         }
     }
     Ok(None)
 }
 
-/// The first failing write that isn't told as it should be.
+/// The first failing write to standard output that isn't told as it should be.
 fn wrong_write(alloc: Global, words: &str, text: &[u8]) -> Result<Option<usize>, AllocError> {
-    let whole = ask_failing(alloc, words, text, 0, 0)?;
-    for call in 1..whole.out.len().div_ceil(PIECE) + 1 {
-        let answer = ask_failing(alloc, words, text, 0, call)?;
-        if !is_write_fault(&answer, &whole, call) {
-            return Ok(Some(call));
+    let whole = ask_failing(alloc, words, text, NONE)?;
+    for out in 1..whole.out.len().div_ceil(PIECE) + 1 {
+        let told = ask_failing(alloc, words, text, Failing { out, ..NONE })?;
+        if !is_write_fault(&told, &whole, out) {
+            return Ok(Some(out));
         }
+    }
+    Ok(None)
+}
+
+/// The first failing write to standard error that leaves something else than the pieces before it.
+fn wrong_telling(alloc: Global, words: &str, text: &[u8]) -> Result<Option<usize>, AllocError> {
+    let whole = ask_failing(alloc, words, text, NONE)?;
+    for err in 1..whole.err.len().div_ceil(PIECE) + 1 {
+        let told = ask_failing(alloc, words, text, Failing { err, ..NONE })?;
+        if !is_untold(&told, &whole, err) {
+            return Ok(Some(err));
+        }
+    }
+    let both = Failing {
+        read: 0,
+        out: 1,
+        err: 1,
+    };
+    if !whole.out.is_empty() && !is_silent(&ask_failing(alloc, words, text, both)?) {
+        return Ok(Some(0));
     }
     Ok(None)
 }
@@ -54,6 +95,9 @@ pub fn run(rt: &HostRuntime, line: &str) -> Result<bool> {
     }
     if let Some(call) = wrong_write(rt.alloc(), words, &text)? {
         println!(rt; "{line}: write {call} otherwise")?;
+    }
+    if let Some(call) = wrong_telling(rt.alloc(), words, &text)? {
+        println!(rt; "{line}: write {call} to standard error otherwise")?;
     }
     Ok(true)
 }

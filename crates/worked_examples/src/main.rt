@@ -1,7 +1,7 @@
 //! Runs the worked examples: the cases of the file `cases`, each words, a module and what the program answers to them, the
 //! one-line modules of the file `refusals`, those that the file `limits` describes, the public calls of the file `calls`, and
-//! the words of the file `faults` with failing reads and writes, and the modules of the file `cuts`, cut behind each token. Writes
-//! which are answered otherwise, and how many there were.
+//! the words of the file `faults` with failing reads and writes, the modules of the file `cuts`, cut behind each token, and the
+//! lines of the file `streams`. Writes which are answered otherwise, and how many there were.
 #![tactic(auto)]
 
 mod again;
@@ -13,6 +13,7 @@ mod fault;
 mod limit;
 mod refusal;
 mod sight;
+mod stream;
 
 use crate::case::Cases;
 use anyhow::Result;
@@ -80,6 +81,18 @@ fn faults(rt: &HostRuntime) -> Result<usize> {
     Ok(count)
 }
 
+/// Runs the lines of the file `streams`, and gives how many there were.
+fn streams(rt: &HostRuntime) -> Result<usize> {
+    let text = fs::read_to_string(rt, "streams")?;
+    let mut count = 0usize;
+    for line in text.lines() {
+        if stream::run(rt, line)? {
+            count = count.saturating_add(1);
+        }
+    }
+    Ok(count)
+}
+
 /// Cuts the modules that the file `cuts` names, and gives how many there were.
 fn cuts(rt: &HostRuntime) -> Result<usize> {
     let text = fs::read_to_string(rt, "cuts")?;
@@ -99,7 +112,9 @@ fn main(rt: HostRuntime) -> Result<()> {
     let calls = calls(&rt)?;
     let faults = faults(&rt)?;
     let cuts = cuts(&rt)?;
+    let streams = streams(&rt)?;
     println!(rt; "{cases} cases, {lines} modules of a line, {limits} at or above a limit")?;
     println!(rt; "{calls} calls, {faults} with faults, {cuts} cut behind each token")?;
+    println!(rt; "{streams} with full outputs, the longest inputs, or help")?;
     Ok(())
 }
