@@ -1,6 +1,7 @@
 -- What libraries below say, for those above.
 pub use Rattle.pass_proofs.specs.flow_facts as flow_facts
 pub use Rattle.pass_proofs.specs.flow_solver as flow_solver
+pub use Rattle.frame_acceptance.specs as frame_acceptance
 pub use Rattle.pass_proofs.specs.frame_classes as frame_classes
 pub use Rattle.pass_proofs.specs.frame_conflicts as frame_conflicts
 pub use Rattle.pass_proofs.specs.frame_contents as frame_contents
@@ -53,6 +54,7 @@ pub use Rattle.pass_proofs.specs.run_step as run_step
 pub use Rattle.text_canonical.specs as text_canonical
 pub use Rattle.pass_proofs.specs.text_grammar as text_grammar
 pub use Rattle.pass_proofs.specs.text_lexer as text_lexer
+pub use Rattle.text_parser.specs as text_parser
 pub use Rattle.pass_proofs.specs.text_symbols as text_symbols
 pub mod Lowering
 pub mod NoCoroutine
