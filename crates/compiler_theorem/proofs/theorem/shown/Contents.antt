@@ -24,7 +24,7 @@ module _ (f : Function) where
   crossed_once v k _ _ _ (LeftOut _ s ss a out rest) (LeftOut _ s2 ss2 b out2 rest2) =
       crossed_once v (k + 1) ss a b rest rest2
 
-  crossing_once : (vs : List ℕ) (a b : List (ℕ × ℕ)) → CrossedBy f vs a → CrossedBy f vs b → a ≡ b
+  pub crossing_once : (vs : List ℕ) (a b : List (ℕ × ℕ)) → CrossedBy f vs a → CrossedBy f vs b → a ≡ b
   crossing_once _ _ _ Nothing Nothing = refl
   crossing_once _ _ _ (More v vs here rest is more) (More v2 vs2 here2 rest2 is2 more2) =
       λ i. crossed_once v 0 (suspends_of f) here here2 is is2 i ++ crossing_once vs rest rest2 more more2 i
@@ -40,11 +40,11 @@ module _ (f : Function) where
   class_once slot SlotClass.Frame SlotClass.Local h k = absurd (k.1 h.1)
   class_once slot SlotClass.Frame SlotClass.Frame h k = refl
 
-  abbrev Each : List ℕ → List SlotClass → Type 0
+  abbrev pub Each : List ℕ → List SlotClass → Type 0
   Each slots a = (k slot : ℕ) (class : SlotClass) → slice_get slots k ≡ Some slot → slice_get a k ≡ Some class
       → IsOf f slot class
 
-  classes_once : (slots : List ℕ) (a b : List SlotClass) → length a ≡ length slots → length b ≡ length slots
+  pub classes_once : (slots : List ℕ) (a b : List SlotClass) → length a ≡ length slots → length b ≡ length slots
       → Each slots a → Each slots b → a ≡ b
   classes_once [] [] [] p q h k = refl
   classes_once [] [] (y ∷ b) p q h k = absurd (omega (arith, q))
@@ -61,7 +61,7 @@ module _ (m : Module) (f : Function) (c d : Contents) (these : AreContents m f c
   pub same_crossing : c.crossing ≡ d.crossing
   same_crossing = crossing_once f (values_of f) c.crossing d.crossing these.crossing_are those.crossing_are
 
-  same_classes : c.classes ≡ d.classes
+  pub same_classes : c.classes ≡ d.classes
   same_classes =
       let one = these.classes_are in
       let other = those.classes_are in
