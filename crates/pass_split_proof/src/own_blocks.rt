@@ -1,8 +1,8 @@
-//! Where no call gives a frame, each frame of a framed run begins a block of an allocator. What an activation's allocas
-//! have given are blocks of others.
+//! Each frame of a framed run begins a block of an allocator, or was given by a call. What an activation's allocas have
+//! given are blocks of others.
 //!
-//! So a marker, whose operand is an alloca (K13), marks no block of an allocator (`MarksNoHeaps`). No ramp is given its
-//! frame, and an activation that was resumed has an instance.
+//! So a marker, whose operand is an alloca (K13), marks no block of an allocator (`MarksNoHeaps`). A ramp is given its
+//! frame only where a call of the module gives one (`GivesFrames`), and an activation that was resumed has an instance.
 
 ghost use Rattle.std.specs.Prelude.{◌≡◌, ℕ, false, List};
 ghost use Rattle.pass_proofs.specs.ir_base.declared.outcome.Word.{Word};

@@ -2,7 +2,7 @@
 -- suspended isn't freed.
 use Rattle.std.proofs.Common.{◌≡◌, ℕ, Bool, true, false, [], refl, sym, ap, ◌∙◌, subst}
 use Rattle.std.proofs.lemmas.Bool.{false≢true}
-use Rattle.std.specs.Prelude.{Option, Some, slice_get, unwrap_or}
+use Rattle.std.specs.Prelude.{None, Option, Some, slice_get, unwrap_or}
 use Rattle.compiler.proofs.whole.lowered_sources.Row.{is_ready}
 use Rattle.compiler.specs.cleanup.accepted.Ready.{IsReady}
 use Rattle.compiler_theorem.proofs.theorem.Built.{sources_built}
@@ -25,7 +25,7 @@ use Rattle.pass_split_proof.proofs.own_blocks.Runs.{runs_mark_none, runs_own}
 use Rattle.pass_split_proof.proofs.ready.Allocas.{allocas_alone}
 use Rattle.pass_split_proof.proofs.ready.Intrinsics.{in_coroutine}
 use Rattle.pass_split_proof.proofs.ready.Rules.{function_of_instr}
-use Rattle.pass_split_proof.specs.own_blocks.Own.{FitsMode, HasOwnBlocks, IsOwnState}
+use Rattle.pass_split_proof.specs.own_blocks.Own.{FitsMode, GivesFrames, HasOwnBlocks, IsOwnState}
 use Rattle.pass_split_proof.specs.simulation.Premises.{is_of_coroutines}
 use Rattle.compiler.specs.rule_laws.rules.function_rules.Kept.{KeepsFunctionRules}
 use Rattle.compiler.specs.rule_locals.Intrinsics.{is_inner}
@@ -72,8 +72,15 @@ module _ (l : Lowered) (low : IsLowered l) where
         (framed_rules func (function_of_instr l.framed func block at
         (Instr.Call result must_tail ty (Callee.Intrinsic x) args) here)) block at result must_tail ty x args here
         (inner_of x of);
-    ungiven = gives_no_frames l low;
   }
+
+  -- no call gives a frame
+  never_gives : GivesFrames l.framed → ⊥
+  never_gives k = none (sym k.gives ∙ gives_no_frames l low k.func k.block k.at k.result k.must_tail k.ty k.name k.args
+      k.there)
+    where
+      none : {ramp : ℕ} → Some ramp ≡ None → ⊥
+      none e = cc
 
   -- a coroutine of the framed form is one of the source
   coroutine_was : (k : ℕ) → (function_at l.framed k).coroutine ≡ true → (function_at (early l) k).coroutine ≡ true
@@ -100,9 +107,9 @@ module _ (l : Lowered) (low : IsLowered l) where
     pub framed_fit : (n : ℕ) → IsFramedFit (asking l low a r) (framed_state_at h r.entry r.args n)
     framed_fit n = record {
       instances = λ i x e. coroutine_was x.coroutine ((own n).instances i x e).coroutine;
-      ungiven = λ frame e. subst (FitsMode
+      ungiven = λ frame e. never_gives (subst (FitsMode l.framed
           (function_at l.framed (framed_state_at h r.entry r.args n).top.func).coroutine
-          (framed_state_at h r.entry r.args n).top.instance) e (own n).top.mode;
+          (framed_state_at h r.entry r.args n).top.instance) e (own n).top.mode).1;
     }
 
     pub framed_unfreed : (n i : ℕ) (x : Instance)

@@ -27,12 +27,12 @@ use Rattle.pass_proofs.specs.run_step.declared.world.Slot.{Slot}
 
 -- ---- all slots are the ramp's
 
-all_kept : (test : Slot → Bool) (xs : List Slot) → Each (λ (x : Slot). test x ≡ true) xs → filter test xs ≡ xs
+pub all_kept : (test : Slot → Bool) (xs : List Slot) → Each (λ (x : Slot). test x ≡ true) xs → filter test xs ≡ xs
 all_kept test [] e = refl
 all_kept test (x ∷ xs) e = ap (λ (b : Bool). cond b (x ∷ filter test xs) (filter test xs)) e.0
     ∙ ap (λ (ys : List Slot). x ∷ ys) (all_kept test xs e.1)
 
-none_kept : (test : Slot → Bool) (xs : List Slot) → Each (λ (x : Slot). test x ≡ true) xs
+pub none_kept : (test : Slot → Bool) (xs : List Slot) → Each (λ (x : Slot). test x ≡ true) xs
     → filter (λ x. not (test x)) xs ≡ []
 none_kept test [] e = refl
 none_kept test (x ∷ xs) e = ap (λ (b : Bool). cond (not b) (x ∷ filter (λ y. not (test y)) xs)

@@ -130,8 +130,8 @@ held_block m x = on (slice_get m x.block) refl
   where
     on : (o : Option MemoryBlock) → slice_get m x.block ≡ o → is_held_in o x ≡ true
         → (y : MemoryBlock) × (slice_get m x.block ≡ Some y)
-    on None e held = absurd (false≢true (and_parts (not (is_given_in None && is_finished x.status)) (lives_in None)
-        (and_parts (not x.freed) (not (is_given_in None && is_finished x.status) && lives_in None) held).1).1)
+    on None e held = absurd (false≢true (and_parts (not (is_given_in None x && is_finished x.status)) (lives_in None)
+        (and_parts (not x.freed) (not (is_given_in None x && is_finished x.status) && lives_in None) held).1).1)
     on (Some y) e held = (y, e)
 
 -- the index lies at a small offset

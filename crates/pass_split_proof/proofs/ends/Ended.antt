@@ -44,11 +44,11 @@ use Rattle.pass_proofs.specs.run_source.declared.state.State.{State}
 use Rattle.pass_proofs.specs.run_step.Step.{AtInstr, Coro, Done, fetch, set_value}
 use Rattle.pass_proofs.specs.run_step.Values.{truth_value, with_value}
 
-abbrev at_end : Option ℕ → Bool → Option Ty → List Arg → Instr
+abbrev pub at_end : Option ℕ → Bool → Option Ty → List Arg → Instr
 at_end result must_tail ty args = Instr.Call result must_tail ty (Callee.Intrinsic Intrinsic.CoroEnd) args
 
 -- in a part that doesn't go on the end stays
-cut_stays : (s : Shape) (part : Part) (result : Option ℕ) (must_tail : Bool) (ty : Option Ty) (args : List Arg)
+pub cut_stays : (s : Shape) (part : Part) (result : Option ℕ) (must_tail : Bool) (ty : Option Ty) (args : List Arg)
     (after : List Instr) → goes_on part ≡ false → cut_at s part (at_end result must_tail ty args) after ≡ Cut.Stays
 cut_stays s part result must_tail ty args after e = ap (λ (b : Bool). if b then Cut.Returns else Cut.Stays) e
 

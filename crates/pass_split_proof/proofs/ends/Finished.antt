@@ -31,19 +31,19 @@ pub record HasEnded (g : FramedGiven) (h : PlainGiven) (s : State) (t : PlainSta
   pub frames : AreFrames g instances s.world.memory t.world.memory
   pub keeps : KeepsFrames s.instances instances
 
-abbrev finished : Instance → Instance
+abbrev pub finished : Instance → Instance
 finished x = record x { status = Status.Finished }
 
 -- what is done with the instance
-abbrev finishing : State → Option (ℕ × Instance) → State
+abbrev pub finishing : State → Option (ℕ × Instance) → State
 finishing s o = disown_given (with_memory (change_own s finished o) (without_slots s.world.memory (slots_of o))) o
 
-held_too : (o : Option MemoryBlock) (x : Instance) → is_held_in o (finished x) ≡ true → is_held_in o x ≡ true
+pub held_too : (o : Option MemoryBlock) (x : Instance) → is_held_in o (finished x) ≡ true → is_held_in o x ≡ true
 held_too o x held =
-    let a = and_parts (not x.freed) (not (is_given_in o && true) && lives_in o) held in
-    let b = and_parts (not (is_given_in o && true)) (lives_in o) a.1 in
-    and_from (not x.freed) (not (is_given_in o && is_finished x.status) && lives_in o) a.0
-    (and_from (not (is_given_in o && is_finished x.status)) (lives_in o) (on (is_given_in o) b.0) b.1)
+    let a = and_parts (not x.freed) (not (is_given_in o x && true) && lives_in o) held in
+    let b = and_parts (not (is_given_in o x && true)) (lives_in o) a.1 in
+    and_from (not x.freed) (not (is_given_in o x && is_finished x.status) && lives_in o) a.0
+    (and_from (not (is_given_in o x && is_finished x.status)) (lives_in o) (on (is_given_in o x) b.0) b.1)
   where
     on : (t : Bool) → not (t && true) ≡ true → not (t && is_finished x.status) ≡ true
     on true e = absurd (false≢true e)

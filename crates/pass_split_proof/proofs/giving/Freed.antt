@@ -54,11 +54,11 @@ freed_is s Part.Destroy e = refl
 freed_is s Part.Cleanup e = absurd (cc)
 freed_is s Part.GivenRamp e = absurd (cc)
 
-abbrev released : Instance → Instance
+abbrev pub released : Instance → Instance
 released x = record x { released = true }
 
 -- a released instance has its frame where it had it
-saved_too : (g : FramedGiven) (n : List MemoryBlock) (x : Instance) → IsHeaded g n x → IsHeaded g n (released x)
+pub saved_too : (g : FramedGiven) (n : List MemoryBlock) (x : Instance) → IsHeaded g n x → IsHeaded g n (released x)
 saved_too g n x k = record {
   destroyer = k.destroyer;
   is = k.is;

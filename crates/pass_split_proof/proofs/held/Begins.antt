@@ -120,6 +120,7 @@ owned_by m _ n kind k h = absurd (cc)
 keeps_owned : (m : List MemoryBlock) (b n : ℕ) → Keeps m (with_block m b (owned_to n))
 keeps_owned m b n = keeps_changed m b (owned_to n) (λ u e. record {
   heap = refl;
+  stack = refl;
   kept = λ h c. and_from (is_live u.life) true (and_parts (is_live u.life) (is_some u.owned) c).0 refl;
   gone = λ h c. c;
 })
@@ -212,7 +213,7 @@ module _ (g : FramedGiven) (xs : List Instance) (b k size : ℕ) where
       let f = found_there xs test q.0 q.1 e in
       behind q.1 (last-passes test xs (Some q.0) (sym f.0) q.1 f.1) z
 
-  around_behind : has_room g k size (frame_around g xs b k) ≡ true → k ≡ 0 → ⊥
+  pub around_behind : has_room g k size (frame_around g xs b k) ≡ true → k ≡ 0 → ⊥
   around_behind = around_by (frame_around g xs b k) refl
 
 module _ (g : FramedGiven) (s : State) (kept : IsKeptState s) where

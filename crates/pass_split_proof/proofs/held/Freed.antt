@@ -59,6 +59,7 @@ killed_ok m b o k h = on ((o.bits == 0) && is_unkilled Kind.Allocator (slice_get
 keeps_killed : (m : List MemoryBlock) (b : ℕ) → is_owned (slice_get m b) ≡ false → Keeps m (killed m b)
 keeps_killed m b unowned = keeps_changed m b killed_block (λ u e. record {
   heap = refl;
+  stack = refl;
   kept = λ h c. absurd (false≢true (sym unowned ∙ ap is_owned e
       ∙ (and_parts (is_live u.life) (is_some u.owned) c).1));
   gone = λ h c. refl;

@@ -3,7 +3,7 @@ use Rattle.std.proofs.Common.{◌≡◌, ℕ, zero, suc, ◌<◌, ◌≤◌, Boo
 use Rattle.std.specs.Prelude.{slice_get, is_some}
 use Rattle.std.proofs.lemmas.Bool.{cases_eq, false≢true}
 use Rattle.pass_split_proof.proofs.states.Written.{length-changed}
-use Rattle.pass_split_proof.specs.held.Kept.{IsNoHeap, is_heap_in, is_kept_in, is_killed_in}
+use Rattle.pass_split_proof.specs.held.Kept.{IsNoHeap, is_heap_in, is_kept_in, is_killed_in, is_stack_in}
 use Rattle.pass_proofs.proofs.run_laws.memory.Written.{changed_elsewhere, changed_here}
 use Rattle.pass_proofs.specs.run_laws.changed.Changed.{Each}
 use Rattle.pass_proofs.specs.run_laws.embedded.Refilled.{AreRefilled, IsRefilled}
@@ -18,17 +18,18 @@ use Rattle.pass_proofs.specs.run_step.declared.world.Slot.{Slot}
 -- what holds of a block later
 pub record IsKeptOn (o p : Option MemoryBlock) : Type 0 where
   pub heap : is_heap_in p ≡ is_heap_in o
+  pub stack : is_stack_in p ≡ is_stack_in o
   pub kept : is_heap_in o ≡ true → is_kept_in o ≡ true → is_kept_in p ≡ true
   pub gone : is_heap_in o ≡ true → is_killed_in o ≡ true → is_killed_in p ≡ true
 
--- there are no fewer blocks, and those there were are of allocators as before; one that lived and was owned does so
--- still
+-- there are no fewer blocks, and those there were are of allocators or of the stack as before; one that lived and was
+-- owned does so still
 pub record Keeps (m k : List MemoryBlock) : Type 0 where
   pub longer : length m ≤ length k
   pub each : (b : ℕ) → b < length m → IsKeptOn (slice_get m b) (slice_get k b)
 
 pub same_on : (o : Option MemoryBlock) → IsKeptOn o o
-same_on o = record { heap = refl; kept = λ h k. k; gone = λ h k. k }
+same_on o = record { heap = refl; stack = refl; kept = λ h k. k; gone = λ h k. k }
 
 pub keeps_same : (m : List MemoryBlock) → Keeps m m
 keeps_same m = record { longer = omega arith; each = λ b lt. same_on (slice_get m b) }
@@ -38,6 +39,7 @@ keeps_then m k l x y = record {
   longer = chain (length m) (length k) (length l) x.longer y.longer;
   each = λ b lt. let p = x.each b lt in let q = y.each b (before b (length m) (length k) lt x.longer) in record {
     heap = q.heap ∙ p.heap;
+    stack = q.stack ∙ p.stack;
     kept = λ h c. q.kept (p.heap ∙ h) (p.kept h c);
     gone = λ h c. q.gone (p.heap ∙ h) (p.gone h c);
   };
@@ -66,6 +68,7 @@ keeps_refilled m k long r = record {
     on (Some x) None h = absurd h
     on (Some x) (Some y) h = record {
       heap = ap (λ (z : MemoryBlock). same_kind z.kind Kind.Allocator) h;
+      stack = ap (λ (z : MemoryBlock). same_kind z.kind Kind.Stack) h;
       kept = λ heap c. ap (λ (z : MemoryBlock). is_live z.life && is_some z.owned) h ∙ c;
       gone = λ heap c. ap (λ (z : MemoryBlock). is_killed z.life) h ∙ c;
     }
@@ -130,6 +133,7 @@ pub keeps_no_heap : (m : List MemoryBlock) (c : ℕ) (f : MemoryBlock → Memory
     → ((u : MemoryBlock) → (f u).kind ≡ u.kind) → Keeps m (with_block m c f)
 keeps_no_heap m c f none kind = keeps_changed m c f (λ u e. record {
   heap = ap (λ (k : Kind). same_kind k Kind.Allocator) (kind u);
+  stack = ap (λ (k : Kind). same_kind k Kind.Stack) (kind u);
   kept = λ h k. absurd (false≢true (sym none ∙ ap is_heap_in e ∙ h));
   gone = λ h k. absurd (false≢true (sym none ∙ ap is_heap_in e ∙ h));
 })

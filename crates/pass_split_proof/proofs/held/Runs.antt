@@ -50,9 +50,9 @@ lives_where_kept (Some u) h = (and_parts (is_live u.life) (is_some u.owned) h).0
 
 held_by : (o : Option MemoryBlock) (x : Instance) → x.freed ≡ false → is_finished x.status ≡ false → lives_in o ≡ true
     → is_held_in o x ≡ true
-held_by o x unfreed runs lives = and_from (not x.freed) (not (is_given_in o && is_finished x.status) && lives_in o)
-    (ap not unfreed) (and_from (not (is_given_in o && is_finished x.status)) (lives_in o)
-    (ap not (and_right (is_given_in o) (is_finished x.status) runs)) lives)
+held_by o x unfreed runs lives = and_from (not x.freed) (not (is_given_in o x && is_finished x.status) && lives_in o)
+    (ap not unfreed) (and_from (not (is_given_in o x && is_finished x.status)) (lives_in o)
+    (ap not (and_right (is_given_in o x) (is_finished x.status) runs)) lives)
 
 sleeps_on : (status : Status) → is_suspended status ≡ true → is_finished status ≡ false
 sleeps_on Status.Running e = refl

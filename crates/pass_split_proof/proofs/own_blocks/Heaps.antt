@@ -1,6 +1,7 @@
 -- Memories in which blocks are of allocators as they were before, and what holds in them still.
-use Rattle.std.proofs.Common.{◌≡◌, ℕ, zero, suc, ◌<◌, ◌≤◌, ⊎_elim, List, [], ◌∷◌, length, Option, Some, None, Ok, refl, sym, ap, ◌∙◌, subst, arith}
+use Rattle.std.proofs.Common.{◌≡◌, ℕ, zero, suc, ◌<◌, ◌≤◌, inl, inr, ⊎_elim, Bool, false, not, ◌||◌, ◌==◌, List, [], ◌∷◌, length, Option, Some, None, Ok, refl, sym, ap, ◌∙◌, subst, arith}
 use Rattle.std.specs.Prelude.{slice_get}
+use Rattle.std.specs.Option.{option_map_or}
 use Rattle.std.proofs.lemmas.Bool.{cases_eq}
 use Rattle.pass_proofs.specs.ir_model.declared.module.Function.{Function}
 use Rattle.pass_proofs.specs.ir_model.declared.module.Module.{Module}
@@ -8,7 +9,7 @@ use Rattle.pass_split_proof.proofs.held.Freed.{killed_ok}
 use Rattle.pass_split_proof.proofs.held.Memory.{Keeps}
 use Rattle.pass_split_proof.proofs.held.Moves.{ok_same}
 use Rattle.pass_split_proof.proofs.states.Written.{length-changed}
-use Rattle.pass_split_proof.specs.held.Kept.{IsNoHeap, is_heap_in}
+use Rattle.pass_split_proof.specs.held.Kept.{IsNoHeap, is_heap_in, is_stack_in}
 use Rattle.pass_split_proof.specs.own_blocks.Own.{AreMade, AreOwn, AreOwnBelow, IsMade, IsOwnActivation}
 use Rattle.pass_proofs.proofs.run_laws.memory.Written.{changed_elsewhere, changed_here}
 use Rattle.pass_proofs.specs.run_memory.Memory.{killed, killed_block, same_kind, with_block}
@@ -22,18 +23,20 @@ use Rattle.pass_proofs.specs.run_step.Step.{deallocated, without_slots}
 use Rattle.pass_proofs.specs.run_step.Values.{Env}
 use Rattle.pass_proofs.specs.run_step.declared.world.Slot.{Slot}
 
--- there are no fewer blocks, and those that there were are of allocators as before
+-- there are no fewer blocks, and those that there were are of allocators, or of the stack, as before
 pub record SameHeaps (m k : List MemoryBlock) : Type 0 where
   pub longer : length m ≤ length k
   pub each : (b : ℕ) → b < length m → is_heap_in (slice_get k b) ≡ is_heap_in (slice_get m b)
+  pub stacks : (b : ℕ) → b < length m → is_stack_in (slice_get k b) ≡ is_stack_in (slice_get m b)
 
 pub same_heaps : (m : List MemoryBlock) → SameHeaps m m
-same_heaps m = record { longer = omega arith; each = λ b lt. refl }
+same_heaps m = record { longer = omega arith; each = λ b lt. refl; stacks = λ b lt. refl }
 
 pub heaps_then : (m k l : List MemoryBlock) → SameHeaps m k → SameHeaps k l → SameHeaps m l
 heaps_then m k l x y = record {
   longer = chain (length m) (length k) (length l) x.longer y.longer;
   each = λ b lt. y.each b (before b (length m) (length k) lt x.longer) ∙ x.each b lt;
+  stacks = λ b lt. y.stacks b (before b (length m) (length k) lt x.longer) ∙ x.stacks b lt;
 }
   where
     chain : (a b c : ℕ) → a ≤ b → b ≤ c → a ≤ c
@@ -43,17 +46,19 @@ heaps_then m k l x y = record {
     before b a c lt le = omega arith
 
 pub kept_heaps : (m k : List MemoryBlock) → Keeps m k → SameHeaps m k
-kept_heaps m k x = record { longer = x.longer; each = λ b lt. (x.each b lt).heap }
+kept_heaps m k x = record { longer = x.longer; each = λ b lt. (x.each b lt).heap; stacks = λ b lt. (x.each b lt).stack }
+
+-- there is a block whose kind passes a test
+abbrev has : (Kind → Bool) → Option MemoryBlock → Bool
+has test o = option_map_or (λ (y : MemoryBlock). test y.kind) o false
 
 -- one block is another of its kind
 pub changed_heaps : (m : List MemoryBlock) (c : ℕ) (f : MemoryBlock → MemoryBlock)
     → ((u : MemoryBlock) → (f u).kind ≡ u.kind) → SameHeaps m (with_block m c f)
 changed_heaps m c f kind = record {
   longer = same_long (length m) (length (with_block m c f)) (length-changed m c f);
-  each = λ b lt. ⊎_elim
-      (λ e. subst (λ (a : ℕ). is_heap_in (slice_get (with_block m c f) a) ≡ is_heap_in (slice_get m a)) (sym e) here)
-      (λ ne. ap is_heap_in (changed_elsewhere m c b f ne))
-      (cases_eq b c);
+  each = λ b lt. tested (λ k. same_kind k Kind.Allocator) b;
+  stacks = λ b lt. tested (λ k. same_kind k Kind.Stack) b;
 }
   where
     same_long : (a b : ℕ) → b ≡ a → a ≤ b
@@ -64,14 +69,17 @@ changed_heaps m c f kind = record {
     nothing (x ∷ m) zero e = absurd (cc)
     nothing (x ∷ m) (suc c) e = nothing m c e
 
-    at : (o : Option MemoryBlock) → slice_get m c ≡ o
-        → is_heap_in (slice_get (with_block m c f) c) ≡ is_heap_in (slice_get m c)
-    at None e = ap is_heap_in (nothing m c e) ∙ sym (ap is_heap_in e)
-    at (Some u) e = ap is_heap_in (changed_here m c f u e) ∙ ap (λ (k : Kind). same_kind k Kind.Allocator) (kind u)
-        ∙ sym (ap is_heap_in e)
+    at : (test : Kind → Bool) (o : Option MemoryBlock) → slice_get m c ≡ o
+        → has test (slice_get (with_block m c f) c) ≡ has test (slice_get m c)
+    at test None e = ap (has test) (nothing m c e) ∙ sym (ap (has test) e)
+    at test (Some u) e = ap (has test) (changed_here m c f u e) ∙ ap test (kind u) ∙ sym (ap (has test) e)
 
-    here : is_heap_in (slice_get (with_block m c f) c) ≡ is_heap_in (slice_get m c)
-    here = at (slice_get m c) refl
+    tested : (test : Kind → Bool) (b : ℕ) → has test (slice_get (with_block m c f) b) ≡ has test (slice_get m b)
+    tested test b = ⊎_elim
+        (λ e. subst (λ (a : ℕ). has test (slice_get (with_block m c f) a) ≡ has test (slice_get m a)) (sym e)
+        (at test (slice_get m c) refl))
+        (λ ne. ap (has test) (changed_elsewhere m c b f ne))
+        (cases_eq b c)
 
 pub dead_heaps : (m : List MemoryBlock) (slots : List Slot) → SameHeaps m (without_slots m slots)
 dead_heaps m [] = same_heaps m
@@ -127,9 +135,9 @@ below_later c m k result (a ∷ below) same x =
 pub own_later : (c : Module) (m k : List MemoryBlock) (xs : List Instance) → SameHeaps m k → AreOwn c m xs
     → AreOwn c k xs
 own_later c m k xs same x = λ i y e. let z = x i y e in record {
-  start = z.start;
   known = below y.block (length m) (length k) z.known same.longer;
-  heap = same.each y.block z.known ∙ z.heap;
+  begins = ⊎_elim (λ p. inl (p.0, same.each y.block z.known ∙ p.1))
+      (λ p. inr (p.0, ap (λ (b : Bool). b || not (y.start == 0)) (same.stacks y.block z.known) ∙ p.1)) z.begins;
   coroutine = z.coroutine;
 }
   where

@@ -1,4 +1,4 @@
--- In each state of a framed run in which no call gives a frame, frames begin blocks of allocators.
+-- In each state of a framed run frames begin blocks of allocators, or were given.
 use Rattle.std.proofs.Common.{◌≡◌, ℕ, zero, suc, ◌+◌, ◌<◌, false, List, map, refl, sym, ap, ◌∙◌, subst, arith}
 use Rattle.pass_proofs.specs.ir_base.declared.outcome.Word.{Word}
 use Rattle.pass_proofs.specs.ir_model.Names.{function_at}

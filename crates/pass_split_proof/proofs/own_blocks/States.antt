@@ -11,8 +11,7 @@ use Rattle.pass_proofs.specs.ir_paths.declared.point.Point.{Point}
 use Rattle.pass_split_proof.proofs.own_blocks.Heaps.{SameHeaps, activation_later, below_later, dead_heaps, made_later, own_later, same_heaps}
 use Rattle.pass_split_proof.proofs.own_blocks.Made.{all_made, entered_length, entered_other, last_alloca, next_alloca, next_made, result_elsewhere, same_made}
 use Rattle.pass_split_proof.proofs.steps.Branches.{left_by, own_there}
-use Rattle.pass_split_proof.specs.held.Kept.{is_heap_in}
-use Rattle.pass_split_proof.specs.own_blocks.Own.{AreOwn, AreOwnBelow, FitsMode, HasOwnBlocks, IsMade, IsOwnActivation, IsOwnInstance, IsOwnState, SetsNoAlloca}
+use Rattle.pass_split_proof.specs.own_blocks.Own.{AreOwn, AreOwnBelow, BeginsWell, FitsMode, GivesFrames, HasOwnBlocks, IsMade, IsOwnActivation, IsOwnInstance, IsOwnState, SetsNoAlloca}
 use Rattle.pass_split_proof.specs.simulation.Premises.{AreAllocasAlone, IsEntryAlloca}
 use Rattle.pass_split_proof.specs.steps.Branches.{Entered, Left, Stayed, WasLeft}
 use Rattle.pass_proofs.specs.run_framed.Framed.{FramedGiven, alloca_from, continue_framed, enter_after, reentry_values}
@@ -63,9 +62,8 @@ module _ (c : Module) where
   same_instance : (m : List MemoryBlock) (x now : Instance) → now.block ≡ x.block → now.start ≡ x.start
       → now.coroutine ≡ x.coroutine → IsOwnInstance c m x → IsOwnInstance c m now
   same_instance m x now block start coroutine o = record {
-    start = start ∙ o.start;
     known = subst (λ (b : ℕ). b < length m) (sym block) o.known;
-    heap = subst (λ (b : ℕ). is_heap_in (slice_get m b) ≡ true) (sym block) o.heap;
+    begins = subst (λ (p : ℕ × ℕ). BeginsWell c m p.0 p.1) (λ i. (sym block i, sym start i)) o.begins;
     coroutine = ap (λ (f : ℕ). (function_at c f).coroutine) coroutine ∙ o.coroutine;
   }
 
@@ -168,9 +166,22 @@ module _ (g : FramedGiven) (asks : HasOwnBlocks g.given.code) where
         none k lt = omega arith
 
         on : (t : Bool) → (function_at c func).coroutine ≡ t
-            → FitsMode (function_at c func).coroutine None (if t then Mode.Ramp else Mode.Plain)
+            → FitsMode c (function_at c func).coroutine None (if t then Mode.Ramp else Mode.Plain)
         on true e = e
         on false e = e
+
+    -- a ramp that is given its frame
+    pub given_own : (func : ℕ) (args : List Value) (result : Option ℕ) (frame : Value)
+        → (function_at c func).coroutine ≡ true → GivesFrames c
+        → IsOwnActivation c s.world.memory (called c func args result (Mode.GivenRamp frame))
+    given_own func args result frame coroutine gives = record {
+      mode = (coroutine, gives);
+      whole = entry_length (function_at c func) args;
+      made = λ k name a lt. absurd (none k (lt refl));
+    }
+      where
+        none : (k : ℕ) → k < 0 → ⊥
+        none k lt = omega arith
 
     -- ---- edges
 

@@ -1,17 +1,18 @@
--- Each step of a framed run in which no call gives a frame leaves frames at the start of allocators' blocks.
-use Rattle.std.proofs.Common.{◌≡◌, ℕ, ◌+◌, ◌<◌, ◌≤◌, ⊎_elim, Bool, true, false, List, ◌∷◌, length, Option, Some, None, Result, Ok, Err, refl, sym, ap, ◌∙◌, subst, arith, if◌then◌else◌}
+-- Each step of a framed run leaves frames where they are: at the start of allocators' blocks, or where calls gave room.
+use Rattle.std.proofs.Common.{◌≡◌, ℕ, ◌+◌, ◌<◌, ◌≤◌, ⊎_elim, Bool, true, false, List, ◌∷◌, length, Option, Some, None, Result, Ok, Err, refl, sym, ap, ◌∙◌, subst, arith, if◌then◌else◌, ◌&&◌}
 use Rattle.std.specs.Prelude.{slice_get, unwrap_or}
-use Rattle.std.proofs.lemmas.Bool.{cases_eq, cases_lt, false≢true}
+use Rattle.std.proofs.lemmas.Bool.{and_parts, cases_eq, cases_lt, false≢true}
 use Rattle.pass_proofs.specs.ir_base.declared.cause.Cause.{Cause}
+use Rattle.pass_proofs.specs.ir_base.declared.name.Name.{Name}
 use Rattle.pass_proofs.specs.ir_base.declared.outcome.Outcome.{Outcome}
+use Rattle.pass_proofs.proofs.ir_laws.facts.same_names.Lists.{IsFound, what_is_found}
 use Rattle.pass_proofs.specs.ir_model.Layout.{size_of}
-use Rattle.pass_proofs.specs.ir_model.Names.{function_at}
+use Rattle.pass_proofs.specs.ir_model.Names.{function_at, no_function, noalloc_of, same_name}
 use Rattle.pass_proofs.specs.ir_model.Ty.{Ty, int}
 use Rattle.pass_proofs.specs.ir_model.declared.instr.Instr.{Instr}
 use Rattle.pass_proofs.specs.ir_model.declared.instr.Terminator.{Terminator}
 use Rattle.pass_proofs.specs.ir_model.declared.module.Function.{Function}
 use Rattle.pass_proofs.specs.ir_model.declared.module.Module.{Module}
-use Rattle.pass_proofs.specs.ir_model.declared.operand.Allocator.{Allocator}
 use Rattle.pass_proofs.specs.ir_model.declared.operand.Arg.{Arg}
 use Rattle.pass_proofs.specs.ir_model.declared.operand.Callee.{Callee}
 use Rattle.pass_proofs.specs.ir_model.declared.operand.Intrinsic.{Intrinsic}
@@ -21,15 +22,16 @@ use Rattle.pass_split_proof.proofs.held.Acts.{ActsKept, acts}
 use Rattle.pass_split_proof.proofs.own_blocks.Coros.{coro_own, frees_own}
 use Rattle.pass_split_proof.proofs.own_blocks.Heaps.{kept_heaps, made_later, own_later, below_later}
 use Rattle.pass_split_proof.proofs.own_blocks.Made.{sets_none, same_made}
-use Rattle.pass_split_proof.proofs.own_blocks.States.{StaysOwn, called_own, edge_own, enters_own, pushed_own, return_own, settled_own, slots_own}
+use Rattle.pass_split_proof.proofs.own_blocks.Results.{given_result}
+use Rattle.pass_split_proof.proofs.own_blocks.States.{StaysOwn, called_own, edge_own, enters_own, given_own, pushed_own, return_own, settled_own, slots_own}
 use Rattle.pass_split_proof.proofs.steps.Saves.{set_there}
 use Rattle.pass_split_proof.specs.held.Kept.{IsNoHeap, MarksNoHeap, is_heap_in}
-use Rattle.pass_split_proof.specs.own_blocks.Own.{FitsMode, HasOwnBlocks, IsMade, IsOwnState, SetsNoAlloca}
+use Rattle.pass_split_proof.specs.own_blocks.Own.{FitsMode, GivesFrames, HasOwnBlocks, IsMade, IsOwnState, SetsNoAlloca}
 use Rattle.pass_split_proof.specs.simulation.Premises.{AreAllocasAlone, IsEntryAlloca, MarksAlloca, is_of_coroutines}
 use Rattle.run_types.proofs.pass_renewed_proof.Sets.{step_sets}
 use Rattle.run_types.specs.pass_renewed_proof.Steps.{SetsOnly}
-use Rattle.pass_proofs.specs.pass_kept_proof.Needed.{given_by, given_by_allocator, given_by_call, given_by_intrinsic}
-use Rattle.pass_proofs.specs.run_framed.Framed.{FramedGiven, enter_given, framed_act, framed_advance, framed_context, framed_next, framed_slot, framed_step, given_call}
+use Rattle.pass_proofs.specs.pass_kept_proof.Needed.{given_by}
+use Rattle.pass_proofs.specs.run_framed.Framed.{FramedGiven, enter_given, framed_act, framed_advance, framed_context, framed_next, framed_slot, framed_step, given_call, given_ramp, last_value}
 use Rattle.run_types.proofs.run_hooks.alive.Acts.{never_returns, slots_by}
 use Rattle.pass_proofs.proofs.run_laws.transfer.Sets.{set_elsewhere, set_length}
 use Rattle.pass_proofs.specs.run_laws.changed.Changed.{result_of}
@@ -48,47 +50,6 @@ use Rattle.pass_proofs.specs.run_step.Effects.{is_alloca}
 use Rattle.pass_proofs.specs.run_step.Step.{Action, AtInstr, AtTerm, Context, Coro, Deallocate, Done, Enter, Fetched, GoTo, NewSlot, Nowhere, Return, Stuck, Work, action_of, alloca, block_of, branch, done, fetch, instr_action, is_alignment, is_lifetime, set_memory, switch, term_action, value_at, with_length}
 use Rattle.pass_proofs.specs.run_step.Values.{Env, address, arg_value, arg_values, nth, pointer_to, with_value}
 use Rattle.pass_proofs.specs.run_step.declared.world.Slot.{Slot}
-
--- what gives a name has it as its result
-given_intrinsic : (i : Intrinsic) (result : Option ℕ) (name : ℕ) → given_by_intrinsic i result ≡ Some name
-    → result ≡ Some name
-given_intrinsic Intrinsic.CoroSizeI32 result name e = e
-given_intrinsic Intrinsic.CoroSizeI64 result name e = e
-given_intrinsic Intrinsic.CoroAlignI32 result name e = e
-given_intrinsic Intrinsic.CoroAlignI64 result name e = e
-given_intrinsic Intrinsic.CoroAlloc result name e = e
-given_intrinsic Intrinsic.CoroBegin result name e = e
-given_intrinsic Intrinsic.CoroFree result name e = e
-given_intrinsic Intrinsic.CoroFrame result name e = e
-given_intrinsic Intrinsic.CoroSuspend result name e = e
-given_intrinsic Intrinsic.CoroEnd result name e = e
-given_intrinsic Intrinsic.CoroDone result name e = e
-given_intrinsic Intrinsic.CoroPromise result name e = e
-given_intrinsic _ result name e = absurd (cc)
-
-given_allocator : (a : Allocator) (result : Option ℕ) (name : ℕ) → given_by_allocator a result ≡ Some name
-    → result ≡ Some name
-given_allocator Allocator.Malloc result name e = e
-given_allocator Allocator.Znwm result name e = e
-given_allocator _ result name e = absurd (cc)
-
-given_called : (callee : Callee) (ty : Option Ty) (result : Option ℕ) (name : ℕ)
-    → given_by_call callee ty result ≡ Some name → result ≡ Some name
-given_called (Callee.Named n) ty result name e = e
-given_called (Callee.Allocator a) ty result name e = given_allocator a result name e
-given_called (Callee.Intrinsic i) ty result name e = given_intrinsic i result name e
-given_called (Callee.Local v) ty result name e = e
-
-given_result : (i : Instr) (name : ℕ) → given_by i ≡ Some name → result_of i ≡ Some name
-given_result (Instr.Binary r op flags ty a b) name e = e
-given_result (Instr.Icmp r pred ty a b) name e = e
-given_result (Instr.Select r x a b) name e = e
-given_result (Instr.Cast r op nneg arg to) name e = e
-given_result (Instr.Alloca r ty align) name e = e
-given_result (Instr.Load r ty p align) name e = e
-given_result (Instr.Store arg p align) name e = absurd (cc)
-given_result (Instr.Gep r inbounds ty base indices) name e = e
-given_result (Instr.Call r must_tail ty callee args) name e = given_called callee ty r name e
 
 -- a marker's operand is the address of a block that is no allocator's
 pub record IsMarked (m : List MemoryBlock) (v : Value) : Type 0 where
@@ -291,7 +252,7 @@ module _ (g : FramedGiven) (asks : HasOwnBlocks g.given.code) (s : State) (o : I
 
       slot_own : (mode : Mode) → s.top.mode ≡ mode → IsOwnState c (framed_slot g (settled s v) slot mode)
       slot_own (Mode.Entering from label) e =
-          let fits = subst (FitsMode f.coroutine s.top.instance) e o.top.mode in
+          let fits = subst (FitsMode c f.coroutine s.top.instance) e o.top.mode in
           enters_own g asks (with_slots (settled s v) (slot ∷ s.top.slots)) from label (s.top.at + 1)
           next_own.instances next_own.below whole_now fits.0 fits.1 made_now
       slot_own _ e = slots_own c (settled s v) (slot ∷ s.top.slots) next_own
@@ -357,18 +318,71 @@ module _ (g : FramedGiven) (asks : HasOwnBlocks g.given.code) (s : State) (o : I
   acts_own (AtInstr i) e = instr_own i e
   acts_own (AtTerm t) e = term_own t e
 
-  -- no call gives a frame
-  pub ungiven : (here : Fetched) → IsHere here → given_call g s here ≡ None
-  ungiven Nowhere e = refl
-  ungiven (AtTerm t) e = refl
-  ungiven (AtInstr (Instr.Call result must_tail ty (Callee.Named n) args)) e =
-      ap (enter_given g s result (arg_values c s.top.values args))
-      (asks.ungiven s.top.func s.top.block s.top.at result must_tail ty n args e)
-  ungiven (AtInstr i) e = refl
+  -- where no call gives a frame this one doesn't
+  pub ungiven : (GivesFrames c → ⊥) → (here : Fetched) → IsHere here → given_call g s here ≡ None
+  ungiven never Nowhere e = refl
+  ungiven never (AtTerm t) e = refl
+  ungiven never (AtInstr (Instr.Call result must_tail ty (Callee.Named n) args)) e = on (given_ramp c n) refl
+    where
+      on : (q : Option ℕ) → given_ramp c n ≡ q → given_call g s (AtInstr (Instr.Call result must_tail ty
+          (Callee.Named n) args)) ≡ None
+      on None h = ap (enter_given g s result (arg_values c s.top.values args)) h
+      on (Some ramp) h = absurd (never (record {
+        func = s.top.func;
+        block = s.top.block;
+        at = s.top.at;
+        result = result;
+        must_tail = must_tail;
+        ty = ty;
+        name = n;
+        args = args;
+        there = e;
+        ramp = ramp;
+        gives = h;
+      }))
+  ungiven never (AtInstr i) e = refl
+
+  -- a call that gives a frame enters a ramp
+  module _ (result : Option ℕ) (must_tail : Bool) (ty : Option Ty) (n : Name) (args : List Arg)
+      (here : IsHere (AtInstr (Instr.Call result must_tail ty (Callee.Named n) args))) where
+    abbrev call : Instr
+    call = Instr.Call result must_tail ty (Callee.Named n) args
+
+    given_by_name : (q : Option ℕ) → given_ramp c n ≡ q → StaysOwn c (unwrap_or
+        (enter_given g s result (arg_values c s.top.values args) q) (framed_act g s (action_of x w (AtInstr call))))
+    given_by_name None e = acts_own (AtInstr call) here
+    given_by_name (Some ramp) e = pushed_own g asks s o
+        (called c ramp (arg_values c s.top.values args) result
+        (Mode.GivenRamp (last_value (arg_values c s.top.values args)))) call here refl
+        (sets_none f alone s.top.block s.top.at call here refl)
+        (given_own g asks s o ramp (arg_values c s.top.values args) result
+        (last_value (arg_values c s.top.values args)) coroutine (record {
+          func = s.top.func;
+          block = s.top.block;
+          at = s.top.at;
+          result = result;
+          must_tail = must_tail;
+          ty = ty;
+          name = n;
+          args = args;
+          there = here;
+          ramp = ramp;
+          gives = e;
+        }))
+      where
+        found : IsFound (λ (d : Function). d.coroutine && same_name (noalloc_of d.name) n) c.functions ramp
+        found = what_is_found (λ (d : Function). d.coroutine && same_name (noalloc_of d.name) n) c.functions ramp e
+
+        coroutine : (function_at c ramp).coroutine ≡ true
+        coroutine = ap (λ (q : Option Function). (unwrap_or q no_function).coroutine) found.stands
+            ∙ (and_parts found.element.coroutine (same_name (noalloc_of found.element.name) n) found.passes).0
 
   nexts_own : (here : Fetched) → IsHere here → StaysOwn c (framed_next g s here)
-  nexts_own here e = subst (λ (q : Option (Result State Cause)). StaysOwn c (unwrap_or q
-      (framed_act g s (action_of x w here)))) (sym (ungiven here e)) (acts_own here e)
+  nexts_own Nowhere e = acts_own Nowhere e
+  nexts_own (AtTerm t) e = acts_own (AtTerm t) e
+  nexts_own (AtInstr (Instr.Call result must_tail ty (Callee.Named n) args)) e
+      = given_by_name result must_tail ty n args e (given_ramp c n) refl
+  nexts_own (AtInstr i) e = acts_own (AtInstr i) e
 
   or_own : (r : Result State Cause) → StaysOwn c r → IsOwnState c (or_undefined g.given s r)
   or_own (Err cause) h = record { instances = o.instances; top = o.top; below = o.below }

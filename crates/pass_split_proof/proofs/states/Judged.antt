@@ -40,7 +40,7 @@ judge_new g xs x b k holds =
 
 -- ---- no open field has a control byte
 
-no_field : (test : PlacedField → Bool) (fields : List PlacedField) → ((a : ℕ) (y : PlacedField)
+pub no_field : (test : PlacedField → Bool) (fields : List PlacedField) → ((a : ℕ) (y : PlacedField)
     → slice_get fields a ≡ Some y → test y ≡ false) → list_any test fields ≡ false
 no_field test [] none = refl
 no_field test (y ∷ fields) none = λ j. none 0 y refl j || no_field test fields (λ a z e. none (suc a) z e) j
@@ -76,7 +76,7 @@ module _ (g : FramedGiven) (xs : List Instance) (x : Instance) (laid : IsLaidOut
       under s at i l o h le = let a = h.0 in let b = h.1 in omega arith
 
   -- the frame has its control bytes
-  control_covered : (at : ℕ) → IsControl g x x.block at → covers g x.block at x ≡ true
+  pub control_covered : (at : ℕ) → IsControl g x x.block at → covers g x.block at x ≡ true
   control_covered at control = ⊎_elim
       (λ head. cover at head.0 (reach x.start at (layout_of g.layouts x.coroutine).size 16 (head.1)
       (let b = laid.behind in let i = laid.index in omega arith)))

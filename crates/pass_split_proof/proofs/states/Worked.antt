@@ -59,7 +59,7 @@ module _ (given : Given) where
   }
 
   -- its index takes a byte or two
-  index_is : (n : ℕ) → (index_bytes (if nat_le n 256 then IntWidth.I8 else IntWidth.I16) ≡ 1)
+  pub index_is : (n : ℕ) → (index_bytes (if nat_le n 256 then IntWidth.I8 else IntWidth.I16) ≡ 1)
       ⊎ (index_bytes (if nat_le n 256 then IntWidth.I8 else IntWidth.I16) ≡ 2)
   index_is n = on (nat_le n 256)
     where

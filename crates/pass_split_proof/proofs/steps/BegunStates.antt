@@ -52,7 +52,7 @@ use Rattle.pass_proofs.specs.run_step.Values.{Env, value_in, with_value}
 got_within : (xs : List Instance) (i : ℕ) (x : Instance) → slice_get xs i ≡ Some x → i < length xs
 got_within xs i x e = slice_get_within xs i x e
 
-more_frames : (xs : List Instance) (x : Instance) → KeepsFrames xs (xs ++ x ∷ [])
+pub more_frames : (xs : List Instance) (x : Instance) → KeepsFrames xs (xs ++ x ∷ [])
 more_frames xs x = record { each = λ i z e. (z, (get_more xs x i (got_within xs i z e) ∙ e, refl, refl)) }
 
 module _ (g : FramedGiven) (h : PlainGiven) (s : State) (t : PlainState) (r : AreRelated g h s t) (p : Operand)

@@ -136,7 +136,7 @@ module _ (g : FramedGiven) (m n : List MemoryBlock) where
   held_before o x h held =
       let a = and_parts _ _ held in
       let b = and_parts _ _ a.1 in
-      and_from _ _ a.0 (and_from _ _ (ap not (and_right (is_given_in o) _ (unfinished x.status h))) b.1)
+      and_from _ _ a.0 (and_from _ _ (ap not (and_right (is_given_in o x) _ (unfinished x.status h))) b.1)
     where
       unfinished : (s : Status) → is_suspended s ≡ true → is_finished s ≡ false
       unfinished Status.Running e = refl

@@ -112,8 +112,8 @@ module _ (g : FramedGiven) (h : PlainGiven) (s : State) (t : PlainState) (r : Ar
     where
       on : (o : Option MemoryBlock) → slice_get s.world.memory x.block ≡ o → is_held_in o x ≡ true
           → (y : MemoryBlock) × (slice_get s.world.memory x.block ≡ Some y)
-      on None e held = absurd (false≢true (and_parts (not (is_given_in None && is_finished x.status)) (lives_in None)
-          (and_parts (not x.freed) (not (is_given_in None && is_finished x.status) && lives_in None) held).1).1)
+      on None e held = absurd (false≢true (and_parts (not (is_given_in None x && is_finished x.status)) (lives_in None)
+          (and_parts (not x.freed) (not (is_given_in None x && is_finished x.status) && lives_in None) held).1).1)
       on (Some y) e held = (y, e)
 
   inside : x.start + (layout_of g.layouts func).size < 2 ^ 64

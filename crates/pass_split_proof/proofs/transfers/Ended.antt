@@ -37,9 +37,9 @@ changed_to s ys k = record s { instances = ys; world = record s.world { memory =
 held_before : (o : Option MemoryBlock) (x : Instance) → is_held_in o (record x { status = Status.Finished }) ≡ true
     → is_held_in o x ≡ true
 held_before o x held =
-    let a = and_parts (not x.freed) (not (is_given_in o && true) && lives_in o) held in
-    let b = and_parts (not (is_given_in o && true)) (lives_in o) a.1 in
-    and_from _ _ a.0 (and_from _ _ (on (is_given_in o) (is_finished x.status) b.0) b.1)
+    let a = and_parts (not x.freed) (not (is_given_in o x && true) && lives_in o) held in
+    let b = and_parts (not (is_given_in o x && true)) (lives_in o) a.1 in
+    and_from _ _ a.0 (and_from _ _ (on (is_given_in o x) (is_finished x.status) b.0) b.1)
   where
     on : (c d : Bool) → not (c && true) ≡ true → not (c && d) ≡ true
     on true d e = absurd (false≢true e)

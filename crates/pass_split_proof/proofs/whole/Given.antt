@@ -23,7 +23,7 @@ use Rattle.pass_proofs.specs.run_step.Step.{AtInstr, fetch, fetch_in, fetch_or}
 
 -- ---- the names that are called
 
-abbrev called : Name → CalledName
+abbrev pub called : Name → CalledName
 called name = record { name = name }
 
 module _ (c : CalledName) where
@@ -108,6 +108,18 @@ any_none test (y ∷ xs) x e h = on (test y) refl e h (λ e h. any_none test xs 
     on false f e (inl same) rest = ap test same ∙ f
     on false f e (inr h) rest = rest e h
 
+-- the name of a call is among those that are called
+pub call_listed : (m : Module) (func block at : ℕ) (result : Option ℕ) (must_tail : Bool) (ty : Option Ty) (name : Name)
+    (args : List Arg)
+    → fetch (function_at m func) block at ≡ AtInstr (Instr.Call result must_tail ty (Callee.Named name) args)
+    → IsListed (called name) (called_names m.functions)
+call_listed m func block at result must_tail ty name args e =
+    let i = Instr.Call result must_tail ty (Callee.Named name) args in
+    let y = fetched (function_at m func) block at i e in
+    in_functions (called name) m.functions func (function_at m func) (function_there m func block at i e)
+    (in_blocks (called name) (function_at m func).blocks block y.own y.there
+    (in_instrs (called name) y.own.instrs at i y.got (inl refl)))
+
 pub ungiven_of : (m : Module) → GivesNoFrame m → (func block at : ℕ) (result : Option ℕ) (must_tail : Bool)
     (ty : Option Ty) (name : Name) (args : List Arg)
     → fetch (function_at m func) block at ≡ AtInstr (Instr.Call result must_tail ty (Callee.Named name) args)
@@ -116,21 +128,13 @@ ungiven_of m gives func block at result must_tail ty name args e = nothing_found
     (λ (f : Function). f.coroutine && same_name (noalloc_of f.name) name) m.functions (λ k f there. on k f there
     f.coroutine refl)
   where
-    listed : IsListed (called name) (called_names m.functions)
-    listed =
-        let i = Instr.Call result must_tail ty (Callee.Named name) args in
-        let y = fetched (function_at m func) block at i e in
-        in_functions (called name) m.functions func (function_at m func) (function_there m func block at i e)
-        (in_blocks (called name) (function_at m func).blocks block y.own y.there
-        (in_instrs (called name) y.own.instrs at i y.got (inl refl)))
-
     on : (k : ℕ) (f : Function) → slice_get m.functions k ≡ Some f → (t : Bool) → f.coroutine ≡ t
         → (f.coroutine && same_name (noalloc_of f.name) name) ≡ false
     on k f there false plain = ap (λ (t : Bool). t && same_name (noalloc_of f.name) name) plain
     on k f there true coroutine = ap (λ (t : Bool). t && same_name (noalloc_of f.name) name) coroutine
         ∙ any_none (λ (d : CalledName). same_name (noalloc_of f.name) d.name) (called_names m.functions)
         (called name)
-        (gives k f there coroutine) listed
+        (gives k f there coroutine) (call_listed m func block at result must_tail ty name args e)
 
 -- of a coroutine that stands in the module
 pub given_none : (m : Module) → GivesNoFrame m → (func : ℕ) → (function_at m func).coroutine ≡ true

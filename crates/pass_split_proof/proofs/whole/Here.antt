@@ -47,7 +47,7 @@ use Rattle.pass_split_proof.specs.asking.Asking.{ArePromisesInFront, IsAsking}
 use Rattle.pass_split_proof.specs.giving.Intrinsics.{IsAtIntrinsic, is_constant}
 use Rattle.pass_split_proof.specs.held.Kept.{IsKeptState, IsNoHeap}
 use Rattle.pass_split_proof.specs.marking.Markers.{IsAtMarker}
-use Rattle.pass_split_proof.specs.own_blocks.Own.{FitsMode, HasOwnBlocks, IsOwnState}
+use Rattle.pass_split_proof.specs.own_blocks.Own.{FitsMode, GivesFrames, HasOwnBlocks, IsOwnState}
 use Rattle.pass_split_proof.specs.places.Places.{IsCodeOf}
 use Rattle.pass_split_proof.specs.simulation.Followed.{IsFollowed}
 use Rattle.pass_split_proof.specs.simulation.Premises.{AreFunctionsMet, ArePlacesMet, ArePremisesMet, IsAt, IsAtPlace, asks_frame, first_parts, is_of_coroutines}
@@ -101,6 +101,14 @@ by_goes Part.Resume e other = refl
 by_goes Part.Destroy e other = refl
 by_goes Part.Cleanup e other = absurd (other refl)
 
+-- so none gives one
+pub never_gives : (g : FramedGiven) → AreUngiven g → GivesFrames g.given.code → ⊥
+never_gives g ungiven k = none (sym k.gives ∙ ungiven.calls k.func k.block k.at k.result k.must_tail k.ty k.name k.args
+    k.there)
+  where
+    none : {ramp : ℕ} → Some ramp ≡ None → ⊥
+    none e = cc
+
 module _ (g : FramedGiven) (h : PlainGiven) (met : AreFunctionsMet g h) (ungiven : AreUngiven g) (s : State)
     (t : PlainState) (r : AreRelated g h s t) (own : IsOwnState g.given.code s) where
   -- the shape of a coroutine
@@ -124,12 +132,12 @@ module _ (g : FramedGiven) (h : PlainGiven) (met : AreFunctionsMet g h) (ungiven
   pub part_ungiven : is_given r.top.part ≡ false
   part_ungiven = by s.top.mode own.top.mode r.top.runs
     where
-      by : (mode : Mode) → FitsMode (function_of g.given s).coroutine s.top.instance mode → RunsPart mode r.top.part
-          → is_given r.top.part ≡ false
+      by : (mode : Mode) → FitsMode g.given.code (function_of g.given s).coroutine s.top.instance mode
+          → RunsPart mode r.top.part → is_given r.top.part ≡ false
       by Mode.Plain fits runs = ap is_given runs
       by Mode.Ramp fits runs = ap is_given runs
       by Mode.Resumed fits runs = by_goes r.top.part runs (no_cleanup fits.0)
-      by (Mode.GivenRamp frame) fits runs = absurd fits
+      by (Mode.GivenRamp frame) fits runs = absurd (never_gives g ungiven fits.1)
       by (Mode.Entering from label) fits runs = by_goes r.top.part runs (no_cleanup fits.0)
 
 -- ---- what stands at the same place
@@ -150,11 +158,13 @@ module _ (g : FramedGiven) (h : PlainGiven) (met : ArePremisesMet g h) (ungiven 
   asks = record {
     allocas = met.functions.allocas;
     intrinsics = met.functions.intrinsics;
-    ungiven = ungiven.calls;
   }
 
+  never : GivesFrames g.given.code → ⊥
+  never = never_gives g ungiven
+
   given : (here : Fetched) → IsAt g s here → given_call g s here ≡ None
-  given = ungiven_here g asks s k.own
+  given = ungiven_here g asks s k.own never
 
   -- the run isn't undefined behind it
   not_stuck : (here : Fetched) → IsAt g s here → (a : Action)
@@ -272,11 +282,11 @@ module _ (g : FramedGiven) (h : PlainGiven) (met : ArePremisesMet g h) (ungiven 
             (nth (arg_values c s.top.values args) 1) Kind.Allocator) (λ (v : State). Ok (gives v result
             (nth (arg_values c s.top.values args) 1))))) own)
 
-        by : (mode : Mode) → s.top.mode ≡ mode → FitsMode f.coroutine s.top.instance mode → IsFollowed g h s t
+        by : (mode : Mode) → s.top.mode ≡ mode → FitsMode c f.coroutine s.top.instance mode → IsFollowed g h s t
         by Mode.Ramp e fits = begin_followed g h s t r at.running fine (places.begin result must_tail ty args here at e)
         by Mode.Plain e fits = absurd (false≢true (sym fits ∙ in_coroutine Intrinsic.CoroBegin here refl))
         by Mode.Resumed e fits = absurd (again Mode.Resumed e refl fits.1)
-        by (Mode.GivenRamp frame) e fits = absurd fits
+        by (Mode.GivenRamp frame) e fits = absurd (never fits.1)
         by (Mode.Entering from label) e fits = absurd (false≢true (sym at.settled ∙ ap is_entering e))
 
     -- the end
@@ -286,12 +296,12 @@ module _ (g : FramedGiven) (h : PlainGiven) (met : ArePremisesMet g h) (ungiven 
         begin_not : Intrinsic.CoroEnd ≡ Intrinsic.CoroBegin → ⊥
         begin_not e = absurd (cc)
 
-        by : (mode : Mode) → s.top.mode ≡ mode → FitsMode f.coroutine s.top.instance mode → IsFollowed g h s t
-        by Mode.Ramp e fits = ramp_ends g h s t r at.running (own_frame c s k.own)
+        by : (mode : Mode) → s.top.mode ≡ mode → FitsMode c f.coroutine s.top.instance mode → IsFollowed g h s t
+        by Mode.Ramp e fits = ramp_ends g h s t r at.running (own_frame c s k.own never)
             (other Intrinsic.CoroEnd here begin_not) (ap goes_on (subst (λ (m : Mode). RunsPart m r.top.part) e r.top.runs))
         by Mode.Plain e fits = absurd (false≢true (sym fits ∙ in_coroutine Intrinsic.CoroEnd here refl))
         by Mode.Resumed e fits = inside_followed g h s t r at.running e (other Intrinsic.CoroEnd here begin_not)
-        by (Mode.GivenRamp frame) e fits = absurd fits
+        by (Mode.GivenRamp frame) e fits = absurd (never fits.1)
         by (Mode.Entering from label) e fits = absurd (false≢true (sym at.settled ∙ ap is_entering e))
 
     intrinsic_here : (x : Intrinsic) → IsAt g s (call (Callee.Intrinsic x)) → IsFollowed g h s t
@@ -305,34 +315,34 @@ module _ (g : FramedGiven) (h : PlainGiven) (met : ArePremisesMet g h) (ungiven 
     intrinsic_here Intrinsic.CoroBegin here = begin_here here
     intrinsic_here Intrinsic.CoroFree here = free_followed g h s t r at.running
         (other Intrinsic.CoroFree here (λ e. absurd (cc))) (part_ungiven g h met.functions ungiven s t r k.own)
-        (own_frame c s k.own)
+        (own_frame c s k.own never)
     intrinsic_here Intrinsic.CoroFrame here = frame_followed g h s t r at.running
         (other Intrinsic.CoroFrame here (λ e. absurd (cc)))
     intrinsic_here Intrinsic.CoroSave here = save_followed g h s t r at.running fine
         (places.save result must_tail ty args here at (λ i x e there unfreed.
-        unfreed_held c s k.own k.kept i x there unfreed))
+        unfreed_held c s k.own never k.kept i x there unfreed))
     intrinsic_here Intrinsic.CoroSuspend here = suspend_followed g h s t r at.running
         (places.suspend result must_tail ty args here at)
     intrinsic_here Intrinsic.CoroEnd here = end_here here
     intrinsic_here Intrinsic.CoroResume here =
         let z : IsAtWaking g h s t r Intrinsic.CoroResume
         = places.asking result must_tail ty Intrinsic.CoroResume args here at refl in
-        resumes_followed g h s t r z fine (can_be_resumed g h met.functions s t r k.own k.kept k.reached
+        resumes_followed g h s t r z fine (can_be_resumed g h met.functions s t r k.own never k.kept k.reached
         (arg_value c s.top.values z.arg))
     intrinsic_here Intrinsic.CoroDestroy here =
         let z : IsAtWaking g h s t r Intrinsic.CoroDestroy
         = places.asking result must_tail ty Intrinsic.CoroDestroy args here at refl in
-        destroys_followed g h s t r z fine (can_be_destroyed g h met.functions s t r k.own k.kept k.reached
+        destroys_followed g h s t r z fine (can_be_destroyed g h met.functions s t r k.own never k.kept k.reached
         (arg_value c s.top.values z.arg))
     intrinsic_here Intrinsic.CoroDone here =
         let z : IsAsking g h s t r Intrinsic.CoroDone = asking Intrinsic.CoroDone here refl (λ e. absurd (cc)) in
-        done_followed g h s t r z fine (woken_held g h met.functions s t r k.own k.kept k.reached
+        done_followed g h s t r z fine (woken_held g h met.functions s t r k.own never k.kept k.reached
         (arg_value c s.top.values z.at.arg))
     intrinsic_here Intrinsic.CoroPromise here =
         promise_followed g h s t r (asking Intrinsic.CoroPromise here refl (λ e. absurd (cc))) fine promises
     intrinsic_here Intrinsic.LifetimeStart here =
         let z = marked_here Intrinsic.LifetimeStart here refl in
-        start_followed g h s t r at.running z.0 (holds_none c s k.own z.0.block z.1)
+        start_followed g h s t r at.running z.0 (holds_none c s k.own never z.0.block z.1)
     intrinsic_here Intrinsic.LifetimeEnd here =
         end_followed g h s t r at.running (marked_here Intrinsic.LifetimeEnd here refl).0
     intrinsic_here Intrinsic.MemcpyI64 here =

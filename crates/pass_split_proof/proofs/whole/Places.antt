@@ -63,7 +63,7 @@ module _ (g : FramedGiven) (h : PlainGiven) (met : ArePremisesMet g h) (ungiven 
   }) fine
     where
       coroutine : (function_of g.given s).coroutine ≡ true
-      coroutine = (subst (FitsMode (function_of g.given s).coroutine s.top.instance) e k.own.top.mode).0
+      coroutine = (subst (FitsMode g.given.code (function_of g.given s).coroutine s.top.instance) e k.own.top.mode).0
 
   by_place : (mode : Mode) → s.top.mode ≡ mode → IsPlaced r.top.shape r.top.part f q s.top t.top mode
       → IsFollowed g h s t

@@ -49,7 +49,6 @@ module _ (g : FramedGiven) (h : PlainGiven) (met : ArePremisesMet g h) (ungiven 
   asks = record {
     allocas = met.functions.allocas;
     intrinsics = met.functions.intrinsics;
-    ungiven = ungiven.calls;
   }
 
   -- no call gives a frame, so none is of other types

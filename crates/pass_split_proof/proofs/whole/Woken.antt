@@ -18,7 +18,7 @@ use Rattle.pass_proofs.specs.pass_kept_proof.Related.{AreSoundInstances, IsSound
 use Rattle.pass_proofs.specs.pass_split.Pieces.{going_on}
 use Rattle.pass_split_proof.proofs.whole.Held.{suspended_held}
 use Rattle.pass_split_proof.specs.held.Kept.{IsKeptState}
-use Rattle.pass_split_proof.specs.own_blocks.Own.{IsOwnState}
+use Rattle.pass_split_proof.specs.own_blocks.Own.{GivesFrames, IsOwnState}
 use Rattle.pass_split_proof.specs.simulation.Premises.{AreFunctionsMet, IsCoroutineThere}
 use Rattle.pass_split_proof.specs.states.Instances.{IsHeaded, IsSavedAt, StandsThere, is_destroyer, is_held}
 use Rattle.pass_split_proof.specs.states.Related.{AreRelated}
@@ -74,7 +74,7 @@ destroys_to Part.GivenRamp p e = absurd (false≢true e)
 destroys_to Part.Resume p e = absurd (false≢true e)
 
 module _ (g : FramedGiven) (h : PlainGiven) (met : AreFunctionsMet g h) (s : State) (t : PlainState)
-    (r : AreRelated g h s t) (own : IsOwnState g.given.code s) (kept : IsKeptState s)
+    (r : AreRelated g h s t) (own : IsOwnState g.given.code s) (never : GivesFrames g.given.code → ⊥) (kept : IsKeptState s)
     (reached : IsReachedState g.given s) (p : Value) where
   module _ (w : IsWoken s p) where
     abbrev x : Instance
@@ -87,7 +87,7 @@ module _ (g : FramedGiven) (h : PlainGiven) (met : AreFunctionsMet g h) (s : Sta
     there = met.coroutines x.coroutine (own.instances w.number x w.there).coroutine
 
     pub woken_held : is_held s.world.memory x ≡ true
-    woken_held = suspended_held g.given.code s own kept w.number x w.there (ap is_suspended w.status)
+    woken_held = suspended_held g.given.code s own never kept w.number x w.there (ap is_suspended w.status)
 
     headed : IsHeaded g t.world.memory x
     headed = r.frames.headed w.number x w.there woken_held

@@ -25,6 +25,10 @@ use Rattle.pass_proofs.specs.run_step.declared.world.Slot.{Slot}
 abbrev pub is_heap_in : Option MemoryBlock → Bool
 is_heap_in o = option_map_or (λ y. same_kind y.kind Kind.Allocator) o false
 
+-- there is a stack block
+abbrev pub is_stack_in : Option MemoryBlock → Bool
+is_stack_in o = option_map_or (λ y. same_kind y.kind Kind.Stack) o false
+
 -- there is a block that lives and is owned
 abbrev pub is_kept_in : Option MemoryBlock → Bool
 is_kept_in o = option_map_or (λ y. is_live y.life && is_some y.owned) o false

@@ -1,6 +1,6 @@
 -- The frames of instances in the memory of the parts' run: the header and the index, which a framed run never
 -- touches.
-use Rattle.std.specs.Prelude.{◌≡◌, ◌≢◌, ℕ, ◌+◌, ◌<◌, ◌≤◌, ◌%◌, ◌^◌, ◌⊎◌, Bool, true, false, not, List, [], length, slice_get, Some, Option, is_some, ◌&&◌, if◌then◌else◌}
+use Rattle.std.specs.Prelude.{◌≡◌, ◌≢◌, ℕ, ◌+◌, ◌<◌, ◌≤◌, ◌%◌, ◌^◌, ◌⊎◌, Bool, true, false, not, List, [], length, slice_get, Some, Option, is_some, ◌&&◌, ◌||◌, if◌then◌else◌, ◌==◌}
 use Rattle.std.specs.Option.{option_map_or}
 use Rattle.pass_proofs.specs.frame_layout.declared.layout.PlacedField.{PlacedField}
 use Rattle.pass_proofs.specs.ir_model.Names.{function_at}
@@ -90,16 +90,16 @@ IsControl g x block at =
     ⊎ ((x.start + (layout_of g.layouts x.coroutine).index ≤ at)
     × (at < x.start + (layout_of g.layouts x.coroutine).index + index_length g x.coroutine)))
 
--- the frame of an instance is there: its block lives, and isn't freed; a frame that was given is there up to the
--- instance's end
+-- the frame of an instance is there: its block lives, and isn't freed; a frame that was given, in a stack block or in a
+-- field of another frame, is there up to the instance's end
 abbrev pub lives_in : Option MemoryBlock → Bool
 lives_in o = option_map_or (λ y. is_live y.life) o false
 
-abbrev pub is_given_in : Option MemoryBlock → Bool
-is_given_in o = option_map_or (λ y. same_kind y.kind Kind.Stack) o false
+abbrev pub is_given_in : Option MemoryBlock → Instance → Bool
+is_given_in o x = option_map_or (λ y. same_kind y.kind Kind.Stack) o false || not (x.start == 0)
 
 abbrev pub is_held_in : Option MemoryBlock → Instance → Bool
-is_held_in o x = not x.freed && (not (is_given_in o && is_finished x.status) && lives_in o)
+is_held_in o x = not x.freed && (not (is_given_in o x && is_finished x.status) && lives_in o)
 
 abbrev pub is_held : List MemoryBlock → Instance → Bool
 is_held m x = is_held_in (slice_get m x.block) x
