@@ -7,6 +7,9 @@ pub mod ends
 pub mod entering
 pub mod first_exits
 pub mod freeing
+pub mod given_begins
+pub mod given_calls
+pub mod given_frees
 pub mod giving
 pub mod held
 pub mod making

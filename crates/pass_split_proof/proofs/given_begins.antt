@@ -1,0 +1,9 @@
+pub mod Blocks
+pub mod Followed
+pub mod Owners
+pub mod Places
+pub mod Runs
+pub mod States
+pub mod Stored
+pub mod Within
+pub mod Worked

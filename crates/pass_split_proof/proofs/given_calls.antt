@@ -1,0 +1,4 @@
+pub mod Called
+pub mod Entered
+pub mod Ramps
+pub mod Unset

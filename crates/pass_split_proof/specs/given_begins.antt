@@ -1,0 +1,4 @@
+pub mod Beginning
+pub mod Room
+pub mod Runs
+pub mod Worked
