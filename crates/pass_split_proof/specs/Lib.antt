@@ -3,6 +3,7 @@ pub mod begins
 pub mod branching
 pub mod calling
 pub mod code
+pub mod disagreeing
 pub mod ends
 pub mod entering
 pub mod first_exits
