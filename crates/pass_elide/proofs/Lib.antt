@@ -1,0 +1,4 @@
+pub mod Found
+pub mod Walks
+pub mod Unchanged
+pub mod Entries

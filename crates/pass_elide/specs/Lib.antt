@@ -1,0 +1,5 @@
+pub mod Places
+pub mod Frames
+pub mod Tables
+pub mod Elided
+pub mod Laws
