@@ -1,0 +1,3 @@
+pub mod Onward
+pub mod Candidates
+pub mod Chains
