@@ -1,0 +1,9 @@
+pub mod Standing
+pub mod Modules
+pub mod Alike
+pub mod Counted
+pub mod CountedSteps
+pub mod Holding
+pub mod Starts
+pub mod Sized
+pub mod Allocated

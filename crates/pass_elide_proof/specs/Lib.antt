@@ -1,0 +1,13 @@
+pub mod Places
+pub mod Elision
+pub mod Counts
+pub mod Frames
+pub mod Match
+pub mod Invariant
+pub mod Statement
+pub mod Worked
+pub mod WorkedStates
+pub mod Compared
+pub mod Sizes
+pub mod Shapes
+pub mod Allocating
