@@ -1,0 +1,2 @@
+pub mod FramedRuns
+pub mod SourceRuns
