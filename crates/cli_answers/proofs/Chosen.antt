@@ -8,7 +8,8 @@ use Rattle.cli_words.specs.declared.words.RunWords.{RunWords}
 use Rattle.rule_all.specs.Refused.{IsRefused}
 use Rattle.ir_model.specs.declared.module.Module.{Module}
 use Rattle.compiler.specs.Lowering.{IsLowering}
-use Rattle.compiler.specs.Printed.{HasFewNames}
+use Rattle.compiler.specs.NoCoroutine.{LeavesNoCoroutine}
+use Rattle.compiler.specs.Printed.{HasFewNames, IsReadPlain}
 use Rattle.compiler.specs.declared.lowered.Lowering.{Lowering}
 use Rattle.frame_acceptance.specs.Acceptance.{IsAcceptance, IsRefusedFor}
 use Rattle.frame_acceptance.specs.declared.accepting.Acceptance.{Acceptance}
@@ -23,9 +24,19 @@ pub checked_by : {E : Type 0} (stage : Stage) (m : Module) (refusal : Option Ref
 checked_by stage m refusal (Ok a) refused is = record { refusal = refusal; refused = refused; is = is }
 checked_by stage m refusal (Err e) refused is = is
 
-pub made_by : {E : Type 0} (plain : Bool) (options : Options) (bytes : List ℕ) (make : Lowering → Answer) (l : Lowering) (r : Result Answer E) → options ≡ options_of plain → IsLowering options bytes l → HasFewNames l → IfOk r (λ a. a ≡ make l) → IfOk r (λ a. IsMadeOf plain bytes make a)
-made_by plain options bytes make l (Ok a) same lowered few is = record { lowering = l; lowered = subst (λ (o : Options). IsLowering o bytes l) same lowered; few = few; is = is }
-made_by plain options bytes make l (Err e) same lowered few is = is
+pub made_by : {E : Type 0} (plain : Bool) (options : Options) (bytes : List ℕ) (make : Lowering → Answer) (l : Lowering)
+    (r : Result Answer E) → options ≡ options_of plain → IsLowering options bytes l → HasFewNames l → LeavesNoCoroutine l
+    → IsReadPlain l → IfOk r (λ a. a ≡ make l) → IfOk r (λ a. IsMadeOf plain bytes make a)
+made_by plain options bytes make l (Ok a) same lowered few none printed is =
+    record {
+      lowering = l;
+      lowered = subst (λ (o : Options). IsLowering o bytes l) same lowered;
+      few = few;
+      none = none;
+      printed = printed;
+      is = is;
+    }
+made_by plain options bytes make l (Err e) same lowered few none printed is = is
 
 pub refused_by : {E : Type 0} (m : Module) (refusal : Option Refusal) (r : Result Answer E) → IsRefusedFor m refusal → IfOk r (λ a. a ≡ check_answer m refusal) → IfOk r (λ a. IsMadeOfRefusal m (check_answer m) a)
 refused_by m refusal (Ok a) refused is = record { refusal = refusal; refused = refused; is = is }

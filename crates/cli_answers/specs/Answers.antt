@@ -15,7 +15,8 @@ use Rattle.cli_compare.specs.Compared.{IsCompared}
 use Rattle.compiler.specs.Lowering.{IsLowering, OfLowered}
 use Rattle.cli_compare.specs.compiler_theorem.theorem.Texts.{AgreeInRuns}
 use Rattle.text_canonical.specs.grammar.Bytes.{AreBytes}
-use Rattle.compiler.specs.Printed.{HasFewNames}
+use Rattle.compiler.specs.NoCoroutine.{LeavesNoCoroutine}
+use Rattle.compiler.specs.Printed.{HasFewNames, IsReadPlain}
 use Rattle.compiler.specs.declared.lowered.Lowered.{Lowered}
 use Rattle.compiler.specs.declared.lowered.Lowering.{Lowering}
 use Rattle.rule_all.specs.Refused.{IsRefused}
@@ -123,11 +124,14 @@ IsCheckAnswer false (Parsed.Module m) a = IsMadeOfRefusal m (check_answer m) a
 abbrev pub options_of : Bool → Options
 options_of plain = record { share = not plain; elide = not plain; transfer = not plain }
 
--- what is made of the lowering of the bytes, whose functions have fewer than 2^64 names
+-- What is made of the lowering of the bytes, whose functions have fewer than 2^64 names. What is lowered has no coroutine and
+-- no coro intrinsic. Its text stands for it, and it breaks none of the rules of modules without coroutines.
 pub record IsMadeOf (plain : Bool) (bytes : List ℕ) (make : Lowering → Answer) (a : Answer) : Type 0 where
   pub lowering : Lowering
   pub lowered : IsLowering (options_of plain) bytes lowering
   pub few : HasFewNames lowering
+  pub none : LeavesNoCoroutine lowering
+  pub printed : IsReadPlain lowering
   pub is : a ≡ make lowering
 
 abbrev pub IsRunAnswer : Form → List ℕ → RunWords → Answer → Type 0

@@ -1,6 +1,7 @@
 -- Where words ask for lowering and the program is done, what was written keeps the meaning of what was read.
 use Rattle.std.proofs.Common.{◌≡◌, ◌≤◌, ◌<◌, ◌^◌, ◌++◌, ◌∙◌, ℕ, Bool, List, [], ◌∷◌, length, map, Ok, refl, sym, ap, subst, arith}
 use Rattle.cli_answers.specs.Answers.{IsAnswer, IsMadeOf, lower_answer, options_of}
+use Rattle.cli_drive.proofs.Plain.{order_has_none}
 use Rattle.cli_drive.specs.Endings.{EndsBy, EndsRead, Gets, IsAnswered, IsEnding, IsReadWhole, IsWritten, Stream, reads_input}
 use Rattle.cli_drive.specs.Headline.{IsLoweredWhole, KeepsMeaning, TellFrames}
 use Rattle.cli_runs.specs.Runs.{verdict_status}
@@ -10,7 +11,8 @@ use Rattle.cli_words.specs.declared.words.Reading.{Reading}
 use Rattle.cli_words.specs.declared.words.Words.{Words}
 use Rattle.cli_answers.proofs.compiler.Done.{lowering_holds}
 use Rattle.cli_answers.specs.compiler.Lowering.{IsDone, IsLowering, frame_line, lowered_by}
-use Rattle.cli_answers.specs.compiler.Printed.{HasFewNames}
+use Rattle.cli_answers.specs.compiler.NoCoroutine.{LeavesNoCoroutine}
+use Rattle.cli_answers.specs.compiler.Printed.{HasFewNames, IsReadPlain}
 use Rattle.cli_answers.specs.compiler.declared.lowered.Lowered.{Lowered}
 use Rattle.cli_answers.specs.compiler.declared.lowered.Lowering.{Lowering}
 use Rattle.cli_answers.specs.compiler.frame_layout.declared.layout.Layout.{Layout}
@@ -51,8 +53,8 @@ has_lines m layouts l d = subst HasLines (sym d.is) made
 
 module _ (plain : Bool) (bytes : List ℕ) (are : AreBytes bytes) (few : length bytes ≤ 16777216) where
   kept : (l : Lowered) → IsLowering (options_of plain) bytes (Lowering.Done l) → HasFewNames (Lowering.Done l)
-      → KeepsMeaning bytes l.text
-  kept l low names =
+      → LeavesNoCoroutine (Lowering.Done l) → IsReadPlain (Lowering.Done l) → KeepsMeaning bytes l.text
+  kept l low names none read =
       let short : length bytes < 2 ^ 31 = omega (arith, few) in
       let k : KeepsTexts bytes l = texts_kept (options_of plain) bytes are short l low names in
       let h : HasLines l = lowering_holds {E = Unit {0}} HasLines (options_of plain) bytes
@@ -62,6 +64,10 @@ module _ (plain : Bool) (bytes : List ℕ) (are : AreBytes bytes) (few : length 
         stands = k.stands;
         lowered = _;
         printed = k.printed;
+        plain = record {
+          breaks_none = read.accepted;
+          none_there = order_has_none l.«module» none;
+        };
         lines = h.lines;
         rest = h.rest;
         begins = h.begins;
@@ -72,16 +78,16 @@ module _ (plain : Bool) (bytes : List ℕ) (are : AreBytes bytes) (few : length 
 
   made : (a : Answer) → IsMadeOf plain bytes lower_answer a → verdict_status a.verdict ≡ Status.Done
       → KeepsMeaning bytes a.out
-  made a x done = by x.lowering x.lowered x.few x.is
+  made a x done = by x.lowering x.lowered x.few x.none x.printed x.is
     where
-      by : (l : Lowering) → IsLowering (options_of plain) bytes l → HasFewNames l → a ≡ lower_answer l
-          → KeepsMeaning bytes a.out
-      by (Lowering.Done l) low names is =
-          subst (λ (t : List ℕ). KeepsMeaning bytes t) (sym (ap (λ (y : Answer). y.out) is)) (kept l low names)
-      by (Lowering.Syntax items) low names is =
+      by : (l : Lowering) → IsLowering (options_of plain) bytes l → HasFewNames l → LeavesNoCoroutine l → IsReadPlain l
+          → a ≡ lower_answer l → KeepsMeaning bytes a.out
+      by (Lowering.Done l) low names none read is =
+          subst (λ (t : List ℕ). KeepsMeaning bytes t) (sym (ap (λ (y : Answer). y.out) is)) (kept l low names none read)
+      by (Lowering.Syntax items) low names none read is =
           let bad : Status.Refused ≡ Status.Done = ap (λ (y : Answer). verdict_status y.verdict) (sym is) ∙ done in
           absurd (cc)
-      by (Lowering.Refused m rule place) low names is =
+      by (Lowering.Refused m rule place) low names none read is =
           let bad : Status.Refused ≡ Status.Done = ap (λ (y : Answer). verdict_status y.verdict) (sym is) ∙ done in
           absurd (cc)
 
@@ -112,11 +118,11 @@ module _ (input out err : Stream) (plain : Bool) where
 
   read : EndsRead (Words.Lower plain) input out err Status.Done → IsLoweredWhole input out
   read (EndsRead.Read bytes whole is) = answered bytes whole is
-  read (EndsRead.ReadFailed rose written) =
+  read (EndsRead.ReadFailed rose part written) =
       let bad = (whole_of out err [] _ Status.ReadFault written).0 in absurd (cc)
-  read (EndsRead.TooLong more most written) =
+  read (EndsRead.TooLong more part written) =
       let bad = (whole_of out err [] _ Status.TooLong written).0 in absurd (cc)
-  read (EndsRead.NoRoom written) =
+  read (EndsRead.NoRoom part written) =
       let bad = (whole_of out err [] _ Status.OutOfMemory written).0 in absurd (cc)
 
   lowered_whole : (words : List (List ℕ)) → asked words ≡ Reading.Read (Words.Lower plain)

@@ -1,5 +1,5 @@
 -- How a run of the program may end: what was read, what both outputs got, and the status.
-use Rattle.std.specs.Prelude.{◌≡◌, ◌⊎◌, ℕ, Bool, true, false, List, [], codes, Option}
+use Rattle.std.specs.Prelude.{◌≡◌, ◌≤◌, ◌⊎◌, ℕ, Bool, true, false, List, [], codes, Option}
 use Rattle.std.specs.List.{list_any}
 use Rattle.std.specs.Io.KnownBytes.{Appends, Consumes, IsAtEnd}
 use Rattle.cli_answers.specs.Answers.{IsAnswer, IsInput}
@@ -27,14 +27,20 @@ abbrev pub stream : {A : Type 0} → (bytes : A → Option (List ℕ)) → (faul
 stream bytes faults old new =
     record { bytes = bytes old; bytes-new = bytes new; faults = faults old; faults-new = faults new }
 
+-- a count of faults never falls
+abbrev pub NeverFalls : Stream → Type 0
+NeverFalls s = s.faults ≤ s.faults-new
+
 -- an output got the whole text
-abbrev pub Gets : Stream → List ℕ → Type 0
-Gets s text = Appends s.bytes s.bytes-new text
+pub record Gets (s : Stream) (text : List ℕ) : Type 0 where
+  pub whole : Appends s.bytes s.bytes-new text
+  pub later : NeverFalls s
 
 -- a write of the text failed, and the output got a part of its front
 pub record GetsPart (s : Stream) (text : List ℕ) : Type 0 where
   pub fault : Rose s.faults s.faults-new
   pub part : AppendsPrefix s.bytes s.bytes-new text
+  pub later : NeverFalls s
 
 abbrev pub write_fault : List ℕ
 write_fault = codes "write fault\n"
@@ -62,19 +68,27 @@ pub record IsReadWhole (stream : Stream) (bytes : List ℕ) : Type 0 where
   pub input : IsInput bytes
   pub read : Consumes stream.bytes stream.bytes-new bytes
   pub at_end : IsAtEnd stream.bytes-new
+  pub later : NeverFalls stream
+
+-- at most 2^24 + 1 bytes of the input were read
+pub record IsReadInPart (stream : Stream) : Type 0 where
+  pub most : ConsumesAtMost stream.bytes stream.bytes-new 16777217
+  pub later : NeverFalls stream
 
 -- a command that reads its input
 pub data EndsRead (w : Words) (input out err : Stream) (result : Status) : Type 0 where
   Read : (bytes : List ℕ) → IsReadWhole input bytes → IsAnswered w bytes out err result
       → EndsRead w input out err result
   -- a read failed
-  ReadFailed : Rose input.faults input.faults-new
+  ReadFailed : Rose input.faults input.faults-new → IsReadInPart input
       → IsWritten out err [] (codes "read fault\n") Status.ReadFault result → EndsRead w input out err result
-  -- more than 2^24 bytes are there, of which at most one more was read
-  TooLong : HoldsMore input.bytes 16777216 → ConsumesAtMost input.bytes input.bytes-new 16777217
+  -- more than 2^24 bytes are there
+  TooLong : HoldsMore input.bytes 16777216 → IsReadInPart input
       → IsWritten out err [] (codes "input above 16777216 bytes\n") Status.TooLong result
       → EndsRead w input out err result
-  NoRoom : IsWritten out err [] (codes "out of memory\n") Status.OutOfMemory result → EndsRead w input out err result
+  -- no memory for what was read
+  NoRoom : IsReadInPart input → IsWritten out err [] (codes "out of memory\n") Status.OutOfMemory result
+      → EndsRead w input out err result
 
 -- nothing was read
 abbrev pub IsUnread : Stream → Type 0

@@ -1,7 +1,10 @@
 -- What `lower` keeps, from the bytes that were read to the bytes that were written.
-use Rattle.std.specs.Prelude.{◌≡◌, ◌++◌, ℕ, List, [], ◌∷◌, slice_get}
+use Rattle.std.specs.Prelude.{◌≡◌, ◌++◌, ℕ, List, [], ◌∷◌, None, slice_get, true}
 use Rattle.cli_drive.specs.Endings.{Gets, IsReadWhole, Stream}
 use Rattle.cli_answers.specs.compiler.Lowering.{name_of}
+use Rattle.cli_answers.specs.compiler.NoCoroutine.{has_no_coroutine}
+use Rattle.cli_answers.specs.compiler.rule_all.Refused.{IsRefused}
+use Rattle.cli_answers.specs.compiler.rule_names.declared.stage.Stage.{Stage}
 use Rattle.cli_answers.specs.compiler_theorem.theorem.Texts.{AgreeInRuns}
 use Rattle.ir_model.specs.declared.module.Frame.{Frame}
 use Rattle.ir_model.specs.declared.module.Module.{Module}
@@ -22,7 +25,13 @@ TellFrames m [] (f ∷ fs) = ⊥
 TellFrames m (l ∷ ls) [] = ⊥
 TellFrames m (l ∷ ls) (f ∷ fs) = TellsFrame m l f × TellFrames m ls fs
 
--- The text that was read stands for a module, and the one that was written for another. It begins with frame lines.
+-- no rule of modules without coroutines is broken, and no coroutine and no coro intrinsic is there
+pub record IsPlain (m : Module) : Type 0 where
+  pub breaks_none : IsRefused Stage.Plain m None
+  pub none_there : has_no_coroutine m ≡ true
+
+-- The text that was read stands for a module, and the one that was written for another, which is plain. It begins with
+-- frame lines.
 -- For each entry call and each list of answers the runs of both agree, where the source is given the sizes of frames
 -- that are printed. That means: if the source is never undefined, the other makes the same observed calls, returns the
 -- same value exactly if the source does, and is never stuck. It goes on with the same calls wherever the source goes on.
@@ -31,6 +40,7 @@ pub record KeepsMeaning (read written : List ℕ) : Type 0 where
   pub stands : StandsFor read source
   pub lowered : Module
   pub printed : StandsFor written lowered
+  pub plain : IsPlain lowered
   pub lines : List FrameLine
   pub rest : List ℕ
   pub begins : written ≡ frames_text lines ++ rest

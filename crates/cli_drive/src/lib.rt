@@ -5,7 +5,8 @@
 //! `cli_answers`). A write fault to standard output is told on standard error, and nothing else is written.
 //!
 //! Its clause `headline` says that `lower` keeps the meaning: where the status is 0, the text that was written stands for a
-//! module that does what the source does of the text that was read (`IsLoweredWhole`), by `compiler_theorem`.
+//! module that does what the source does of the text that was read (`IsLoweredWhole`), by `compiler_theorem`. That module
+//! breaks none of the rules of modules without coroutines, and has no coro intrinsic.
 #![tactic(auto)]
 
 mod program;
