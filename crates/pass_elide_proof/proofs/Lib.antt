@@ -7,3 +7,11 @@ pub mod Holding
 pub mod Starts
 pub mod Sized
 pub mod Allocated
+pub mod GivingNone
+pub mod NoSaves
+pub mod Entered
+pub mod TopMoved
+pub mod PhiValues
+pub mod EdgeValues
+pub mod EdgeMoved
+pub mod EdgeBeside

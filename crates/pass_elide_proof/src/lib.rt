@@ -4,6 +4,7 @@
 
 pub mod code;
 pub mod counts;
+pub mod edges;
 pub mod frames;
 pub mod handles;
 pub mod starting;

@@ -1,0 +1,15 @@
+//! Steps at the ends of blocks.
+
+ghost use Rattle.std.specs.Prelude.{ℕ};
+ghost use Rattle.pass_elide_proof.specs.Edges.{IsAtEdge, at_itself};
+ghost use Rattle.pass_elide_proof.specs.Elision.{Elision, elided, framed};
+ghost use Rattle.pass_elide_proof.specs.Match.{AreElided};
+ghost use Rattle.pass_proofs.specs.run_framed.Framed.{framed_step};
+ghost use Rattle.pass_proofs.specs.run_source.declared.state.State.{State};
+
+/// Both runs take the same edge, which leaves no window. The second one stands behind what is put in front of the
+/// terminator.
+pub fn edges_stay_beside()
+    ensures { (e : Elision) (s t : State) (label : ℕ) → AreElided e s t → IsAtEdge e s t label
+        → AreElided e (framed_step (framed e) s) (framed_step (elided e) (at_itself e s t)) }
+{}
