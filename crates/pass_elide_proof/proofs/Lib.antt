@@ -15,3 +15,6 @@ pub mod PhiValues
 pub mod EdgeValues
 pub mod EdgeMoved
 pub mod EdgeBeside
+pub mod GoneApart
+pub mod Asked
+pub mod PassedBy

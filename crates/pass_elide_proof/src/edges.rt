@@ -1,9 +1,11 @@
 //! Steps at the ends of blocks.
 
 ghost use Rattle.std.specs.Prelude.{ℕ};
+ghost use Rattle.pass_elide_proof.specs.Asking.{IsAtQuestion, IsAtWayOn};
 ghost use Rattle.pass_elide_proof.specs.Edges.{IsAtEdge, at_itself};
-ghost use Rattle.pass_elide_proof.specs.Elision.{Elision, elided, framed};
+ghost use Rattle.pass_elide_proof.specs.Elision.{Elision, elided, framed, function_in};
 ghost use Rattle.pass_elide_proof.specs.Match.{AreElided};
+ghost use Rattle.pass_elide_proof.specs.Shapes.{AsksForFrame};
 ghost use Rattle.pass_proofs.specs.run_framed.Framed.{framed_step};
 ghost use Rattle.pass_proofs.specs.run_source.declared.state.State.{State};
 
@@ -12,4 +14,14 @@ ghost use Rattle.pass_proofs.specs.run_source.declared.state.State.{State};
 pub fn edges_stay_beside()
     ensures { (e : Elision) (s t : State) (label : ℕ) → AreElided e s t → IsAtEdge e s t label
         → AreElided e (framed_step (framed e) s) (framed_step (elided e) (at_itself e s t)) }
+{}
+
+/// A given ramp waits where it asks for its frame, while the framed run goes on to the block that allocates. When that
+/// one leaves the block, the ramp passes by it to the block beside.
+pub fn given_ramps_pass_by()
+    ensures waits { (e : Elision) (s t : State) (k : AsksForFrame (function_in e s.top.func) (e.shape s.top.func))
+        (label : ℕ) → AreElided e s t → IsAtQuestion e s t k label → AreElided e (framed_step (framed e) s) t }
+    ensures passes { (e : Elision) (s t : State) (k : AsksForFrame (function_in e s.top.func) (e.shape s.top.func))
+        (label : ℕ) → AreElided e s t → IsAtWayOn e s t k label
+        → AreElided e (framed_step (framed e) s) (framed_step (elided e) t) }
 {}
