@@ -18,3 +18,4 @@ pub mod EdgeBeside
 pub mod GoneApart
 pub mod Asked
 pub mod PassedBy
+pub mod Meeting

@@ -2,9 +2,9 @@
 
 ghost use Rattle.std.specs.Prelude.{ℕ};
 ghost use Rattle.pass_elide_proof.specs.Asking.{IsAtQuestion, IsAtWayOn};
-ghost use Rattle.pass_elide_proof.specs.Edges.{IsAtEdge, at_itself};
+ghost use Rattle.pass_elide_proof.specs.Edges.{IsAtEdge, IsAtMeeting, at_itself};
 ghost use Rattle.pass_elide_proof.specs.Elision.{Elision, elided, framed, function_in};
-ghost use Rattle.pass_elide_proof.specs.Match.{AreElided};
+ghost use Rattle.pass_elide_proof.specs.Match.{AreElided, AreMadeAlike};
 ghost use Rattle.pass_elide_proof.specs.Shapes.{AsksForFrame};
 ghost use Rattle.pass_proofs.specs.run_framed.Framed.{framed_step};
 ghost use Rattle.pass_proofs.specs.run_source.declared.state.State.{State};
@@ -24,4 +24,11 @@ pub fn given_ramps_pass_by()
     ensures passes { (e : Elision) (s t : State) (k : AsksForFrame (function_in e s.top.func) (e.shape s.top.func))
         (label : ℕ) → AreElided e s t → IsAtWayOn e s t k label
         → AreElided e (framed_step (framed e) s) (framed_step (elided e) t) }
+{}
+
+/// Behind blocks of their own both runs come to the same block. Its phis take what is the same, or what both blocks
+/// made at the same position.
+pub fn ways_meet()
+    ensures { (e : Elision) (s t : State) (r : AreElided e s t) (label to : ℕ) → AreMadeAlike e r.homes s.top t.top
+        → IsAtMeeting e s t label to → AreElided e (framed_step (framed e) s) (framed_step (elided e) t) }
 {}
