@@ -19,3 +19,5 @@ pub mod GoneApart
 pub mod Asked
 pub mod PassedBy
 pub mod Meeting
+pub mod Tested
+pub mod Freed

@@ -13,3 +13,4 @@ pub mod Shapes
 pub mod Allocating
 pub mod Edges
 pub mod Asking
+pub mod Freeing

@@ -1,9 +1,10 @@
 //! Steps at the ends of blocks.
 
-ghost use Rattle.std.specs.Prelude.{ℕ};
+ghost use Rattle.std.specs.Prelude.{◌≡◌, ℕ};
 ghost use Rattle.pass_elide_proof.specs.Asking.{IsAtQuestion, IsAtWayOn};
 ghost use Rattle.pass_elide_proof.specs.Edges.{IsAtEdge, IsAtMeeting, at_itself};
 ghost use Rattle.pass_elide_proof.specs.Elision.{Elision, elided, framed, function_in};
+ghost use Rattle.pass_elide_proof.specs.Freeing.{FreesAside, FreesFrame, IsAtFreed, IsAtTest};
 ghost use Rattle.pass_elide_proof.specs.Match.{AreElided, AreMadeAlike};
 ghost use Rattle.pass_elide_proof.specs.Shapes.{AsksForFrame};
 ghost use Rattle.pass_proofs.specs.run_framed.Framed.{framed_step};
@@ -31,4 +32,18 @@ pub fn given_ramps_pass_by()
 pub fn ways_meet()
     ensures { (e : Elision) (s t : State) (r : AreElided e s t) (label to : ℕ) → AreMadeAlike e r.homes s.top t.top
         → IsAtMeeting e s t label to → AreElided e (framed_step (framed e) s) (framed_step (elided e) t) }
+{}
+
+/// An activation whose frame was given waits at the test for null, while the framed run goes on to the block that
+/// frees. When that one leaves the block, the activation passes by it, to a block beside or to the same block.
+pub fn given_activations_pass_by()
+    ensures waits { (e : Elision) (s t : State) (k : FreesFrame (function_in e s.top.func) (e.shape s.top.func))
+        (label : ℕ) → AreElided e s t → IsAtTest e s t k label → AreElided e (framed_step (framed e) s) t }
+    ensures aside { (e : Elision) (s t : State) (k : FreesFrame (function_in e s.top.func) (e.shape s.top.func))
+        (label : ℕ) → AreElided e s t → IsAtFreed e s t k label
+        → FreesAside (function_in e s.top.func) (e.shape s.top.func) k.after k.beside
+        → AreElided e (framed_step (framed e) s) (framed_step (elided e) t) }
+    ensures straight { (e : Elision) (s t : State) (k : FreesFrame (function_in e s.top.func) (e.shape s.top.func))
+        (label : ℕ) → AreElided e s t → IsAtFreed e s t k label → k.after ≡ k.beside
+        → AreElided e (framed_step (framed e) s) (framed_step (elided e) t) }
 {}
