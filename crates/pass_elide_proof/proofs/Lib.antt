@@ -21,3 +21,6 @@ pub mod PassedBy
 pub mod Meeting
 pub mod Tested
 pub mod Freed
+pub mod SameFrames
+pub mod LeftWindows
+pub mod EdgeLeaving

@@ -14,3 +14,4 @@ pub mod Allocating
 pub mod Edges
 pub mod Asking
 pub mod Freeing
+pub mod Leaving

@@ -5,6 +5,7 @@ ghost use Rattle.pass_elide_proof.specs.Asking.{IsAtQuestion, IsAtWayOn};
 ghost use Rattle.pass_elide_proof.specs.Edges.{IsAtEdge, IsAtMeeting, at_itself};
 ghost use Rattle.pass_elide_proof.specs.Elision.{Elision, elided, framed, function_in};
 ghost use Rattle.pass_elide_proof.specs.Freeing.{FreesAside, FreesFrame, IsAtFreed, IsAtTest};
+ghost use Rattle.pass_elide_proof.specs.Leaving.{IsAtExit};
 ghost use Rattle.pass_elide_proof.specs.Match.{AreElided, AreMadeAlike};
 ghost use Rattle.pass_elide_proof.specs.Shapes.{AsksForFrame};
 ghost use Rattle.pass_proofs.specs.run_framed.Framed.{framed_step};
@@ -15,6 +16,12 @@ ghost use Rattle.pass_proofs.specs.run_source.declared.state.State.{State};
 pub fn edges_stay_beside()
     ensures { (e : Elision) (s t : State) (label : ℕ) → AreElided e s t → IsAtEdge e s t label
         → AreElided e (framed_step (framed e) s) (framed_step (elided e) (at_itself e s t)) }
+{}
+
+/// Both runs take the same edge, which leaves windows. The instances of both activations run again.
+pub fn leaving_edges_stay_beside()
+    ensures { (e : Elision) (s t : State) (label : ℕ) → AreElided e s t → IsAtExit e s t label
+        → AreElided e (framed_step (framed e) s) (framed_step (elided e) t) }
 {}
 
 /// A given ramp waits where it asks for its frame, while the framed run goes on to the block that allocates. When that
