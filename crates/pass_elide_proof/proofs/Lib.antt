@@ -24,3 +24,4 @@ pub mod Freed
 pub mod SameFrames
 pub mod LeftWindows
 pub mod EdgeLeaving
+pub mod EdgeFronts
