@@ -3,7 +3,7 @@ use Rattle.std.proofs.Common.{◌≡◌, inl, inr, ℕ, List, [], sym, ap, ◌�
 use Rattle.std.specs.Prelude.{filter}
 use Rattle.pass_elide_proof.proofs.EdgeMoved.{edge_moved}
 use Rattle.pass_elide_proof.proofs.EdgeValues.{goes_too, operand_stands}
-use Rattle.pass_elide_proof.proofs.Entered.{code_of, elided_windows, entered, enters, framed_windows, function_same, same_operand, term_end}
+use Rattle.pass_elide_proof.proofs.EdgeEntered.{code_of, elided_windows, entered, enters, framed_windows, function_same, same_operand, term_end}
 use Rattle.pass_elide_proof.proofs.GivingNone.{own_same}
 use Rattle.pass_elide_proof.proofs.Modules.{finds_alike}
 use Rattle.pass_elide_proof.proofs.NoSaves.{elided_without}

@@ -3,7 +3,7 @@ use Rattle.std.proofs.Common.{◌≡◌, ◌+◌, inl, inr, ℕ, zero, suc, List
 use Rattle.std.specs.Prelude.{Option}
 use Rattle.pass_elide.specs.declared.given.GivenFrame.{GivenFrame}
 use Rattle.pass_elide_proof.proofs.EdgeValues.{map_long}
-use Rattle.pass_elide_proof.proofs.Entered.{end_at}
+use Rattle.pass_elide_proof.proofs.EdgeEntered.{end_at}
 use Rattle.pass_elide_proof.specs.Edges.{at_itself}
 use Rattle.pass_elide_proof.specs.Elision.{Elision, framed, function_in, rooms}
 use Rattle.pass_elide_proof.specs.Match.{AreElided, HasAllocas, sides}

@@ -5,15 +5,15 @@ use Rattle.std.specs.List.{list_all}
 use Rattle.std.specs.Prelude.{Some, filter, slice_get, slice_set}
 use Rattle.pass_elide_proof.proofs.EdgeMoved.{edge_moved}
 use Rattle.pass_elide_proof.proofs.EdgeValues.{goes_too, operand_stands}
-use Rattle.pass_elide_proof.proofs.Entered.{elided_windows, enters, framed_windows, function_same, same_operand}
+use Rattle.pass_elide_proof.proofs.EdgeEntered.{elided_windows, enters, framed_windows, function_same, same_operand}
 use Rattle.pass_elide_proof.proofs.GivingNone.{front_same}
-use Rattle.pass_elide_proof.proofs.GoneApart.{bare_slots}
+use Rattle.pass_elide_proof.proofs.EdgeBare.{bare_slots}
 use Rattle.pass_elide_proof.proofs.LeftWindows.{as_many, back, exited, may_too, own_again, own_there, runs_again, set_instances, there_is}
 use Rattle.pass_elide_proof.proofs.PhiValues.{each_as}
-use Rattle.pass_elide_proof.proofs.SameFrames.{instances_change, was_same}
+use Rattle.pass_elide_proof.proofs.FramesStay.{instances_change, was_same}
 use Rattle.pass_elide_proof.specs.Edges.{GivesNone, IsAlike, IsPhiAlike, chosen_by, label_from, phis_at}
 use Rattle.pass_elide_proof.specs.Elision.{Elision, differs_in, elided, elided_code, framed, function_in, function_in_elided, rooms}
-use Rattle.pass_elide_proof.specs.Leaving.{IsAtExit, IsLeaving}
+use Rattle.pass_elide_proof.specs.EdgesLeaving.{IsAtExit, IsLeaving}
 use Rattle.pass_elide_proof.specs.Match.{AreElided, AreInstances, is_given_mode, sides, was_given}
 use Rattle.pass_proofs.proofs.ir_laws.facts.Lists.{get_within}
 use Rattle.pass_proofs.proofs.ir_laws.facts.Truth.{both_true}

@@ -6,7 +6,7 @@ use Rattle.pass_elide_proof.proofs.GivingNone.{own_same}
 use Rattle.pass_elide_proof.proofs.Sized.{stepped}
 use Rattle.pass_elide_proof.specs.Edges.{GivesNone}
 use Rattle.pass_elide_proof.specs.Elision.{Elision, function_in, rooms}
-use Rattle.pass_elide_proof.specs.Leaving.{IsLeaving}
+use Rattle.pass_elide_proof.specs.EdgesLeaving.{IsLeaving}
 use Rattle.pass_elide_proof.specs.Match.{AreBelow, AreInstances, AreStatuses, Ends, IsFreedAs, Runs, Sides, Sleeps, moved_save}
 use Rattle.pass_proofs.proofs.flow_solver.Lists.{set_here, set_other}
 use Rattle.pass_proofs.proofs.ir_laws.facts.Lists.{get_within}

@@ -12,6 +12,6 @@ pub mod Sizes
 pub mod Shapes
 pub mod Allocating
 pub mod Edges
-pub mod Asking
-pub mod Freeing
-pub mod Leaving
+pub mod EdgesAsking
+pub mod EdgesFreeing
+pub mod EdgesLeaving

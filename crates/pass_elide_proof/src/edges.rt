@@ -1,11 +1,11 @@
 //! Steps at the ends of blocks.
 
 ghost use Rattle.std.specs.Prelude.{[], length, ◌+◌, ◌≡◌, ℕ};
-ghost use Rattle.pass_elide_proof.specs.Asking.{IsAtQuestion, IsAtWayOn};
+ghost use Rattle.pass_elide_proof.specs.EdgesAsking.{IsAtQuestion, IsAtWayOn};
 ghost use Rattle.pass_elide_proof.specs.Edges.{IsAtEdge, IsAtMeeting, at_itself};
 ghost use Rattle.pass_elide_proof.specs.Elision.{Elision, elided, framed, function_in, rooms};
-ghost use Rattle.pass_elide_proof.specs.Freeing.{FreesAside, FreesFrame, IsAtFreed, IsAtTest};
-ghost use Rattle.pass_elide_proof.specs.Leaving.{IsAtExit};
+ghost use Rattle.pass_elide_proof.specs.EdgesFreeing.{FreesAside, FreesFrame, IsAtFreed, IsAtTest};
+ghost use Rattle.pass_elide_proof.specs.EdgesLeaving.{IsAtExit};
 ghost use Rattle.pass_elide_proof.specs.Match.{AreElided, AreMadeAlike};
 ghost use Rattle.pass_elide_proof.specs.Places.{allocas_ahead, front_at};
 ghost use Rattle.pass_elide_proof.specs.Shapes.{AsksForFrame};

@@ -1,5 +1,5 @@
-use Rattle.pass_elide_proof.proofs.Freed.{frees_aside, frees_straight}
-use Rattle.pass_elide_proof.proofs.Tested.{tests_alone}
+use Rattle.pass_elide_proof.proofs.EdgeFreed.{frees_aside, frees_straight}
+use Rattle.pass_elide_proof.proofs.EdgeTested.{tests_alone}
 use Rattle.pass_elide_proof.proofs.edges.given_activations_pass_by.Goals as goal
 
 pub returns-clause-waits : goal.returns-clause-waits

@@ -1,5 +1,5 @@
-use Rattle.pass_elide_proof.proofs.Asked.{asks_alone}
-use Rattle.pass_elide_proof.proofs.PassedBy.{goes_aside}
+use Rattle.pass_elide_proof.proofs.EdgeAsked.{asks_alone}
+use Rattle.pass_elide_proof.proofs.EdgePassed.{goes_aside}
 use Rattle.pass_elide_proof.proofs.edges.given_ramps_pass_by.Goals as goal
 
 pub returns-clause-waits : goal.returns-clause-waits

@@ -1,4 +1,4 @@
-use Rattle.pass_elide_proof.proofs.Meeting.{meets}
+use Rattle.pass_elide_proof.proofs.EdgeMeeting.{meets}
 use Rattle.pass_elide_proof.proofs.edges.ways_meet.Goals as goal
 
 pub returns : goal.returns

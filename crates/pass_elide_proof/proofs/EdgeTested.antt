@@ -2,11 +2,11 @@
 use Rattle.std.proofs.Common.{◌≡◌, ⊎_elim, ℕ, Bool, true, false, length, not, refl, sym, ap, ◌∙◌, subst}
 use Rattle.std.specs.Prelude.{Some, if◌then◌else◌}
 use Rattle.pass_elide_proof.proofs.EdgeValues.{yes_no}
-use Rattle.pass_elide_proof.proofs.Entered.{end_at, same_label, same_term}
+use Rattle.pass_elide_proof.proofs.EdgeEntered.{end_at, same_label, same_term}
 use Rattle.pass_elide_proof.proofs.GivingNone.{front_same}
-use Rattle.pass_elide_proof.proofs.GoneApart.{StandsAtBranch, at_end, enters_bare, gone, held_bare}
+use Rattle.pass_elide_proof.proofs.EdgeBare.{StandsAtBranch, at_end, enters_bare, gone, held_bare}
 use Rattle.pass_elide_proof.specs.Elision.{Elision, framed, function_in, rooms}
-use Rattle.pass_elide_proof.specs.Freeing.{FreesFrame, IsAtTest}
+use Rattle.pass_elide_proof.specs.EdgesFreeing.{FreesFrame, IsAtTest}
 use Rattle.pass_elide_proof.specs.Match.{AreElided, Freeing, IsAt, IsAtEnd, is_given_mode, sides, was_given}
 use Rattle.pass_elide_proof.specs.Places.{instrs_of}
 use Rattle.pass_proofs.specs.ir_model.Names.{position_of}

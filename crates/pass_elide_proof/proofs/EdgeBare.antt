@@ -3,7 +3,7 @@ use Rattle.std.proofs.Common.{◌≡◌, ◌+◌, inl, inr, ℕ, Bool, true, fal
 use Rattle.std.specs.Option.{option_map_or}
 use Rattle.std.specs.Prelude.{None, Option, Some, if◌then◌else◌}
 use Rattle.pass_elide_proof.proofs.EdgeValues.{map_long}
-use Rattle.pass_elide_proof.proofs.Entered.{entered, enters}
+use Rattle.pass_elide_proof.proofs.EdgeEntered.{entered, enters}
 use Rattle.pass_elide_proof.proofs.GivingNone.{no_allocas, own_same}
 use Rattle.pass_elide_proof.proofs.PhiValues.{held_on}
 use Rattle.pass_elide_proof.proofs.TopMoved.{SameHeld, gone_on, moved}

@@ -1,10 +1,10 @@
 -- A given ramp passes by the allocation when the other one leaves it.
 use Rattle.std.proofs.Common.{◌≡◌, ◌<◌, ℕ, Bool, true, false, length, refl, sym, ap, ◌∙◌, subst, arith}
-use Rattle.pass_elide_proof.proofs.Entered.{end_at, function_same, same_label, same_term}
+use Rattle.pass_elide_proof.proofs.EdgeEntered.{end_at, function_same, same_label, same_term}
 use Rattle.pass_elide_proof.proofs.GivingNone.{own_same}
-use Rattle.pass_elide_proof.proofs.GoneApart.{enters_bare, enters_bare_too, gone, held_same, was_ramp}
+use Rattle.pass_elide_proof.proofs.EdgeBare.{enters_bare, enters_bare_too, gone, held_same, was_ramp}
 use Rattle.pass_elide_proof.proofs.TopMoved.{SameHeld}
-use Rattle.pass_elide_proof.specs.Asking.{IsAtWayOn}
+use Rattle.pass_elide_proof.specs.EdgesAsking.{IsAtWayOn}
 use Rattle.pass_elide_proof.specs.Edges.{GivesNone, IsEntering}
 use Rattle.pass_elide_proof.specs.Elision.{Elision, elided, framed, function_in, rooms}
 use Rattle.pass_elide_proof.specs.Match.{AreElided, Aside, IsAt, held_name, is_given_mode, sides, was_given}

@@ -1,12 +1,12 @@
 -- An activation whose frame was given passes by the block that frees when the other one leaves it.
 use Rattle.std.proofs.Common.{◌≡◌, ℕ, Bool, true, false, length, refl, sym, ap, ◌∙◌, subst, arith}
 use Rattle.std.specs.Prelude.{if◌then◌else◌}
-use Rattle.pass_elide_proof.proofs.Entered.{end_at, function_same, same_label, same_term}
+use Rattle.pass_elide_proof.proofs.EdgeEntered.{end_at, function_same, same_label, same_term}
 use Rattle.pass_elide_proof.proofs.GivingNone.{own_same}
-use Rattle.pass_elide_proof.proofs.GoneApart.{enters_bare, enters_bare_too, gone, held_bare}
+use Rattle.pass_elide_proof.proofs.EdgeBare.{enters_bare, enters_bare_too, gone, held_bare}
 use Rattle.pass_elide_proof.specs.Edges.{GivesNone, IsEntering}
 use Rattle.pass_elide_proof.specs.Elision.{Elision, elided, framed, function_in, rooms}
-use Rattle.pass_elide_proof.specs.Freeing.{FreesAside, FreesFrame, IsAtFreed}
+use Rattle.pass_elide_proof.specs.EdgesFreeing.{FreesAside, FreesFrame, IsAtFreed}
 use Rattle.pass_elide_proof.specs.Match.{AreElided, Aside, Beside, IsAt, is_given_mode, sides, was_given}
 use Rattle.pass_elide_proof.specs.Places.{instrs_of}
 use Rattle.pass_proofs.specs.ir_model.Names.{position_of}

@@ -2,11 +2,11 @@
 use Rattle.std.proofs.Common.{◌≡◌, ◌<◌, ⊎_elim, ℕ, Bool, true, false, length, sym, ap, ◌∙◌, subst, arith}
 use Rattle.std.specs.Prelude.{None, Some}
 use Rattle.pass_elide_proof.proofs.EdgeValues.{some_none}
-use Rattle.pass_elide_proof.proofs.Entered.{end_at, same_label, same_term}
+use Rattle.pass_elide_proof.proofs.EdgeEntered.{end_at, same_label, same_term}
 use Rattle.pass_elide_proof.proofs.GivingNone.{front_same}
-use Rattle.pass_elide_proof.proofs.GoneApart.{StandsAtBranch, at_end, enters_bare, gone, held_same}
+use Rattle.pass_elide_proof.proofs.EdgeBare.{StandsAtBranch, at_end, enters_bare, gone, held_same}
 use Rattle.pass_elide_proof.proofs.TopMoved.{SameHeld}
-use Rattle.pass_elide_proof.specs.Asking.{IsAtQuestion}
+use Rattle.pass_elide_proof.specs.EdgesAsking.{IsAtQuestion}
 use Rattle.pass_elide_proof.specs.Elision.{Elision, framed, function_in, rooms}
 use Rattle.pass_elide_proof.specs.Match.{AreElided, IsAt, IsAtEnd, Waiting, held_name, is_given_mode, sides, was_given}
 use Rattle.pass_elide_proof.specs.Places.{instrs_of}

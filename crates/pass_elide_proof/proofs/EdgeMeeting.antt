@@ -1,8 +1,8 @@
 -- Both runs come to a block over blocks of their own.
 use Rattle.std.proofs.Common.{◌≡◌, ℕ, Bool, true, false, List, [], ◌∷◌, length, refl, sym, ap, ◌∙◌, subst, arith}
 use Rattle.pass_elide_proof.proofs.EdgeValues.{asked_kept, operand_stands, released_kept}
-use Rattle.pass_elide_proof.proofs.Entered.{end_at, entered, enters, function_same}
-use Rattle.pass_elide_proof.proofs.GoneApart.{bare_made}
+use Rattle.pass_elide_proof.proofs.EdgeEntered.{end_at, entered, enters, function_same}
+use Rattle.pass_elide_proof.proofs.EdgeBare.{bare_made}
 use Rattle.pass_elide_proof.proofs.PhiValues.{StandsBut, all_long, answers_apart, each_as, held_on, phis_but, phis_elsewhere}
 use Rattle.pass_elide_proof.proofs.TopMoved.{SameHeld, moved}
 use Rattle.pass_elide_proof.specs.Edges.{IsAtMeeting, IsEntering, IsNoAnswer, MadeAlike, MeetsAlike, SameOperand, TakesAlike, label_from, phis_at}
