@@ -1,6 +1,6 @@
 -- States that stand beside each other still do where only their topmost activations have gone on, each in its way.
-use Rattle.std.proofs.Common.{◌≡◌, ◌+◌, ℕ, zero, suc, Bool, true, List, ◌∷◌, refl, sym, ap, ◌∙◌}
-use Rattle.std.specs.Prelude.{None, Option, Some}
+use Rattle.std.proofs.Common.{◌≡◌, ◌≢◌, ◌+◌, ℕ, zero, suc, Bool, true, List, ◌∷◌, refl, sym, ap, ◌∙◌, arith}
+use Rattle.std.specs.Prelude.{None, Option, Some, slice_get}
 use Rattle.pass_elide_proof.specs.Counts.{capped, given_frames}
 use Rattle.pass_elide_proof.specs.Elision.{Elision}
 use Rattle.pass_elide_proof.specs.Match.{AreActivations, AreAsked, AreElided, AreNamed, AreReleased, HasAllocas, HoldApart, HoldsBlock, IsAt, Sides, frame_size, held_blocks, held_name, holds_one, is_given_mode, sides, was_given}
@@ -94,20 +94,27 @@ module _ (e : Elision) (s t : State) (r : AreElided e s t) (block at : ℕ) (vs 
         → (v : ℕ) × (held_name e mode s.top ≡ Some v) × (value_in s.top.values v ≡ value_in vs u)
     old_name u is = was_held s.top.values vs (held_name e mode s.top) (held_name e mode a) u held is
 
+    -- what it holds no other activation does
+    once_top : (k p q : ℕ) (b h : Activation) → slice_get s.below k ≡ Some b → slice_get t.below k ≡ Some h
+        → held_name e mode a ≡ Some p → held_name e (is_given_mode h.mode) b ≡ Some q
+        → value_in vs p ≢ value_in b.values q
+    once_top k p q b h eb eh ha hb same =
+        let old = old_name p ha in
+        let further : 0 ≡ suc k → ⊥ = λ is. absurd (omega (arith, is)) in
+        r.once 0 (suc k) old.0 q s.top b t.top h further refl eb refl eh old.1 hb (old.2 ∙ same)
+
     once : HoldApart e (a ∷ s.below) (c ∷ t.below)
     once zero zero p q x b y h ne ex eb ey eh hx hb same = ne refl
     once zero (suc k) p q x b y h ne ex eb ey eh hx hb same =
         let first : a ≡ x = cc in
         let second : c ≡ y = cc in
-        let old = old_name p ((λ j. held_name e (is_given_mode (second j).mode) (first j)) ∙ hx) in
-        r.once zero (suc k) old.0 q s.top b t.top h ne refl eb refl eh old.1 hb
-        (old.2 ∙ ((λ j. value_in (first j).values p) ∙ same))
+        once_top k p q b h eb eh ((λ j. held_name e (is_given_mode (second j).mode) (first j)) ∙ hx) hb
+        (ap (λ (z : Activation). value_in z.values p) first ∙ same)
     once (suc j) zero p q x b y h ne ex eb ey eh hx hb same =
         let first : a ≡ b = cc in
         let second : c ≡ h = cc in
-        let old = old_name q ((λ i. held_name e (is_given_mode (second i).mode) (first i)) ∙ hb) in
-        r.once (suc j) zero p old.0 x s.top y t.top ne ex refl ey refl hx old.1
-        (same ∙ ((λ i. value_in (sym first i).values q) ∙ sym old.2))
+        once_top j q p x y ex ey ((λ i. held_name e (is_given_mode (second i).mode) (first i)) ∙ hb) hx
+        (ap (λ (z : Activation). value_in z.values q) first ∙ sym same)
     once (suc j) (suc k) p q x b y h ne ex eb ey eh hx hb same =
         r.once (suc j) (suc k) p q x b y h ne ex eb ey eh hx hb same
 
