@@ -7,3 +7,15 @@ pub mod Holding
 pub mod Starts
 pub mod Sized
 pub mod Allocated
+pub mod Distances
+pub mod Reading
+pub mod Unseen
+pub mod Lengths
+pub mod SameCounts
+pub mod Onward
+pub mod Refilled
+pub mod OwnPlaces
+pub mod Followed
+pub mod Settled
+pub mod SetNames
+pub mod OrdinarySteps
