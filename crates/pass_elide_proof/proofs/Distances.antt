@@ -146,24 +146,28 @@ module _ (e : Elision) where
 
     inner_same : (args : List Arg) (ty : Ty) (x y : Option ℕ) → IsSameDistance x y → AreSteadyInside m ty args
         → Each Stand args
-        → IsSameDistance (inner_distance m ty x (indices_of m env args)) (inner_distance m ty y (indices_of q other args))
+        → IsSameDistance (inner_distance m ty x (indices_of m env args))
+        (inner_distance m ty y (indices_of q other args))
     inner_same [] ty x y h s k = h
     inner_same (a ∷ args) ty x y h s k =
         let u = unnamed m ty in
         let p = part_same u a s.0 k.0 in
         on (part_at m u (here a)) (part_at m u (there a)) p
-        (inner_same args (part_at m u (literal a)).1 (plus x (part_at m u (here a)).0) (plus y (part_at m u (there a)).0)
+        (inner_same args (part_at m u (literal a)).1 (plus x (part_at m u (here a)).0)
+        (plus y (part_at m u (there a)).0)
         (plus_same x y (part_at m u (here a)).0 (part_at m u (there a)).0 h p.0) s.1 k.1)
       where
         on : (p r : Option ℕ × Ty) → IsPart p r (part_at m (unnamed m ty) (literal a)).1
-            → IsSameDistance (inner_distance m (part_at m (unnamed m ty) (literal a)).1 (plus x p.0) (indices_of m env args))
+            → IsSameDistance (inner_distance m (part_at m (unnamed m ty) (literal a)).1 (plus x p.0)
+            (indices_of m env args))
             (inner_distance m (part_at m (unnamed m ty) (literal a)).1 (plus y r.0) (indices_of q other args))
             → IsSameDistance (inner_distance m p.1 (plus x p.0) (indices_of m env args))
             (inner_distance m r.1 (plus y r.0) (indices_of q other args))
         on p r k h =
             subst (λ (t : Ty). IsSameDistance (inner_distance m t (plus x p.0) (indices_of m env args))
             (inner_distance m r.1 (plus y r.0) (indices_of q other args))) (sym k.1)
-            (subst (λ (t : Ty). IsSameDistance (inner_distance m (part_at m (unnamed m ty) (literal a)).1 (plus x p.0) (indices_of m env args))
+            (subst (λ (t : Ty). IsSameDistance (inner_distance m (part_at m (unnamed m ty) (literal a)).1 (plus x p.0)
+            (indices_of m env args))
             (inner_distance m t (plus y r.0) (indices_of q other args))) (sym k.2) h)
 
     same_distance : (ty : Ty) (args : List Arg) → AreSteady m ty args → Each Stand args

@@ -140,8 +140,8 @@ module _ (e : Elision) (s t : State) (n : ℕ) (r : AreElided e s (with_at t n))
           (step_over r.homes r.hides same_maps ours theirs recounted_work (work_of t) here here
           (frame_rights_fit (framed e) s.instances) (frame_rights_fit (elided e) t.instances) joined
           (transferred e (frame_rights (framed e) s.instances) (frame_rights (elided e) t.instances)
-          (function_of (framed e).given s) (function_of (elided e).given t) r.homes r.globals s.top.values t.top.values i
-          reads own.indices no_slot bytes))
+          (function_of (framed e).given s) (function_of (elided e).given t) r.homes r.globals s.top.values t.top.values
+          i reads own.indices no_slot bytes))
 
       pub first_refilled : AreRefilled s.world.memory v.world.memory
       first_refilled = subst (OnlyRefills s.world.memory) does (step_only ours (work_of s) here no_slot)

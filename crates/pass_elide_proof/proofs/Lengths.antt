@@ -117,7 +117,8 @@ module _ (c : Context) (w : Work) (b : ℕ) (full : IsFull w.world.memory b) whe
     abbrev NoSlot : Callee → Type 0
     NoSlot callee = HasNoSlot (AtInstr (Instr.Call result must_tail ty callee args))
 
-    intrinsic_needs : (i : Intrinsic) (vs : List Value) → NoSlot (Callee.Intrinsic i) → IntrinsicNeeds c w Keeps Any i vs
+    intrinsic_needs : (i : Intrinsic) (vs : List Value) → NoSlot (Callee.Intrinsic i)
+        → IntrinsicNeeds c w Keeps Any i vs
     intrinsic_needs Intrinsic.LifetimeStart vs s = absurd s
     intrinsic_needs Intrinsic.LifetimeEnd vs s = absurd s
     intrinsic_needs Intrinsic.MemcpyI64 vs s = copies_need vs

@@ -19,3 +19,6 @@ pub mod Followed
 pub mod Settled
 pub mod SetNames
 pub mod OrdinarySteps
+pub mod Markers
+pub mod Grown
+pub mod MakingSteps

@@ -84,7 +84,8 @@ pub acts : (g : FramedGiven) (s u : State) (i : Instr) (a : Action) → s.outcom
     → action_of (framed_context g s) (work_of s) (AtInstr i) ≡ a → framed_act g s a ≡ Ok u → framed_step g s ≡ u
 acts g s u i a runs there none is does =
     stepped g s u (AtInstr i) runs there
-    (ap (λ (o : Option (Result State Cause)). unwrap_or o (framed_act g s (action_of (framed_context g s) (work_of s) (AtInstr i))))
+    (ap (λ (o : Option (Result State Cause)). unwrap_or o (framed_act g s (action_of (framed_context g s) (work_of s)
+    (AtInstr i))))
     (no_given g s i none)
     ∙ (ap (framed_act g s) is ∙ does))
 

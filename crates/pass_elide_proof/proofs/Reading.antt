@@ -196,7 +196,8 @@ module _ (e : Elision) (R T : Rights) (f h : Function) where
         → AreSameDistances c d env other (AtInstr i) (AtInstr i)
     distances (Instr.Gep r inbounds ty p indices) reads steady =
         goes_as_far e homes env other ty indices steady
-        (args_stand e homes globals env other indices (λ v is. reads v (or_right (is_local v p) (is_in_args v indices) is)))
+        (args_stand e homes globals env other indices
+        (λ v is. reads v (or_right (is_local v p) (is_in_args v indices) is)))
     distances (Instr.Call result must_tail ty callee args) reads steady = tt
     distances (Instr.Binary r op flags ty a b) reads steady = tt
     distances (Instr.Icmp r pred ty a b) reads steady = tt

@@ -41,7 +41,7 @@ each_of_each P Q go (x ∷ xs) h = (go x h.0, each_of_each P Q go xs h.1)
 abbrev pub ahead_of : Activation → Env → List Slot → Activation
 ahead_of a values slots = record a { at = a.at + 1; values = values; slots = slots }
 
--- Both go on by one place. What doesn't differ has values that stand for each other, and what tells of a given frame, of
+-- Both go on by one place. What doesn't differ has values that stand for each other. What tells of a given frame, of
 -- allocas put in front and of a block that is held stays.
 pub record KeepsTop (e : Elision) (s t : State) (more : List Home) (first second : Env) : Type 0 where
   pub place : (ss ts : List Slot)
@@ -125,7 +125,8 @@ module _ (e : Elision) (s t : State) (n : ℕ) (r : AreElided e s (with_at t n))
             ⊎_elim (λ none. inl (same.0 ∙ none))
             (λ both. inr (same.1 ∙ both.0, (both.1.0, both.1.1, same.0 ∙ both.1.2))) (old.freed name is);
         tested = λ name p is. let same = keeps.tested was name p is in
-            ⊎_elim (λ none. inl (same.0 ∙ none)) (λ both. inr (same.0 ∙ both.0, same.1 ∙ both.1)) (old.tested name p is);
+            ⊎_elim (λ none. inl (same.0 ∙ none)) (λ both. inr (same.0 ∙ both.0, same.1 ∙ both.1))
+            (old.tested name p is);
       }
 
   -- ---- allocas put in front
@@ -257,7 +258,8 @@ module _ (e : Elision) (s t : State) (n : ℕ) (r : AreElided e s (with_at t n))
       mates = mates;
       count = r.count;
       instances = λ j a b at to.
-          instance_on e d v.world.memory y.world.memory r.homes more r.hides later on j a b to (r.instances j a b at to);
+          instance_on e d v.world.memory y.world.memory r.homes more r.hides later on j a b to
+          (r.instances j a b at to);
       top = top ss ts same;
       below = below_on e d v.world.memory y.world.memory r.homes more r.hides later on s.below t.below below r.below;
       once = once ss ts;

@@ -1,9 +1,14 @@
 //! Ordinary instructions, which both runs execute.
 
+ghost use Rattle.std.specs.Prelude.{Bool, List, Option, ℕ};
 ghost use Rattle.pass_elide_proof.specs.Elision.{Elision, elided, framed};
+ghost use Rattle.pass_elide_proof.specs.Making.{IsAtAlloca, IsAtAllocator};
 ghost use Rattle.pass_elide_proof.specs.Match.{AreElided};
 ghost use Rattle.pass_elide_proof.specs.Ordinary.{IsAtOrdinary, StandsInFront};
+ghost use Rattle.pass_proofs.specs.ir_model.Ty.{Ty};
 ghost use Rattle.pass_proofs.specs.ir_model.declared.instr.Instr.{Instr};
+ghost use Rattle.pass_proofs.specs.ir_model.declared.operand.Allocator.{Allocator};
+ghost use Rattle.pass_proofs.specs.ir_model.declared.operand.Arg.{Arg};
 ghost use Rattle.pass_proofs.specs.run_framed.Framed.{framed_step};
 ghost use Rattle.pass_proofs.specs.run_source.declared.state.State.{State};
 ghost use Rattle.pass_proofs.specs.run_step.Step.{Work};
@@ -13,4 +18,16 @@ ghost use Rattle.pass_proofs.specs.run_step.Step.{Work};
 pub fn ordinary_steps_stay_beside()
     ensures { (e : Elision) (s t : State) (i : Instr) (v : Work) → AreElided e s t → StandsInFront e s t
         → IsAtOrdinary e s t i v → AreElided e (framed_step (framed e) s) (framed_step (elided e) t) }
+{}
+
+/// So they do behind an alloca of the function, and behind a call of an allocator by which both runs allocate. The new
+/// block stands in the other one's.
+pub fn new_blocks_stay_beside()
+    ensures allocas { (e : Elision) (s t : State) (name : ℕ) (ty : Ty) (align : ℕ) → AreElided e s t
+        → StandsInFront e s t → IsAtAlloca e s t name ty align
+        → AreElided e (framed_step (framed e) s) (framed_step (elided e) t) }
+    ensures allocators { (e : Elision) (s t : State) (a : Allocator) (result : Option ℕ) (must_tail : Bool)
+        (ty : Option Ty) (args : List Arg) → AreElided e s t → StandsInFront e s t
+        → IsAtAllocator e s t a result must_tail ty args
+        → AreElided e (framed_step (framed e) s) (framed_step (elided e) t) }
 {}
