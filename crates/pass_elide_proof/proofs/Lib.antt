@@ -22,3 +22,5 @@ pub mod OrdinarySteps
 pub mod Markers
 pub mod Grown
 pub mod MakingSteps
+pub mod ChangedBoth
+pub mod MarkingSteps

@@ -13,3 +13,4 @@ pub mod Shapes
 pub mod Allocating
 pub mod Ordinary
 pub mod Making
+pub mod Marking

@@ -3,13 +3,16 @@
 ghost use Rattle.std.specs.Prelude.{Bool, List, Option, ℕ};
 ghost use Rattle.pass_elide_proof.specs.Elision.{Elision, elided, framed};
 ghost use Rattle.pass_elide_proof.specs.Making.{IsAtAlloca, IsAtAllocator};
+ghost use Rattle.pass_elide_proof.specs.Marking.{IsAtDeallocation, IsAtMarker};
 ghost use Rattle.pass_elide_proof.specs.Match.{AreElided};
 ghost use Rattle.pass_elide_proof.specs.Ordinary.{IsAtOrdinary, StandsInFront};
 ghost use Rattle.pass_proofs.specs.ir_model.Ty.{Ty};
 ghost use Rattle.pass_proofs.specs.ir_model.declared.instr.Instr.{Instr};
 ghost use Rattle.pass_proofs.specs.ir_model.declared.operand.Allocator.{Allocator};
 ghost use Rattle.pass_proofs.specs.ir_model.declared.operand.Arg.{Arg};
+ghost use Rattle.pass_proofs.specs.ir_model.declared.operand.Intrinsic.{Intrinsic};
 ghost use Rattle.pass_proofs.specs.run_framed.Framed.{framed_step};
+ghost use Rattle.pass_proofs.specs.run_memory.declared.block.MemoryBlock.{MemoryBlock};
 ghost use Rattle.pass_proofs.specs.run_source.declared.state.State.{State};
 ghost use Rattle.pass_proofs.specs.run_step.Step.{Work};
 
@@ -29,5 +32,18 @@ pub fn new_blocks_stay_beside()
     ensures allocators { (e : Elision) (s t : State) (a : Allocator) (result : Option ℕ) (must_tail : Bool)
         (ty : Option Ty) (args : List Arg) → AreElided e s t → StandsInFront e s t
         → IsAtAllocator e s t a result must_tail ty args
+        → AreElided e (framed_step (framed e) s) (framed_step (elided e) t) }
+{}
+
+/// So they do behind a lifetime marker and behind a deallocation, where no frame lies in the block. Both runs change
+/// the block alike.
+pub fn changed_blocks_stay_beside()
+    ensures markers { (e : Elision) (s t : State) (j : Intrinsic) (result : Option ℕ) (must_tail : Bool)
+        (ty : Option Ty) (args : List Arg) → AreElided e s t → StandsInFront e s t
+        → IsAtMarker e s t j result must_tail ty args
+        → AreElided e (framed_step (framed e) s) (framed_step (elided e) t) }
+    ensures deallocations { (e : Elision) (s t : State) (a : Allocator) (result : Option ℕ) (must_tail : Bool)
+        (ty : Option Ty) (args : List Arg) (memory : List MemoryBlock) → AreElided e s t → StandsInFront e s t
+        → IsAtDeallocation e s t a result must_tail ty args memory
         → AreElided e (framed_step (framed e) s) (framed_step (elided e) t) }
 {}
