@@ -24,3 +24,4 @@ pub mod Grown
 pub mod MakingSteps
 pub mod ChangedBoth
 pub mod MarkingSteps
+pub mod AsideSteps

@@ -14,3 +14,4 @@ pub mod Allocating
 pub mod Ordinary
 pub mod Making
 pub mod Marking
+pub mod Asides

@@ -1,6 +1,7 @@
 //! Ordinary instructions, which both runs execute.
 
 ghost use Rattle.std.specs.Prelude.{Bool, List, Option, ℕ};
+ghost use Rattle.pass_elide_proof.specs.Asides.{IsAtLoads};
 ghost use Rattle.pass_elide_proof.specs.Elision.{Elision, elided, framed};
 ghost use Rattle.pass_elide_proof.specs.Making.{IsAtAlloca, IsAtAllocator};
 ghost use Rattle.pass_elide_proof.specs.Marking.{IsAtDeallocation, IsAtMarker};
@@ -11,8 +12,10 @@ ghost use Rattle.pass_proofs.specs.ir_model.declared.instr.Instr.{Instr};
 ghost use Rattle.pass_proofs.specs.ir_model.declared.operand.Allocator.{Allocator};
 ghost use Rattle.pass_proofs.specs.ir_model.declared.operand.Arg.{Arg};
 ghost use Rattle.pass_proofs.specs.ir_model.declared.operand.Intrinsic.{Intrinsic};
+ghost use Rattle.pass_proofs.specs.ir_model.declared.operand.Operand.{Operand};
 ghost use Rattle.pass_proofs.specs.run_framed.Framed.{framed_step};
 ghost use Rattle.pass_proofs.specs.run_memory.declared.block.MemoryBlock.{MemoryBlock};
+ghost use Rattle.pass_proofs.specs.run_memory.declared.pointer.Value.{Value};
 ghost use Rattle.pass_proofs.specs.run_source.declared.state.State.{State};
 ghost use Rattle.pass_proofs.specs.run_step.Step.{Work};
 
@@ -45,5 +48,13 @@ pub fn changed_blocks_stay_beside()
     ensures deallocations { (e : Elision) (s t : State) (a : Allocator) (result : Option ℕ) (must_tail : Bool)
         (ty : Option Ty) (args : List Arg) (memory : List MemoryBlock) → AreElided e s t → StandsInFront e s t
         → IsAtDeallocation e s t a result must_tail ty args memory
+        → AreElided e (framed_step (framed e) s) (framed_step (elided e) t) }
+{}
+
+/// Where one block stands aside of the other, each run loads a kept value into a name of its own. The blocks still
+/// stand so afterwards, and what both have made stands for each other.
+pub fn loads_stay_aside()
+    ensures { (e : Elision) (s t : State) (u v align : ℕ) (ty : Ty) (cell : Operand) (loaded : Value)
+        → AreElided e s t → IsAtLoads e s t u v align ty cell loaded
         → AreElided e (framed_step (framed e) s) (framed_step (elided e) t) }
 {}
