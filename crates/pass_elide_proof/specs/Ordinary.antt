@@ -1,8 +1,8 @@
 -- An ordinary instruction that both runs execute: what is asked of the place at which it stands.
 use Rattle.std.specs.Prelude.{◌≡◌, ◌≢◌, ◌<◌, ◌+◌, ℕ, Bool, true, false, List, [], ◌∷◌, length, IsTrue, Some, None}
 use Rattle.pass_elide_proof.specs.Elision.{Elision, Shape, differs_in, framed, function_in, rooms}
-use Rattle.pass_elide_proof.specs.Match.{is_given_mode, sides, was_given}
-use Rattle.pass_elide_proof.specs.Places.{front_at, own_at, room_at}
+use Rattle.pass_elide_proof.specs.Match.{AreElided, is_given_mode, sides, was_given}
+use Rattle.pass_elide_proof.specs.Places.{allocas_ahead, front_at, own_at, room_at}
 use Rattle.pass_proofs.specs.ir_base.declared.name.Name.{Name}
 use Rattle.pass_proofs.specs.ir_base.declared.outcome.Outcome.{Outcome}
 use Rattle.pass_proofs.specs.ir_model.Layout.{unnamed}
@@ -60,6 +60,10 @@ with_at s at = record s { top = record s.top { at = at } }
 -- the elided run's activation stands in front of all that is put before the place
 abbrev pub StandsInFront : Elision → State → State → Type 0
 StandsInFront e s t = t.top.at ≡ front_at (rooms e s.top.func) (function_in e s.top.func) s.top.block s.top.at
+
+-- the allocas that are put in front of the entry block have been made
+abbrev pub HasMadeAll : (e : Elision) (s t : State) → AreElided e s t → Type 0
+HasMadeAll e s t r = length r.top.own ≡ length (allocas_ahead (rooms e s.top.func) (function_in e s.top.func))
 
 -- The instruction is no call with a room, and stands at both places. All that is put in front of it has been executed.
 pub record IsAtOwn (e : Elision) (s t : State) (i : Instr) : Type 0 where

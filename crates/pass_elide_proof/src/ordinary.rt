@@ -6,7 +6,7 @@ ghost use Rattle.pass_elide_proof.specs.Elision.{Elision, elided, framed};
 ghost use Rattle.pass_elide_proof.specs.Making.{IsAtAlloca, IsAtAllocator};
 ghost use Rattle.pass_elide_proof.specs.Marking.{IsAtDeallocation, IsAtMarker};
 ghost use Rattle.pass_elide_proof.specs.Match.{AreElided};
-ghost use Rattle.pass_elide_proof.specs.Ordinary.{IsAtOrdinary, StandsInFront};
+ghost use Rattle.pass_elide_proof.specs.Ordinary.{HasMadeAll, IsAtOrdinary, StandsInFront, with_at};
 ghost use Rattle.pass_proofs.specs.ir_model.Ty.{Ty};
 ghost use Rattle.pass_proofs.specs.ir_model.declared.instr.Instr.{Instr};
 ghost use Rattle.pass_proofs.specs.ir_model.declared.operand.Allocator.{Allocator};
@@ -56,5 +56,28 @@ pub fn changed_blocks_stay_beside()
 pub fn loads_stay_aside()
     ensures { (e : Elision) (s t : State) (u v align : ℕ) (ty : Ty) (cell : Operand) (loaded : Value)
         → AreElided e s t → IsAtLoads e s t u v align ty cell loaded
+        → AreElided e (framed_step (framed e) s) (framed_step (elided e) t) }
+{}
+
+/// So it is at the first place of a function, once the allocas have been made that are put in front of it. Up to then
+/// the relation has the elided run's activation in front of them.
+pub fn first_steps_stay_beside()
+    ensures ordinary { (e : Elision) (s t : State) (n : ℕ) (i : Instr) (v : Work) (r : AreElided e s (with_at t n))
+        → HasMadeAll e s (with_at t n) r → IsAtOrdinary e s t i v
+        → AreElided e (framed_step (framed e) s) (framed_step (elided e) t) }
+    ensures allocas { (e : Elision) (s t : State) (n : ℕ) (name : ℕ) (ty : Ty) (align : ℕ)
+        (r : AreElided e s (with_at t n)) → HasMadeAll e s (with_at t n) r → IsAtAlloca e s t name ty align
+        → AreElided e (framed_step (framed e) s) (framed_step (elided e) t) }
+    ensures allocators { (e : Elision) (s t : State) (n : ℕ) (a : Allocator) (result : Option ℕ) (must_tail : Bool)
+        (ty : Option Ty) (args : List Arg) (r : AreElided e s (with_at t n)) → HasMadeAll e s (with_at t n) r
+        → IsAtAllocator e s t a result must_tail ty args
+        → AreElided e (framed_step (framed e) s) (framed_step (elided e) t) }
+    ensures markers { (e : Elision) (s t : State) (n : ℕ) (j : Intrinsic) (result : Option ℕ) (must_tail : Bool)
+        (ty : Option Ty) (args : List Arg) (r : AreElided e s (with_at t n)) → HasMadeAll e s (with_at t n) r
+        → IsAtMarker e s t j result must_tail ty args
+        → AreElided e (framed_step (framed e) s) (framed_step (elided e) t) }
+    ensures deallocations { (e : Elision) (s t : State) (n : ℕ) (a : Allocator) (result : Option ℕ) (must_tail : Bool)
+        (ty : Option Ty) (args : List Arg) (memory : List MemoryBlock) (r : AreElided e s (with_at t n))
+        → HasMadeAll e s (with_at t n) r → IsAtDeallocation e s t a result must_tail ty args memory
         → AreElided e (framed_step (framed e) s) (framed_step (elided e) t) }
 {}
