@@ -25,3 +25,5 @@ pub mod MakingSteps
 pub mod ChangedBoth
 pub mod MarkingSteps
 pub mod AsideSteps
+pub mod SlotsLead
+pub mod SlotStates

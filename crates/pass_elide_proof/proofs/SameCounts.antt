@@ -1,9 +1,12 @@
--- A step that allocates no block leaves the count of allocator calls as it is. A new slot has the next block.
-use Rattle.std.proofs.Common.{◌≡◌, ℕ, Bool, true, false, List, length, Option, Result, Ok, Err, refl, if◌then◌else◌}
+-- A step that allocates no block leaves the count of allocator calls as it is. A new slot leads
+-- to a block that there is.
+use Rattle.std.proofs.Common.{◌≡◌, ◌<◌, ℕ, Bool, true, false, List, [], ◌∷◌, length, arith, length-append, Option, Result, Ok, Err, refl, if◌then◌else◌}
 use Rattle.std.specs.Prelude.{None, Some, slice_get}
+use Rattle.pass_elide_proof.proofs.ChangedBoth.{changed_many}
 use Rattle.pass_proofs.specs.ir_base.declared.cause.Cause.{Cause}
 use Rattle.pass_proofs.specs.ir_base.declared.ops.Pred.{Pred}
 use Rattle.pass_proofs.specs.ir_base.declared.outcome.Word.{Word}
+use Rattle.pass_proofs.specs.ir_model.Layout.{size_of}
 use Rattle.pass_proofs.specs.ir_model.Names.{declaration_named, function_named}
 use Rattle.pass_proofs.specs.ir_model.Ty.{Ty, array, int, named, ptr, structure, token}
 use Rattle.pass_proofs.specs.ir_model.declared.instr.Instr.{Instr}
@@ -12,10 +15,13 @@ use Rattle.pass_proofs.specs.ir_model.declared.operand.Arg.{Arg}
 use Rattle.pass_proofs.specs.ir_model.declared.operand.Callee.{Callee}
 use Rattle.pass_proofs.specs.ir_model.declared.operand.Intrinsic.{Intrinsic}
 use Rattle.pass_proofs.specs.run_ints.Numbers.{binary}
-use Rattle.pass_proofs.specs.run_memory.Memory.{compare, copy, load, store}
+use Rattle.pass_proofs.specs.run_laws.memory.Standing.{blank_block}
+use Rattle.pass_proofs.specs.run_memory.Memory.{end, ended, fresh, compare, copy, load, store}
+use Rattle.pass_proofs.specs.run_memory.declared.block.Kind.{Kind}
+use Rattle.pass_proofs.specs.run_memory.declared.block.MemoryBlock.{MemoryBlock}
 use Rattle.pass_proofs.specs.run_memory.declared.pointer.Pointer.{Pointer}
 use Rattle.pass_proofs.specs.run_memory.declared.pointer.Value.{Value}
-use Rattle.pass_proofs.specs.run_step.Step.{Action, AtInstr, Context, Done, Enter, NewSlot, Stuck, Work, action_of, by_pred, compared, copied_bytes, done, fits_function, if_alignment, indirect_call, instr_action, intrinsic_call, is_alignment, named_call, observed, set_memory, set_value, value_at, with_length, words_of}
+use Rattle.pass_proofs.specs.run_step.Step.{Action, AtInstr, Context, Done, alloca_kind, has_markers, Enter, NewSlot, Stuck, Work, action_of, by_pred, compared, copied_bytes, done, fits_function, if_alignment, indirect_call, instr_action, intrinsic_call, is_alignment, named_call, observed, set_memory, set_value, value_at, with_length, words_of}
 use Rattle.pass_proofs.specs.run_step.Values.{access_of, address, arg_value, arg_values, nth, number_at, stored, truth_value, value_in, value_of}
 
 -- a call of an allocator
@@ -24,10 +30,19 @@ IsNoAllocation (Instr.Call result must_tail ty (Callee.Allocator Allocator.Mallo
 IsNoAllocation (Instr.Call result must_tail ty (Callee.Allocator Allocator.Znwm) args) = ⊥
 IsNoAllocation _ = Unit {0}
 
+slot_there : (m : List MemoryBlock) (size align : ℕ) (kind : Kind) (t : Bool)
+    → length m < length (if t then end (fresh m size align kind) (length m) else fresh m size align kind)
+slot_there m size align kind false =
+    let long = length-append m (blank_block size align kind ∷ []) in omega (arith, long)
+slot_there m size align kind true =
+    let long = length-append m (blank_block size align kind ∷ []) in
+    let many = changed_many (fresh m size align kind) (length m) ended in
+    omega (arith, long, many)
+
 module _ (c : Context) (w : Work) where
   abbrev pub KeepsCount : Action → Type 0
   KeepsCount (Done v) = v.world.allocs ≡ w.world.allocs
-  KeepsCount (NewSlot v slot) = (v.world.allocs ≡ w.world.allocs) × (slot.block ≡ length w.world.memory)
+  KeepsCount (NewSlot v slot) = (v.world.allocs ≡ w.world.allocs) × (slot.block < length v.world.memory)
   KeepsCount _ = Unit {0}
 
   done_keeps : {A : Type 0} (f : A → Work) (r : Result A Cause) → ((a : A) → (f a).world.allocs ≡ w.world.allocs)
@@ -132,7 +147,9 @@ module _ (c : Context) (w : Work) where
   count_stays (Instr.Icmp name pred ty a b) h = compared_keeps name pred ty (value_at c w ty a) (value_at c w ty b)
   count_stays (Instr.Select name x a b) h = refl
   count_stays (Instr.Cast name op nneg arg to) h = refl
-  count_stays (Instr.Alloca name ty align) h = if_keeps align _ (refl, refl)
+  count_stays (Instr.Alloca name ty align) h =
+      if_keeps align _
+      (refl, slot_there w.world.memory (size_of c.code ty) align (alloca_kind c.function) (has_markers c.function name))
   count_stays (Instr.Load name ty p align) h =
       if_keeps align _
       (done_keeps (set_value w name) (load c.rights w.world.memory (address (value_at c w ptr p)) (access_of ty) align)
