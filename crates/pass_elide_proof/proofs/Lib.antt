@@ -27,3 +27,4 @@ pub mod MarkingSteps
 pub mod AsideSteps
 pub mod SlotsLead
 pub mod SlotStates
+pub mod AskingSteps

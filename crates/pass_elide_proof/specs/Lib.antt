@@ -15,3 +15,4 @@ pub mod Ordinary
 pub mod Making
 pub mod Marking
 pub mod Asides
+pub mod Asked

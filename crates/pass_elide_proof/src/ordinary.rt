@@ -2,6 +2,7 @@
 
 ghost use Rattle.std.specs.Prelude.{Bool, List, Option, ℕ};
 ghost use Rattle.pass_elide_proof.specs.Asides.{IsAtLoads};
+ghost use Rattle.pass_elide_proof.specs.Asked.{IsAtAsking};
 ghost use Rattle.pass_elide_proof.specs.Elision.{Elision, elided, framed};
 ghost use Rattle.pass_elide_proof.specs.Making.{IsAtAlloca, IsAtAllocator};
 ghost use Rattle.pass_elide_proof.specs.Marking.{IsAtDeallocation, IsAtMarker};
@@ -79,5 +80,18 @@ pub fn first_steps_stay_beside()
     ensures deallocations { (e : Elision) (s t : State) (n : ℕ) (a : Allocator) (result : Option ℕ) (must_tail : Bool)
         (ty : Option Ty) (args : List Arg) (memory : List MemoryBlock) (r : AreElided e s (with_at t n))
         → HasMadeAll e s (with_at t n) r → IsAtDeallocation e s t a result must_tail ty args memory
+        → AreElided e (framed_step (framed e) s) (framed_step (elided e) t) }
+{}
+
+/// Where both runs ask for the coroutine's identity, its frame's size or alignment, or the frame's address, their
+/// states stay beside each other too.
+pub fn asked_values_stay_beside()
+    ensures later { (e : Elision) (s t : State) (j : Intrinsic) (result : Option ℕ) (must_tail : Bool)
+        (ty : Option Ty) (args : List Arg) → AreElided e s t → StandsInFront e s t
+        → IsAtAsking e s t j result must_tail ty args
+        → AreElided e (framed_step (framed e) s) (framed_step (elided e) t) }
+    ensures first { (e : Elision) (s t : State) (n : ℕ) (j : Intrinsic) (result : Option ℕ) (must_tail : Bool)
+        (ty : Option Ty) (args : List Arg) (r : AreElided e s (with_at t n)) → HasMadeAll e s (with_at t n) r
+        → IsAtAsking e s t j result must_tail ty args
         → AreElided e (framed_step (framed e) s) (framed_step (elided e) t) }
 {}
