@@ -10,7 +10,7 @@ use Rattle.pass_elide_proof.proofs.Onward.{GoesOn, SlotsStay, each_all}
 use Rattle.pass_elide_proof.proofs.OwnPlaces.{acts, instr_there}
 use Rattle.pass_elide_proof.proofs.Reading.{operand_stands}
 use Rattle.pass_elide_proof.proofs.Refilled.{goes_on, mates_stay}
-use Rattle.pass_elide_proof.proofs.Settled.{KeepsTop, settles}
+use Rattle.pass_elide_proof.proofs.Settled.{KeepsTop, next_of, settles}
 use Rattle.pass_elide_proof.proofs.Sized.{other_value}
 use Rattle.pass_elide_proof.proofs.Standing.{has_code}
 use Rattle.pass_elide_proof.specs.Asides.{IsAtLoads}
@@ -250,7 +250,7 @@ module _ (e : Elision) (s t : State) (r : AreElided e s t) (u v align : ℕ) (ty
   tells : (name other : ℕ) (b : Bool) → x.tested name ≡ Some b → x.tested other ≡ None → name ≢ other
   tells name other b is none same = some_none (x.tested other) b (ap x.tested (sym same) ∙ is) none
 
-  keeps : KeepsTop e s t r.homes first.values second.values
+  keeps : KeepsTop e s t r.homes (next_of s.top) (next_of t.top) first.values second.values
   keeps = record {
     place = λ ss ts. Aside at.given at.aside (ap (λ (k : ℕ). k + 1) beside.level) alike_by;
     values = values;
@@ -280,7 +280,8 @@ module _ (e : Elision) (s t : State) (r : AreElided e s t) (u v align : ℕ) (ty
 
   stands : AreElided e (settled s first) (settled t second)
   stands =
-      settles e s t t.top.at r (made_by r.top.own r.top.allocas) first second r.homes r.hides on keeps r.world r.known
+      settles e s t t.top.at r (made_by r.top.own r.top.allocas) first second r.homes r.hides on
+      (next_of s.top) (next_of t.top) keeps r.world r.known
       r.hidden
       (mates_stay (sides s t) s.world.memory t.world.memory r.homes r.hides (refilled s.world.memory)
       (refilled t.world.memory) (λ b h. refl) (λ b h. refl) r.mates)

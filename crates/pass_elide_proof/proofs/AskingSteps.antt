@@ -9,7 +9,7 @@ use Rattle.pass_elide_proof.proofs.OrdinarySteps.{all_made}
 use Rattle.pass_elide_proof.proofs.OwnPlaces.{acts, there_too}
 use Rattle.pass_elide_proof.proofs.Refilled.{goes_on, mates_stay}
 use Rattle.pass_elide_proof.proofs.SetNames.{keeps_top}
-use Rattle.pass_elide_proof.proofs.Settled.{settles}
+use Rattle.pass_elide_proof.proofs.Settled.{next_of, settles}
 use Rattle.pass_elide_proof.specs.Asked.{IsAtAsking, asks_same}
 use Rattle.pass_elide_proof.specs.Elision.{Elision, elided, framed}
 use Rattle.pass_elide_proof.specs.Match.{AreElided, AreInstances, sides}
@@ -71,6 +71,7 @@ module _ (e : Elision) (s t : State) (n : ℕ) (r : AreElided e s (with_at t n))
   pub given_beside : AreElided e (gives s result v) (gives t result w)
   given_beside =
       settles e s t n r made (set_result (work_of s) result v) (set_result (work_of t) result w) r.homes r.hides on
+      (next_of s.top) (next_of t.top)
       (keeps_top e s t n r i own r.homes on.extends (with_result s.top.values result v)
       (with_result t.top.values result w) set)
       r.world r.known r.hidden

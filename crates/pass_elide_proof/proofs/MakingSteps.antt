@@ -12,7 +12,7 @@ use Rattle.pass_elide_proof.proofs.OrdinarySteps.{all_made}
 use Rattle.pass_elide_proof.proofs.OwnPlaces.{acts, there_too}
 use Rattle.pass_elide_proof.proofs.Reading.{args_stand, nth_stands}
 use Rattle.pass_elide_proof.proofs.SetNames.{keeps_top}
-use Rattle.pass_elide_proof.proofs.Settled.{settles}
+use Rattle.pass_elide_proof.proofs.Settled.{KeepsTop, next_of, settles}
 use Rattle.pass_elide_proof.specs.Counts.{capped, counted}
 use Rattle.pass_elide_proof.specs.Elision.{Elision, elided, elided_code, framed, function_in, rooms}
 use Rattle.pass_elide_proof.specs.Making.{HasSlotsIn, HaveSlots, IsAtAlloca, IsAtAllocator, IsNotEntering}
@@ -35,7 +35,8 @@ use Rattle.pass_proofs.specs.ir_model.declared.module.Function.{Function}
 use Rattle.pass_proofs.specs.ir_model.declared.operand.Allocator.{Allocator}
 use Rattle.pass_proofs.specs.ir_model.declared.operand.Arg.{Arg}
 use Rattle.pass_proofs.specs.ir_model.declared.operand.Callee.{Callee}
-use Rattle.pass_proofs.specs.run_framed.Framed.{FramedGiven, frame_rights, framed_context, framed_slot, framed_step}
+use Rattle.pass_proofs.specs.ir_paths.declared.point.Point.{Point}
+use Rattle.pass_proofs.specs.run_framed.Framed.{at_point, FramedGiven, frame_rights, framed_context, framed_slot, framed_step}
 use Rattle.pass_proofs.specs.run_laws.changed.Changed.{Each}
 use Rattle.pass_proofs.specs.run_laws.embedded.Deaths.{moved_slot}
 use Rattle.pass_proofs.specs.run_laws.embedded.Making.{AreNewRights, whole_home}
@@ -205,11 +206,17 @@ module _ (e : Elision) (s t : State) (n : ℕ) (r : AreElided e s (with_at t n))
   stay_there a h =
       slots_stay r.homes homes (length s.world.memory) (home_old d r.homes r.hides z r.known theirs) a.slots h
 
-  pub makes : (ss ts : List Slot) → ts ≡ map (moved_slot homes) ss ++ r.top.own
-      → AreElided e (with_slots (settled s first_work) ss) (with_slots (settled t second_work) ts)
-  makes ss ts same =
-      settles e s t n r made first_work second_work homes hides on
-      (keeps_top e s t n r i own homes on.extends first_work.values second_work.values set) over
+  -- the topmost activations behind it
+  pub keeps_on : KeepsTop e s t homes (next_of s.top) (next_of t.top) first_work.values second_work.values
+  keeps_on = keeps_top e s t n r i own homes on.extends first_work.values second_work.values set
+
+  -- at any two places that stand beside each other
+  pub makes_at : (p q : Point) → KeepsTop e s t homes p q first_work.values second_work.values → (ss ts : List Slot)
+      → ts ≡ map (moved_slot homes) ss ++ r.top.own
+      → AreElided e (with_slots (at_point (settled s first_work) p) ss)
+      (with_slots (at_point (settled t second_work) q) ts)
+  makes_at p q keeps ss ts same =
+      settles e s t n r made first_work second_work homes hides on p q keeps over
       (known_grown (frame_rights (framed e) s.instances) (frame_rights (elided e) t.instances) d r.homes r.hides size
       align kind marked r.known theirs allowed small free old)
       (hidden_grown d r.homes r.hides z r.known theirs r.hidden)
@@ -218,6 +225,10 @@ module _ (e : Elision) (s t : State) (n : ℕ) (r : AreElided e s (with_at t n))
       (SlotsStay e d (s.world.memory ++ z ∷ []) (t.world.memory ++ z ∷ []) r.homes homes r.hides hides on) stay_there
       s.below slots.1)
       counts ss ts same
+
+  pub makes : (ss ts : List Slot) → ts ≡ map (moved_slot homes) ss ++ r.top.own
+      → AreElided e (with_slots (settled s first_work) ss) (with_slots (settled t second_work) ts)
+  makes ss ts same = makes_at (next_of s.top) (next_of t.top) keeps_on ss ts same
 
   -- the slots of the topmost activations, and those with the new one
   pub same_slots : t.top.slots ≡ map (moved_slot homes) s.top.slots ++ r.top.own

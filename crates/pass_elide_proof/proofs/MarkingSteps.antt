@@ -15,7 +15,7 @@ use Rattle.pass_elide_proof.proofs.OwnPlaces.{acts, there_too}
 use Rattle.pass_elide_proof.proofs.Reading.{args_stand, nth_stands}
 use Rattle.pass_elide_proof.proofs.Refilled.{goes_on, mates_stay}
 use Rattle.pass_elide_proof.proofs.SetNames.{keeps_top}
-use Rattle.pass_elide_proof.proofs.Settled.{KeepsTop, settles}
+use Rattle.pass_elide_proof.proofs.Settled.{KeepsTop, next_of, settles}
 use Rattle.pass_elide_proof.specs.Counts.{counted}
 use Rattle.pass_elide_proof.specs.Elision.{Elision, elided, framed, function_in, rooms}
 use Rattle.pass_elide_proof.specs.Frames.{AreJudgedAlike, AreJudges}
@@ -207,7 +207,7 @@ module _ (e : Elision) (s t : State) (n : ℕ) (r : AreElided e s (with_at t n))
       subst (λ (o : Option ℕ). AreSet r.homes o s.top.values t.top.values s.top.values t.top.values) (sym none)
       (sets_none r.homes s.top.values t.top.values)
 
-  keeps : KeepsTop e s t r.homes s.top.values t.top.values
+  keeps : KeepsTop e s t r.homes (next_of s.top) (next_of t.top) s.top.values t.top.values
   keeps =
       keeps_top e s t n r i own r.homes (record { each = λ b seen. refl }) s.top.values t.top.values set
 
@@ -229,7 +229,7 @@ module _ (e : Elision) (s t : State) (n : ℕ) (r : AreElided e s (with_at t n))
       settles e s t n r made (work_of s) (work_of t) r.homes r.hides
       (goes_on d s.world.memory t.world.memory r.homes r.hides (refilled s.world.memory) (refilled t.world.memory)
       (λ b h. refl) (λ b h. refl))
-      keeps r.world r.known r.hidden
+      (next_of s.top) (next_of t.top) keeps r.world r.known r.hidden
       (mates_stay d s.world.memory t.world.memory r.homes r.hides (refilled s.world.memory) (refilled t.world.memory)
       (λ b h. refl) (λ b h. refl) r.mates)
       (each_all (SlotsStay e d s.world.memory t.world.memory r.homes r.homes r.hides r.hides
@@ -250,7 +250,7 @@ module _ (e : Elision) (s t : State) (n : ℕ) (r : AreElided e s (with_at t n))
           let other = with_block t.world.memory (home_of r.homes b).block f in
           let on = changes_on e s t n r b was at shown ours theirs f change in
           settles e s t n r made (set_memory (work_of s) memory) (set_memory (work_of t) other) r.homes r.hides on
-          keeps over (r.known ∙ sym (changed_many s.world.memory b f)) r.hidden
+          (next_of s.top) (next_of t.top) keeps over (r.known ∙ sym (changed_many s.world.memory b f)) r.hidden
           (mates_change e s t n r b was at shown ours theirs f change)
           (each_all (SlotsStay e d memory other r.homes r.homes r.hides r.hides on) (λ a. refl) s.below)
           (λ more h. h) s.top.slots t.top.slots r.top.slots

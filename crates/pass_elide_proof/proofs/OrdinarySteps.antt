@@ -6,7 +6,7 @@ use Rattle.pass_elide_proof.proofs.Onward.{GoesOn, SlotsStay, each_all}
 use Rattle.pass_elide_proof.proofs.OwnPlaces.{acts, there_too}
 use Rattle.pass_elide_proof.proofs.Refilled.{goes_on, mates_stay}
 use Rattle.pass_elide_proof.proofs.SetNames.{keeps_top}
-use Rattle.pass_elide_proof.proofs.Settled.{settles}
+use Rattle.pass_elide_proof.proofs.Settled.{next_of, settles}
 use Rattle.pass_elide_proof.specs.Counts.{capped}
 use Rattle.pass_elide_proof.specs.Elision.{Elision, elided, framed, function_in, rooms}
 use Rattle.pass_elide_proof.specs.Match.{AreElided, HasAllocas, sides}
@@ -78,7 +78,7 @@ module _ (e : Elision) (s t : State) (n : ℕ) (r : AreElided e s (with_at t n))
 
   beside : AreElided e (settled s v) (settled t y)
   beside =
-      settles e s t n r made v y r.homes r.hides on
+      settles e s t n r made v y r.homes r.hides on (next_of s.top) (next_of t.top)
       (keeps_top e s t n r i at.own r.homes on.extends v.values y.values fell.set) fell.over known r.hidden
       (mates_stay (sides s t) v.world.memory y.world.memory r.homes r.hides
       (first_refilled e s t n r i at.own v at.does at.no_slot at.bytes)

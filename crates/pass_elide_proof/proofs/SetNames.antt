@@ -3,7 +3,7 @@
 use Rattle.std.proofs.Common.{◌≡◌, ◌<◌, ◌≤◌, ◌+◌, ⊎_elim, ℕ, suc, Bool, true, false, List, length, Option, refl, sym, ap, ◌∙◌, subst, arith}
 use Rattle.std.proofs.lemmas.Bool.{cases_eq}
 use Rattle.std.specs.Prelude.{None, Some}
-use Rattle.pass_elide_proof.proofs.Settled.{KeepsTop}
+use Rattle.pass_elide_proof.proofs.Settled.{KeepsTop, next_of}
 use Rattle.pass_elide_proof.specs.Elision.{Elision, Shape, function_in, rooms}
 use Rattle.pass_elide_proof.specs.Match.{AreElided, Beside}
 use Rattle.pass_elide_proof.specs.Ordinary.{IsAtOwn, with_at}
@@ -66,7 +66,7 @@ module _ (e : Elision) (s t : State) (n : ℕ) (r : AreElided e s (with_at t n))
       ap (λ (at : ℕ). at + 1) own.at
       ∙ ap (front_at (rooms e s.top.func) (function_in e s.top.func) s.top.block) next
 
-  pub keeps_top : KeepsTop e s t more first second
+  pub keeps_top : KeepsTop e s t more (next_of s.top) (next_of t.top) first second
   keeps_top = record {
     place = λ ss ts. Beside own.block behind;
     values = λ name calm. value_now name (given_at (AtInstr i)) refl (r.top.values.each name calm);

@@ -1,4 +1,4 @@
--- Where both runs go on by one place the states stand beside each other, whatever was done to blocks.
+-- Where both runs go on at two places the states stand beside each other, whatever was done to blocks.
 use Rattle.std.proofs.Common.{◌≡◌, ◌≤◌, ◌+◌, inl, inr, ⊎_elim, ℕ, zero, suc, Bool, true, false, List, [], ◌∷◌, ◌++◌, length, Option, refl, sym, ap, ◌∙◌, subst, arith}
 use Rattle.std.specs.Prelude.{None, Some, map}
 use Rattle.pass_elide_proof.proofs.Onward.{GoesOn, KeepsAddress, SlotsStay, allocas_on, below_on, global_on, instance_on, same_frames, sides_with, was_same}
@@ -9,7 +9,8 @@ use Rattle.pass_elide_proof.specs.Match.{AreActivations, AreAsked, AreElided, Ar
 use Rattle.pass_elide_proof.specs.Ordinary.{with_at}
 use Rattle.pass_elide_proof.specs.Places.{allocas_ahead}
 use Rattle.pass_proofs.specs.ir_model.declared.instr.Instr.{Instr}
-use Rattle.pass_proofs.specs.run_framed.Framed.{frame_rights}
+use Rattle.pass_proofs.specs.ir_paths.declared.point.Point.{Point}
+use Rattle.pass_proofs.specs.run_framed.Framed.{at_point, frame_rights}
 use Rattle.pass_proofs.specs.run_laws.changed.Changed.{Each}
 use Rattle.pass_proofs.specs.run_laws.embedded.Deaths.{moved_slot}
 use Rattle.pass_proofs.specs.run_laws.memory.Pointers.{Home, IsValue, home_of}
@@ -37,15 +38,19 @@ each_of_each P Q go (x ∷ xs) h = (go x h.0, each_of_each P Q go xs h.1)
 
 -- ---- the topmost activations behind it
 
--- an activation one place further on, with other values and slots
-abbrev pub ahead_of : Activation → Env → List Slot → Activation
-ahead_of a values slots = record a { at = a.at + 1; values = values; slots = slots }
+-- an activation at another place, with other values and slots
+abbrev pub ahead_of : Activation → Point → Env → List Slot → Activation
+ahead_of a p values slots = record a { block = p.block; at = p.at; values = values; slots = slots }
 
--- Both go on by one place. What doesn't differ has values that stand for each other. What tells of a given frame, of
+-- one place further on
+abbrev pub next_of : Activation → Point
+next_of a = record { block = a.block; at = a.at + 1 }
+
+-- Both go on at two places. What doesn't differ has values that stand for each other. What tells of a given frame, of
 -- allocas put in front and of a block that is held stays.
-pub record KeepsTop (e : Elision) (s t : State) (more : List Home) (first second : Env) : Type 0 where
+pub record KeepsTop (e : Elision) (s t : State) (more : List Home) (p q : Point) (first second : Env) : Type 0 where
   pub place : (ss ts : List Slot)
-      → IsAt e more (was_given (sides s t) t.top) (ahead_of s.top first ss) (ahead_of t.top second ts)
+      → IsAt e more (was_given (sides s t) t.top) (ahead_of s.top p first ss) (ahead_of t.top q second ts)
   pub values : (name : ℕ)
       → differs_in (e.shape s.top.func) (is_given_mode t.top.mode) (was_given (sides s t) t.top) name ≡ false
       → IsValue more (value_in first name) (value_in second name)
@@ -60,7 +65,7 @@ pub record KeepsTop (e : Elision) (s t : State) (more : List Home) (first second
   pub in_front : (name : ℕ) → length (function_in e s.top.func).names ≤ name
       → value_in second name ≡ value_in t.top.values name
   pub holds : is_given_mode t.top.mode ≡ true
-      → (e.shape s.top.func).holds s.top.block (s.top.at + 1) ≡ (e.shape s.top.func).holds s.top.block s.top.at
+      → (e.shape s.top.func).holds p.block p.at ≡ (e.shape s.top.func).holds s.top.block s.top.at
   pub held : (name : ℕ) → is_given_mode t.top.mode ≡ true
       → (e.shape s.top.func).holds s.top.block s.top.at ≡ Some name
       → value_in first name ≡ value_in s.top.values name
@@ -71,7 +76,7 @@ module _ (e : Elision) (s t : State) (n : ℕ) (r : AreElided e s (with_at t n))
     (made : length r.top.own ≡ length (allocas_ahead (rooms e s.top.func) (function_in e s.top.func)))
     (v y : Work) (more : List Home) (later : ℕ → Bool)
     (on : GoesOn (sides s t) v.world.memory y.world.memory r.homes more r.hides later)
-    (keeps : KeepsTop e s t more v.values y.values) where
+    (p q : Point) (keeps : KeepsTop e s t more p q v.values y.values) where
   abbrev f : ℕ
   f = s.top.func
 
@@ -89,10 +94,10 @@ module _ (e : Elision) (s t : State) (n : ℕ) (r : AreElided e s (with_at t n))
 
   -- the two topmost activations, with their slots
   abbrev ahead : List Slot → Activation
-  ahead ss = ahead_of s.top v.values ss
+  ahead ss = ahead_of s.top p v.values ss
 
   abbrev ahead_too : List Slot → Activation
-  ahead_too ts = ahead_of t.top y.values ts
+  ahead_too ts = ahead_of t.top q y.values ts
 
   -- the elided run's activation, where it stands by the relation
   abbrev before : Activation
@@ -230,7 +235,7 @@ module _ (e : Elision) (s t : State) (n : ℕ) (r : AreElided e s (with_at t n))
   total u bs cs = given_frames u + held_blocks e bs cs
 
   same_total : (ss ts : List Slot)
-      → total (with_slots (settled t y) ts) (ahead ss ∷ s.below) (ahead_too ts ∷ t.below)
+      → total (with_slots (at_point (settled t y) q) ts) (ahead ss ∷ s.below) (ahead_too ts ∷ t.below)
       ≡ total t (s.top ∷ s.below) (t.top ∷ t.below)
   same_total ss ts =
       λ j. same_frames e d v.world.memory y.world.memory r.homes more r.hides later on j
@@ -247,7 +252,7 @@ module _ (e : Elision) (s t : State) (n : ℕ) (r : AreElided e s (with_at t n))
       (counts : (more : ℕ) → s.world.allocs ≡ capped (t.world.allocs + more)
       → v.world.allocs ≡ capped (y.world.allocs + more)) where
     pub settles : (ss ts : List Slot) → ts ≡ map (moved_slot more) ss ++ r.top.own
-        → AreElided e (with_slots (settled s v) ss) (with_slots (settled t y) ts)
+        → AreElided e (with_slots (at_point (settled s v) p) ss) (with_slots (at_point (settled t y) q) ts)
     settles ss ts same = record {
       homes = more;
       hides = later;
