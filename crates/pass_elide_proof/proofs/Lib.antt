@@ -28,3 +28,5 @@ pub mod AsideSteps
 pub mod SlotsLead
 pub mod SlotStates
 pub mod AskingSteps
+pub mod Roomless
+pub mod AgainSteps

@@ -167,7 +167,7 @@ module _ (e : Elision) (s t : State) (n : ℕ) (r : AreElided e s (with_at t n))
   free c None o = refl
   free c (Some x) o = either (is_live x.life)
 
-  abbrev homes : List Home
+  abbrev pub homes : List Home
   homes = more d r.homes r.hides z r.known theirs
 
   abbrev hides : ℕ → Bool
@@ -258,7 +258,7 @@ module _ (c : Context) (w : Work) (name size align : ℕ) (kind : Kind) (marked 
   abbrev made_work : List MemoryBlock → Work
   made_work memory = set_memory (set_value w name (pointer_to (length w.world.memory))) memory
 
-  alloca_makes : alloca c w name size align
+  pub alloca_makes : alloca c w name size align
       ≡ NewSlot (made_work (w.world.memory ++ new_block size align kind marked ∷ []))
       (record { alloca = name; block = length w.world.memory })
   alloca_makes =
@@ -266,7 +266,7 @@ module _ (c : Context) (w : Work) (name size align : ℕ) (kind : Kind) (marked 
       ((λ j. if marks j then end (fresh m size align (kinds j)) (length m) else fresh m size align (kinds j))
       ∙ grown_by size align kind m marked)
 
-if_aligned : (align : ℕ) (a : Action) → is_alignment align ≡ true → if_alignment align a ≡ a
+pub if_aligned : (align : ℕ) (a : Action) → is_alignment align ≡ true → if_alignment align a ≡ a
 if_aligned align a h = ap (λ (t : Bool). if t then a else Stuck Cause.Align) h
 
 slot_plain : (g : FramedGiven) (s : State) (slot : Slot) (mode : Mode) → IsNotEntering mode
@@ -281,6 +281,12 @@ mode_too : (a c : Mode) → AreModes a c → IsNotEntering a → IsNotEntering c
 mode_too _ _ (Same mode allocates) h = h
 mode_too _ _ (Given block offset) h = tt
 
+-- the elided run's function
+pub turned_function : (e : Elision) (s t : State) (n : ℕ) → AreElided e s (with_at t n)
+    → function_of (elided e).given t ≡ elided_function (rooms e s.top.func) (function_in e s.top.func)
+turned_function e s t n r =
+    ap (function_at (elided_code e)) r.top.func ∙ (finds_alike e).functions s.top.func
+
 module _ (e : Elision) (s t : State) (n : ℕ) (r : AreElided e s (with_at t n)) (name : ℕ) (ty : Ty) (align : ℕ)
     (at : IsAtAlloca e s t name ty align)
     (made : length r.top.own ≡ length (allocas_ahead (rooms e s.top.func) (function_in e s.top.func))) where
@@ -293,10 +299,8 @@ module _ (e : Elision) (s t : State) (n : ℕ) (r : AreElided e s (with_at t n))
   abbrev size : ℕ
   size = size_of e.code ty
 
-  -- the elided run's function
   turned : function_of (elided e).given t ≡ elided_function (rooms e s.top.func) f
-  turned =
-      ap (function_at (elided_code e)) r.top.func ∙ (finds_alike e).functions s.top.func
+  turned = turned_function e s t n r
 
   first_does : action_of (framed_context (framed e) s) (work_of s) (AtInstr i)
       ≡ NewSlot (first_work e s t n r i at.own made at.slots (Some name) refl size align (alloca_kind f)

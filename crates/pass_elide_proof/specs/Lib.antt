@@ -16,3 +16,4 @@ pub mod Making
 pub mod Marking
 pub mod Asides
 pub mod Asked
+pub mod Again

@@ -1,6 +1,7 @@
 //! Ordinary instructions, which both runs execute.
 
 ghost use Rattle.std.specs.Prelude.{Bool, List, Option, ℕ};
+ghost use Rattle.pass_elide_proof.specs.Again.{IsAtAllocaAgain};
 ghost use Rattle.pass_elide_proof.specs.Asides.{IsAtLoads};
 ghost use Rattle.pass_elide_proof.specs.Asked.{IsAtAsking};
 ghost use Rattle.pass_elide_proof.specs.Elision.{Elision, elided, framed};
@@ -14,6 +15,7 @@ ghost use Rattle.pass_proofs.specs.ir_model.declared.operand.Allocator.{Allocato
 ghost use Rattle.pass_proofs.specs.ir_model.declared.operand.Arg.{Arg};
 ghost use Rattle.pass_proofs.specs.ir_model.declared.operand.Intrinsic.{Intrinsic};
 ghost use Rattle.pass_proofs.specs.ir_model.declared.operand.Operand.{Operand};
+ghost use Rattle.pass_proofs.specs.ir_paths.declared.point.Point.{Point};
 ghost use Rattle.pass_proofs.specs.run_framed.Framed.{framed_step};
 ghost use Rattle.pass_proofs.specs.run_memory.declared.block.MemoryBlock.{MemoryBlock};
 ghost use Rattle.pass_proofs.specs.run_memory.declared.pointer.Value.{Value};
@@ -93,5 +95,13 @@ pub fn asked_values_stay_beside()
     ensures first { (e : Elision) (s t : State) (n : ℕ) (j : Intrinsic) (result : Option ℕ) (must_tail : Bool)
         (ty : Option Ty) (args : List Arg) (r : AreElided e s (with_at t n)) → HasMadeAll e s (with_at t n) r
         → IsAtAsking e s t j result must_tail ty args
+        → AreElided e (framed_step (framed e) s) (framed_step (elided e) t) }
+{}
+
+/// Where a resumed activation executes its allocas again, both runs go on from one to the next. The coroutine gives no
+/// frames.
+pub fn allocas_again_stay_beside()
+    ensures { (e : Elision) (s t : State) (name : ℕ) (ty : Ty) (align from label : ℕ) (next : Point)
+        → AreElided e s t → StandsInFront e s t → IsAtAllocaAgain e s t name ty align from label next
         → AreElided e (framed_step (framed e) s) (framed_step (elided e) t) }
 {}
