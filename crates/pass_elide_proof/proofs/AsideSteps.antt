@@ -5,6 +5,7 @@ use Rattle.std.proofs.lemmas.List.{length-set}
 use Rattle.std.specs.Prelude.{None, Some, slice_get}
 use Rattle.pass_elide.specs.Elided.{elided_function}
 use Rattle.pass_elide.specs.declared.given.GivenFrame.{GivenFrame}
+use Rattle.pass_elide_proof.proofs.Facts.{not_both, not_less, some_none}
 use Rattle.pass_elide_proof.proofs.Modules.{finds_alike}
 use Rattle.pass_elide_proof.proofs.Onward.{GoesOn, SlotsStay, each_all}
 use Rattle.pass_elide_proof.proofs.OwnPlaces.{acts, instr_there}
@@ -17,6 +18,7 @@ use Rattle.pass_elide_proof.specs.Asides.{IsAtLoads}
 use Rattle.pass_elide_proof.specs.Elision.{Elision, Shape, differs_in, elided, elided_code, framed, function_in, rooms}
 use Rattle.pass_elide_proof.specs.Match.{AreElided, AreMadeAlike, Aside, Beside, Freeing, HasAllocas, IsAt, Waiting, is_given_mode, sides, was_given}
 use Rattle.pass_elide_proof.specs.Places.{allocas_ahead, elided_instr, instrs_of, name_at}
+use Rattle.pass_proofs.proofs.run_laws.embedded.Memories.{same_refills}
 use Rattle.pass_proofs.proofs.run_laws.embedded.Values.{address_kept, alignment_is}
 use Rattle.pass_proofs.proofs.run_laws.memory.Loads.{loads_kept}
 use Rattle.pass_proofs.proofs.run_laws.transfer.Muted.{load_muted}
@@ -29,12 +31,10 @@ use Rattle.pass_proofs.specs.ir_model.declared.module.Function.{Function}
 use Rattle.pass_proofs.specs.ir_model.declared.operand.Operand.{Operand}
 use Rattle.pass_proofs.specs.ir_parts.Contents.{result_of}
 use Rattle.pass_proofs.specs.run_framed.Framed.{frame_rights, framed_context, framed_step}
-use Rattle.pass_proofs.specs.run_laws.embedded.Refilled.{AreRefilled, IsRefilled}
 use Rattle.pass_proofs.specs.run_laws.memory.Kept.{IsLoaded}
 use Rattle.pass_proofs.specs.run_laws.memory.Pointers.{Home, IsValue, home_of}
 use Rattle.pass_proofs.specs.run_laws.transfer.Muted.{IsShown, muted}
 use Rattle.pass_proofs.specs.run_memory.Memory.{load}
-use Rattle.pass_proofs.specs.run_memory.declared.block.MemoryBlock.{MemoryBlock}
 use Rattle.pass_proofs.specs.run_memory.declared.pointer.Pointer.{Pointer}
 use Rattle.pass_proofs.specs.run_memory.declared.pointer.Value.{Value}
 use Rattle.pass_proofs.specs.run_source.State.{function_of, settled, work_of}
@@ -44,14 +44,6 @@ use Rattle.pass_proofs.specs.run_step.Values.{Env, access_of, address, operand_v
 use Rattle.pass_proofs.specs.run_step.declared.world.Slot.{Slot}
 
 -- ---- names
-
-not_both : (t : Bool) → t ≡ true → t ≡ false → ⊥
-not_both true y n = absurd (cc)
-not_both false y n = absurd (cc)
-
-some_none : {A : Type 0} (o : Option A) (q : A) → o ≡ Some q → o ≡ None → ⊥
-some_none None q y n = absurd (cc)
-some_none (Some p) q y n = absurd (cc)
 
 -- what a name is set to
 set_value_is : (env : Env) (name : ℕ) (v : Value) → name < length env → value_in (with_value env name v) name ≡ v
@@ -88,13 +80,6 @@ load_does c w name align ty cell v ok is =
     ap (λ (t : Bool). if t then done (set_value w name) (load c.rights w.world.memory (address
     (operand_value c.code w.values ptr cell)) (access_of ty) align) else Stuck Cause.Align) ok
     ∙ ap (done (set_value w name)) is
-
-refilled : (m : List MemoryBlock) → AreRefilled m m
-refilled m = record { each = λ b. same (slice_get m b) }
-  where
-    same : (o : Option MemoryBlock) → IsRefilled o o
-    same None = tt
-    same (Some x) = refl
 
 module _ (e : Elision) (s t : State) (r : AreElided e s t) (u v align : ℕ) (ty : Ty) (cell : Operand) (loaded : Value)
     (at : IsAtLoads e s t u v align ty cell loaded) where
@@ -241,9 +226,6 @@ module _ (e : Elision) (s t : State) (r : AreElided e s t) (u v align : ℕ) (ty
 
   -- ---- the topmost activations
 
-  less : (a c : ℕ) → a < c → c ≤ a → ⊥
-  less a c lt le = omega (arith, lt, le)
-
   differ_by : (name other : ℕ) (o : ℕ → Bool) → o name ≡ true → o other ≡ false → name ≢ other
   differ_by name other o is none same = not_both (o other) (ap o (sym same) ∙ is) none
 
@@ -265,7 +247,7 @@ module _ (e : Elision) (s t : State) (r : AreElided e s t) (u v align : ℕ) (ty
         (differ_by name v x.freed is (at.plain_too.freed holds));
     tested = λ holds name b is. both_stay name (tells name u b is (at.plain.tested holds))
         (tells name v b is (at.plain_too.tested holds));
-    in_front = λ name le. second_other name (λ same. less v (length f.names) at.named
+    in_front = λ name le. second_other name (λ same. not_less v (length f.names) at.named
         (subst (λ (k : ℕ). length f.names ≤ k) same le));
     holds = at.holds;
     held = λ name holds is. first_other name (at.kept name holds is);
@@ -275,16 +257,16 @@ module _ (e : Elision) (s t : State) (r : AreElided e s t) (u v align : ℕ) (ty
 
   on : GoesOn (sides s t) s.world.memory t.world.memory r.homes r.homes r.hides r.hides
   on =
-      goes_on (sides s t) s.world.memory t.world.memory r.homes r.hides (refilled s.world.memory)
-      (refilled t.world.memory) (λ b h. refl) (λ b h. refl)
+      goes_on (sides s t) s.world.memory t.world.memory r.homes r.hides (same_refills s.world.memory)
+      (same_refills t.world.memory) (λ b h. refl) (λ b h. refl)
 
   stands : AreElided e (settled s first) (settled t second)
   stands =
       settles e s t t.top.at r (made_by r.top.own r.top.allocas) first second r.homes r.hides on
       (next_of s.top) (next_of t.top) keeps r.world r.known
       r.hidden
-      (mates_stay (sides s t) s.world.memory t.world.memory r.homes r.hides (refilled s.world.memory)
-      (refilled t.world.memory) (λ b h. refl) (λ b h. refl) r.mates)
+      (mates_stay (sides s t) s.world.memory t.world.memory r.homes r.hides (same_refills s.world.memory)
+      (same_refills t.world.memory) (λ b h. refl) (λ b h. refl) r.mates)
       (each_all (SlotsStay e (sides s t) s.world.memory t.world.memory r.homes r.homes r.hides r.hides on) (λ a. refl)
       s.below)
       (λ more h. h) s.top.slots t.top.slots r.top.slots

@@ -1,6 +1,7 @@
 -- An intrinsic by which both runs ask for the same leaves the states beside each other.
 use Rattle.std.proofs.Common.{◌≡◌, ◌<◌, ◌≤◌, ◌+◌, ◌%◌, ◌^◌, ℕ, Bool, true, List, Option, Ok, refl, sym, ap, ◌∙◌, subst, arith}
 use Rattle.std.specs.Prelude.{None, Some, option_and_then, option_map, pos, slice_get}
+use Rattle.pass_elide_proof.proofs.Facts.{some_none}
 use Rattle.pass_elide_proof.proofs.Grown.{have_at}
 use Rattle.pass_elide_proof.proofs.MarkingSteps.{stand_on}
 use Rattle.pass_elide_proof.proofs.Modules.{finds_alike}
@@ -15,6 +16,7 @@ use Rattle.pass_elide_proof.specs.Elision.{Elision, elided, framed}
 use Rattle.pass_elide_proof.specs.Match.{AreElided, AreInstances, sides}
 use Rattle.pass_elide_proof.specs.Ordinary.{HasMadeAll, IsAtOwn, StandsInFront, with_at}
 use Rattle.pass_proofs.proofs.ir_laws.facts.Lists.{get_within}
+use Rattle.pass_proofs.proofs.run_laws.embedded.Memories.{same_refills}
 use Rattle.pass_proofs.proofs.run_laws.memory.Homes.{seen_within}
 use Rattle.pass_proofs.proofs.run_laws.transfer.Muted.{muted_length}
 use Rattle.pass_proofs.proofs.run_laws.transfer.Sets.{sets_result}
@@ -25,11 +27,9 @@ use Rattle.pass_proofs.specs.ir_model.declared.operand.Arg.{Arg}
 use Rattle.pass_proofs.specs.ir_model.declared.operand.Callee.{Callee}
 use Rattle.pass_proofs.specs.ir_model.declared.operand.Intrinsic.{Intrinsic}
 use Rattle.pass_proofs.specs.run_framed.Framed.{framed_act, framed_context, framed_step}
-use Rattle.pass_proofs.specs.run_laws.embedded.Refilled.{AreRefilled, IsRefilled}
 use Rattle.pass_proofs.specs.run_laws.memory.Pointers.{Home, IsValue, home_of}
 use Rattle.pass_proofs.specs.run_laws.transfer.Muted.{muted}
 use Rattle.pass_proofs.specs.run_laws.transfer.Transfer.{AreSet, given_at}
-use Rattle.pass_proofs.specs.run_memory.declared.block.MemoryBlock.{MemoryBlock}
 use Rattle.pass_proofs.specs.run_memory.declared.pointer.Pointer.{Pointer}
 use Rattle.pass_proofs.specs.run_memory.declared.pointer.Value.{Value}
 use Rattle.pass_proofs.specs.run_source.Source.{frame_address}
@@ -39,17 +39,6 @@ use Rattle.pass_proofs.specs.run_source.declared.state.State.{State}
 use Rattle.pass_proofs.specs.run_source_tables.Given.{frame_of}
 use Rattle.pass_proofs.specs.run_step.Step.{AtInstr, Coro, action_of, set_result}
 use Rattle.pass_proofs.specs.run_step.Values.{integer, with_result}
-
-refilled : (m : List MemoryBlock) → AreRefilled m m
-refilled m = record { each = λ b. same (slice_get m b) }
-  where
-    same : (o : Option MemoryBlock) → IsRefilled o o
-    same None = tt
-    same (Some x) = refl
-
-some_none : {A : Type 0} (x : A) (o : Option A) → o ≡ Some x → o ≡ None → ⊥
-some_none x None y n = absurd (cc)
-some_none x (Some z) y n = absurd (cc)
 
 -- ---- values that both are given
 
@@ -65,8 +54,8 @@ module _ (e : Elision) (s t : State) (n : ℕ) (r : AreElided e s (with_at t n))
 
   on : GoesOn (sides s t) s.world.memory t.world.memory r.homes r.homes r.hides r.hides
   on =
-      goes_on (sides s t) s.world.memory t.world.memory r.homes r.hides (refilled s.world.memory)
-      (refilled t.world.memory) (λ b h. refl) (λ b h. refl)
+      goes_on (sides s t) s.world.memory t.world.memory r.homes r.hides (same_refills s.world.memory)
+      (same_refills t.world.memory) (λ b h. refl) (λ b h. refl)
 
   pub given_beside : AreElided e (gives s result v) (gives t result w)
   given_beside =
@@ -75,8 +64,8 @@ module _ (e : Elision) (s t : State) (n : ℕ) (r : AreElided e s (with_at t n))
       (keeps_top e s t n r i own r.homes on.extends (with_result s.top.values result v)
       (with_result t.top.values result w) set)
       r.world r.known r.hidden
-      (mates_stay (sides s t) s.world.memory t.world.memory r.homes r.hides (refilled s.world.memory)
-      (refilled t.world.memory) (λ b h. refl) (λ b h. refl) r.mates)
+      (mates_stay (sides s t) s.world.memory t.world.memory r.homes r.hides (same_refills s.world.memory)
+      (same_refills t.world.memory) (λ b h. refl) (λ b h. refl) r.mates)
       (each_all (SlotsStay e (sides s t) s.world.memory t.world.memory r.homes r.homes r.hides r.hides on) (λ a. refl)
       s.below)
       (λ more h. h) s.top.slots t.top.slots r.top.slots
@@ -120,7 +109,7 @@ module _ (e : Elision) (s t : State) (n : ℕ) (r : AreElided e s (with_at t n))
       let lt = get_within s.instances i x at in
       let many = r.count in
       let y = have_at t.instances i (omega (arith, lt, many)) in
-      absurd (some_none y.0 (slice_get t.instances i) y.1 to)
+      absurd (some_none (slice_get t.instances i) y.0 y.1 to)
   frames_by i (Some x) (Some y) at to = address_stands x y (r.instances i x y at to)
 
   frames_stand : (o : Option ℕ)

@@ -3,6 +3,7 @@ use Rattle.std.proofs.Common.{◌≡◌, ◌≢◌, ◌<◌, inl, inr, ⊎_elim,
 use Rattle.std.proofs.lemmas.Bool.{cases_eq}
 use Rattle.std.specs.Option.{option_map_or}
 use Rattle.std.specs.Prelude.{Some, slice_get}
+use Rattle.pass_elide_proof.proofs.Facts.{not_both}
 use Rattle.pass_elide_proof.proofs.Onward.{GoesOn, IsRoom, LivesIn, sides_with}
 use Rattle.pass_elide_proof.specs.Elision.{Elision}
 use Rattle.pass_elide_proof.specs.Match.{AreElided, AreMates, IsNoGivenFrame, Sides, sides}
@@ -31,10 +32,6 @@ pub changed_many : (m : List MemoryBlock) (b : ℕ) (f : MemoryBlock → MemoryB
 changed_many [] b f = refl
 changed_many (x ∷ m) zero f = refl
 changed_many (x ∷ m) (suc b) f = ap suc (changed_many m b f)
-
-not_both : (t : Bool) → t ≡ true → t ≡ false → ⊥
-not_both true y n = absurd (cc)
-not_both false y n = absurd (cc)
 
 shown_alive : (hides : ℕ → Bool) (m : List MemoryBlock) (c : ℕ) (z : MemoryBlock)
     → slice_get (muted hides m) c ≡ Some z → is_live z.life ≡ true → hides c ≡ false

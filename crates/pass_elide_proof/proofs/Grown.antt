@@ -4,6 +4,7 @@ use Rattle.std.proofs.lemmas.Bool.{cases_lt, ne_eqb}
 use Rattle.std.proofs.lemmas.List.{get_or_at, length-replicate}
 use Rattle.std.specs.Option.{option_map_or}
 use Rattle.std.specs.Prelude.{Some, slice_get}
+use Rattle.pass_elide_proof.proofs.Facts.{not_both, other_than}
 use Rattle.pass_elide_proof.proofs.Onward.{GoesOn, IsRoom, LivesIn, sides_with}
 use Rattle.pass_elide_proof.specs.Match.{AreMates, IsNoGivenFrame, Sides}
 use Rattle.pass_proofs.proofs.ir_laws.facts.Lists.{get_front, get_last, get_within}
@@ -47,9 +48,6 @@ and_first : (a b : Bool) → (a && b) ≡ true → a ≡ true
 and_first true b e = refl
 and_first false b e = absurd (cc)
 
-less : (a b : ℕ) → a < b → a ≢ b
-less a b lt e = omega (arith, lt, e)
-
 home_other : (homes : List Home) (q : Home) (b : ℕ) → b ≢ length homes
     → home_of (homes ++ q ∷ []) b ≡ home_of homes b
 home_other [] q zero ne = absurd (ne refl)
@@ -91,7 +89,7 @@ module _ (d : Sides) (homes : List Home) (hides : ℕ → Bool) (z : MemoryBlock
 
   pub later_old : (c : ℕ) → c < length d.memory → later c ≡ hides c
   later_old c lt =
-      (λ j. hides c && not (ne_eqb c (length d.memory) (less c (length d.memory) lt) j)) ∙ and_true (hides c)
+      (λ j. hides c && not (ne_eqb c (length d.memory) (other_than c (length d.memory) lt) j)) ∙ and_true (hides c)
 
   pub later_new : later (length d.memory) ≡ false
   later_new = (λ j. hides (length d.memory) && not (itself (length d.memory) j)) ∙ and_false (hides (length d.memory))
@@ -103,7 +101,7 @@ module _ (d : Sides) (homes : List Home) (hides : ℕ → Bool) (z : MemoryBlock
   home_elsewhere c ne = home_other homes (whole_home (length d.other)) c (λ is. ne (is ∙ known))
 
   pub home_old : (c : ℕ) → c < length d.memory → home_of more c ≡ home_of homes c
-  home_old c lt = home_elsewhere c (less c (length d.memory) lt)
+  home_old c lt = home_elsewhere c (other_than c (length d.memory) lt)
 
   pub home_new : home_of more (length d.memory) ≡ whole_home (length d.other)
   home_new = get_or_at homes (whole_home (length d.other)) [] nowhere (length d.memory) known
@@ -113,10 +111,6 @@ module _ (d : Sides) (homes : List Home) (hides : ℕ → Bool) (z : MemoryBlock
   hidden_grown hidden b h =
       ap (λ (q : Home). q.is_seen) (home_elsewhere b other_block) ∙ hidden b (was_hidden b h)
     where
-      not_both : (t : Bool) → t ≡ true → t ≡ false → ⊥
-      not_both true y n = absurd (cc)
-      not_both false y n = absurd (cc)
-
       other_block : b ≢ length d.memory
       other_block is = not_both (later b) h (ap later is ∙ later_new)
 
@@ -159,7 +153,7 @@ module _ (d : Sides) (homes : List Home) (hides : ℕ → Bool) (z : MemoryBlock
   free_by block size room n (inr is) calm none same =
       let at : length d.other ≡ block
       = ap (λ (h : Home). h.block) (sym home_new) ∙ (ap (λ (b : ℕ). (home_of more b).block) (sym is) ∙ same) in
-      less block (length d.other) (get_within d.other block room.there room.is_there) (sym at)
+      other_than block (length d.other) (get_within d.other block room.there room.is_there) (sym at)
 
   rooms : (block size : ℕ) → IsRoom homes hides d block size → IsRoom more later k block size
   rooms block size room = record {
@@ -224,10 +218,10 @@ module _ (d : Sides) (homes : List Home) (hides : ℕ → Bool) (z : MemoryBlock
         (no_frame b none) (ap (λ (h : Home). h.block) (sym (home_old a lt)) ∙ (same
         ∙ ap (λ (h : Home). h.block) (home_old b gt)))
     alone_by a b (inl lt) (inr is) calm still free none same =
-        absurd (less (home_of homes a).block (length d.other) (old_home a lt calm free)
+        absurd (other_than (home_of homes a).block (length d.other) (old_home a lt calm free)
         (ap (λ (h : Home). h.block) (sym (home_old a lt)) ∙ (same ∙ new_home b is)))
     alone_by a b (inr is) (inl gt) calm still free none same =
-        absurd (less (home_of homes b).block (length d.other) (old_home b gt still none)
+        absurd (other_than (home_of homes b).block (length d.other) (old_home b gt still none)
         (ap (λ (h : Home). h.block) (sym (home_old b gt)) ∙ (sym same ∙ new_home a is)))
     alone_by a b (inr is) (inr too) calm still free none same = is ∙ sym too
 

@@ -7,6 +7,7 @@ pub mod Holding
 pub mod Starts
 pub mod Sized
 pub mod Allocated
+pub mod Facts
 pub mod Distances
 pub mod Reading
 pub mod Unseen

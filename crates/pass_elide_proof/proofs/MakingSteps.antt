@@ -1,9 +1,10 @@
 -- An alloca or a call of an allocator, which both runs execute, leaves the states beside each other.
-use Rattle.std.proofs.Common.{◌≡◌, ◌≢◌, ◌<◌, ◌+◌, ◌-◌, ◌^◌, ℕ, suc, Bool, true, false, List, [], ◌∷◌, ◌++◌, length, map, min, not, Option, Ok, refl, sym, ap, ◌∙◌, subst, arith, if◌then◌else◌, ◌||◌}
+use Rattle.std.proofs.Common.{◌≡◌, ◌≢◌, ◌<◌, ◌+◌, ◌-◌, ◌^◌, ℕ, Bool, true, false, List, [], ◌∷◌, ◌++◌, length, map, min, Option, Ok, refl, sym, ap, ◌∙◌, subst, arith, if◌then◌else◌}
 use Rattle.std.specs.Prelude.{None, Some, slice_get}
 use Rattle.elide_shape.specs.Calls.{deals}
 use Rattle.elide_shape.specs.declared.calls.Dealing.{Dealing}
 use Rattle.pass_elide.specs.Elided.{elided_function}
+use Rattle.pass_elide_proof.proofs.Facts.{each_at, or_true, other_than}
 use Rattle.pass_elide_proof.proofs.Grown.{grows_on, have_at, hidden_grown, home_new, home_old, homes_there, known_grown, later, mates_grow, more, new_block, new_pointer, stands_grown}
 use Rattle.pass_elide_proof.proofs.Markers.{same_markers}
 use Rattle.pass_elide_proof.proofs.Modules.{finds_alike}
@@ -19,7 +20,7 @@ use Rattle.pass_elide_proof.specs.Making.{HasSlotsIn, HaveSlots, IsAtAlloca, IsA
 use Rattle.pass_elide_proof.specs.Match.{AreElided, AreModes, Given, Same, Sides, sides}
 use Rattle.pass_elide_proof.specs.Ordinary.{IsAtOwn, StandsInFront, with_at}
 use Rattle.pass_elide_proof.specs.Places.{allocas_ahead}
-use Rattle.pass_proofs.proofs.ir_laws.facts.Lists.{get_within}
+use Rattle.pass_proofs.proofs.ir_laws.facts.Lists.{each_of_each, get_within}
 use Rattle.pass_proofs.proofs.run_laws.embedded.NewBlocks.{end_last}
 use Rattle.pass_proofs.proofs.run_laws.memory.Homes.{seen_within}
 use Rattle.pass_proofs.proofs.run_laws.transfer.Muted.{muted_length}
@@ -58,20 +59,6 @@ use Rattle.pass_proofs.specs.run_source.declared.state.State.{State}
 use Rattle.pass_proofs.specs.run_step.Step.{Action, AtInstr, Context, Done, NewSlot, Stuck, Work, action_of, alloca, alloca_kind, allocated, has_markers, if_alignment, is_alignment, risen, set_memory, set_value, with_length}
 use Rattle.pass_proofs.specs.run_step.Values.{arg_values, nth, pointer_to, with_result}
 use Rattle.pass_proofs.specs.run_step.declared.world.Slot.{Slot}
-
--- ---- lists
-
-each_at : {A : Type 0} (P : A → Type 0) (xs : List A) → ((i : ℕ) (x : A) → slice_get xs i ≡ Some x → P x) → Each P xs
-each_at P [] h = tt
-each_at P (x ∷ xs) h = (h 0 x refl, each_at P xs (λ i y e. h (suc i) y e))
-
-each_to_each : {A : Type 0} (P Q : A → Type 0) → ((x : A) → P x → Q x) → (xs : List A) → Each P xs → Each Q xs
-each_to_each P Q go [] h = tt
-each_to_each P Q go (x ∷ xs) h = (go x h.0, each_to_each P Q go xs h.1)
-
-either : (c : Bool) → (not c || true) ≡ true
-either true = refl
-either false = refl
 
 -- slots of blocks that there are stay where they were
 module _ (homes more : List Home) (many : ℕ) (same : (b : ℕ) → b < many → home_of more b ≡ home_of homes b) where
@@ -150,22 +137,19 @@ module _ (e : Elision) (s t : State) (n : ℕ) (r : AreElided e s (with_at t n))
       (homes_there r.homes (muted r.hides s.world.memory) t.world.memory known_muted r.world.bounds x.0.block
       (frame_seen j x.0 y x.1 to))
 
-  less : (a b : ℕ) → a < b → a ≢ b
-  less a b lt e = omega (arith, lt, e)
-
   allowed : AreNewRights (frame_rights (framed e) s.instances) (frame_rights (elided e) t.instances)
       (length s.world.memory) (length t.world.memory) kind kind
   allowed =
       serve_both (framed e) s.instances (elided e) t.instances (length s.world.memory) (length t.world.memory) kind kind
       (each_at (λ (x : Instance). x.block ≢ length s.world.memory) s.instances
-      (λ j x at. less x.block (length s.world.memory) (ours j x at)))
+      (λ j x at. other_than x.block (length s.world.memory) (ours j x at)))
       (each_at (λ (y : Instance). y.block ≢ length t.world.memory) t.instances
-      (λ j y to. less y.block (length t.world.memory) (theirs j y to)))
+      (λ j y to. other_than y.block (length t.world.memory) (theirs j y to)))
 
   free : (c : ℕ) (x : Option MemoryBlock) (o : Offset)
       → may_compare_at (frame_rights (elided e) t.instances) c x o ≡ true
   free c None o = refl
-  free c (Some x) o = either (is_live x.life)
+  free c (Some x) o = or_true (is_live x.life)
 
   abbrev pub homes : List Home
   homes = more d r.homes r.hides z r.known theirs
@@ -221,7 +205,7 @@ module _ (e : Elision) (s t : State) (n : ℕ) (r : AreElided e s (with_at t n))
       align kind marked r.known theirs allowed small free old)
       (hidden_grown d r.homes r.hides z r.known theirs r.hidden)
       (mates_grow d r.homes r.hides z r.known theirs r.mates)
-      (each_to_each (HasSlotsIn s.world.memory)
+      (each_of_each (HasSlotsIn s.world.memory)
       (SlotsStay e d (s.world.memory ++ z ∷ []) (t.world.memory ++ z ∷ []) r.homes homes r.hides hides on) stay_there
       s.below slots.1)
       counts ss ts same

@@ -1,9 +1,10 @@
 -- Lifetime markers and deallocations, which both runs execute, leave the states beside each other.
-use Rattle.std.proofs.Common.{◌≡◌, ◌≢◌, ◌+◌, ◌%◌, ◌^◌, ⊎_elim, ℕ, suc, Bool, true, false, not, List, [], ◌∷◌, length, Option, Result, Ok, Err, refl, sym, ap, ◌∙◌, subst, arith, if◌then◌else◌, ◌&&◌, ◌||◌, ◌==◌}
+use Rattle.std.proofs.Common.{◌≡◌, ◌≢◌, ◌+◌, ◌%◌, ◌^◌, ⊎_elim, ℕ, suc, Bool, true, false, not, List, [], ◌∷◌, length, Option, Result, Ok, Err, refl, sym, ap, ◌∙◌, subst, arith, if◌then◌else◌, ◌&&◌, ◌==◌}
 use Rattle.std.proofs.lemmas.Bool.{eqb-true, ne_eqb}
 use Rattle.std.specs.Prelude.{None, Some, option_and_then, slice_get}
 use Rattle.elide_shape.specs.Calls.{deals}
 use Rattle.elide_shape.specs.declared.calls.Dealing.{Dealing}
+use Rattle.pass_elide_proof.proofs.Facts.{each_at, not_both, or_true}
 use Rattle.pass_elide_proof.proofs.Alike.{allowed}
 use Rattle.pass_elide_proof.proofs.ChangedBoth.{IsChange, changes_on, ends, home_is, is_alone, kills, lives_alone, mate, mates_change, starts}
 use Rattle.pass_elide_proof.proofs.ChangedBoth.{changed_many}
@@ -23,9 +24,11 @@ use Rattle.pass_elide_proof.specs.Marking.{HoldsNoFrame, IsAtDeallocation, IsAtM
 use Rattle.pass_elide_proof.specs.Match.{AreElided, Sides, sides}
 use Rattle.pass_elide_proof.specs.Ordinary.{IsAtOwn, StandsInFront, with_at}
 use Rattle.pass_elide_proof.specs.Places.{allocas_ahead}
+use Rattle.pass_proofs.proofs.run_laws.embedded.Memories.{same_refills}
 use Rattle.pass_proofs.proofs.run_laws.embedded.Mirrors.{bounds_changed, dies_embedded, ended_dead, nulls_changed, nulls_dead, starts_embedded}
 use Rattle.pass_proofs.proofs.run_laws.embedded.Values.{address_kept}
 use Rattle.pass_proofs.proofs.run_laws.memory.Homes.{seen_within}
+use Rattle.pass_proofs.proofs.run_laws.memory.Written.{same_some}
 use Rattle.pass_proofs.proofs.run_laws.transfer.Muted.{muted_change, muted_get}
 use Rattle.pass_proofs.proofs.run_laws.transfer.Sets.{sets_none}
 use Rattle.run_access_worked.proofs.run_laws_worked.Frames.{frame_rights_fit, no_judge}
@@ -37,10 +40,8 @@ use Rattle.pass_proofs.specs.ir_model.declared.operand.Arg.{Arg}
 use Rattle.pass_proofs.specs.ir_model.declared.operand.Callee.{Callee}
 use Rattle.pass_proofs.specs.ir_model.declared.operand.Intrinsic.{Intrinsic}
 use Rattle.pass_proofs.specs.run_framed.Framed.{frame_rights, framed_context, framed_step, judge_of}
-use Rattle.pass_proofs.specs.run_laws.changed.Changed.{Each}
 use Rattle.pass_proofs.specs.run_laws.embedded.Making.{whole_home}
 use Rattle.pass_proofs.specs.run_laws.embedded.Marks.{LivesAgain, MayStart, anew}
-use Rattle.pass_proofs.specs.run_laws.embedded.Refilled.{AreRefilled, IsRefilled}
 use Rattle.pass_proofs.specs.run_laws.memory.Pointers.{Home, IsValue, home_of}
 use Rattle.pass_proofs.specs.run_laws.memory.Standing.{AreBoundsKept, AreNullsKept, Embeds, HasRights}
 use Rattle.pass_proofs.specs.run_laws.transfer.Muted.{muted}
@@ -60,23 +61,6 @@ use Rattle.pass_proofs.specs.run_source.declared.state.State.{State}
 use Rattle.pass_proofs.specs.run_step.Results.{and_then}
 use Rattle.pass_proofs.specs.run_step.Step.{AtInstr, Context, Deallocate, Done, Work, action_of, block_of, deallocated, on_block, set_memory}
 use Rattle.pass_proofs.specs.run_step.Values.{address, arg_values, nth}
-
--- ---- truths
-
-either : (c : Bool) → (not c || true) ≡ true
-either true = refl
-either false = refl
-
-not_both : (t : Bool) → t ≡ true → t ≡ false → ⊥
-not_both true y n = absurd (cc)
-not_both false y n = absurd (cc)
-
-none_in : {A : Type 0} (P : A → Type 0) (xs : List A) → ((i : ℕ) (x : A) → slice_get xs i ≡ Some x → P x) → Each P xs
-none_in P [] h = tt
-none_in P (x ∷ xs) h = (h 0 x refl, none_in P xs (λ i y e. h (suc i) y e))
-
-same_some : {A : Type 0} (x y : A) → Some x ≡ Some y → x ≡ y
-same_some x y e = cc
 
 -- ---- worlds in which one block of both has changed
 
@@ -144,12 +128,12 @@ module _ (e : Elision) (s t : State) (n : ℕ) (r : AreElided e s (with_at t n))
 
   no_judges : (o : ℕ) → judge_of (framed e) s.instances b o ≡ None
   no_judges o =
-      no_judge (framed e) s.instances b o (none_in (λ (x : Instance). x.block ≢ b) s.instances ours)
+      no_judge (framed e) s.instances b o (each_at (λ (x : Instance). x.block ≢ b) s.instances ours)
 
   no_judges_too : (o : ℕ) → judge_of (elided e) t.instances k o ≡ None
   no_judges_too o =
       no_judge (elided e) t.instances k o
-      (none_in (λ (y : Instance). y.block ≢ k) t.instances
+      (each_at (λ (y : Instance). y.block ≢ k) t.instances
       (λ i y to same. theirs i y to (same ∙ sym (home_is e s t n r b was at shown ours theirs))))
 
   judged : AreJudgedAlike (framed e) (elided e) s.instances t.instances b k 0 was.size (anew was)
@@ -177,7 +161,7 @@ module _ (e : Elision) (s t : State) (n : ℕ) (r : AreElided e s (with_at t n))
 
   free : (c : ℕ) (x : Option MemoryBlock) (o : Offset) → may_compare_at T c x o ≡ true
   free c None o = refl
-  free c (Some x) o = either (is_live x.life)
+  free c (Some x) o = or_true (is_live x.life)
 
   may_start : MayStart R T r.homes m t.world.memory b
   may_start = record {
@@ -216,24 +200,17 @@ module _ (e : Elision) (s t : State) (n : ℕ) (r : AreElided e s (with_at t n))
   StandWith memory other =
       AreElided e (settled s (set_memory (work_of s) memory)) (settled t (set_memory (work_of t) other))
 
-  refilled : (m : List MemoryBlock) → AreRefilled m m
-  refilled m = record { each = λ b. same (slice_get m b) }
-    where
-      same : (o : Option MemoryBlock) → IsRefilled o o
-      same None = tt
-      same (Some x) = refl
-
   -- nothing changes
   pub stand_on : StandWith s.world.memory t.world.memory
   stand_on =
       settles e s t n r made (work_of s) (work_of t) r.homes r.hides
-      (goes_on d s.world.memory t.world.memory r.homes r.hides (refilled s.world.memory) (refilled t.world.memory)
+      (goes_on d s.world.memory t.world.memory r.homes r.hides (same_refills s.world.memory) (same_refills t.world.memory)
       (λ b h. refl) (λ b h. refl))
       (next_of s.top) (next_of t.top) keeps r.world r.known r.hidden
-      (mates_stay d s.world.memory t.world.memory r.homes r.hides (refilled s.world.memory) (refilled t.world.memory)
+      (mates_stay d s.world.memory t.world.memory r.homes r.hides (same_refills s.world.memory) (same_refills t.world.memory)
       (λ b h. refl) (λ b h. refl) r.mates)
       (each_all (SlotsStay e d s.world.memory t.world.memory r.homes r.homes r.hides r.hides
-      (goes_on d s.world.memory t.world.memory r.homes r.hides (refilled s.world.memory) (refilled t.world.memory)
+      (goes_on d s.world.memory t.world.memory r.homes r.hides (same_refills s.world.memory) (same_refills t.world.memory)
       (λ b h. refl) (λ b h. refl))) (λ a. refl) s.below)
       (λ more h. h) s.top.slots t.top.slots r.top.slots
 

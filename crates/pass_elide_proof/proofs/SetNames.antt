@@ -1,8 +1,9 @@
 -- Behind an instruction that stands at both places the topmost activations go on. The one name that is set has what
 -- stands for its value.
-use Rattle.std.proofs.Common.{◌≡◌, ◌<◌, ◌≤◌, ◌+◌, ⊎_elim, ℕ, suc, Bool, true, false, List, length, Option, refl, sym, ap, ◌∙◌, subst, arith}
+use Rattle.std.proofs.Common.{◌≡◌, ◌+◌, ⊎_elim, ℕ, suc, List, length, Option, refl, sym, ap, ◌∙◌, subst, arith}
 use Rattle.std.proofs.lemmas.Bool.{cases_eq}
 use Rattle.std.specs.Prelude.{None, Some}
+use Rattle.pass_elide_proof.proofs.Facts.{not_both, not_less, some_none}
 use Rattle.pass_elide_proof.proofs.Settled.{KeepsTop, next_of}
 use Rattle.pass_elide_proof.specs.Elision.{Elision, Shape, function_in, rooms}
 use Rattle.pass_elide_proof.specs.Match.{AreElided, Beside}
@@ -17,17 +18,6 @@ use Rattle.pass_proofs.specs.run_memory.declared.pointer.Value.{Value}
 use Rattle.pass_proofs.specs.run_source.declared.state.State.{State}
 use Rattle.pass_proofs.specs.run_step.Step.{AtInstr}
 use Rattle.pass_proofs.specs.run_step.Values.{Env, value_in}
-
-yes_no : (p : Bool) → p ≡ true → p ≡ false → ⊥
-yes_no true y n = absurd (cc)
-yes_no false y n = absurd (cc)
-
-some_none : {A : Type 0} (o : Option A) (q : A) → o ≡ Some q → o ≡ None → ⊥
-some_none None q y n = absurd (cc)
-some_none (Some p) q y n = absurd (cc)
-
-less : (a c : ℕ) → a < c → c ≤ a → ⊥
-less a c lt le = omega (arith, lt, le)
 
 module _ (e : Elision) (s t : State) (n : ℕ) (r : AreElided e s (with_at t n)) (i : Instr) (own : IsAtOwn e s t i)
     (more : List Home) (extends : Extends r.homes more) (first second : Env)
@@ -76,13 +66,13 @@ module _ (e : Elision) (s t : State) (n : ℕ) (r : AreElided e s (with_at t n))
         let old = r.top.values.room in
         omega (arith, few, many, old);
     need = λ holds name is.
-        both_stay name (λ given. yes_no (x.need name) is ((own.plain name given).need holds));
+        both_stay name (λ given. not_both (x.need name) is ((own.plain name given).need holds));
     freed = λ holds name is.
-        both_stay name (λ given. yes_no (x.freed name) is ((own.plain name given).freed holds));
+        both_stay name (λ given. not_both (x.freed name) is ((own.plain name given).freed holds));
     tested = λ holds name p is.
         both_stay name (λ given. some_none (x.tested name) p is ((own.plain name given).tested holds));
     in_front = λ name le.
-        set.target name (λ given. less name (length (function_in e s.top.func).names) (own.named name given) le);
+        set.target name (λ given. not_less name (length (function_in e s.top.func).names) (own.named name given) le);
     holds = own.holds;
     held = λ name given holds. set.source name (λ is. own.kept name name given is holds refl);
   }

@@ -8,6 +8,7 @@ use Rattle.pass_elide_proof.specs.Elision.{Elision, Shape, differs_in, elided, f
 use Rattle.pass_elide_proof.specs.Match.{AreActivations, AreAsked, AreElided, AreMates, AreNamed, AreReleased, HasAlloca, HasAllocas, HoldApart, HoldsBlock, IsAt, Sides, frame_size, held_blocks, held_name, holds_one, is_given_mode, sides, was_given}
 use Rattle.pass_elide_proof.specs.Ordinary.{with_at}
 use Rattle.pass_elide_proof.specs.Places.{allocas_ahead}
+use Rattle.pass_proofs.proofs.ir_laws.facts.Lists.{each_of_each}
 use Rattle.pass_proofs.specs.ir_model.declared.instr.Instr.{Instr}
 use Rattle.pass_proofs.specs.ir_paths.declared.point.Point.{Point}
 use Rattle.pass_proofs.specs.run_framed.Framed.{at_point, frame_rights}
@@ -31,10 +32,6 @@ no_names own (i ∷ is) P none same =
   where
     more : (n k : ℕ) → n ≡ 0 → n ≡ suc k → ⊥
     more n k a c = omega (arith, a, c)
-
-each_of_each : {A : Type 0} (P Q : A → Type 0) → ((x : A) → P x → Q x) → (xs : List A) → Each P xs → Each Q xs
-each_of_each P Q go [] h = tt
-each_of_each P Q go (x ∷ xs) h = (go x h.0, each_of_each P Q go xs h.1)
 
 -- ---- the topmost activations behind it
 

@@ -1,6 +1,7 @@
 -- An instruction accesses no hidden block of the framed run, since what it reads stands in the elided one.
 use Rattle.std.proofs.Common.{◌≡◌, ◌≢◌, ◌<◌, ℕ, zero, suc, Bool, true, false, List, [], ◌∷◌, ◌++◌, length, refl, sym, ap, ◌∙◌}
 use Rattle.std.specs.Prelude.{IsTrue}
+use Rattle.pass_elide_proof.proofs.Facts.{not_both}
 use Rattle.pass_elide_proof.proofs.Distances.{Stand}
 use Rattle.pass_elide_proof.proofs.Reading.{args_stand, first_context, nth_stands, operand_stands, or_right}
 use Rattle.pass_elide_proof.specs.Elision.{Elision, elided_code}
@@ -39,12 +40,8 @@ module _ (homes : List Home) (hides : ℕ → Bool)
   seen_shown : (b : ℕ) → (home_of homes b).is_seen ≡ true → IsShownBlock b
   seen_shown b seen = on (hides b) refl
     where
-      not_both : (t : Bool) → t ≡ false → t ≡ true → ⊥
-      not_both true e h = absurd (cc)
-      not_both false e h = absurd (cc)
-
       on : (t : Bool) → hides b ≡ t → hides b ≡ false
-      on true e = absurd (not_both (home_of homes b).is_seen (hidden b e) seen)
+      on true e = absurd (not_both (home_of homes b).is_seen seen (hidden b e))
       on false e = e
 
   pub led_shown : (v u : Value) → IsValue homes v u → Each IsShownBlock (led_into v)
@@ -75,10 +72,6 @@ module _ (homes : List Home) (hides : ℕ → Bool)
   none_hidden b is [] h = tt
   none_hidden b is (a ∷ bs) h = (other, none_hidden b is bs h.1)
     where
-      not_both : (t : Bool) → t ≡ true → t ≡ false → ⊥
-      not_both true y n = absurd (cc)
-      not_both false y n = absurd (cc)
-
       other : b ≢ a
       other same = not_both (hides a) (ap hides (sym same) ∙ is) h.0
 
