@@ -31,3 +31,4 @@ pub mod SlotStates
 pub mod AskingSteps
 pub mod Roomless
 pub mod AgainSteps
+pub mod WorkedSteps

@@ -204,14 +204,14 @@ module _ (e : Elision) (s t : State) (n : ℕ) (r : AreElided e s (with_at t n))
   pub stand_on : StandWith s.world.memory t.world.memory
   stand_on =
       settles e s t n r made (work_of s) (work_of t) r.homes r.hides
-      (goes_on d s.world.memory t.world.memory r.homes r.hides (same_refills s.world.memory) (same_refills t.world.memory)
-      (λ b h. refl) (λ b h. refl))
+      (goes_on d s.world.memory t.world.memory r.homes r.hides (same_refills s.world.memory)
+      (same_refills t.world.memory) (λ b h. refl) (λ b h. refl))
       (next_of s.top) (next_of t.top) keeps r.world r.known r.hidden
-      (mates_stay d s.world.memory t.world.memory r.homes r.hides (same_refills s.world.memory) (same_refills t.world.memory)
-      (λ b h. refl) (λ b h. refl) r.mates)
+      (mates_stay d s.world.memory t.world.memory r.homes r.hides (same_refills s.world.memory)
+      (same_refills t.world.memory) (λ b h. refl) (λ b h. refl) r.mates)
       (each_all (SlotsStay e d s.world.memory t.world.memory r.homes r.homes r.hides r.hides
-      (goes_on d s.world.memory t.world.memory r.homes r.hides (same_refills s.world.memory) (same_refills t.world.memory)
-      (λ b h. refl) (λ b h. refl))) (λ a. refl) s.below)
+      (goes_on d s.world.memory t.world.memory r.homes r.hides (same_refills s.world.memory)
+      (same_refills t.world.memory) (λ b h. refl) (λ b h. refl))) (λ a. refl) s.below)
       (λ more h. h) s.top.slots t.top.slots r.top.slots
 
   -- one block of both

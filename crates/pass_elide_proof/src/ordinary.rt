@@ -9,7 +9,8 @@ ghost use Rattle.pass_elide_proof.specs.Making.{IsAtAlloca, IsAtAllocator};
 ghost use Rattle.pass_elide_proof.specs.Marking.{IsAtDeallocation, IsAtMarker};
 ghost use Rattle.pass_elide_proof.specs.Match.{AreElided};
 ghost use Rattle.pass_elide_proof.specs.Ordinary.{HasMadeAll, IsAtOrdinary, StandsInFront, with_at};
-ghost use Rattle.pass_proofs.specs.ir_model.Ty.{Ty};
+ghost use Rattle.pass_elide_proof.specs.Worked.{after, before, the_elision};
+ghost use Rattle.pass_proofs.specs.ir_model.Ty.{Ty, int};
 ghost use Rattle.pass_proofs.specs.ir_model.declared.instr.Instr.{Instr};
 ghost use Rattle.pass_proofs.specs.ir_model.declared.operand.Allocator.{Allocator};
 ghost use Rattle.pass_proofs.specs.ir_model.declared.operand.Arg.{Arg};
@@ -104,4 +105,10 @@ pub fn allocas_again_stay_beside()
     ensures { (e : Elision) (s t : State) (name : ℕ) (ty : Ty) (align from label : ℕ) (next : Point)
         → AreElided e s t → StandsInFront e s t → IsAtAllocaAgain e s t name ty align from label next
         → AreElided e (framed_step (framed e) s) (framed_step (elided e) t) }
+{}
+
+/// In the worked runs the coroutine's ramp stands at such an alloca, given its frame in one run and not in the other.
+#[tactic(none)]
+pub fn worked_allocas_are_made()
+    ensures { IsAtAlloca the_elision (before 1) (after 2) 24 (int 32) 4 }
 {}
