@@ -23,7 +23,7 @@ module _ (m : Module) (ls : List Layout) (sites : List Place) where
   abbrev turned : ℕ → Function → Function
   turned func f = elided_function (frame_in m ls sites func f) f
 
-  there : (s : ℕ) (fs : List Function) (k func : ℕ) → func ≡ s + k
+  pub there : (s : ℕ) (fs : List Function) (k func : ℕ) → func ≡ s + k
       → slice_get (elided_functions m ls sites s fs) k ≡ option_map (turned func) (slice_get fs k)
   there s [] k func e = refl
   there s (f ∷ fs) zero func e = let at : s ≡ func = omega (arith, e) in λ i. Some (turned (at i) f)
@@ -75,7 +75,7 @@ module _ (e : Elision) where
           (many e.code e.layouts.coroutines e.sites 0 e.code.functions)
       on None None None = refl
 
-  inits : (ty : Ty) (x : Operand) → operand_value (elided_code e) [] ty x ≡ operand_value e.code [] ty x
+  pub inits : (ty : Ty) (x : Operand) → operand_value (elided_code e) [] ty x ≡ operand_value e.code [] ty x
   inits ty (Operand.Global n) = addresses n
   inits ty (Operand.Local v) = refl
   inits ty (Operand.Number z) = refl

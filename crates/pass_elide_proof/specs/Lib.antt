@@ -15,3 +15,9 @@ pub mod Edges
 pub mod EdgesAsking
 pub mod EdgesFreeing
 pub mod EdgesLeaving
+pub mod Ordinary
+pub mod Making
+pub mod Marking
+pub mod Asides
+pub mod Asked
+pub mod Again

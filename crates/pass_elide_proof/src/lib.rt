@@ -7,6 +7,8 @@ pub mod counts;
 pub mod edges;
 pub mod frames;
 pub mod handles;
+pub mod ordinary;
+pub mod slots;
 pub mod starting;
 pub mod waiting;
 pub mod worked;
