@@ -7,3 +7,7 @@ pub mod Holding
 pub mod Starts
 pub mod Sized
 pub mod Allocated
+pub mod Setting
+pub mod AtCalls
+pub mod Addresses
+pub mod Constants

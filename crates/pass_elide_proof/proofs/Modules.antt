@@ -62,7 +62,7 @@ module _ (e : Elision) where
       found e.code e.layouts.coroutines e.sites
       (λ (f : Function). f.coroutine && same_name (noalloc_of f.name) n) (λ func f. refl) 0 e.code.functions
 
-  addresses : (n : Name) → address_of (elided_code e) n ≡ address_of e.code n
+  pub addresses : (n : Name) → address_of (elided_code e) n ≡ address_of e.code n
   addresses n =
       (λ i. address_from (elided_code e) (named n i) (global_named e.code n) (declaration_named e.code n))
       ∙ on (function_named e.code n) (global_named e.code n) (declaration_named e.code n)

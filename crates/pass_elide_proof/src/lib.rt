@@ -6,6 +6,7 @@ pub mod code;
 pub mod counts;
 pub mod frames;
 pub mod handles;
+pub mod intrinsics;
 pub mod starting;
 pub mod waiting;
 pub mod worked;

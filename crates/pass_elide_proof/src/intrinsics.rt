@@ -1,0 +1,22 @@
+//! Coro intrinsics that both runs execute.
+
+ghost use Rattle.std.specs.Prelude.{Bool, List, Option, ℕ};
+ghost use Rattle.pass_elide_proof.specs.Both.{IsAtAsking, IsAtConstant};
+ghost use Rattle.pass_elide_proof.specs.Elision.{Elision, elided, framed};
+ghost use Rattle.pass_elide_proof.specs.Match.{AreElided};
+ghost use Rattle.pass_proofs.specs.ir_model.Ty.{Ty};
+ghost use Rattle.pass_proofs.specs.ir_model.declared.operand.Arg.{Arg};
+ghost use Rattle.pass_proofs.specs.ir_model.declared.operand.Intrinsic.{Intrinsic};
+ghost use Rattle.pass_proofs.specs.run_framed.Framed.{framed_step};
+ghost use Rattle.pass_proofs.specs.run_source.declared.state.State.{State};
+
+/// coro.id, coro.size, coro.align and coro.frame give what stands for each other. coro.alloc is true in the one run and
+/// false in the other where a ramp was given its frame, and true in both elsewhere.
+pub fn constants_stay_beside()
+    ensures constants { (e : Elision) (s t : State) (i : Intrinsic) (result : Option ℕ) (must_tail : Bool)
+        (ty : Option Ty) (args : List Arg) → AreElided e s t → IsAtConstant e s t i result must_tail ty args
+        → AreElided e (framed_step (framed e) s) (framed_step (elided e) t) }
+    ensures asked { (e : Elision) (s t : State) (result : Option ℕ) (must_tail : Bool) (ty : Option Ty)
+        (args : List Arg) → AreElided e s t → IsAtAsking e s t result must_tail ty args
+        → AreElided e (framed_step (framed e) s) (framed_step (elided e) t) }
+{}
