@@ -11,3 +11,11 @@ pub mod Setting
 pub mod AtCalls
 pub mod Addresses
 pub mod Constants
+pub mod Sides
+pub mod Changing
+pub mod BeginSteps
+pub mod Turning
+pub mod Begun
+pub mod Begins
+pub mod GivenBegins
+pub mod Rooms

@@ -12,3 +12,5 @@ pub mod Sizes
 pub mod Shapes
 pub mod Allocating
 pub mod Both
+pub mod Beginning
+pub mod Rooms
