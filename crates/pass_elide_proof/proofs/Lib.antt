@@ -19,3 +19,4 @@ pub mod Begun
 pub mod Begins
 pub mod GivenBegins
 pub mod Rooms
+pub mod Frees

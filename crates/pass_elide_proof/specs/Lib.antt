@@ -14,3 +14,4 @@ pub mod Allocating
 pub mod Both
 pub mod Beginning
 pub mod Rooms
+pub mod Frees

@@ -3,6 +3,7 @@
 ghost use Rattle.std.specs.Prelude.{Bool, List, Option, ℕ};
 ghost use Rattle.pass_elide_proof.specs.Both.{IsAtAsking, IsAtConstant};
 ghost use Rattle.pass_elide_proof.specs.Elision.{Elision, elided, framed};
+ghost use Rattle.pass_elide_proof.specs.Frees.{IsAtFree};
 ghost use Rattle.pass_elide_proof.specs.Match.{AreElided};
 ghost use Rattle.pass_proofs.specs.ir_model.Ty.{Ty};
 ghost use Rattle.pass_proofs.specs.ir_model.declared.operand.Arg.{Arg};
@@ -18,5 +19,13 @@ pub fn constants_stay_beside()
         → AreElided e (framed_step (framed e) s) (framed_step (elided e) t) }
     ensures asked { (e : Elision) (s t : State) (result : Option ℕ) (must_tail : Bool) (ty : Option Ty)
         (args : List Arg) → AreElided e s t → IsAtAsking e s t result must_tail ty args
+        → AreElided e (framed_step (framed e) s) (framed_step (elided e) t) }
+{}
+
+/// coro.free gives the frame's address in the framed run, and null in the other one where the frame was given. Elsewhere
+/// what it gives stands for each other.
+pub fn frees_are_asked()
+    ensures { (e : Elision) (s t : State) (result : Option ℕ) (must_tail : Bool) (ty : Option Ty) (args : List Arg)
+        → AreElided e s t → IsAtFree e s t result must_tail ty args
         → AreElided e (framed_step (framed e) s) (framed_step (elided e) t) }
 {}
