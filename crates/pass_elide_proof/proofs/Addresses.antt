@@ -1,5 +1,5 @@
 -- Addresses of frames stand for each other.
-use Rattle.std.proofs.Common.{◌≡◌, ◌<◌, ◌≤◌, ◌+◌, ◌%◌, ◌^◌, ℕ, zero, suc, true, false, List, [], ◌∷◌, length, refl, sym, ap, ◌∙◌, subst, arith}
+use Rattle.std.proofs.Common.{◌≡◌, ◌<◌, ◌≤◌, ◌+◌, ◌^◌, ℕ, zero, suc, true, List, [], ◌∷◌, length, refl, sym, ap, ◌∙◌, subst, arith}
 use Rattle.std.specs.Prelude.{None, Option, Some, option_and_then, option_map, slice_get}
 use Rattle.pass_elide_proof.specs.Elision.{Elision}
 use Rattle.pass_elide_proof.specs.Match.{AreElided, AreInstances}

@@ -1,5 +1,5 @@
 -- Both runs execute the same call of a coro intrinsic.
-use Rattle.std.proofs.Common.{◌≡◌, ◌<◌, ◌+◌, inl, ℕ, zero, suc, Bool, true, false, List, [], ◌∷◌, length, Ok, Err, refl, sym, ap, ◌∙◌, subst, arith, ◌==◌, if◌then◌else◌, ◌&&◌, ◌||◌}
+use Rattle.std.proofs.Common.{◌≡◌, ◌<◌, ◌+◌, ℕ, zero, suc, Bool, true, false, List, [], ◌∷◌, length, Ok, Err, refl, sym, ap, ◌∙◌, subst, arith, ◌==◌, if◌then◌else◌}
 use Rattle.std.specs.Prelude.{None, Option, Result, Some, ℤ, option_map, slice_get}
 use Rattle.pass_elide.specs.declared.given.GivenFrame.{GivenFrame}
 use Rattle.pass_elide_proof.proofs.Modules.{addresses, finds_alike}
@@ -9,10 +9,9 @@ use Rattle.pass_elide_proof.proofs.Standing.{has_code}
 use Rattle.pass_elide_proof.specs.Both.{AreAtCall, HoldsOn}
 use Rattle.pass_elide_proof.specs.Elision.{Elision, differs_in, elided, elided_code, framed, function_in, function_in_elided, rooms}
 use Rattle.pass_elide_proof.specs.Match.{AreElided, AreNamed, held_name, is_given_mode}
-use Rattle.pass_elide_proof.specs.Places.{elided_instr, instrs_in, instrs_of, name_at, own_at, room_at}
+use Rattle.pass_elide_proof.specs.Places.{elided_instr, instrs_in, name_at, own_at, room_at}
 use Rattle.pass_proofs.specs.ir_base.declared.cause.Cause.{Cause}
 use Rattle.pass_proofs.specs.ir_base.declared.name.Name.{Name}
-use Rattle.pass_proofs.specs.ir_base.declared.outcome.Outcome.{Outcome}
 use Rattle.pass_proofs.specs.ir_model.Names.{declaration_named, first_where, function_named, global_named, same_name}
 use Rattle.pass_proofs.specs.ir_model.Ty.{Ty, array, int, named, ptr, structure, token}
 use Rattle.pass_proofs.specs.ir_model.declared.instr.Instr.{Instr}
@@ -25,7 +24,7 @@ use Rattle.pass_proofs.specs.ir_model.declared.operand.Intrinsic.{Intrinsic}
 use Rattle.pass_proofs.specs.ir_model.declared.operand.Operand.{Operand}
 use Rattle.pass_proofs.specs.ir_paths.Windows.{operand_at}
 use Rattle.pass_proofs.specs.run_agreement.Machines.{IsFine}
-use Rattle.pass_proofs.specs.run_framed.Framed.{FramedGiven, framed_advance, framed_next, framed_step}
+use Rattle.pass_proofs.specs.run_framed.Framed.{framed_advance, framed_next, framed_step}
 use Rattle.pass_proofs.specs.run_laws.embedded.Making.{whole_home}
 use Rattle.pass_proofs.specs.run_laws.memory.Pointers.{Home, IsValue, home_of}
 use Rattle.pass_proofs.specs.run_memory.Pointers.{moved, offset_of}
@@ -36,7 +35,7 @@ use Rattle.pass_proofs.specs.run_source.declared.state.Activation.{Activation}
 use Rattle.pass_proofs.specs.run_source.declared.state.State.{State}
 use Rattle.pass_proofs.specs.run_source_tables.Given.{Given}
 use Rattle.pass_proofs.specs.run_step.Step.{AtInstr, fetch, fetch_in, fetch_or}
-use Rattle.pass_proofs.specs.run_step.Values.{address_from, address_of, arg_values, literal, nth, operand_value, pointer_to}
+use Rattle.pass_proofs.specs.run_step.Values.{address_from, address_of, arg_values, literal, nth, operand_value}
 
 -- ---- the other run's instruction
 

@@ -1,15 +1,15 @@
 -- What a begin makes of a framed state.
-use Rattle.std.proofs.Common.{◌≡◌, ◌≢◌, ◌⊎◌, ◌<◌, ◌≤◌, ◌+◌, inl, inr, ℕ, zero, suc, Bool, true, false, not, List, [], ◌∷◌, ◌++◌, append-nil, length, map, Ok, Err, refl, sym, ap, ◌∙◌, subst, arith, if◌then◌else◌, ◌&&◌, ◌||◌, ◌==◌}
-use Rattle.std.proofs.lemmas.Bool.{and_from, and_left, and_right, and_parts, eq-eqb, eqb-true, le-leb, leb-true}
-use Rattle.std.specs.List.{list_all, list_any}
+use Rattle.std.proofs.Common.{◌≡◌, ◌+◌, ℕ, suc, Bool, true, false, not, List, [], ◌∷◌, ◌++◌, length, map, Ok, Err, refl, sym, ap, ◌∙◌, arith, if◌then◌else◌, ◌&&◌, ◌||◌, ◌==◌}
+use Rattle.std.proofs.lemmas.Bool.{and_from, and_parts, eq-eqb, eqb-true, le-leb, leb-true}
+use Rattle.std.specs.List.{list_all}
 use Rattle.std.specs.Option.{option_map_or}
-use Rattle.std.specs.Prelude.{None, Option, Result, Some, filter, find, is_none, is_some, nat_le, nat_lt, option_and_then, option_map, slice_get, slice_set, unwrap_or}
+use Rattle.std.specs.Prelude.{None, Option, Result, Some, filter, find, is_none, is_some, nat_le, nat_lt, option_and_then, slice_get, slice_set, unwrap_or}
 use Rattle.pass_elide_proof.specs.Beginning.{HasOwnSlots}
 use Rattle.pass_proofs.specs.frame_layout.declared.layout.Layout.{Layout}
 use Rattle.pass_proofs.specs.ir_base.declared.cause.Cause.{Cause}
 use Rattle.pass_proofs.specs.run_framed.Framed.{FramedGiven, allocates, are_finished_at, begin_given, begin_given_at, begin_in_block, begin_in_frame, covers, frame_around, frame_of_layout, framed_begin, has_room, has_size, layout_of, no_layout}
 use Rattle.pass_proofs.specs.run_laws.changed.Changed.{Each}
-use Rattle.pass_proofs.specs.run_memory.Memory.{check, is_live, may_be_owned, own, owned_to, same_kind, with_block}
+use Rattle.pass_proofs.specs.run_memory.Memory.{check, is_live, may_be_owned, owned_to, same_kind, with_block}
 use Rattle.pass_proofs.specs.run_memory.Pointers.{offset_of}
 use Rattle.pass_proofs.specs.run_memory.declared.block.Kind.{Kind}
 use Rattle.pass_proofs.specs.run_memory.declared.block.MemoryBlock.{MemoryBlock}
@@ -53,7 +53,8 @@ module _ (test : Slot → Bool) where
   kept_all : (zs : List Slot) → Each (λ (z : Slot). test z ≡ true) zs → filter test zs ++ [] ≡ zs
   kept_all [] h = refl
   kept_all (z ∷ zs) h =
-      (λ i. (if h.0 i then z ∷ filter test zs else filter test zs) ++ []) ∙ ap (λ (ys : List Slot). z ∷ ys) (kept_all zs h.1)
+      (λ i. (if h.0 i then z ∷ filter test zs else filter test zs) ++ [])
+      ∙ ap (λ (ys : List Slot). z ∷ ys) (kept_all zs h.1)
 
   kept_none : (zs : List Slot) → Each (λ (z : Slot). test z ≡ true) zs
       → filter (λ (z : Slot). not (test z)) zs ++ [] ≡ []
@@ -220,7 +221,8 @@ module _ (g : FramedGiven) (t : State) (k : ℕ) (z : MemoryBlock) (there : slic
         by : (c : Bool) → covers g k 0 x ≡ c → (c && not (began_at k 0 x)) ≡ false
         by false e = refl
         by true e =
-            let outer = and_parts ((x.block == k) && nat_le x.start 0) (nat_lt 0 (x.start + (layout_of g.layouts x.coroutine).size)) e in
+            let outer = and_parts ((x.block == k) && nat_le x.start 0)
+            (nat_lt 0 (x.start + (layout_of g.layouts x.coroutine).size)) e in
             let inner = and_parts (x.block == k) (nat_le x.start 0) outer.0 in
             let le = leb-true x.start 0 inner.1 in
             let start : x.start ≡ 0 = omega (arith, le) in
@@ -233,7 +235,8 @@ module _ (g : FramedGiven) (t : State) (k : ℕ) (z : MemoryBlock) (there : slic
 
     fits : has_size t.world.memory k (own_frame g.given t).size ≡ true
     fits =
-        ap (λ (o : Option MemoryBlock). option_map_or (λ (y : MemoryBlock). y.size == (own_frame g.given t).size) o false)
+        ap (λ (o : Option MemoryBlock).
+        option_map_or (λ (y : MemoryBlock). y.size == (own_frame g.given t).size) o false)
         there
         ∙ eq-eqb z.size (own_frame g.given t).size sized
 

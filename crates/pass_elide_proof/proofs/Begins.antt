@@ -1,6 +1,6 @@
 -- A ramp that allocates begins in both runs.
-use Rattle.std.proofs.Common.{◌≡◌, ◌≢◌, ◌⊎◌, ◌<◌, ◌≤◌, ◌+◌, ◌^◌, inl, inr, ⊎_elim, ℕ, zero, suc, Bool, true, false, not, List, [], ◌∷◌, ◌++◌, length, Ok, refl, sym, ap, ◌∙◌, subst, arith, if◌then◌else◌, ◌&&◌, ◌||◌, ◌==◌}
-use Rattle.std.proofs.lemmas.Bool.{and_parts, cases_eq, eq-eqb}
+use Rattle.std.proofs.Common.{◌≡◌, ◌≢◌, ◌<◌, ◌≤◌, ◌+◌, ◌^◌, ℕ, Bool, true, false, not, List, [], ◌∷◌, length, Ok, refl, sym, ap, ◌∙◌, subst, arith, if◌then◌else◌, ◌&&◌, ◌||◌, ◌==◌}
+use Rattle.std.proofs.lemmas.Bool.{and_parts}
 use Rattle.std.specs.Option.{option_map_or}
 use Rattle.std.specs.Prelude.{None, Option, Some, filter, is_some, nat_le, slice_get}
 use Rattle.pass_elide_proof.proofs.Addresses.{block_within, home_seen, moved_from_start, twin_back}
@@ -8,11 +8,11 @@ use Rattle.pass_elide_proof.proofs.AtCalls.{arg_stands, both_step, goes_on}
 use Rattle.pass_elide_proof.proofs.BeginSteps.{HasBegunAt, begins, begun_in, framed_begins, has_begun_at}
 use Rattle.pass_elide_proof.proofs.Begun.{HasBegun, begun_beside, filter_one, given_still}
 use Rattle.pass_elide_proof.proofs.Setting.{IsOwnPlace, SetsAlike, went}
-use Rattle.pass_elide_proof.proofs.Sides.{Anything, HaveOthers, HasOthers}
+use Rattle.pass_elide_proof.proofs.Sides.{Anything, HaveOthers}
 use Rattle.pass_elide_proof.proofs.Turning.{IsAllowed, both_allowed, shown_live, world_turned}
 use Rattle.pass_elide_proof.specs.Beginning.{IsAtBegin, IsKnownTo}
 use Rattle.pass_elide_proof.specs.Counts.{given_frames}
-use Rattle.pass_elide_proof.specs.Elision.{Elision, Shape, differs_in, elided, elided_code, framed}
+use Rattle.pass_elide_proof.specs.Elision.{Elision, differs_in, elided, elided_code, framed}
 use Rattle.pass_elide_proof.specs.Match.{AreElided, AreModes, Given, IsNoGivenFrame, Same, Sides, held_name, holds_one, instance_in, is_given_mode, sides, was_given}
 use Rattle.pass_proofs.proofs.ir_laws.facts.Lists.{get_last, get_within}
 use Rattle.pass_proofs.proofs.run_laws.memory.Written.{changed_here, same_some}
@@ -22,13 +22,11 @@ use Rattle.pass_proofs.specs.ir_model.declared.operand.Arg.{Arg}
 use Rattle.pass_proofs.specs.ir_model.declared.operand.Callee.{Callee}
 use Rattle.pass_proofs.specs.ir_model.declared.operand.Intrinsic.{Intrinsic}
 use Rattle.pass_proofs.specs.run_agreement.Machines.{IsFine}
-use Rattle.pass_proofs.specs.run_framed.Framed.{allocates, frame_rights, framed_begin, framed_next, framed_step, is_given}
-use Rattle.pass_proofs.specs.run_laws.access.Changed.{home_block}
+use Rattle.pass_proofs.specs.run_framed.Framed.{allocates, frame_rights, framed_next, framed_step, is_given}
 use Rattle.pass_proofs.specs.run_laws.changed.Changed.{Each}
 use Rattle.pass_proofs.specs.run_laws.embedded.Making.{whole_home}
 use Rattle.pass_proofs.specs.run_laws.memory.Pointers.{Home, IsValue, home_of}
 use Rattle.pass_proofs.specs.run_laws.memory.Standing.{HasRights}
-use Rattle.pass_proofs.specs.run_laws.transfer.Muted.{muted}
 use Rattle.pass_proofs.specs.run_memory.Memory.{is_live, may_be_owned, owned_to, same_kind, with_block}
 use Rattle.pass_proofs.specs.run_memory.Pointers.{moved, offset_of}
 use Rattle.pass_proofs.specs.run_memory.declared.block.Byte.{Byte}
@@ -261,7 +259,8 @@ module _ (e : Elision) (s t : State) (result : Option ℕ) (must_tail : Bool) (t
           (frame_rights (elided e) (begun_in t k most).instances) h b p q) (sym mate.home)
           (both_allowed (framed e) (elided e) s.instances t.instances s.top.func t.top.func b k p.size p q refl
           r.top.func
-          (sym (ap (λ (x : MemoryBlock). x.align) other) ∙ ap (λ (x : MemoryBlock). x.align) is) none never (same p.size))
+          (sym (ap (λ (x : MemoryBlock). x.align) other) ∙ ap (λ (x : MemoryBlock). x.align) is) none never
+          (same p.size))
         where
           same : (n : ℕ) → n ≤ n
           same n = omega arith

@@ -1,33 +1,31 @@
 -- Behind a begin both states stand beside each other again, with one instance more.
-use Rattle.std.proofs.Common.{◌≡◌, ◌≢◌, ◌⊎◌, ◌<◌, ◌≤◌, ◌+◌, inl, inr, ⊎_elim, ℕ, zero, suc, Bool, true, false, not, List, [], ◌∷◌, ◌++◌, length, length-append, refl, sym, ap, ◌∙◌, subst, arith, if◌then◌else◌, ◌&&◌, ◌||◌, ◌==◌}
-use Rattle.std.proofs.lemmas.Bool.{cases_eq, cases_lt}
+use Rattle.std.proofs.Common.{◌≡◌, ◌≢◌, ◌⊎◌, ◌<◌, ◌+◌, inl, inr, ⊎_elim, ℕ, zero, suc, Bool, true, false, not, List, [], ◌∷◌, ◌++◌, length, length-append, refl, sym, ap, ◌∙◌, subst, arith, if◌then◌else◌, ◌||◌, ◌==◌}
+use Rattle.std.proofs.lemmas.Bool.{cases_eq}
 use Rattle.std.specs.Option.{option_map_or}
-use Rattle.std.specs.Prelude.{None, Option, Some, filter, map, slice_get}
+use Rattle.std.specs.Prelude.{None, Option, Some, filter, slice_get}
 use Rattle.pass_elide_proof.proofs.BeginSteps.{begun_in}
 use Rattle.pass_elide_proof.proofs.Setting.{AreActing, IsOwnPlace, SetsAlike, acting, held_too, none_apart, went, went_on}
 use Rattle.pass_elide_proof.proofs.Sides.{HaveOthers, SidesGoOn, WasFree, acting_on, below_on}
 use Rattle.pass_elide_proof.specs.Beginning.{IsKnownTo}
 use Rattle.pass_elide_proof.specs.Counts.{capped, counted, given_frames}
-use Rattle.pass_elide_proof.specs.Elision.{Elision, Shape, elided, framed, function_in, rooms}
+use Rattle.pass_elide_proof.specs.Elision.{Elision, elided, framed, function_in, rooms}
 use Rattle.pass_elide_proof.specs.Match.{AreActivations, AreElided, AreInstances, AreMates, AreNamed, AreReleased, Beside, HasAlloca, HasAllocas, HoldsBlock, IsFreedAs, IsNoGivenFrame, Runs, Sides, frame_size, held_blocks, held_name, holds_one, instance_in, is_given_mode, sides, was_given}
 use Rattle.pass_elide_proof.specs.Places.{allocas_ahead}
-use Rattle.pass_proofs.proofs.ir_laws.facts.Lists.{get_before, get_front, get_last, get_within}
+use Rattle.pass_proofs.proofs.ir_laws.facts.Lists.{get_before, get_front, get_within}
 use Rattle.pass_proofs.proofs.run_laws.memory.Homes.{value_on}
-use Rattle.pass_proofs.proofs.run_laws.memory.Written.{changed_elsewhere, changed_here, same_some}
+use Rattle.pass_proofs.proofs.run_laws.memory.Written.{changed_elsewhere, changed_here}
 use Rattle.pass_proofs.specs.ir_model.declared.instr.Instr.{Instr}
 use Rattle.pass_proofs.specs.run_framed.Framed.{frame_rights, is_given, is_stack_block}
 use Rattle.pass_proofs.specs.run_laws.changed.Changed.{Each}
 use Rattle.pass_proofs.specs.run_laws.embedded.Making.{whole_home}
-use Rattle.pass_proofs.specs.run_laws.memory.Pointers.{Extends, Home, IsValue, home_of}
-use Rattle.pass_proofs.specs.run_laws.memory.Standing.{blank_block}
+use Rattle.pass_proofs.specs.run_laws.memory.Pointers.{Extends, Home, home_of}
 use Rattle.pass_proofs.specs.run_laws.transfer.Transfer.{AreOver}
-use Rattle.pass_proofs.specs.run_memory.Memory.{is_live, owned_to, same_kind, with_block}
+use Rattle.pass_proofs.specs.run_memory.Memory.{is_live, owned_to, with_block}
 use Rattle.pass_proofs.specs.run_memory.declared.block.Byte.{Byte}
-use Rattle.pass_proofs.specs.run_memory.declared.block.Kind.{Kind}
 use Rattle.pass_proofs.specs.run_memory.declared.block.MemoryBlock.{MemoryBlock}
 use Rattle.pass_proofs.specs.run_memory.declared.pointer.Value.{Value}
 use Rattle.pass_proofs.specs.run_source.Source.{new_instance}
-use Rattle.pass_proofs.specs.run_source.State.{frame_address_of, gives, is_finished}
+use Rattle.pass_proofs.specs.run_source.State.{frame_address_of, gives}
 use Rattle.pass_proofs.specs.run_source.declared.state.Activation.{Activation}
 use Rattle.pass_proofs.specs.run_source.declared.state.Instance.{Instance}
 use Rattle.pass_proofs.specs.run_source.declared.state.State.{State}
@@ -165,7 +163,8 @@ module _ (e : Elision) (s t : State) (r : AreElided e s t) (b k size most : ℕ)
           ≡ option_map_or (is_given t.world.memory) (instance_in t.instances o) false
       at None low = refl
       at (Some i) low =
-          λ j. option_map_or (given_still t.world.memory k most j) (get_front t.instances (y ∷ []) i (low i refl) j) false
+          λ j. option_map_or (given_still t.world.memory k most j) (get_front t.instances (y ∷ []) i (low i refl) j)
+          false
 
       by : (m : Bool)
           → (if m then true else option_map_or (is_given w.world.memory) (instance_in w.instances c.instance) false)

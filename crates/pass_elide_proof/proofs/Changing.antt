@@ -1,16 +1,15 @@
 -- An instance of both runs changes, and stays where it is.
-use Rattle.std.proofs.Common.{◌≡◌, ◌≢◌, ◌⊎◌, ◌<◌, ◌+◌, inl, inr, ⊎_elim, ℕ, zero, suc, Bool, true, false, not, List, [], ◌∷◌, ◌++◌, length, refl, sym, ap, ◌∙◌, subst, arith, if◌then◌else◌, ◌&&◌, ◌||◌, ◌==◌}
+use Rattle.std.proofs.Common.{◌≡◌, ◌≢◌, ◌⊎◌, ◌+◌, inl, inr, ℕ, zero, suc, Bool, true, false, not, List, [], ◌∷◌, length, refl, sym, ap, ◌∙◌, subst, if◌then◌else◌, ◌||◌, ◌==◌}
 use Rattle.std.specs.Option.{option_map_or}
-use Rattle.std.specs.Prelude.{None, Option, Some, filter, map, slice_get, slice_set}
-use Rattle.pass_elide_proof.proofs.Setting.{went}
-use Rattle.pass_elide_proof.proofs.Sides.{Anything, SidesGoOn, WasFree, activation_on, all_others, any_others, below_on}
-use Rattle.pass_elide_proof.specs.Counts.{capped, counted, given_frames}
+use Rattle.std.specs.Prelude.{None, Option, Some, filter, slice_get, slice_set}
+use Rattle.pass_elide_proof.proofs.Sides.{Anything, SidesGoOn, activation_on, all_others, any_others, below_on}
+use Rattle.pass_elide_proof.specs.Counts.{capped, counted}
 use Rattle.pass_elide_proof.specs.Elision.{Elision, elided, framed}
-use Rattle.pass_elide_proof.specs.Match.{AreElided, AreInstances, AreMates, IsNoGivenFrame, Sides, held_blocks, instance_in, is_given_mode, sides, was_given}
+use Rattle.pass_elide_proof.specs.Match.{AreElided, AreInstances, AreMates, IsNoGivenFrame, Sides, held_blocks, instance_in, is_given_mode, sides}
 use Rattle.pass_proofs.proofs.ir_laws.facts.Lists.{get_within, set_here, set_length, set_other}
 use Rattle.pass_proofs.proofs.ir_laws.facts.Truth.{either}
 use Rattle.pass_proofs.proofs.run_laws.memory.Written.{same_some}
-use Rattle.pass_proofs.specs.run_framed.Framed.{FramedGiven, frame_rights, is_given, is_stack_block}
+use Rattle.pass_proofs.specs.run_framed.Framed.{frame_rights, is_given, is_stack_block}
 use Rattle.pass_proofs.specs.run_laws.transfer.Transfer.{AreOver}
 use Rattle.pass_proofs.specs.run_memory.Memory.{Rights}
 use Rattle.pass_proofs.specs.run_memory.declared.block.MemoryBlock.{MemoryBlock}

@@ -1,11 +1,10 @@
 -- Both runs execute a coro intrinsic that gives a constant.
-use Rattle.std.proofs.Common.{◌≡◌, ◌⊎◌, inl, inr, ⊎_elim, ℕ, Bool, true, false, List, Ok, refl, sym, ap, ◌∙◌, subst, ◌&&◌, ◌||◌, if◌then◌else◌}
-use Rattle.std.specs.Option.{option_map_or}
-use Rattle.std.specs.Prelude.{None, Option, Some, is_some, pos}
+use Rattle.std.proofs.Common.{◌≡◌, inr, ℕ, Bool, true, false, List, Ok, refl, ap, ◌&&◌, ◌||◌, if◌then◌else◌}
+use Rattle.std.specs.Prelude.{None, Option, Some, pos}
 use Rattle.pass_elide_proof.proofs.Addresses.{own_frames_stand}
 use Rattle.pass_elide_proof.proofs.AtCalls.{both_step, name_held, name_kept, own_place}
 use Rattle.pass_elide_proof.proofs.Setting.{IsAskedTo, SetsAlike, given_beside}
-use Rattle.pass_elide_proof.specs.Both.{AreAtCall, HoldsOn, IsAtAsking, IsAtConstant, IsNoFreed, is_constant}
+use Rattle.pass_elide_proof.specs.Both.{HoldsOn, IsAtAsking, IsAtConstant, is_constant}
 use Rattle.pass_elide_proof.specs.Elision.{Elision, Shape, differs_in, elided, framed}
 use Rattle.pass_elide_proof.specs.Match.{AreElided, AreModes, Given, Same, is_given_mode, sides, was_given}
 use Rattle.pass_proofs.specs.ir_model.Ty.{Ty}
@@ -202,5 +201,6 @@ module _ (e : Elision) (s t : State) (result : Option ℕ) (must_tail : Bool) (t
   asked_beside =
       both_step e s t Intrinsic.CoroAlloc result must_tail ty args r at.call (gives s result v) (gives t result w)
       refl refl
-      (given_beside e s t r result v w (own_place e s t Intrinsic.CoroAlloc result must_tail ty args r at.call) asked_sets
+      (given_beside e s t r result v w (own_place e s t Intrinsic.CoroAlloc result must_tail ty args r at.call)
+      asked_sets
       (name_held e s t result at.holds v s.top.has_left) (name_kept e s t result at.holds))

@@ -1,7 +1,7 @@
 -- coro.free gives the frame's address in the framed run, and null in the other one where the frame was given.
-use Rattle.std.proofs.Common.{◌≡◌, ◌⊎◌, inl, inr, ℕ, Bool, true, false, List, Ok, refl, sym, ap, ◌∙◌, subst, if◌then◌else◌, ◌&&◌, ◌||◌}
+use Rattle.std.proofs.Common.{◌≡◌, inl, inr, ℕ, Bool, true, false, List, refl, sym, ap, ◌∙◌, subst, if◌then◌else◌, ◌&&◌, ◌||◌}
 use Rattle.std.specs.Option.{option_map_or}
-use Rattle.std.specs.Prelude.{None, Option, Some, is_some, option_and_then, option_map, slice_get, slice_set}
+use Rattle.std.specs.Prelude.{None, Option, Some, is_some, option_and_then, option_map, slice_get}
 use Rattle.pass_elide_proof.proofs.Addresses.{address_stands, twin_back, twin_of}
 use Rattle.pass_elide_proof.proofs.AtCalls.{both_step, name_held, name_kept, own_place}
 use Rattle.pass_elide_proof.proofs.Begins.{no_both}
@@ -10,24 +10,19 @@ use Rattle.pass_elide_proof.proofs.Setting.{IsFreedTo, IsOwnPlace, SetsAlike, gi
 use Rattle.pass_elide_proof.specs.Both.{HoldsOn}
 use Rattle.pass_elide_proof.specs.Elision.{Elision, Shape, differs_in, elided, framed}
 use Rattle.pass_elide_proof.specs.Frees.{IsAtFree}
-use Rattle.pass_elide_proof.specs.Match.{AreElided, AreInstances, IsFreedAs, Sides, instance_in, is_given_mode, sides, was_given}
+use Rattle.pass_elide_proof.specs.Match.{AreElided, AreInstances, IsFreedAs, instance_in, is_given_mode, sides, was_given}
 use Rattle.pass_proofs.specs.ir_model.Ty.{Ty}
-use Rattle.pass_proofs.specs.ir_model.declared.instr.Instr.{Instr}
 use Rattle.pass_proofs.specs.ir_model.declared.operand.Arg.{Arg}
-use Rattle.pass_proofs.specs.ir_model.declared.operand.Callee.{Callee}
 use Rattle.pass_proofs.specs.ir_model.declared.operand.Intrinsic.{Intrinsic}
 use Rattle.pass_proofs.specs.run_framed.Framed.{framed_step, freed_address, is_given}
-use Rattle.pass_proofs.specs.run_laws.memory.Pointers.{Home, IsValue}
+use Rattle.pass_proofs.specs.run_laws.memory.Pointers.{IsValue}
 use Rattle.pass_proofs.specs.run_memory.declared.block.MemoryBlock.{MemoryBlock}
 use Rattle.pass_proofs.specs.run_memory.declared.pointer.Pointer.{Pointer}
 use Rattle.pass_proofs.specs.run_memory.declared.pointer.Value.{Value}
 use Rattle.pass_proofs.specs.run_source.Source.{change_own, release}
 use Rattle.pass_proofs.specs.run_source.State.{frame_address_of, gives, numbered, own_instance, with_instance}
-use Rattle.pass_proofs.specs.run_source.declared.state.Activation.{Activation}
 use Rattle.pass_proofs.specs.run_source.declared.state.Instance.{Instance}
 use Rattle.pass_proofs.specs.run_source.declared.state.State.{State}
-use Rattle.pass_proofs.specs.run_step.Values.{truth_value}
-use Rattle.run_access_worked.specs.Frames.{IsSameFrame}
 
 no_some : {A : Type 0} (o : Option A) (f : A) → o ≡ None → o ≡ Some f → ⊥
 no_some None f p g = absurd (cc)

@@ -1,16 +1,16 @@
 -- A ramp that was given its frame begins there, and the other one in the block that it holds.
-use Rattle.std.proofs.Common.{◌≡◌, ◌≢◌, ◌⊎◌, ◌<◌, ◌≤◌, ◌+◌, ◌^◌, inl, inr, ⊎_elim, ℕ, zero, suc, Bool, true, false, not, List, [], ◌∷◌, ◌++◌, get_or-set_other, get_or-set_same, length, replicate, set, Ok, refl, sym, ap, ◌∙◌, subst, arith, if◌then◌else◌, ◌&&◌, ◌||◌, ◌==◌}
+use Rattle.std.proofs.Common.{◌≡◌, ◌≢◌, ◌<◌, ◌≤◌, ◌+◌, ◌^◌, ℕ, zero, suc, Bool, true, false, not, List, [], ◌∷◌, ◌++◌, get_or-set_other, get_or-set_same, length, set, Ok, refl, sym, ap, ◌∙◌, subst, arith, if◌then◌else◌, ◌||◌, ◌==◌}
 use Rattle.std.proofs.lemmas.Bool.{le-leb}
 use Rattle.std.proofs.lemmas.List.{length-set}
 use Rattle.std.specs.Option.{option_map_or}
-use Rattle.std.specs.Prelude.{None, Option, Some, filter, nat_le, option_map, slice_get}
+use Rattle.std.specs.Prelude.{None, Option, Some, filter, option_map, slice_get}
 use Rattle.pass_elide_proof.proofs.Addresses.{moved_from_start}
 use Rattle.pass_elide_proof.proofs.AtCalls.{both_step, goes_on}
-use Rattle.pass_elide_proof.proofs.BeginSteps.{HasBegunAt, begins, begins_given, begun_in, framed_begins, has_begun_at, sizes_are}
+use Rattle.pass_elide_proof.proofs.BeginSteps.{begins, begins_given, begun_in, framed_begins, has_begun_at, sizes_are}
 use Rattle.pass_elide_proof.proofs.Begins.{no_both}
 use Rattle.pass_elide_proof.proofs.Begun.{HasBegun, begun_beside, filter_one, given_still}
 use Rattle.pass_elide_proof.proofs.Setting.{IsOwnPlace, SetsAlike, went}
-use Rattle.pass_elide_proof.proofs.Sides.{HaveOthers, HasOthers}
+use Rattle.pass_elide_proof.proofs.Sides.{HaveOthers}
 use Rattle.pass_elide_proof.proofs.Turning.{IsAllowed, frame_allowed, frames_compare, shown_live, shown_there, world_turned}
 use Rattle.pass_elide_proof.specs.Beginning.{HasNoHeapSlot, IsAtGivenBegin, IsKnownTo, IsNoHeapSlot}
 use Rattle.pass_elide_proof.specs.Counts.{counted, given_frames}
@@ -29,17 +29,16 @@ use Rattle.pass_proofs.specs.ir_model.declared.operand.Intrinsic.{Intrinsic}
 use Rattle.pass_proofs.specs.ir_model.declared.operand.Operand.{Operand}
 use Rattle.pass_proofs.specs.ir_paths.Windows.{operand_at}
 use Rattle.pass_proofs.specs.run_agreement.Machines.{IsFine}
-use Rattle.pass_proofs.specs.run_framed.Framed.{allocates, begin_given, frame_rights, framed_begin, framed_next, framed_step, is_given, layout_of}
+use Rattle.pass_proofs.specs.run_framed.Framed.{allocates, frame_rights, framed_begin, framed_next, framed_step, is_given}
 use Rattle.pass_proofs.specs.run_laws.changed.Changed.{Each}
 use Rattle.pass_proofs.specs.run_laws.embedded.Making.{whole_home}
 use Rattle.pass_proofs.specs.run_laws.memory.Pointers.{Home, IsValue, home_of, nowhere}
 use Rattle.pass_proofs.specs.run_laws.memory.Standing.{HasBounds, blank_block}
 use Rattle.pass_proofs.specs.run_laws.transfer.Muted.{ended_if, muted}
-use Rattle.pass_proofs.specs.run_laws.transfer.Places.{AreStanding, HasRoom, IsBlank, IsSeated, MayBeSeen, showing}
+use Rattle.pass_proofs.specs.run_laws.transfer.Places.{AreStanding, HasRoom, IsBlank, IsSeated, showing}
 use Rattle.pass_proofs.specs.run_laws.transfer.Transfer.{AreOver}
-use Rattle.pass_proofs.specs.run_memory.Memory.{Rights, is_live, may_be_owned, may_compare_at, owned_to, same_kind, with_block}
+use Rattle.pass_proofs.specs.run_memory.Memory.{Rights, is_live, may_be_owned, owned_to, same_kind, with_block}
 use Rattle.pass_proofs.specs.run_memory.Pointers.{moved, offset_of}
-use Rattle.pass_proofs.specs.run_memory.declared.block.Byte.{Byte}
 use Rattle.pass_proofs.specs.run_memory.declared.block.Kind.{Kind}
 use Rattle.pass_proofs.specs.run_memory.declared.block.MemoryBlock.{MemoryBlock}
 use Rattle.pass_proofs.specs.run_memory.declared.pointer.Pointer.{Pointer}
@@ -330,7 +329,8 @@ module _ (e : Elision) (s t : State) (r : AreElided e s t) (result : Option ℕ)
 
     given_top : (c : Activation) → c.mode ≡ t.top.mode → was_given q c ≡ true
     given_top c same =
-        by (is_given_mode c.mode) (ap is_given_mode same ∙ ramp) (option_map_or (is_given q.other) (instance_in q.second c.instance) false)
+        by (is_given_mode c.mode) (ap is_given_mode same ∙ ramp)
+        (option_map_or (is_given q.other) (instance_in q.second c.instance) false)
       where
         by : (f : Bool) → f ≡ true → (g : Bool) → (if f then true else g) ≡ true
         by true h g = refl

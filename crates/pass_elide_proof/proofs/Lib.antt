@@ -18,5 +18,10 @@ pub mod Turning
 pub mod Begun
 pub mod Begins
 pub mod GivenBegins
-pub mod Rooms
 pub mod Frees
+pub mod Found
+pub mod Bare
+pub mod Done
+pub mod Promised
+pub mod Saves
+pub mod Rooms

@@ -1,23 +1,21 @@
 -- A ramp that was given its frame has room for it in an alloca of its caller.
-use Rattle.std.proofs.Common.{◌≡◌, ◌≢◌, ◌⊎◌, ◌<◌, ◌≤◌, ◌+◌, inl, inr, ⊎_elim, ℕ, zero, suc, Bool, true, false, List, [], ◌∷◌, ◌++◌, length, refl, sym, ap, ◌∙◌, subst, arith, if◌then◌else◌, ◌==◌}
+use Rattle.std.proofs.Common.{◌≡◌, ◌+◌, inl, inr, ℕ, zero, suc, Bool, true, false, List, [], ◌∷◌, ◌++◌, length, refl, sym, ap, ◌∙◌, subst, arith, if◌then◌else◌, ◌==◌}
 use Rattle.std.specs.Prelude.{None, Option, Some, find, option_and_then, option_map, slice_get, unwrap_or}
 use Rattle.std.specs.List.{Contains}
 use Rattle.elide_sites.specs.Sites.{callee_in}
-use Rattle.pass_elide.specs.Elided.{block_frames, blocks_frames, coroutine_frame, frame_allocas, frame_in, frames_by, function_frames, instr_frames}
+use Rattle.pass_elide.specs.Elided.{block_frames, blocks_frames, coroutine_frame, frame_allocas, frames_by, function_frames, instr_frames}
 use Rattle.pass_elide.specs.Frames.{callee_layout, frame_of, layout_of, site_frame}
 use Rattle.pass_elide.specs.Places.{is_site}
 use Rattle.pass_elide.specs.declared.given.GivenFrame.{GivenFrame}
 use Rattle.pass_elide_proof.specs.Beginning.{HasRoomAt}
 use Rattle.pass_elide_proof.specs.Elision.{Elision, Shape, function_in, no_shape, rooms}
-use Rattle.pass_elide_proof.specs.Invariant.{AreGivenBy, IsGivenBy, IsSiteOf, StandsAt, behind}
-use Rattle.pass_elide_proof.specs.Match.{AreActivations, AreBelow, AreElided, Aside, Beside, Freeing, HasAlloca, HasAllocas, IsAt, Sides, Waiting, frame_size, sides, was_given}
+use Rattle.pass_elide_proof.specs.Invariant.{AreGivenBy, IsGivenBy}
+use Rattle.pass_elide_proof.specs.Match.{AreActivations, AreBelow, Aside, Beside, Freeing, HasAlloca, HasAllocas, IsAt, Sides, Waiting, frame_size, sides, was_given}
 use Rattle.pass_elide_proof.specs.Places.{Rooms, allocas_ahead, front_at, instrs_in, instrs_of, name_at, own_at, phi_count, room_at, rooms_before, rooms_up_to}
 use Rattle.pass_elide_proof.specs.Rooms.{IsAtRoom}
 use Rattle.pass_elide_proof.specs.Statement.{AreRelated}
 use Rattle.pass_proofs.proofs.ir_laws.facts.Lists.{get_before, get_behind}
 use Rattle.pass_proofs.specs.frame_layout.declared.layout.Layout.{Layout}
-use Rattle.pass_proofs.specs.ir_base.declared.name.Name.{Name}
-use Rattle.pass_proofs.specs.ir_model.Names.{function_named}
 use Rattle.pass_proofs.specs.ir_model.Ty.{array, int}
 use Rattle.pass_proofs.specs.ir_model.declared.instr.Instr.{Instr}
 use Rattle.pass_proofs.specs.ir_model.declared.module.Block.{Block}
@@ -27,19 +25,14 @@ use Rattle.pass_proofs.specs.ir_paths.declared.point.Point.{Point}
 use Rattle.pass_proofs.specs.run_framed.Framed.{no_layout}
 use Rattle.pass_proofs.specs.run_framed.Framed.{layout_of as frame_layout_of}
 use Rattle.pass_proofs.specs.run_laws.changed.Changed.{Each}
-use Rattle.pass_proofs.specs.run_memory.Memory.{is_live}
-use Rattle.pass_proofs.specs.run_memory.declared.block.Kind.{Kind}
-use Rattle.pass_proofs.specs.run_memory.declared.block.MemoryBlock.{MemoryBlock}
 use Rattle.pass_proofs.specs.run_memory.declared.pointer.Pointer.{Pointer}
 use Rattle.pass_proofs.specs.run_memory.declared.pointer.Value.{Value}
-use Rattle.pass_proofs.specs.run_source.State.{address_in, is_finished}
+use Rattle.pass_proofs.specs.run_source.State.{is_finished}
 use Rattle.pass_proofs.specs.run_source.declared.state.Activation.{Activation}
 use Rattle.pass_proofs.specs.run_source.declared.state.Instance.{Instance}
-use Rattle.pass_proofs.specs.run_source.declared.state.Mode.{Mode}
 use Rattle.pass_proofs.specs.run_source.declared.state.State.{State}
 use Rattle.pass_proofs.specs.run_step.Step.{phis_of}
 use Rattle.pass_proofs.specs.run_step.Values.{pointer_to, value_in}
-use Rattle.pass_proofs.specs.run_step.declared.world.Slot.{Slot}
 
 -- ---- the alloca of a site stands in front of the entry block
 
@@ -94,7 +87,8 @@ module _ (room : Rooms) (f : Function) (call : Point) (i : Instr) (size align : 
   its_frame : (o : Option Block) → slice_get f.blocks call.block ≡ o → slice_get (instrs_in o) call.at ≡ Some i
       → room call.block (length (phis_of o) + call.at) i ≡ Some (GivenFrame.Alloca size align)
       → slice_get (function_frames room f)
-      (rooms_before room 0 f.blocks call.block + rooms_up_to (room call.block) (length (phis_of o)) (instrs_in o) call.at)
+      (rooms_before room 0 f.blocks call.block
+      + rooms_up_to (room call.block) (length (phis_of o)) (instrs_in o) call.at)
       ≡ Some (GivenFrame.Alloca size align)
   its_frame None eo at is = absurd (cc)
   its_frame (Some b) eo at is =

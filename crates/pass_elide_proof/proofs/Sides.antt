@@ -1,9 +1,9 @@
 -- What instances and memories have to keep for activations to stand beside each other.
-use Rattle.std.proofs.Common.{◌≡◌, ◌≢◌, ◌⊎◌, ◌<◌, ◌+◌, inl, inr, ⊎_elim, ℕ, zero, suc, Bool, true, false, List, [], ◌∷◌, ◌++◌, length, refl, sym, ap, ◌∙◌, subst, if◌then◌else◌}
+use Rattle.std.proofs.Common.{◌≡◌, ◌<◌, inl, inr, ⊎_elim, ℕ, Bool, true, false, List, [], ◌∷◌, ◌++◌, length, refl, sym, ap, ◌∙◌, subst}
 use Rattle.std.specs.Prelude.{None, Option, Some, map, slice_get}
 use Rattle.pass_elide_proof.proofs.Setting.{AreActing, acting, held_too}
-use Rattle.pass_elide_proof.specs.Elision.{Elision, Shape, function_in, rooms}
-use Rattle.pass_elide_proof.specs.Match.{AreActivations, AreBelow, AreNamed, AreReleased, Aside, Beside, Freeing, HasAlloca, HasAllocas, HoldsBlock, IsAt, IsHeld, IsNoGivenFrame, Sides, Waiting, frame_size, held_name, instance_in, is_given_mode, was_given}
+use Rattle.pass_elide_proof.specs.Elision.{Elision, function_in, rooms}
+use Rattle.pass_elide_proof.specs.Match.{AreActivations, AreBelow, AreNamed, AreReleased, Aside, Beside, Freeing, HasAlloca, HasAllocas, HoldsBlock, IsAt, IsNoGivenFrame, Sides, Waiting, frame_size, held_name, instance_in, is_given_mode, was_given}
 use Rattle.pass_elide_proof.specs.Places.{allocas_ahead}
 use Rattle.pass_proofs.specs.ir_model.declared.instr.Instr.{Instr}
 use Rattle.pass_proofs.specs.run_laws.changed.Changed.{Each}

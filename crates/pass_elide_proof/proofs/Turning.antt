@@ -1,13 +1,12 @@
 -- Rights of frames where a coroutine begins in both runs.
-use Rattle.std.proofs.Common.{◌≡◌, ◌≢◌, ◌⊎◌, ◌<◌, ◌≤◌, ◌+◌, inl, inr, ⊎_elim, ℕ, zero, suc, Bool, true, false, not, List, [], ◌∷◌, ◌++◌, length, refl, sym, ap, ◌∙◌, subst, arith, if◌then◌else◌, ◌&&◌, ◌||◌, ◌==◌}
+use Rattle.std.proofs.Common.{◌≡◌, ◌≢◌, ◌<◌, ◌≤◌, ◌+◌, inl, ⊎_elim, ℕ, zero, suc, Bool, true, false, not, List, [], ◌∷◌, ◌++◌, length, refl, sym, ap, ◌∙◌, subst, arith, if◌then◌else◌, ◌&&◌, ◌||◌, ◌==◌}
 use Rattle.std.proofs.lemmas.Bool.{and_from, and_left, and_right, cases_eq, cases_lt, eq-eqb, le-leb, le-ltb, lt-ltb, ne_eqb}
 use Rattle.std.specs.Prelude.{None, Option, Some, nat_le, nat_lt, option_and_then, option_map, slice_get}
 use Rattle.pass_elide_proof.proofs.Alike.{allowed}
-use Rattle.pass_elide_proof.proofs.BeginSteps.{sizes_are}
 use Rattle.pass_elide_proof.specs.Counts.{counted}
 use Rattle.pass_elide_proof.specs.Elision.{Elision, elided, framed}
-use Rattle.pass_elide_proof.specs.Frames.{AreJudgedAlike, AreJudges}
-use Rattle.pass_elide_proof.specs.Match.{AreElided, frame_size}
+use Rattle.pass_elide_proof.specs.Frames.{AreJudges}
+use Rattle.pass_elide_proof.specs.Match.{AreElided}
 use Rattle.pass_proofs.proofs.run_laws.access.Turned.{owned_reowns, worlds_turn}
 use Rattle.pass_proofs.proofs.run_laws.memory.Written.{changed_elsewhere, same_some}
 use Rattle.pass_proofs.proofs.run_laws.transfer.Places.{muted_at}
@@ -15,7 +14,7 @@ use Rattle.pass_proofs.specs.run_framed.Framed.{FramedGiven, covers, frame_right
 use Rattle.pass_proofs.specs.run_laws.access.Changed.{home_block}
 use Rattle.pass_proofs.specs.run_laws.access.Rights.{AreReowned, IsReowned, MayTurn}
 use Rattle.pass_proofs.specs.run_laws.memory.Pointers.{Home, home_of}
-use Rattle.pass_proofs.specs.run_laws.memory.Standing.{AreNullsKept, HasRights, IsOpen, Stands}
+use Rattle.pass_proofs.specs.run_laws.memory.Standing.{AreNullsKept, HasRights, IsOpen}
 use Rattle.pass_proofs.specs.run_laws.transfer.Muted.{ended_if, muted}
 use Rattle.pass_proofs.specs.run_laws.transfer.Transfer.{AreOver}
 use Rattle.pass_proofs.specs.run_memory.Memory.{Rights, is_live, may_compare_at, owned_to, with_block}
@@ -229,7 +228,8 @@ shown_live hides m c p at live = by (hides c) refl (slice_get m c) refl (sym (mu
         (ap (λ (t : Bool). Some (ended_if t q)) (sym eb) ∙ f)) refl live)
       where
         dead : (z p : MemoryBlock) → z ≡ p → is_live z.life ≡ false → is_live p.life ≡ true → ⊥
-        dead z p same ends lives = both (is_live p.life) (ap (λ (u : MemoryBlock). is_live u.life) (sym same) ∙ ends) lives
+        dead z p same ends lives =
+            both (is_live p.life) (ap (λ (u : MemoryBlock). is_live u.life) (sym same) ∙ ends) lives
           where
             both : (t : Bool) → t ≡ false → t ≡ true → ⊥
             both true e h = absurd (cc)

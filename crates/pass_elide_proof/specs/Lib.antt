@@ -13,5 +13,7 @@ pub mod Shapes
 pub mod Allocating
 pub mod Both
 pub mod Beginning
-pub mod Rooms
 pub mod Frees
+pub mod Looking
+pub mod Saves
+pub mod Rooms

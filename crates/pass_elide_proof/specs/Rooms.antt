@@ -1,5 +1,5 @@
 -- Where a ramp that was given its frame is about to begin.
-use Rattle.std.specs.Prelude.{◌≡◌, ℕ, Bool, true, false, List, ◌∷◌, slice_get, Some, None, Option}
+use Rattle.std.specs.Prelude.{◌≡◌, ℕ, true, false, List, ◌∷◌, slice_get, Some, None}
 use Rattle.elide_sites.specs.Sites.{callee_in}
 use Rattle.pass_elide_proof.specs.Elision.{Elision, function_in, no_shape}
 use Rattle.pass_elide_proof.specs.Invariant.{IsSiteOf, StandsAt, behind}
