@@ -88,7 +88,7 @@ module _ (g : Given) (s : State) (b : ℕ) (kind : Kind) (slots : HasOwnSlots g 
       set_end s.instances x (record x { slots = filter (λ (z : Slot). not (test z)) s.top.slots ++ [] })
       ∙ ap (λ (zs : List Slot). s.instances ++ record x { slots = zs } ∷ []) (kept_none test s.top.slots slots)
 
-  begun_is : begun g (with_memory s memory) b 0 ≡ begun_in s b size
+  pub begun_is : begun g (with_memory s memory) b 0 ≡ begun_in s b size
   begun_is =
       λ i. record s {
         world = record s.world { memory = memory };

@@ -69,7 +69,7 @@ same_length [] b f = refl
 same_length (x ∷ m) zero f = refl
 same_length (x ∷ m) (suc b) f = ap suc (same_length m b f)
 
-stack_still : (m : List MemoryBlock) (b size c : ℕ)
+pub stack_still : (m : List MemoryBlock) (b size c : ℕ)
     → is_stack_block (with_block m b (owned_to size)) c ≡ is_stack_block m c
 stack_still [] b size c = refl
 stack_still (x ∷ m) zero size zero = refl

@@ -25,3 +25,6 @@ pub mod Done
 pub mod Promised
 pub mod Saves
 pub mod Rooms
+pub mod Aging
+pub mod Soundness
+pub mod SoundSteps

@@ -87,7 +87,7 @@ abbrev numbering : ℕ → Instance → ℕ × Instance
 numbering i x = (i, x)
 
 -- the number of the activation's instance
-own_number : (s : State) (i : ℕ) (x : Instance) → own_instance s ≡ Some (i, x)
+pub own_number : (s : State) (i : ℕ) (x : Instance) → own_instance s ≡ Some (i, x)
     → (s.top.instance ≡ Some i) × (slice_get s.instances i ≡ Some x)
 own_number s i x is = by s.top.instance refl is
   where

@@ -17,3 +17,4 @@ pub mod Frees
 pub mod Looking
 pub mod Saves
 pub mod Rooms
+pub mod Sound

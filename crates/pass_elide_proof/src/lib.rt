@@ -8,6 +8,7 @@ pub mod counts;
 pub mod frames;
 pub mod handles;
 pub mod intrinsics;
+pub mod sound;
 pub mod starting;
 pub mod waiting;
 pub mod worked;
