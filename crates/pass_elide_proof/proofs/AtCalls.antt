@@ -39,7 +39,7 @@ use Rattle.pass_proofs.specs.run_step.Values.{address_from, address_of, arg_valu
 
 -- ---- the other run's instruction
 
-in_block : (o : Option Block) (at : ℕ) (i : Instr) → fetch_in o at ≡ AtInstr i → slice_get (instrs_in o) at ≡ Some i
+pub in_block : (o : Option Block) (at : ℕ) (i : Instr) → fetch_in o at ≡ AtInstr i → slice_get (instrs_in o) at ≡ Some i
 in_block None at i f = absurd (cc)
 in_block (Some b) at i f = by (slice_get b.instrs at) (at == length b.instrs) b.term f
   where

@@ -217,8 +217,8 @@ module _ (e : Elision) (s t : State) (r : AreElided e s t) (callers : HaveCaller
           (none_given x.block y h.home given)
           (ap (λ (u : Home). u.block) g.home ∙ (block ∙ sym (ap (λ (u : Home). u.block) h.home)))
 
-  -- So where two tests say the same of instances of one block, and the second one only lets pass what began where the
-  -- instance did, that is the last in both.
+  -- Two tests say the same of instances of one block. The second one only lets pass what began where the instance did.
+  -- Then that is the last in both.
   pub last_too : (test other : Instance → Bool) (i : ℕ) (x y : Instance) → slice_get t.instances i ≡ Some y
       → is_finished x.status ≡ false → IsLastOf test s.instances i x → other y ≡ true
       → ((j : ℕ) (p q : Instance) → slice_get s.instances j ≡ Some p → slice_get t.instances j ≡ Some q

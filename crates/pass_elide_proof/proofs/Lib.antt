@@ -28,3 +28,5 @@ pub mod Rooms
 pub mod Aging
 pub mod Soundness
 pub mod SoundSteps
+pub mod Allocas
+pub mod Given

@@ -20,8 +20,8 @@ pub fn begins_stay_beside()
         → AreElided e (framed_step (framed e) s) (framed_step (elided e) t) }
 {}
 
-/// Where a ramp was given its frame, the framed run begins in the block that it holds, and the other one in the alloca
-/// whose address was given. From then on the block stands there.
+/// Where a ramp was given its frame, the framed run begins in the block that it holds. The other one begins in the
+/// alloca whose address was given, and from then on the block stands there.
 pub fn given_begins_stay_beside()
     ensures { (e : Elision) (s t : State) (r : AreElided e s t) (result : Option ℕ) (must_tail : Bool)
         (ty : Option Ty) (args : List Arg) → IsFine (framed_step (framed e) s).outcome
