@@ -61,3 +61,11 @@ given_of g t h y there ramp = by t.top.instance refl there t.top.mode refl ramp
     by (Some i) eo at Mode.Ramp em is = absurd (cc)
     by (Some i) eo at Mode.Resumed em is = absurd (cc)
     by (Some i) eo at (Mode.Entering from label) em is = absurd (cc)
+
+pub own_of : (g : FramedGiven) (s : State) → IsSoundState g s → (x : Instance)
+    → instance_in s.instances s.top.instance ≡ Some x → x.coroutine ≡ s.top.func
+own_of g s h x there = by s.top.instance refl there
+  where
+    by : (o : Option ℕ) → s.top.instance ≡ o → instance_in s.instances o ≡ Some x → x.coroutine ≡ s.top.func
+    by None eo at = absurd (cc)
+    by (Some i) eo at = h.acts.0.coroutine i x eo at

@@ -30,3 +30,4 @@ pub mod Soundness
 pub mod SoundSteps
 pub mod Allocas
 pub mod Given
+pub mod Slotted

@@ -8,12 +8,14 @@ use Rattle.pass_elide_proof.proofs.Aging.{Ages, AgesBy, AgesTo, actions_age, age
 use Rattle.pass_elide_proof.proofs.BeginSteps.{begun_in, begun_is}
 use Rattle.pass_elide_proof.proofs.Begins.{free_block}
 use Rattle.pass_elide_proof.proofs.Begun.{stack_still}
+use Rattle.pass_elide_proof.proofs.Changing.{new_there}
 use Rattle.pass_elide_proof.proofs.Found.{where_last}
 use Rattle.pass_elide_proof.proofs.Saves.{own_number}
 use Rattle.pass_elide_proof.proofs.Soundness.{acts_on, after_stacks, blocks_age, blocks_begun, blocks_finished, blocks_set, go_more, go_set, go_themselves}
 use Rattle.pass_elide_proof.proofs.Starts.{unowned}
 use Rattle.pass_elide_proof.specs.Sound.{IsSoundAct, IsSoundState, KnowsAllocas, NestsNone}
 use Rattle.pass_proofs.proofs.ir_laws.facts.Lists.{get_last, get_within, set_length}
+use Rattle.pass_proofs.proofs.run_laws.memory.Written.{same_some}
 use Rattle.pass_proofs.specs.frame_layout.declared.layout.PlacedField.{PlacedField}
 use Rattle.pass_proofs.specs.ir_base.declared.cause.Cause.{Cause}
 use Rattle.pass_proofs.specs.ir_base.declared.outcome.Outcome.{Outcome}
@@ -56,6 +58,7 @@ act_same : (g : FramedGiven) (m : List MemoryBlock) (xs : List Instance) (a c : 
     → c.slots ≡ a.slots → c.instance ≡ a.instance → c.mode ≡ a.mode → IsSoundAct g m xs a → IsSoundAct g m xs c
 act_same g m xs a c func slots instance mode h = record {
   known = λ i is. h.known i (sym instance ∙ is);
+  coroutine = λ i x is there. h.coroutine i x (sym instance ∙ is) there ∙ sym func;
   own = subst (λ (p : ℕ × List Slot).
       Each (λ (z : Slot). is_among (facts_at g.given.facts p.0).ramp_slots z ≡ true) p.1)
       (λ j. (sym func j, sym slots j)) h.own;
@@ -68,6 +71,7 @@ act_other : (g : FramedGiven) (m : List MemoryBlock) (xs : List Instance) (a c :
     → IsSoundAct g m xs a → IsSoundAct g m xs c
 act_other g m xs a c func slots instance mode h = record {
   known = λ i is. h.known i (sym instance ∙ is);
+  coroutine = λ i x is there. h.coroutine i x (sym instance ∙ is) there ∙ sym func;
   own = subst (λ (p : ℕ × List Slot).
       Each (λ (z : Slot). is_among (facts_at g.given.facts p.0).ramp_slots z ≡ true) p.1)
       (λ j. (sym func j, sym slots j)) h.own;
@@ -122,12 +126,13 @@ module _ (g : FramedGiven) (allocas : KnowsAllocas g) (nests : NestsNone g) wher
 
   -- an instance stays where it is
   instance_sound : (s : State) (i : ℕ) (x new : Instance) → slice_get s.instances i ≡ Some x → new.block ≡ x.block
-      → new.start ≡ x.start → (is_finished x.status ≡ false → is_finished new.status ≡ false) → Sound s
+      → new.start ≡ x.start → new.coroutine ≡ x.coroutine
+      → (is_finished x.status ≡ false → is_finished new.status ≡ false) → Sound s
       → Sound (with_instance s i new)
-  instance_sound s i x new there block start goes h = record {
+  instance_sound s i x new there block start kind goes h = record {
     blocks = blocks_set s.world.memory s.instances i x new there block start goes h.blocks;
     acts = acts_on g s.world.memory s.world.memory s.instances (slice_set s.instances i new) (λ b is. is)
-        (go_set s.instances i x new there block) (s.top ∷ s.below) h.acts;
+        (go_set s.instances i x new there block kind) (s.top ∷ s.below) h.acts;
   }
 
   enter_sound : (s : State) (label : ℕ) → Sound s → Sound (enter_block g.given s label)
@@ -154,6 +159,7 @@ module _ (g : FramedGiven) (allocas : KnowsAllocas g) (nests : NestsNone g) wher
       → IsSoundAct g s.world.memory s.instances (called g.given.code func args result mode)
   called_sound s func args result mode = record {
     known = λ i is. absurd (cc);
+    coroutine = λ i x is there. absurd (cc);
     own = tt;
     given = λ frame i x is at there. absurd (cc);
   }
@@ -174,7 +180,12 @@ module _ (g : FramedGiven) (allocas : KnowsAllocas g) (nests : NestsNone g) wher
       → Sound (with_slots s (z ∷ s.top.slots))
   slot_sound s z among h =
       with_top s (record s.top { slots = z ∷ s.top.slots })
-      (record { known = h.acts.0.known; own = (among, h.acts.0.own); given = h.acts.0.given }) h
+      (record {
+        known = h.acts.0.known;
+        coroutine = h.acts.0.coroutine;
+        own = (among, h.acts.0.own);
+        given = h.acts.0.given;
+      }) h
 
   framed_slot_sound : (s : State) (z : Slot) (mode : Mode)
       → is_among (facts_at g.given.facts s.top.func).ramp_slots z ≡ true → Sound s → Sound (framed_slot g s z mode)
@@ -229,6 +240,7 @@ module _ (g : FramedGiven) (allocas : KnowsAllocas g) (nests : NestsNone g) wher
     acts = (
       record {
         known = λ i is. known i is;
+        coroutine = λ i x is at. its_own i x is at;
         own = h.acts.0.own;
         given = λ frame i x is at to. given frame i x is at to;
       },
@@ -250,6 +262,15 @@ module _ (g : FramedGiven) (allocas : KnowsAllocas g) (nests : NestsNone g) wher
           get_within (s.instances ++ new_instance s.top.func b 0 ∷ []) i (new_instance s.top.func b 0)
           (ap (slice_get (s.instances ++ new_instance s.top.func b 0 ∷ [])) (sym same)
           ∙ get_last s.instances (new_instance s.top.func b 0))
+
+      its_own : (i : ℕ) (x : Instance) → Some (length s.instances) ≡ Some i
+          → slice_get (s.instances ++ new_instance s.top.func b 0 ∷ []) i ≡ Some x → x.coroutine ≡ s.top.func
+      its_own i x is at =
+          let number : length s.instances ≡ i = cc in
+          let one : new_instance s.top.func b 0 ≡ x
+          = same_some (new_instance s.top.func b 0) x (sym (get_last s.instances (new_instance s.top.func b 0))
+          ∙ (ap (slice_get (s.instances ++ new_instance s.top.func b 0 ∷ [])) number ∙ at)) in
+          ap (λ (q : Instance). q.coroutine) (sym one)
 
       kinds : (k q : Kind) → same_kind k q ≡ true → same_kind q Kind.Stack ≡ true → same_kind k Kind.Stack ≡ true
       kinds Kind.Stack q e f = refl
@@ -424,7 +445,7 @@ module _ (g : FramedGiven) (allocas : KnowsAllocas g) (nests : NestsNone g) wher
           (instance_sound s i x (record x {
             status = Status.Suspended q s.top.values;
             last_save = Some (record { depth = length s.below; save = p });
-          }) (own_number s i x eo).1 refl refl (λ goes. refl) h))
+          }) (own_number s i x eo).1 refl refl refl (λ goes. refl) h))
 
   save_sound : (s : State) → Sound s → Keeps (save g.given s)
   save_sound s h = by (suspend_of (function_of g.given s) (point_of s))
@@ -456,7 +477,7 @@ module _ (g : FramedGiven) (allocas : KnowsAllocas g) (nests : NestsNone g) wher
           → Sound (change_own s (λ (x : Instance). record x { released = true }) o)
       by None eo = h
       by (Some (i, x)) eo =
-          instance_sound s i x (record x { released = true }) (own_number s i x eo).1 refl refl (λ goes. goes) h
+          instance_sound s i x (record x { released = true }) (own_number s i x eo).1 refl refl refl (λ goes. goes) h
 
   -- ---- returns and ends
 
@@ -486,7 +507,7 @@ module _ (g : FramedGiven) (allocas : KnowsAllocas g) (nests : NestsNone g) wher
   returned_sound s h =
       let z = memory_sound s (without_slots s.world.memory s.top.slots) (slots_age s.world.memory s.top.slots) h in
       with_top (with_memory s (without_slots s.world.memory s.top.slots)) (record s.top { slots = [] })
-      (record { known = z.acts.0.known; own = tt; given = z.acts.0.given }) z
+      (record { known = z.acts.0.known; coroutine = z.acts.0.coroutine; own = tt; given = z.acts.0.given }) z
 
   return_sound : (s : State) (v : Option Value) → Sound s → Keeps (return s v)
   return_sound s v h = pop_sound (returned s) v s.below refl (returned_sound s h)
@@ -519,14 +540,16 @@ module _ (g : FramedGiven) (allocas : KnowsAllocas g) (nests : NestsNone g) wher
                 (slice_set s.instances i (record x { status = Status.Finished }))
                 (after_stacks s.world.memory (without_slots s.world.memory x.slots) s.instances i x there h.blocks age
                 true)
-                (go_set s.instances i x (record x { status = Status.Finished }) there refl) (s.top ∷ s.below) h.acts;
+                (go_set s.instances i x (record x { status = Status.Finished }) there refl refl) (s.top ∷ s.below)
+                h.acts;
           }
           on false is = record {
             blocks = blocks_finished s.world.memory (without_slots s.world.memory x.slots) s.instances i x there
                 h.blocks age false is;
             acts = acts_on g s.world.memory (without_slots s.world.memory x.slots) s.instances
                 (slice_set s.instances i (record x { status = Status.Finished })) age.stacks
-                (go_set s.instances i x (record x { status = Status.Finished }) there refl) (s.top ∷ s.below) h.acts;
+                (go_set s.instances i x (record x { status = Status.Finished }) there refl refl) (s.top ∷ s.below)
+                h.acts;
           }
 
   ended_sound : (s : State) (result : Option ℕ) (mode : Mode) → Sound s → Keeps (after_end s result mode)
@@ -549,7 +572,8 @@ module _ (g : FramedGiven) (allocas : KnowsAllocas g) (nests : NestsNone g) wher
   woken_sound : (s : State) (y : Sleeper) (label : ℕ) → slice_get s.instances y.number ≡ Some y.instance → Sound s
       → Sound (continue_framed g s y.number y.instance y.suspend y.values label)
   woken_sound s y label there h =
-      let running = instance_sound s y.number y.instance (record y.instance { status = Status.Running }) there refl refl
+      let running = instance_sound s y.number y.instance (record y.instance { status = Status.Running }) there refl
+      refl refl
       (λ goes. refl) h in
       after_sound
       (push (with_status s y.number y.instance Status.Running) (resumed y.number y.instance y.suspend (reentry_values
@@ -560,10 +584,23 @@ module _ (g : FramedGiven) (allocas : KnowsAllocas g) (nests : NestsNone g) wher
       (frame_address_of y.instance)))
       (record {
         known = λ i is. in_list i is;
+        coroutine = λ i x is at. its_own i x is at;
         own = tt;
         given = λ frame i x is at to. absurd (cc);
       }) running)
     where
+      its_own : (i : ℕ) (x : Instance) → Some y.number ≡ Some i
+          → slice_get (slice_set s.instances y.number (record y.instance { status = Status.Running })) i ≡ Some x
+          → x.coroutine ≡ y.instance.coroutine
+      its_own i x is at =
+          let number : y.number ≡ i = cc in
+          let one : record y.instance { status = Status.Running } ≡ x
+          = same_some (record y.instance { status = Status.Running }) x
+          (sym (new_there s.instances y.number y.instance (record y.instance { status = Status.Running }) there)
+          ∙ (ap (slice_get (slice_set s.instances y.number (record y.instance { status = Status.Running }))) number
+          ∙ at)) in
+          ap (λ (q : Instance). q.coroutine) (sym one)
+
       in_list : (i : ℕ) → Some y.number ≡ Some i
           → i < length (slice_set s.instances y.number (record y.instance { status = Status.Running }))
       in_list i is =
@@ -644,7 +681,7 @@ module _ (g : FramedGiven) (allocas : KnowsAllocas g) (nests : NestsNone g) wher
       (disown (without_slots s.world.memory x.slots) x.block)
       (ages_then s.world.memory (without_slots s.world.memory x.slots) _ (slots_age s.world.memory x.slots)
       (ages_block (without_slots s.world.memory x.slots) x.block disowned disown_keeps))
-      (instance_sound s i x (record x { freed = true }) there refl refl (λ goes. goes) h)
+      (instance_sound s i x (record x { freed = true }) there refl refl refl (λ goes. goes) h)
 
   if_let_go_sound : (s : State) (p : Value) (o : Option (ℕ × Instance)) → instance_at s.instances p ≡ o → Sound s
       → Sound (if_let_go s o)
@@ -683,7 +720,7 @@ module _ (g : FramedGiven) (allocas : KnowsAllocas g) (nests : NestsNone g) wher
           (enter_sound (with_left (with_status s i x Status.Running) false) label
           (left_sound (with_status s i x Status.Running) false
           (instance_sound s i x (record x { status = Status.Running }) (own_number s i x eo).1 refl refl
-          (λ goes. refl) h)))
+          refl (λ goes. refl) h)))
 
   branch_sound : (s : State) (label : ℕ) (ws : List Window) → Sound s → Keeps (branch_leaving g.given s label ws)
   branch_sound s label [] h = enter_sound s label h
@@ -786,6 +823,7 @@ module _ (g : FramedGiven) (allocas : KnowsAllocas g) (nests : NestsNone g) wher
     acts = (
       record {
         known = λ i is. absurd (cc);
+        coroutine = λ i x is there. absurd (cc);
         own = tt;
         given = λ frame i x is at there. absurd (cc);
       },

@@ -28,35 +28,40 @@ use Rattle.pass_proofs.specs.run_source.declared.state.Status.{Status}
 pub record GoOn (xs ys : List Instance) : Type 0 where
   pub many : length xs ≤ length ys
   pub blocks : (i : ℕ) (y : Instance) → i < length xs → slice_get ys i ≡ Some y
-      → (x : Instance) × (slice_get xs i ≡ Some x) × (y.block ≡ x.block)
+      → (x : Instance) × (slice_get xs i ≡ Some x) × (y.block ≡ x.block) × (y.coroutine ≡ x.coroutine)
 
 pub go_themselves : (xs : List Instance) → GoOn xs xs
-go_themselves xs = record { many = le (length xs); blocks = λ i y lt at. (y, at, refl) }
+go_themselves xs = record { many = le (length xs); blocks = λ i y lt at. (y, at, refl, refl) }
   where
     le : (n : ℕ) → n ≤ n
     le n = omega arith
 
 pub go_set : (xs : List Instance) (i : ℕ) (x new : Instance) → slice_get xs i ≡ Some x → new.block ≡ x.block
-    → GoOn xs (slice_set xs i new)
-go_set xs i x new there same = record {
+    → new.coroutine ≡ x.coroutine → GoOn xs (slice_set xs i new)
+go_set xs i x new there same kind = record {
   many = let long = set_length xs i new in omega (arith, long);
   blocks = λ j y lt at. by j y (was_set xs i x new there j y at);
 }
   where
     by : (j : ℕ) (y : Instance) → WasSet xs i new j y
-        → (z : Instance) × (slice_get xs j ≡ Some z) × (y.block ≡ z.block)
+        → (z : Instance) × (slice_get xs j ≡ Some z) × (y.block ≡ z.block) × (y.coroutine ≡ z.coroutine)
     by j y was = which was.is
       where
         which : ((j ≡ i) × (y ≡ new)) ⊎ ((j ≢ i) × (y ≡ was.was))
-            → (z : Instance) × (slice_get xs j ≡ Some z) × (y.block ≡ z.block)
-        which (inl h) =
-            (x, ap (slice_get xs) h.0 ∙ there, ap (λ (z : Instance). z.block) h.1 ∙ same)
-        which (inr h) = (was.was, was.at, ap (λ (z : Instance). z.block) h.1)
+            → (z : Instance) × (slice_get xs j ≡ Some z) × (y.block ≡ z.block) × (y.coroutine ≡ z.coroutine)
+        which (inl h) = (
+          x,
+          ap (slice_get xs) h.0 ∙ there,
+          ap (λ (z : Instance). z.block) h.1 ∙ same,
+          ap (λ (z : Instance). z.coroutine) h.1 ∙ kind,
+        )
+        which (inr h) =
+            (was.was, was.at, ap (λ (z : Instance). z.block) h.1, ap (λ (z : Instance). z.coroutine) h.1)
 
 pub go_more : (xs : List Instance) (x : Instance) → GoOn xs (xs ++ x ∷ [])
 go_more xs x = record {
   many = let long = one_longer xs x in omega (arith, long);
-  blocks = λ i y lt at. ⊎_elim (λ h. absurd (past i lt h.0)) (λ h. (y, h, refl)) (end_or_before xs x y i at);
+  blocks = λ i y lt at. ⊎_elim (λ h. absurd (past i lt h.0)) (λ h. (y, h, refl, refl)) (end_or_before xs x y i at);
 }
   where
     past : (i : ℕ) → i < length xs → i ≡ length xs → ⊥
@@ -69,6 +74,8 @@ module _ (g : FramedGiven) (m n : List MemoryBlock) (xs ys : List Instance)
   pub act_on : (a : Activation) → IsSoundAct g m xs a → IsSoundAct g n ys a
   act_on a h = record {
     known = λ i is. let lt = h.known i is in let le = goes.many in omega (arith, lt, le);
+    coroutine = λ i y is at.
+        let x = goes.blocks i y (h.known i is) at in x.3 ∙ h.coroutine i x.0 is x.1;
     own = h.own;
     given = λ frame i y mode is at.
         let x = goes.blocks i y (h.known i is) at in

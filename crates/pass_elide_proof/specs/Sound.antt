@@ -49,10 +49,11 @@ pub record OwnTheirBlocks (m : List MemoryBlock) (xs : List Instance) : Type 0 w
   pub owners : (b n : ℕ) (z : MemoryBlock) → slice_get m b ≡ Some z → z.kind ≡ Kind.Stack → z.owned ≡ Some n
       → IsOwner xs b
 
--- An activation has slots of allocas of its function, and an instance that there is. A ramp that was given its frame
--- has begun there.
+-- An activation has slots of allocas of its function, and an instance that there is, which is one of its function. A
+-- ramp that was given its frame has begun there.
 pub record IsSoundAct (g : FramedGiven) (m : List MemoryBlock) (xs : List Instance) (a : Activation) : Type 0 where
   pub known : IsKnownTo xs a
+  pub coroutine : (i : ℕ) (x : Instance) → a.instance ≡ Some i → slice_get xs i ≡ Some x → x.coroutine ≡ a.func
   pub own : Each (λ (z : Slot). is_among (facts_at g.given.facts a.func).ramp_slots z ≡ true) a.slots
   pub given : (frame : Value) (i : ℕ) (x : Instance) → a.mode ≡ Mode.GivenRamp frame → a.instance ≡ Some i
       → slice_get xs i ≡ Some x → is_stack_block m x.block ≡ true
