@@ -9,7 +9,7 @@ use Rattle.pass_elide_proof.proofs.Standing.{has_code}
 use Rattle.pass_elide_proof.specs.Both.{AreAtCall, HoldsOn}
 use Rattle.pass_elide_proof.specs.Elision.{Elision, differs_in, elided, elided_code, framed, function_in, function_in_elided, rooms}
 use Rattle.pass_elide_proof.specs.Match.{AreElided, AreNamed, held_name, is_given_mode}
-use Rattle.pass_elide_proof.specs.Places.{elided_instr, instrs_in, name_at, own_at, room_at}
+use Rattle.pass_elide_proof.specs.Places.{allocas_ahead, elided_instr, front_at, instrs_in, instrs_of, name_at, own_at, phi_count, put_up_to, room_at}
 use Rattle.pass_proofs.specs.ir_base.declared.cause.Cause.{Cause}
 use Rattle.pass_proofs.specs.ir_base.declared.name.Name.{Name}
 use Rattle.pass_proofs.specs.ir_model.Names.{declaration_named, first_where, function_named, global_named, same_name}
@@ -48,6 +48,10 @@ in_block (Some b) at i f = by (slice_get b.instrs at) (at == length b.instrs) b.
     by None true term g = absurd (cc)
     by None false term g = absurd (cc)
 
+none_of : {A : Type 0} (xs : List A) → length xs ≡ 0 → xs ≡ []
+none_of [] e = refl
+none_of (y ∷ ys) e = absurd (omega (arith, e))
+
 -- what isn't undefined gives a state
 pub fine_ok : (g : Given) (s : State) (r : Result State Cause) → IsFine (or_undefined g s r).outcome
     → (u : State) × (r ≡ Ok u)
@@ -62,8 +66,26 @@ module _ (e : Elision) (s t : State) (i : Intrinsic) (result : Option ℕ) (must
   abbrev f : Function
   f = function_in e s.top.func
 
+  abbrev ahead_of : List Instr
+  ahead_of = allocas_ahead (rooms e s.top.func) f
+
+  -- where nothing stands in front of the first place, there are no allocas
+  at_start : s.top.block ≡ 0 → s.top.at ≡ 0 → ahead_of ≡ []
+  at_start first here =
+      none_of ahead_of (early t.top.at (length ahead_of)
+      (s.top.at + put_up_to (rooms e s.top.func 0) (phi_count f 0) (instrs_of f 0) s.top.at) low high)
+    where
+      low : t.top.at ≡ 0
+      low = at.front ∙ ap (front_at (rooms e s.top.func) f s.top.block) here
+
+      high : t.top.at ≡ own_at (rooms e s.top.func) f 0 s.top.at
+      high = at.own ∙ ap (λ (n : ℕ). own_at (rooms e s.top.func) f n s.top.at) first
+
+      early : (q n m : ℕ) → q ≡ 0 → q ≡ n + m → n ≡ 0
+      early q n m lo hi = omega (arith, lo, hi)
+
   pub own_place : IsOwnPlace e s.top t.top
-  own_place = record { block = at.block; front = at.front; own = at.own }
+  own_place = record { block = at.block; own = at.own; starts = at_start }
 
   stays : (n : ℕ) (o : Option GivenFrame) → elided_instr n o call ≡ call
   stays n None = refl

@@ -4,7 +4,7 @@ use Rattle.std.proofs.lemmas.Bool.{and_parts}
 use Rattle.std.specs.Option.{option_map_or}
 use Rattle.std.specs.Prelude.{None, Option, Some, filter, is_some, nat_le, slice_get}
 use Rattle.pass_elide_proof.proofs.Addresses.{block_within, home_seen, moved_from_start, twin_back}
-use Rattle.pass_elide_proof.proofs.AtCalls.{arg_stands, both_step, goes_on}
+use Rattle.pass_elide_proof.proofs.AtCalls.{arg_stands, both_step, goes_on, own_place}
 use Rattle.pass_elide_proof.proofs.BeginSteps.{HasBegunAt, begins, begun_in, framed_begins, has_begun_at}
 use Rattle.pass_elide_proof.proofs.Begun.{HasBegun, begun_beside, filter_one, given_still}
 use Rattle.pass_elide_proof.proofs.Setting.{IsOwnPlace, SetsAlike, went}
@@ -317,7 +317,9 @@ module _ (e : Elision) (s t : State) (result : Option ℕ) (must_tail : Bool) (t
       }
 
       place : IsOwnPlace e (begun_in s b size).top (begun_in t k most).top
-      place = record { block = at.call.block; front = at.call.front; own = at.call.own }
+      place =
+          let p = own_place e s t Intrinsic.CoroBegin result must_tail ty args r at.call in
+          record { block = p.block; own = p.own; starts = p.starts }
 
       sets : SetsAlike e r.homes q (begun_in s b size).top (begun_in t k most).top result (pointer_to b)
           (pointer_to k)

@@ -4,7 +4,7 @@ use Rattle.std.proofs.lemmas.Bool.{cases_eq}
 use Rattle.std.specs.Option.{option_map_or}
 use Rattle.std.specs.Prelude.{None, Option, Some, filter, slice_get}
 use Rattle.pass_elide_proof.proofs.BeginSteps.{begun_in}
-use Rattle.pass_elide_proof.proofs.Setting.{AreActing, IsOwnPlace, SetsAlike, acting, held_too, none_apart, went, went_on}
+use Rattle.pass_elide_proof.proofs.Setting.{AreActing, IsOwnPlace, SetsAlike, acting, held_too, none_apart, went, went_on, went_place}
 use Rattle.pass_elide_proof.proofs.Sides.{HaveOthers, SidesGoOn, WasFree, acting_on, below_on}
 use Rattle.pass_elide_proof.specs.Beginning.{IsKnownTo}
 use Rattle.pass_elide_proof.specs.Counts.{capped, counted, given_frames}
@@ -401,14 +401,13 @@ module _ (e : Elision) (s t : State) (r : AreElided e s t) (b k size most : ℕ)
   named : AreNamed e more (was_given q t.top) s.top t.top → AreNamed e more (was_given q c) a c
   named h = subst (λ (m : Bool). AreNamed e more m a c) (sym g.mode) (record { each = h.each; room = h.room })
 
-  begun_top : (p : IsOwnPlace e a c) → AreActing e more now q a c
-  begun_top p = record {
+  begun_top : AreActing e more now q a c
+  begun_top = record {
     func = acting_top.func;
     result = acting_top.result;
     instance = ap Some r.count;
     has_left = acting_top.has_left;
     mode = acting_top.mode;
-    place = Beside p.block p.front;
     values = named acting_top.values;
     asked = acting_top.asked;
     released = λ given. released (acting_top.released (sym g.mode ∙ given));
@@ -437,7 +436,9 @@ module _ (e : Elision) (s t : State) (r : AreElided e s t) (b k size most : ℕ)
     top : AreActivations e more now q behind other_behind
     top =
         held_too e more now q behind other_behind
-        (went_on e more now q a c result first second s.top.has_left t.top.has_left (begun_top p) p sets
+        (went_place e more now q a c result first second s.top.has_left t.top.has_left begun_top p sets
+        r.top.has_left)
+        (went_on e more now q a c result first second s.top.has_left t.top.has_left begun_top p sets
         r.top.has_left) held
 
     total : (p n h l k : ℕ) (o : Option ℕ) → o ≡ None → l ≡ n + h

@@ -184,7 +184,9 @@ module _ (e : Elision) (s t : State) (result : Option ℕ) (must_tail : Bool) (t
       }
 
       place : IsOwnPlace e u.top w.top
-      place = record { block = at.call.block; front = at.call.front; own = at.call.own }
+      place =
+          let p = own_place e s t Intrinsic.CoroFree result must_tail ty args r at.call in
+          record { block = p.block; own = p.own; starts = p.starts }
 
       holds : HoldsOn e u w result
       holds = record { holds = at.holds.holds; kept = at.holds.kept }

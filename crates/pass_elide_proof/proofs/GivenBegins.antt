@@ -5,7 +5,7 @@ use Rattle.std.proofs.lemmas.List.{length-set}
 use Rattle.std.specs.Option.{option_map_or}
 use Rattle.std.specs.Prelude.{None, Option, Some, filter, option_map, slice_get}
 use Rattle.pass_elide_proof.proofs.Addresses.{moved_from_start}
-use Rattle.pass_elide_proof.proofs.AtCalls.{both_step, goes_on}
+use Rattle.pass_elide_proof.proofs.AtCalls.{both_step, goes_on, own_place}
 use Rattle.pass_elide_proof.proofs.BeginSteps.{begins, begins_given, begun_in, framed_begins, has_begun_at, sizes_are}
 use Rattle.pass_elide_proof.proofs.Begins.{no_both}
 use Rattle.pass_elide_proof.proofs.Begun.{HasBegun, begun_beside, filter_one, given_still}
@@ -372,7 +372,9 @@ module _ (e : Elision) (s t : State) (r : AreElided e s t) (result : Option ℕ)
     -- ---- both steps
 
     place : IsOwnPlace e (begun_in s b size).top (begun_in t k most).top
-    place = record { block = at.call.block; front = at.call.front; own = at.call.own }
+    place =
+        let p = own_place e s t Intrinsic.CoroBegin result must_tail ty args r at.call in
+        record { block = p.block; own = p.own; starts = p.starts }
 
     stands : IsValue more (pointer_to b) (pointer_to k)
     stands = (

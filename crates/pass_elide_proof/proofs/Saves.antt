@@ -309,7 +309,7 @@ module _ (e : Elision) (s t : State) (result : Option ℕ) (must_tail : Bool) (t
           both_step e s t Intrinsic.CoroSave result must_tail ty args r at.call (next (with_left saved_s true))
           (next (with_left saved_t true)) goes_first goes_second
           (left_beside e saved_s saved_t h None Value.Poison Value.Poison true true refl
-          (record { block = at.call.block; front = at.call.front; own = at.call.own })
+          (record { block = place.block; own = place.own; starts = place.starts })
           (sets_same e s t h.homes Intrinsic.CoroSave result None must_tail ty args at.call Value.Poison tt no_name
           no_plain (sides saved_s saved_t))
           (name_held e saved_s saved_t None holds Value.Poison true) (name_kept e saved_s saved_t None holds))
@@ -375,7 +375,7 @@ module _ (e : Elision) (s t : State) (result : Option ℕ) (must_tail : Bool) (t
       ap (λ (x : Result State Cause). and_then x (λ (z : State). Ok (gives z result v)))
           (ap (save_for t (point_of t)) same ∙ saves_second e s t r at.may its_place (point_of s) own y second),
       left_beside e left_s left_t h result v v true true refl
-          (record { block = at.call.block; front = at.call.front; own = at.call.own })
+          (record { block = its_place.block; own = its_place.own; starts = its_place.starts })
           (sets_same e s t h.homes Intrinsic.CoroSuspend result result must_tail ty args at.call v refl (λ n set. set)
           at.plain (sides left_s left_t)) (name_held e left_s left_t result holds_too v true)
           (name_kept e left_s left_t result holds_too),

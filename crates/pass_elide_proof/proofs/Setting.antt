@@ -60,10 +60,10 @@ module _ (P : Value → Value → Type 0) (none : (z : Value) → P Value.Poison
 
 -- ---- what is asked of the place, and of the values
 
--- nothing more stands in front of the call
+-- All that stands in front of the call has been executed. At the first place that is nothing, where no alloca was made.
 pub record IsOwnPlace (e : Elision) (a c : Activation) : Type 0 where
   pub block : c.block ≡ a.block
-  pub front : c.at ≡ front_at (rooms e a.func) (function_in e a.func) a.block a.at
+  pub starts : a.block ≡ 0 → a.at ≡ 0 → allocas_ahead (rooms e a.func) (function_in e a.func) ≡ []
   pub own : c.at ≡ own_at (rooms e a.func) (function_in e a.func) a.block a.at
 
 abbrev pub IsAskedTo : Value → Value → Type 0
@@ -105,7 +105,6 @@ pub record AreActing (e : Elision) (homes : List Home) (hides : ℕ → Bool) (d
   pub instance : c.instance ≡ a.instance
   pub has_left : c.has_left ≡ a.has_left
   pub mode : AreModes a.mode c.mode
-  pub place : IsAt e homes (was_given d c) a c
   pub values : AreNamed e homes (was_given d c) a c
   pub asked : is_given_mode c.mode ≡ true → AreAsked (e.shape a.func) a c
   pub released : was_given d c ≡ true → AreReleased (e.shape a.func) d a c
@@ -121,7 +120,6 @@ module _ (e : Elision) (homes : List Home) (hides : ℕ → Bool) (d : Sides) (a
     instance = h.instance;
     has_left = h.has_left;
     mode = h.mode;
-    place = h.place;
     values = h.values;
     asked = h.asked;
     released = h.released;
@@ -130,16 +128,16 @@ module _ (e : Elision) (homes : List Home) (hides : ℕ → Bool) (d : Sides) (a
     allocas = h.allocas;
   }
 
-  pub held_too : AreActing e homes hides d a c
+  pub held_too : IsAt e homes (was_given d c) a c → AreActing e homes hides d a c
       → HoldsBlock hides d.memory a (frame_size e a.func) (held_name e (is_given_mode c.mode) a)
       → AreActivations e homes hides d a c
-  held_too h held = record {
+  held_too place h held = record {
     func = h.func;
     result = h.result;
     instance = h.instance;
     has_left = h.has_left;
     mode = h.mode;
-    place = h.place;
+    place = place;
     values = h.values;
     asked = h.asked;
     released = h.released;
@@ -150,10 +148,6 @@ module _ (e : Elision) (homes : List Home) (hides : ℕ → Bool) (d : Sides) (a
   }
 
 -- ---- the activation behind the call
-
-none_of : {A : Type 0} (xs : List A) → length xs ≡ 0 → xs ≡ []
-none_of [] e = refl
-none_of (y ∷ ys) e = absurd (omega (arith, e))
 
 module _ (e : Elision) (homes : List Home) (hides : ℕ → Bool) (d : Sides) (a c : Activation) (result : Option ℕ)
     (v w : Value) (left other_left : Bool) (h : AreActing e homes hides d a c) (p : IsOwnPlace e a c)
@@ -197,22 +191,6 @@ module _ (e : Elision) (homes : List Home) (hides : ℕ → Bool) (d : Sides) (a
         (λ set. k.tested u is_eq set given is) ((h.released given).tested u is_eq is);
   }
 
-  -- where nothing stands in front of the first place, there are no allocas
-  at_start : a.block ≡ 0 → a.at ≡ 0 → ahead_of ≡ []
-  at_start first here =
-      none_of ahead_of (early c.at (length ahead_of)
-      (a.at + put_up_to (rooms e a.func 0) (phi_count (function_in e a.func) 0)
-      (instrs_of (function_in e a.func) 0) a.at) low high)
-    where
-      low : c.at ≡ 0
-      low = p.front ∙ ap (front_at (rooms e a.func) (function_in e a.func) a.block) here
-
-      high : c.at ≡ own_at (rooms e a.func) (function_in e a.func) 0 a.at
-      high = p.own ∙ ap (λ (n : ℕ). own_at (rooms e a.func) (function_in e a.func) n a.at) first
-
-      early : (q n m : ℕ) → q ≡ 0 → q ≡ n + m → n ≡ 0
-      early q n m lo hi = omega (arith, lo, hi)
-
   -- allocas in front have new names
   alloca_on : (q size align : ℕ) → ((n : ℕ) → result ≡ Some n → n < q)
       → HasAlloca homes hides d c h.own (Instr.Alloca q (array size (int 8)) align)
@@ -252,7 +230,7 @@ module _ (e : Elision) (homes : List Home) (hides : ℕ → Bool) (d : Sides) (a
 
   all_allocas : HasAllocas e homes hides d a c h.own → HasAllocas e homes hides d b g h.own
   all_allocas (inl start) =
-      let none = at_start start.0 start.1 in
+      let none = p.starts start.0 start.1 in
       inr (
         subst (λ (is : List Instr). Each (HasAlloca homes hides d g h.own) is) (sym none) tt,
         ap (λ (ss : List Slot). length ss) start.2 ∙ sym (ap (λ (is : List Instr). length is) none),
@@ -269,6 +247,9 @@ module _ (e : Elision) (homes : List Home) (hides : ℕ → Bool) (d : Sides) (a
       let s : suc a.at ≡ a.at + 1 = omega arith in
       ap (λ (n : ℕ). n + 1) p.own ∙ ap (front_at (rooms e a.func) (function_in e a.func) a.block) s
 
+  pub went_place : IsAt e homes (was_given d g) b g
+  went_place = Beside p.block next_at
+
   pub went_on : AreActing e homes hides d b g
   went_on = record {
     func = h.func;
@@ -276,7 +257,6 @@ module _ (e : Elision) (homes : List Home) (hides : ℕ → Bool) (d : Sides) (a
     instance = h.instance;
     has_left = leaves;
     mode = h.mode;
-    place = Beside p.block next_at;
     values = named;
     asked = asked;
     released = released;
@@ -373,6 +353,8 @@ module _ (e : Elision) (s t : State) (r : AreElided e s t) (result : Option ℕ)
   top : AreActivations e r.homes r.hides d a c
   top =
       held_too e r.homes r.hides d a c
+      (went_place e r.homes r.hides d s.top t.top result v w left other_left
+      (acting e r.homes r.hides d s.top t.top r.top) p k leaves)
       (went_on e r.homes r.hides d s.top t.top result v w left other_left
       (acting e r.homes r.hides d s.top t.top r.top) p k leaves)
       (still_held e r.hides s.world.memory s.top (is_given_mode t.top.mode) result v left holds kept r.top.held)

@@ -141,6 +141,9 @@ module _ (e : Elision) (homes more : List Home) (hides now : ℕ → Bool) (d k 
           room = h.room;
         })
 
+    pub place_still : IsAt e homes (was_given d c) a c → IsAt e more (was_given k c) a c
+    place_still h = subst (λ (b : Bool). IsAt e more b a c) (sym same_given) (place_on (was_given d c) a c h)
+
     pub acting_on : AreActing e homes hides d a c → AreActing e more now k a c
     acting_on h = record {
       func = h.func;
@@ -148,7 +151,6 @@ module _ (e : Elision) (homes more : List Home) (hides now : ℕ → Bool) (d k 
       instance = h.instance;
       has_left = h.has_left;
       mode = h.mode;
-      place = subst (λ (b : Bool). IsAt e more b a c) (sym same_given) (place_on (was_given d c) a c h.place);
       values = values_on h.values;
       asked = h.asked;
       released = λ given. released_on (h.released (sym same_given ∙ given));
@@ -160,7 +162,8 @@ module _ (e : Elision) (homes more : List Home) (hides now : ℕ → Bool) (d k 
   pub activation_on : (a c : Activation) → HasOthers e other known a c → AreActivations e homes hides d a c
       → AreActivations e more now k a c
   activation_on a c has h =
-      held_too e more now k a c (acting_on a c has.is_known has.slots (acting e homes hides d a c h))
+      held_too e more now k a c (place_still a c has.is_known has.slots h.place)
+      (acting_on a c has.is_known has.slots (acting e homes hides d a c h))
       (held_on a (frame_size e a.func) (held_name e (is_given_mode c.mode) a) has.held h.held)
 
   pub below_on : (bs cs : List Activation) → HaveOthers e other known bs cs → AreBelow e homes hides d bs cs
