@@ -4,12 +4,12 @@ use Rattle.std.proofs.lemmas.Bool.{cases_eq}
 use Rattle.std.specs.Option.{option_map_or}
 use Rattle.std.specs.Prelude.{None, Option, Some, filter, slice_get}
 use Rattle.pass_elide_proof.proofs.BeginSteps.{begun_in}
-use Rattle.pass_elide_proof.proofs.Setting.{AreActing, IsOwnPlace, SetsAlike, acting, held_too, none_apart, went, went_on, went_place}
+use Rattle.pass_elide_proof.proofs.Setting.{AreActing, IsHere, IsOwnPlace, SetsAlike, acting, held_too, none_apart, went, went_on, went_place}
 use Rattle.pass_elide_proof.proofs.Sides.{HaveOthers, SidesGoOn, WasFree, acting_on, below_on}
 use Rattle.pass_elide_proof.specs.Beginning.{IsKnownTo}
 use Rattle.pass_elide_proof.specs.Counts.{capped, counted, given_frames}
 use Rattle.pass_elide_proof.specs.Elision.{Elision, elided, framed, function_in, rooms}
-use Rattle.pass_elide_proof.specs.Match.{AreActivations, AreElided, AreInstances, AreMates, AreNamed, AreReleased, Beside, HasAlloca, HasAllocas, HoldsBlock, IsFreedAs, IsNoGivenFrame, Runs, Sides, frame_size, held_blocks, held_name, holds_one, instance_in, is_given_mode, sides, was_given}
+use Rattle.pass_elide_proof.specs.Match.{AreActivations, AreElided, AreInstances, AreMates, AreNamed, AreReleased, HasAlloca, HasAllocas, HoldsBlock, IsFreedAs, IsNoGivenFrame, Runs, Sides, frame_size, held_blocks, held_name, holds_one, instance_in, is_given_mode, sides, was_given}
 use Rattle.pass_elide_proof.specs.Places.{allocas_ahead}
 use Rattle.pass_proofs.proofs.ir_laws.facts.Lists.{get_before, get_front, get_within}
 use Rattle.pass_proofs.proofs.run_laws.memory.Homes.{value_on}
@@ -433,13 +433,16 @@ module _ (e : Elision) (s t : State) (r : AreElided e s t) (b k size most : ℕ)
     held =
         subst (λ (o : Option ℕ). HoldsBlock now u.world.memory behind (frame_size e s.top.func) o) (sym none) tt
 
+    here : IsHere e a c
+    here = record { block = p.block; own = p.own }
+
     top : AreActivations e more now q behind other_behind
     top =
         held_too e more now q behind other_behind
-        (went_place e more now q a c result first second s.top.has_left t.top.has_left begun_top p sets
-        r.top.has_left)
-        (went_on e more now q a c result first second s.top.has_left t.top.has_left begun_top p sets
-        r.top.has_left) held
+        (went_place e more now q a c result first second s.top.has_left t.top.has_left begun_top here
+        (λ z. p.starts z.0 z.1) sets r.top.has_left)
+        (went_on e more now q a c result first second s.top.has_left t.top.has_left begun_top here
+        (λ z. p.starts z.0 z.1) sets r.top.has_left) held
 
     total : (p n h l k : ℕ) (o : Option ℕ) → o ≡ None → l ≡ n + h
         → p + (n + (h + k)) ≡ p + (l + (holds_one o + k))

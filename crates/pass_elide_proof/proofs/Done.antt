@@ -3,11 +3,13 @@ use Rattle.std.proofs.Common.{◌≡◌, ℕ, Bool, true, false, List, Ok, refl,
 use Rattle.std.proofs.lemmas.Bool.{and_from, and_parts, eq-eqb, eqb-true}
 use Rattle.std.specs.Prelude.{None, Option, Result, Some, slice_get}
 use Rattle.pass_elide_proof.proofs.Addresses.{address_stands, twin_of}
-use Rattle.pass_elide_proof.proofs.AtCalls.{arg_stands, both_step, goes_on, name_held, name_kept, own_place}
+use Rattle.pass_elide_proof.proofs.AtCalls.{arg_stands, name_held, name_kept}
+use Rattle.pass_elide_proof.proofs.Fronts.{gives_beside, steps_both, steps_on}
 use Rattle.pass_elide_proof.proofs.Bare.{same_function, same_place}
 use Rattle.pass_elide_proof.proofs.Begins.{no_both}
 use Rattle.pass_elide_proof.proofs.Found.{IsLastOf, last_is_where, last_too, where_last}
-use Rattle.pass_elide_proof.proofs.Setting.{SetsAlike, given_beside}
+use Rattle.pass_elide_proof.proofs.Setting.{SetsAlike}
+use Rattle.pass_elide_proof.specs.Both.{standing_at}
 use Rattle.pass_elide_proof.specs.Elision.{Elision, elided, elided_code, framed, function_in, function_in_elided}
 use Rattle.pass_elide_proof.specs.Invariant.{HaveCallers}
 use Rattle.pass_elide_proof.specs.Looking.{GivesNone, IsAtDone}
@@ -156,9 +158,9 @@ sleeps_too e func _ _ point values (Sleeps p vs others) is =
 
 -- ---- the step
 
-module _ (e : Elision) (s t : State) (result : Option ℕ) (must_tail : Bool) (ty : Option Ty) (args : List Arg)
-    (r : AreElided e s t) (callers : HaveCallers e t) (fine : IsFine (framed_step (framed e) s).outcome)
-    (at : IsAtDone e s t result must_tail ty args) where
+module _ (e : Elision) (s t : State) (n : ℕ) (r : AreElided e s (standing_at t n)) (result : Option ℕ)
+    (must_tail : Bool) (ty : Option Ty) (args : List Arg) (callers : HaveCallers e (standing_at t n)) (fine : IsFine (framed_step (framed e) s).outcome)
+    (at : IsAtDone e s t n r result must_tail ty args) where
   abbrev call : Instr
   call = Instr.Call result must_tail ty (Callee.Intrinsic Intrinsic.CoroDone) args
 
@@ -170,11 +172,11 @@ module _ (e : Elision) (s t : State) (result : Option ℕ) (must_tail : Bool) (t
 
   stands : IsValue r.homes p q
   stands =
-      arg_stands e r.homes r.globals s.top t.top (was_given (sides s t) t.top) r.top.values args 0 at.look.handle
+      arg_stands e r.homes r.globals s.top (standing_at t n).top (was_given (sides s t) t.top) r.top.values args 0 at.look.handle
 
   sleeper : (u : State) × HasSleeper (framed e).given s u result p
   sleeper =
-      let goes = goes_on e s t Intrinsic.CoroDone result must_tail ty args r at.look.call fine in
+      let goes = steps_on e s t n r Intrinsic.CoroDone result must_tail ty args at.look.call fine in
       (goes.0, has_sleeper (framed e).given s goes.0 result p goes.1)
 
   module _ (u : State) (k : HasSleeper (framed e).given s u result p) where
@@ -203,7 +205,7 @@ module _ (e : Elision) (s t : State) (result : Option ℕ) (must_tail : Bool) (t
       h = r.instances k.number x y first second
 
       found_too : instance_at t.instances q ≡ Some (k.number, y)
-      found_too = finds_it e s t r callers p q stands k.number x y second goes k.is
+      found_too = finds_it e s (standing_at t n) r callers p q stands k.number x y second goes k.is
 
       none : GivesNone e func
       none = at.bare k.number x first
@@ -241,17 +243,16 @@ module _ (e : Elision) (s t : State) (result : Option ℕ) (must_tail : Bool) (t
 
       both_done : AreElided e (framed_step (framed e) s) (framed_step (elided e) t)
       both_done =
-          both_step e s t Intrinsic.CoroDone result must_tail ty args r at.look.call (gives s result v)
+          steps_both e s t n r Intrinsic.CoroDone result must_tail ty args at.look.call (gives s result v)
           (gives t result w)
           (is_told (framed e).given s result p k.number x k.suspend k.values k.is k.status k.final)
           (is_told (elided e).given t result q k.number y (own_point e func k.suspend) other_status.0 found_too
           other_status.1 final_too)
-          (given_beside e s t r result v w
-          (own_place e s t Intrinsic.CoroDone result must_tail ty args r at.look.call) sets
+          (gives_beside e s t n r Intrinsic.CoroDone result must_tail ty args at.look.call v w sets
           (name_held e s t result at.look.holds v s.top.has_left) (name_kept e s t result at.look.holds))
 
   pub done_beside : AreElided e (framed_step (framed e) s) (framed_step (elided e) t)
   done_beside =
       let k = sleeper in
-      let y = twin_of e s t r k.1.number k.1.instance (first k.0 k.1) in
+      let y = twin_of e s (standing_at t n) r k.1.number k.1.instance (first k.0 k.1) in
       both_done k.0 k.1 y.0 y.1

@@ -31,3 +31,4 @@ pub mod SoundSteps
 pub mod Allocas
 pub mod Given
 pub mod Slotted
+pub mod Fronts

@@ -4,11 +4,13 @@ use Rattle.std.proofs.lemmas.Bool.{and_from, and_parts, eq-eqb, eqb-true, or_par
 use Rattle.std.specs.Option.{option_map_or}
 use Rattle.std.specs.Prelude.{None, Option, Result, Some, find, option_map, slice_get}
 use Rattle.pass_elide_proof.proofs.Addresses.{address_stands, home_seen, moved_from_start, twin_of}
-use Rattle.pass_elide_proof.proofs.AtCalls.{arg_stands, both_step, goes_on, name_held, name_kept, own_place}
+use Rattle.pass_elide_proof.proofs.AtCalls.{arg_stands, name_held, name_kept}
+use Rattle.pass_elide_proof.proofs.Fronts.{gives_beside, steps_both, steps_on}
 use Rattle.pass_elide_proof.proofs.Begins.{no_both}
 use Rattle.pass_elide_proof.proofs.Done.{finds_it}
 use Rattle.pass_elide_proof.proofs.Found.{IsLastOf, last_is_where, last_too, same_end, where_last}
-use Rattle.pass_elide_proof.proofs.Setting.{SetsAlike, given_beside}
+use Rattle.pass_elide_proof.proofs.Setting.{SetsAlike}
+use Rattle.pass_elide_proof.specs.Both.{standing_at}
 use Rattle.pass_elide_proof.specs.Elision.{Elision, elided, elided_code, framed}
 use Rattle.pass_elide_proof.specs.Invariant.{HaveCallers}
 use Rattle.pass_elide_proof.specs.Looking.{IsAtPromise}
@@ -322,9 +324,9 @@ module _ (e : Elision) (s t : State) (r : AreElided e s t) (callers : HaveCaller
 
 -- ---- the step
 
-module _ (e : Elision) (s t : State) (result : Option ℕ) (must_tail : Bool) (ty : Option Ty) (args : List Arg)
-    (r : AreElided e s t) (callers : HaveCallers e t) (fine : IsFine (framed_step (framed e) s).outcome)
-    (at : IsAtPromise e s t result must_tail ty args) where
+module _ (e : Elision) (s t : State) (n : ℕ) (r : AreElided e s (standing_at t n)) (result : Option ℕ)
+    (must_tail : Bool) (ty : Option Ty) (args : List Arg) (callers : HaveCallers e (standing_at t n)) (fine : IsFine (framed_step (framed e) s).outcome)
+    (at : IsAtPromise e s t n r result must_tail ty args) where
   abbrev call : Instr
   call = Instr.Call result must_tail ty (Callee.Intrinsic Intrinsic.CoroPromise) args
 
@@ -339,7 +341,7 @@ module _ (e : Elision) (s t : State) (result : Option ℕ) (must_tail : Bool) (t
 
   stands : IsValue r.homes p q
   stands =
-      arg_stands e r.homes r.globals s.top t.top (was_given (sides s t) t.top) r.top.values args 0 at.look.handle
+      arg_stands e r.homes r.globals s.top (standing_at t n).top (was_given (sides s t) t.top) r.top.values args 0 at.look.handle
 
   value_of : (o : Result Value Cause) → (u : State) → and_then o (λ v. Ok (gives s result v)) ≡ Ok u
       → (v : Value) × (o ≡ Ok v)
@@ -348,12 +350,12 @@ module _ (e : Elision) (s t : State) (result : Option ℕ) (must_tail : Bool) (t
 
   promise : (v : Value) × (framed_promise (framed e) s p from ≡ Ok v)
   promise =
-      let goes = goes_on e s t Intrinsic.CoroPromise result must_tail ty args r at.look.call fine in
+      let goes = steps_on e s t n r Intrinsic.CoroPromise result must_tail ty args at.look.call fine in
       value_of (framed_promise (framed e) s p from) goes.0 goes.1
 
   module _ (v : Value) (h : framed_promise (framed e) s p from ≡ Ok v) where
-    other : GivesToo e s t r callers at.starts at.small p q v stands (is_true from)
-    other = gives_too e s t r callers at.starts at.small p q v stands (is_true from) h
+    other : GivesToo e s (standing_at t n) r callers at.starts at.small p q v stands (is_true from)
+    other = gives_too e s (standing_at t n) r callers at.starts at.small p q v stands (is_true from) h
 
     sets : (w : Value) → IsValue r.homes v w → SetsAlike e r.homes (sides s t) s.top t.top result v w
     sets w is = record {
@@ -367,12 +369,11 @@ module _ (e : Elision) (s t : State) (result : Option ℕ) (must_tail : Bool) (t
     both_promise : AreElided e (framed_step (framed e) s) (framed_step (elided e) t)
     both_promise =
         let w = other in
-        both_step e s t Intrinsic.CoroPromise result must_tail ty args r at.look.call (gives s result v)
+        steps_both e s t n r Intrinsic.CoroPromise result must_tail ty args at.look.call (gives s result v)
         (gives t result w.value)
         (ap (λ (o : Result Value Cause). and_then o (λ v. Ok (gives s result v))) h)
         (ap (λ (o : Result Value Cause). and_then o (λ v. Ok (gives t result v))) w.goes)
-        (given_beside e s t r result v w.value
-        (own_place e s t Intrinsic.CoroPromise result must_tail ty args r at.look.call) (sets w.value w.is)
+        (gives_beside e s t n r Intrinsic.CoroPromise result must_tail ty args at.look.call v w.value (sets w.value w.is)
         (name_held e s t result at.look.holds v s.top.has_left) (name_kept e s t result at.look.holds))
 
   pub promise_beside : AreElided e (framed_step (framed e) s) (framed_step (elided e) t)

@@ -8,7 +8,7 @@ use Rattle.pass_elide_proof.proofs.Sized.{other_value}
 use Rattle.pass_elide_proof.specs.Counts.{capped, given_frames}
 use Rattle.pass_elide_proof.specs.Elision.{Elision, Shape, differs_in, function_in, rooms}
 use Rattle.pass_elide_proof.specs.Match.{AreActivations, AreAsked, AreElided, AreModes, AreNamed, AreReleased, Beside, HasAlloca, HasAllocas, HoldApart, HoldsBlock, IsAt, Sides, frame_size, held_blocks, held_name, holds_one, instance_in, is_given_mode, sides, was_given}
-use Rattle.pass_elide_proof.specs.Places.{allocas_ahead, front_at, own_at, put_up_to, phi_count, instrs_of}
+use Rattle.pass_elide_proof.specs.Places.{allocas_ahead, front_at, own_at}
 use Rattle.pass_proofs.proofs.ir_laws.facts.Truth.{either}
 use Rattle.pass_proofs.specs.ir_model.Ty.{array, int}
 use Rattle.pass_proofs.specs.ir_model.declared.instr.Instr.{Instr}
@@ -59,6 +59,11 @@ module _ (P : Value → Value → Type 0) (none : (z : Value) → P Value.Poison
           (λ i. (sym (other_value env n u v ne) i, sym (other_value other n u w ne) i)) old
 
 -- ---- what is asked of the place, and of the values
+
+-- Both stand at the call itself.
+pub record IsHere (e : Elision) (a c : Activation) : Type 0 where
+  pub block : c.block ≡ a.block
+  pub own : c.at ≡ own_at (rooms e a.func) (function_in e a.func) a.block a.at
 
 -- All that stands in front of the call has been executed. At the first place that is nothing, where no alloca was made.
 pub record IsOwnPlace (e : Elision) (a c : Activation) : Type 0 where
@@ -150,8 +155,9 @@ module _ (e : Elision) (homes : List Home) (hides : ℕ → Bool) (d : Sides) (a
 -- ---- the activation behind the call
 
 module _ (e : Elision) (homes : List Home) (hides : ℕ → Bool) (d : Sides) (a c : Activation) (result : Option ℕ)
-    (v w : Value) (left other_left : Bool) (h : AreActing e homes hides d a c) (p : IsOwnPlace e a c)
-    (k : SetsAlike e homes d a c result v w) (leaves : other_left ≡ left) where
+    (v w : Value) (left other_left : Bool) (h : AreActing e homes hides d a c) (p : IsHere e a c)
+    (starts : (a.block ≡ 0) × (a.at ≡ 0) × (h.own ≡ [])
+    → allocas_ahead (rooms e a.func) (function_in e a.func) ≡ []) (k : SetsAlike e homes d a c result v w) (leaves : other_left ≡ left) where
   abbrev b : Activation
   b = went a result v left
 
@@ -230,7 +236,7 @@ module _ (e : Elision) (homes : List Home) (hides : ℕ → Bool) (d : Sides) (a
 
   all_allocas : HasAllocas e homes hides d a c h.own → HasAllocas e homes hides d b g h.own
   all_allocas (inl start) =
-      let none = p.starts start.0 start.1 in
+      let none = starts start in
       inr (
         subst (λ (is : List Instr). Each (HasAlloca homes hides d g h.own) is) (sym none) tt,
         ap (λ (ss : List Slot). length ss) start.2 ∙ sym (ap (λ (is : List Instr). length is) none),
@@ -350,13 +356,16 @@ module _ (e : Elision) (s t : State) (r : AreElided e s t) (result : Option ℕ)
   abbrev c : Activation
   c = went t.top result w other_left
 
+  here : IsHere e s.top t.top
+  here = record { block = p.block; own = p.own }
+
   top : AreActivations e r.homes r.hides d a c
   top =
       held_too e r.homes r.hides d a c
       (went_place e r.homes r.hides d s.top t.top result v w left other_left
-      (acting e r.homes r.hides d s.top t.top r.top) p k leaves)
+      (acting e r.homes r.hides d s.top t.top r.top) here (λ z. p.starts z.0 z.1) k leaves)
       (went_on e r.homes r.hides d s.top t.top result v w left other_left
-      (acting e r.homes r.hides d s.top t.top r.top) p k leaves)
+      (acting e r.homes r.hides d s.top t.top r.top) here (λ z. p.starts z.0 z.1) k leaves)
       (still_held e r.hides s.world.memory s.top (is_given_mode t.top.mode) result v left holds kept r.top.held)
 
   pub left_beside : AreElided e (gives (with_left s left) result v) (gives (with_left t other_left) result w)

@@ -1,8 +1,8 @@
 -- Both runs stand at the same call of a coro intrinsic, behind what is put in front of it.
-use Rattle.std.specs.Prelude.{◌≡◌, ◌≢◌, ◌+◌, ◌<◌, ℕ, Bool, true, false, List, length, Some, None, Option}
+use Rattle.std.specs.Prelude.{◌≡◌, ◌≢◌, ◌+◌, ◌<◌, ℕ, Bool, true, false, List, [], length, Some, None, Option}
 use Rattle.pass_elide_proof.specs.Elision.{Elision, Shape, framed, function_in, rooms}
-use Rattle.pass_elide_proof.specs.Match.{is_given_mode}
-use Rattle.pass_elide_proof.specs.Places.{front_at, own_at}
+use Rattle.pass_elide_proof.specs.Match.{AreElided, is_given_mode}
+use Rattle.pass_elide_proof.specs.Places.{allocas_ahead, front_at, own_at}
 use Rattle.pass_proofs.specs.ir_base.declared.outcome.Outcome.{Outcome}
 use Rattle.pass_proofs.specs.ir_model.Ty.{Ty}
 use Rattle.pass_proofs.specs.ir_model.declared.instr.Instr.{Instr}
@@ -23,6 +23,23 @@ pub record AreAtCall (e : Elision) (s t : State) (i : Intrinsic) (result : Optio
   pub front : t.top.at ≡ front_at (rooms e s.top.func) (function_in e s.top.func) s.top.block s.top.at
   pub own : t.top.at ≡ own_at (rooms e s.top.func) (function_in e s.top.func) s.top.block s.top.at
   pub names : (v : ℕ) → result ≡ Some v → v < length (function_in e s.top.func).names
+
+-- the other run, with its topmost activation at a position of its block
+abbrev pub standing_at : State → ℕ → State
+standing_at t n = record t { top = record t.top { at = n } }
+
+-- The other run stands at the call. What stands in front of it, it has executed. Beside the first run stands what it
+-- was in front of that, but that the allocas have been made. At the first place they have been, if there are any.
+pub record AreAtOwn (e : Elision) (s t : State) (n : ℕ) (r : AreElided e s (standing_at t n)) (i : Intrinsic)
+    (result : Option ℕ) (must_tail : Bool) (ty : Option Ty) (args : List Arg) : Type 0 where
+  pub runs : s.outcome ≡ Outcome.Running
+  pub there : fetch (function_of (framed e).given s) s.top.block s.top.at
+      ≡ AtInstr (Instr.Call result must_tail ty (Callee.Intrinsic i) args)
+  pub block : t.top.block ≡ s.top.block
+  pub own : t.top.at ≡ own_at (rooms e s.top.func) (function_in e s.top.func) s.top.block s.top.at
+  pub names : (v : ℕ) → result ≡ Some v → v < length (function_in e s.top.func).names
+  pub made : s.top.block ≡ 0 → s.top.at ≡ 0 → r.top.own ≡ []
+      → allocas_ahead (rooms e s.top.func) (function_in e s.top.func) ≡ []
 
 -- where a ramp was given its frame, it holds the same block behind the call, by a name that isn't set
 pub record HoldsOn (e : Elision) (s t : State) (result : Option ℕ) : Type 0 where

@@ -1,7 +1,7 @@
 //! Coro intrinsics that both runs execute.
 
 ghost use Rattle.std.specs.Prelude.{Bool, List, Option, ℕ};
-ghost use Rattle.pass_elide_proof.specs.Both.{IsAtAsking, IsAtConstant};
+ghost use Rattle.pass_elide_proof.specs.Both.{AreAtCall, AreAtOwn, IsAtAsking, IsAtConstant, standing_at};
 ghost use Rattle.pass_elide_proof.specs.Elision.{Elision, elided, framed};
 ghost use Rattle.pass_elide_proof.specs.Frees.{IsAtFree};
 ghost use Rattle.pass_elide_proof.specs.Invariant.{HaveCallers};
@@ -34,16 +34,23 @@ pub fn frees_are_asked()
         → AreElided e (framed_step (framed e) s) (framed_step (elided e) t) }
 {}
 
+/// Where nothing more stands in front of a call, both runs stand at it.
+pub fn calls_are_reached()
+    ensures { (e : Elision) (s t : State) (r : AreElided e s t) (i : Intrinsic) (result : Option ℕ)
+        (must_tail : Bool) (ty : Option Ty) (args : List Arg) → AreAtCall e s t i result must_tail ty args
+        → AreAtOwn e s t t.top.at r i result must_tail ty args }
+{}
+
 /// coro.done says the same in both runs, and coro.promise gives what stands for each other. A handle leads to the same
-/// instance, since nothing begins where one isn't over.
+/// instance, since nothing begins where one isn't over. The call may stand behind allocas that the other run has made.
 pub fn looks_stay_beside()
-    ensures done { (e : Elision) (s t : State) (result : Option ℕ) (must_tail : Bool) (ty : Option Ty)
-        (args : List Arg) → AreElided e s t → HaveCallers e t → IsFine (framed_step (framed e) s).outcome
-        → IsAtDone e s t result must_tail ty args
+    ensures done { (e : Elision) (s t : State) (n : ℕ) (r : AreElided e s (standing_at t n)) (result : Option ℕ)
+        (must_tail : Bool) (ty : Option Ty) (args : List Arg) → HaveCallers e (standing_at t n)
+        → IsFine (framed_step (framed e) s).outcome → IsAtDone e s t n r result must_tail ty args
         → AreElided e (framed_step (framed e) s) (framed_step (elided e) t) }
-    ensures promise { (e : Elision) (s t : State) (result : Option ℕ) (must_tail : Bool) (ty : Option Ty)
-        (args : List Arg) → AreElided e s t → HaveCallers e t → IsFine (framed_step (framed e) s).outcome
-        → IsAtPromise e s t result must_tail ty args
+    ensures promise { (e : Elision) (s t : State) (n : ℕ) (r : AreElided e s (standing_at t n)) (result : Option ℕ)
+        (must_tail : Bool) (ty : Option Ty) (args : List Arg) → HaveCallers e (standing_at t n)
+        → IsFine (framed_step (framed e) s).outcome → IsAtPromise e s t n r result must_tail ty args
         → AreElided e (framed_step (framed e) s) (framed_step (elided e) t) }
 {}
 
