@@ -159,7 +159,8 @@ sleeps_too e func _ _ point values (Sleeps p vs others) is =
 -- ---- the step
 
 module _ (e : Elision) (s t : State) (n : ℕ) (r : AreElided e s (standing_at t n)) (result : Option ℕ)
-    (must_tail : Bool) (ty : Option Ty) (args : List Arg) (callers : HaveCallers e (standing_at t n)) (fine : IsFine (framed_step (framed e) s).outcome)
+    (must_tail : Bool) (ty : Option Ty) (args : List Arg) (callers : HaveCallers e (standing_at t n))
+    (fine : IsFine (framed_step (framed e) s).outcome)
     (at : IsAtDone e s t n r result must_tail ty args) where
   abbrev call : Instr
   call = Instr.Call result must_tail ty (Callee.Intrinsic Intrinsic.CoroDone) args
@@ -172,7 +173,8 @@ module _ (e : Elision) (s t : State) (n : ℕ) (r : AreElided e s (standing_at t
 
   stands : IsValue r.homes p q
   stands =
-      arg_stands e r.homes r.globals s.top (standing_at t n).top (was_given (sides s t) t.top) r.top.values args 0 at.look.handle
+      arg_stands e r.homes r.globals s.top (standing_at t n).top (was_given (sides s t) t.top) r.top.values args 0
+      at.look.handle
 
   sleeper : (u : State) × HasSleeper (framed e).given s u result p
   sleeper =

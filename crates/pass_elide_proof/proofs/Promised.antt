@@ -325,7 +325,8 @@ module _ (e : Elision) (s t : State) (r : AreElided e s t) (callers : HaveCaller
 -- ---- the step
 
 module _ (e : Elision) (s t : State) (n : ℕ) (r : AreElided e s (standing_at t n)) (result : Option ℕ)
-    (must_tail : Bool) (ty : Option Ty) (args : List Arg) (callers : HaveCallers e (standing_at t n)) (fine : IsFine (framed_step (framed e) s).outcome)
+    (must_tail : Bool) (ty : Option Ty) (args : List Arg) (callers : HaveCallers e (standing_at t n))
+    (fine : IsFine (framed_step (framed e) s).outcome)
     (at : IsAtPromise e s t n r result must_tail ty args) where
   abbrev call : Instr
   call = Instr.Call result must_tail ty (Callee.Intrinsic Intrinsic.CoroPromise) args
@@ -341,7 +342,8 @@ module _ (e : Elision) (s t : State) (n : ℕ) (r : AreElided e s (standing_at t
 
   stands : IsValue r.homes p q
   stands =
-      arg_stands e r.homes r.globals s.top (standing_at t n).top (was_given (sides s t) t.top) r.top.values args 0 at.look.handle
+      arg_stands e r.homes r.globals s.top (standing_at t n).top (was_given (sides s t) t.top) r.top.values args 0
+      at.look.handle
 
   value_of : (o : Result Value Cause) → (u : State) → and_then o (λ v. Ok (gives s result v)) ≡ Ok u
       → (v : Value) × (o ≡ Ok v)
@@ -373,7 +375,8 @@ module _ (e : Elision) (s t : State) (n : ℕ) (r : AreElided e s (standing_at t
         (gives t result w.value)
         (ap (λ (o : Result Value Cause). and_then o (λ v. Ok (gives s result v))) h)
         (ap (λ (o : Result Value Cause). and_then o (λ v. Ok (gives t result v))) w.goes)
-        (gives_beside e s t n r Intrinsic.CoroPromise result must_tail ty args at.look.call v w.value (sets w.value w.is)
+        (gives_beside e s t n r Intrinsic.CoroPromise result must_tail ty args at.look.call v w.value
+        (sets w.value w.is)
         (name_held e s t result at.look.holds v s.top.has_left) (name_kept e s t result at.look.holds))
 
   pub promise_beside : AreElided e (framed_step (framed e) s) (framed_step (elided e) t)

@@ -157,7 +157,8 @@ module _ (e : Elision) (homes : List Home) (hides : ℕ → Bool) (d : Sides) (a
 module _ (e : Elision) (homes : List Home) (hides : ℕ → Bool) (d : Sides) (a c : Activation) (result : Option ℕ)
     (v w : Value) (left other_left : Bool) (h : AreActing e homes hides d a c) (p : IsHere e a c)
     (starts : (a.block ≡ 0) × (a.at ≡ 0) × (h.own ≡ [])
-    → allocas_ahead (rooms e a.func) (function_in e a.func) ≡ []) (k : SetsAlike e homes d a c result v w) (leaves : other_left ≡ left) where
+    → allocas_ahead (rooms e a.func) (function_in e a.func) ≡ [])
+    (k : SetsAlike e homes d a c result v w) (leaves : other_left ≡ left) where
   abbrev b : Activation
   b = went a result v left
 
