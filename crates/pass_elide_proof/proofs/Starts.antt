@@ -102,7 +102,7 @@ params_long env (p ∷ ps) (v ∷ vs) =
 
 -- ---- globals
 
-unowned : (m : Module) (gs : List GlobalItem) (b : ℕ) (x : MemoryBlock) → slice_get (map (global_block m) gs) b
+pub unowned : (m : Module) (gs : List GlobalItem) (b : ℕ) (x : MemoryBlock) → slice_get (map (global_block m) gs) b
     ≡ Some x
     → x.owned ≡ None
 unowned m [] b x e = absurd (cc)

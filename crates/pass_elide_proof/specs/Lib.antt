@@ -21,3 +21,10 @@ pub mod Marking
 pub mod Asides
 pub mod Asked
 pub mod Again
+pub mod Both
+pub mod Beginning
+pub mod Frees
+pub mod Looking
+pub mod Saves
+pub mod Rooms
+pub mod Sound

@@ -2,6 +2,7 @@
 //! allocate them.
 #![tactic(auto)]
 
+pub mod beginning;
 pub mod code;
 pub mod counts;
 pub mod edges;
@@ -9,6 +10,8 @@ pub mod frames;
 pub mod handles;
 pub mod ordinary;
 pub mod slots;
+pub mod intrinsics;
+pub mod sound;
 pub mod starting;
 pub mod waiting;
 pub mod worked;
