@@ -7,3 +7,15 @@ pub mod Holding
 pub mod Starts
 pub mod Sized
 pub mod Allocated
+pub mod Found
+pub mod Apart
+pub mod Callers
+pub mod Called
+pub mod Calls
+pub mod Sites
+pub mod SiteCalls
+pub mod Kept
+pub mod Markers
+pub mod Making
+pub mod MoreBlocks
+pub mod Fronts

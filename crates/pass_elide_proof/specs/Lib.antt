@@ -11,3 +11,4 @@ pub mod Compared
 pub mod Sizes
 pub mod Shapes
 pub mod Allocating
+pub mod Calling

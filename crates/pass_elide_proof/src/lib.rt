@@ -2,6 +2,7 @@
 //! allocate them.
 #![tactic(auto)]
 
+pub mod calling;
 pub mod code;
 pub mod counts;
 pub mod frames;
