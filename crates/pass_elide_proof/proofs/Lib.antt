@@ -19,3 +19,9 @@ pub mod Markers
 pub mod Making
 pub mod MoreBlocks
 pub mod Fronts
+pub mod Unelided
+pub mod LastOnes
+pub mod Sleepers
+pub mod Entered
+pub mod Statuses
+pub mod Woken

@@ -12,3 +12,4 @@ pub mod Sizes
 pub mod Shapes
 pub mod Allocating
 pub mod Calling
+pub mod Waking

@@ -9,4 +9,5 @@ pub mod frames;
 pub mod handles;
 pub mod starting;
 pub mod waiting;
+pub mod waking;
 pub mod worked;
