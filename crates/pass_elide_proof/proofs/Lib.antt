@@ -25,3 +25,9 @@ pub mod Sleepers
 pub mod Entered
 pub mod Statuses
 pub mod Woken
+pub mod Killing
+pub mod Callees
+pub mod Deaths
+pub mod GivenBack
+pub mod Returns
+pub mod GivenValues

@@ -13,3 +13,4 @@ pub mod Shapes
 pub mod Allocating
 pub mod Calling
 pub mod Waking
+pub mod Returning
