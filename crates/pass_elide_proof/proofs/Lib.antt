@@ -31,3 +31,5 @@ pub mod Deaths
 pub mod GivenBack
 pub mod Returns
 pub mod GivenValues
+pub mod AllocaBlocks
+pub mod OwnSlots

@@ -14,3 +14,4 @@ pub mod Allocating
 pub mod Calling
 pub mod Waking
 pub mod Returning
+pub mod OwnSlots
