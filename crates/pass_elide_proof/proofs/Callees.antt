@@ -13,7 +13,7 @@ use Rattle.pass_elide_proof.specs.Calling.{AreReady}
 use Rattle.pass_elide_proof.specs.Elision.{Elision, function_in, rooms}
 use Rattle.pass_elide_proof.specs.Invariant.{Below, Calling, Destroying, HasCaller, Held, Here, Holds, IsCalledIn, IsSiteOf, StandsAt}
 use Rattle.pass_elide_proof.specs.Places.{front_at, instrs_in, instrs_of, own_at, phi_count, put_by, put_up_to}
-use Rattle.pass_elide_proof.specs.Returning.{IsAtReturn}
+use Rattle.pass_elide_proof.specs.Returning.{IsAtReturn, MayEnd}
 use Rattle.pass_proofs.proofs.ir_laws.facts.Truth.{itself}
 use Rattle.pass_proofs.specs.flow_points.Reached.{IsReached}
 use Rattle.pass_proofs.specs.frame_layout.declared.layout.Layout.{Layout}
@@ -213,14 +213,27 @@ module _ (e : Elision) (s t : State) (r : AreReady e s t) (k : IsAtReturn e s t)
           (result_of h.instr)) held.point) same reached))
           (ends_here h.call held.point block (same_place e s.top.func k.unput s.top.block held.point.at s.top.at front))
 
-  -- so a slot of it has the frame of none that is called
+  pub may_end : MayEnd e s t
+  may_end = record {
+    held = k.held;
+    alone = not_held;
+    ours = k.ours;
+    theirs = k.theirs;
+    callers = k.callers;
+    freed = k.freed;
+  }
+
+-- ---- at any end
+
+module _ (e : Elision) (s t : State) (k : MayEnd e s t) where
+  -- a slot of it has the frame of none that is called
   pub apart_from : (y : Instance) (number : ℕ) → IsCalledIn e t.world.memory y number [] (t.top ∷ t.below)
       → (m : ℕ) (z : Slot) → slice_get t.top.slots m ≡ Some z → y.block ≡ z.block → ⊥
   apart_from y number called m z there same = on (called_at e t.world.memory y number [] (t.top ∷ t.below) called)
     where
       on : HasCaller e t.world.memory y number t.top []
           ⊎ IsCalledIn e t.world.memory y number (t.top ∷ []) t.below → ⊥
-      on (inl h) = not_held y number h
+      on (inl h) = k.alone y number h
       on (inr h) =
           let row = in_rows e t.world.memory y number (t.top ∷ []) t.below h in
           never row.at

@@ -9,7 +9,7 @@ use Rattle.pass_elide_proof.specs.Calling.{AreReady, at_front}
 use Rattle.pass_elide_proof.specs.Counts.{counted, given_frames}
 use Rattle.pass_elide_proof.specs.Elision.{Elision, elided, framed}
 use Rattle.pass_elide_proof.specs.Match.{AreActivations, AreBelow, AreElided, AreInstances, AreMates, HasAlloca, IsFreedAs, IsNoGivenFrame, Sides, instance_in, sides}
-use Rattle.pass_elide_proof.specs.Returning.{HasSlot, IsAllocaBlock, IsAtReturn, IsListed}
+use Rattle.pass_elide_proof.specs.Returning.{HasSlot, IsAllocaBlock, IsListed, MayEnd}
 use Rattle.pass_proofs.proofs.ir_laws.facts.Lists.{get_before, get_behind, get_within}
 use Rattle.pass_proofs.proofs.ir_laws.facts.Truth.{is_number}
 use Rattle.pass_proofs.proofs.run_laws.transfer.Muted.{muted_get, muted_length}
@@ -73,7 +73,7 @@ row_below e homes hides d (x ∷ bs) (y ∷ cs) h zero b at =
     (y, (refl, subst (λ (z : Activation). AreActivations e homes hides d z y) is h.0.1))
 row_below e homes hides d (x ∷ bs) (y ∷ cs) h (suc j) b at = row_below e homes hides d bs cs h.1 j b at
 
-module _ (e : Elision) (s t : State) (r : AreReady e s t) (k : IsAtReturn e s t) where
+module _ (e : Elision) (s t : State) (r : AreReady e s t) (k : MayEnd e s t) where
   abbrev q : AreElided e s (at_front e s t)
   q = r.beside
 
@@ -189,11 +189,11 @@ module _ (e : Elision) (s t : State) (r : AreReady e s t) (k : IsAtReturn e s t)
   called_apart number x y z at to given there live p w slot same = on (is_finished y.status) refl
     where
       on : (b : Bool) → is_finished y.status ≡ b → ⊥
-      on false going = apart_from e s t r k y number (k.callers.each number y to given going) p w slot same
+      on false going = apart_from e s t k y number (k.callers.each number y to given going) p w slot same
       on true over =
           ⊎_elim
           (λ freed. not_both (is_killed z.life) (k.ours.gone number x z at freed there) (live_unkilled z.life live))
-          (λ called. apart_from e s t r k y number called p w slot same)
+          (λ called. apart_from e s t k y number called p w slot same)
           (k.freed number x y at to given over)
 
   -- a given frame has the block, or none
@@ -516,7 +516,7 @@ module _ (e : Elision) (s t : State) (r : AreReady e s t) (k : IsAtReturn e s t)
     λ going.
         let z = h.1 going in (
           z.0,
-          spared n t.top.slots y.block (λ w. apart_from e s t r k y i (k.callers.each i y to is going) w.position w.slot
+          spared n t.top.slots y.block (λ w. apart_from e s t k y i (k.callers.each i y to is going) w.position w.slot
               w.there (sym w.same)) ∙ z.1,
           z.2,
         ),

@@ -29,6 +29,7 @@ pub mod Killing
 pub mod Callees
 pub mod Deaths
 pub mod GivenBack
+pub mod LedBack
 pub mod Returns
 pub mod GivenValues
 pub mod AllocaBlocks

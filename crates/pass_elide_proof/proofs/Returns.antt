@@ -1,20 +1,21 @@
 -- A return leads back to the caller in both runs, or both runs are over.
-use Rattle.std.proofs.Common.{◌≡◌, ◌+◌, ◌∙◌, ◌∷◌, [], ap, arith, Bool, Err, false, List, map, Ok, Option, refl, Result, subst, sym, true, ℕ, length}
+use Rattle.std.proofs.Common.{◌≡◌, ◌+◌, ◌∙◌, ◌∷◌, [], ap, arith, Err, List, map, Ok, Option, refl, Result, subst, sym, ℕ, length}
 use Rattle.std.specs.Prelude.{None, Some, slice_get, unwrap_or}
 use Rattle.pass_elide.specs.Elided.{elided_function}
-use Rattle.pass_elide_proof.proofs.Apart.{apart_less, apart_same, held_more}
+use Rattle.pass_elide_proof.proofs.Apart.{held_more}
+use Rattle.pass_elide_proof.proofs.Callees.{may_end}
 use Rattle.pass_elide_proof.proofs.Callers.{read_stands}
-use Rattle.pass_elide_proof.proofs.Deaths.{below_dead, count_dead, instances_dead, known_dead, mates_dead, now, world_dead}
-use Rattle.pass_elide_proof.proofs.GivenBack.{given_back_beside, held_stays}
+use Rattle.pass_elide_proof.proofs.Deaths.{count_dead}
+use Rattle.pass_elide_proof.proofs.LedBack.{led_back}
 use Rattle.pass_elide_proof.proofs.Modules.{finds_alike}
 use Rattle.pass_elide_proof.proofs.Sized.{stepped}
 use Rattle.pass_elide_proof.proofs.Standing.{has_code}
 use Rattle.pass_elide_proof.specs.Calling.{AreReady, at_front}
 use Rattle.pass_elide_proof.specs.Counts.{capped, given_frames}
 use Rattle.pass_elide_proof.specs.Elision.{Elision, elided, elided_code, framed, function_in, function_in_elided, rooms}
-use Rattle.pass_elide_proof.specs.Match.{AreActivations, AreBelow, AreElided, HoldApart, held_blocks, held_name, holds_one, is_given_mode, sides}
+use Rattle.pass_elide_proof.specs.Match.{AreBelow, AreElided, held_blocks, sides}
 use Rattle.pass_elide_proof.specs.Places.{own_at}
-use Rattle.pass_elide_proof.specs.Returning.{HaveReturned, IsAtReturn, ReturnsAlike, ReturnsTo, SetsAlike}
+use Rattle.pass_elide_proof.specs.Returning.{HaveReturned, IsAtReturn, MayEnd, ReturnsAlike, ReturnsTo}
 use Rattle.pass_proofs.proofs.ir_laws.facts.Truth.{itself}
 use Rattle.pass_proofs.specs.ir_base.declared.cause.Cause.{Cause}
 use Rattle.pass_proofs.specs.ir_base.declared.outcome.Event.{Event}
@@ -27,7 +28,7 @@ use Rattle.pass_proofs.specs.run_framed.Framed.{FramedGiven, framed_advance, fra
 use Rattle.pass_proofs.specs.run_laws.embedded.Related.{moved_event}
 use Rattle.pass_proofs.specs.run_laws.memory.Pointers.{IsValue}
 use Rattle.pass_proofs.specs.run_memory.declared.pointer.Value.{Value}
-use Rattle.pass_proofs.specs.run_source.Source.{given_back, pop, return, returned}
+use Rattle.pass_proofs.specs.run_source.Source.{pop, return, returned}
 use Rattle.pass_proofs.specs.run_source.State.{function_of, or_undefined}
 use Rattle.pass_proofs.specs.run_source.declared.state.Activation.{Activation}
 use Rattle.pass_proofs.specs.run_source.declared.state.State.{State}
@@ -94,102 +95,22 @@ module _ (e : Elision) (s t : State) (r : AreReady e s t) (k : IsAtReturn e s t)
   stands : AreGiven v u
   stands = stands_by k.value k.reads
 
-  -- ---- the states behind it
-
-  abbrev after : Activation → List Activation → State
-  after a rest = record (returned s) { top = given_back a s.top.result v; below = rest }
-
-  abbrev other : Activation → List Activation → State
-  other c rest = record (returned t) { top = given_back c t.top.result u; below = rest }
-
-  steps_to : (a : Activation) (rest : List Activation) → s.below ≡ a ∷ rest → framed_step (framed e) s ≡ after a rest
-  steps_to a rest below =
-      stepped (framed e) s (after a rest) (AtTerm (Terminator.Ret k.value)) k.runs there
-      (return_does (framed e) s k.value ∙ ap (pop (returned s) v) below)
-
-  other_steps_to : (c : Activation) (rest : List Activation) → t.below ≡ c ∷ rest
-      → framed_step (elided e) t ≡ other c rest
-  other_steps_to c rest below =
-      stepped (elided e) t (other c rest) (AtTerm (Terminator.Ret k.value)) (r.beside.outcome ∙ k.runs) there_too
-      (return_does (elided e) t k.value ∙ ap (pop (returned t) u) below)
+  ended : MayEnd e s t
+  ended = may_end e s t r k
 
   -- ---- to a caller
 
-  module _ (a : Activation) (rest : List Activation) (c : Activation) (others : List Activation)
-      (below : s.below ≡ a ∷ rest) (under : t.below ≡ c ∷ others) (sets : SetsAlike e a s.top.result) where
-    rows : AreBelow e r.beside.homes r.beside.hides (now e s t r k) (a ∷ rest) (c ∷ others)
-    rows =
-        subst (λ (p : List Activation × List Activation). AreBelow e r.beside.homes r.beside.hides (now e s t r k)
-        p.0 p.1) (λ j. (below j, under j)) (below_dead e s t r k)
-
-    top : AreActivations e r.beside.homes r.beside.hides (now e s t r k) (given_back a s.top.result v)
-        (given_back c s.top.result u)
-    top =
-        given_back_beside e r.beside.homes r.beside.hides (now e s t r k) a c rows.0.1 rows.0.0 s.top.result sets
-        (unwrap_or v Value.Poison) (unwrap_or u Value.Poison) stands
-
-    same_name : (b : Bool) → held_name e b (given_back a s.top.result v) ≡ held_name e b a
-    same_name true = refl
-    same_name false = refl
-
-    -- all but the topmost hold what they held
-    apart_below : HoldApart e (a ∷ rest) (c ∷ others)
-    apart_below =
-        subst (λ (p : List Activation × List Activation). HoldApart e p.0 p.1) (λ j. (below j, under j))
-        (apart_less e s.below t.below s.top (at_front e s t).top r.beside.once)
-
-    once : HoldApart e (given_back a s.top.result v ∷ rest) (given_back c s.top.result u ∷ others)
-    once =
-        apart_same e rest others a c (given_back a s.top.result v) (given_back c s.top.result u)
-        (same_name (is_given_mode c.mode))
-        (λ w is. held_stays e r.beside.homes r.beside.hides (now e s t r k) a c rows.0.1 rows.0.0 s.top.result sets
-        (unwrap_or v Value.Poison) (unwrap_or u Value.Poison) stands w is) apart_below
-
-    same_held : held_blocks e (s.top ∷ s.below) ((at_front e s t).top ∷ t.below)
-        ≡ held_blocks e (given_back a s.top.result v ∷ rest) (given_back c s.top.result u ∷ others)
-    same_held =
-        held_more e s.below t.below s.top (at_front e s t).top k.held
-        ∙ ((λ j. held_blocks e (below j) (under j))
-        ∙ ap (λ (o : Option ℕ). holds_one o + held_blocks e rest others) (sym (same_name (is_given_mode c.mode))))
-
-    beside : AreElided e (after a rest)
-        (record (returned t) { top = given_back c s.top.result u; below = others })
-    beside = record {
-      homes = r.beside.homes;
-      hides = r.beside.hides;
-      world = world_dead e s t r k;
-      known = known_dead e s t r k;
-      globals = r.beside.globals;
-      hidden = r.beside.hidden;
-      mates = mates_dead e s t r k;
-      count = r.beside.count;
-      instances = instances_dead e s t r k;
-      top = top;
-      below = rows.1;
-      once = once;
-      allocs = r.beside.allocs
-          ∙ (λ j. capped (t.world.allocs + (sym (count_dead e s t r k) j + same_held j)));
-      outcome = r.beside.outcome;
-    }
-
-    to_caller : AreElided e (framed_step (framed e) s) (framed_step (elided e) t)
-    to_caller =
-        subst (λ (p : State × State). AreElided e p.0 p.1)
-        (λ j. (sym (steps_to a rest below) j, sym (other_steps_to c others under) j))
-        (subst (λ (o : Option ℕ). AreElided e (after a rest)
-        (record (returned t) { top = given_back c o u; below = others })) (sym r.beside.top.result) beside)
-
-  by_rows : (bs cs : List Activation) → AreBelow e r.beside.homes r.beside.hides (sides s t) bs cs
-      → (a : Activation) (rest : List Activation) → bs ≡ a ∷ rest
-      → (c : Activation) × (others : List Activation) × (cs ≡ c ∷ others)
-  by_rows [] cs h a rest e = absurd (cc)
-  by_rows (b ∷ bs) [] h a rest e = absurd h
-  by_rows (b ∷ bs) (c ∷ cs) h a rest e = (c, cs, refl)
-
   pub returns_beside : ReturnsTo e s → AreElided e (framed_step (framed e) s) (framed_step (elided e) t)
   returns_beside to =
-      let row = by_rows s.below t.below r.beside.below to.caller to.rest to.below in
-      to_caller to.caller to.rest row.0 row.1 to.below row.2 to.sets
+      let back = led_back e s t r ended v u stands to in
+      subst (λ (p : State × State). AreElided e p.0 p.1)
+      (λ j. (
+        sym (stepped (framed e) s back.0 (AtTerm (Terminator.Ret k.value)) k.runs there
+            (return_does (framed e) s k.value ∙ back.1.1.0)) j,
+        sym (stepped (elided e) t back.1.0 (AtTerm (Terminator.Ret k.value)) (r.beside.outcome ∙ k.runs) there_too
+            (return_does (elided e) t k.value ∙ back.1.1.1.0)) j,
+      ))
+      back.1.1.1.1
 
   -- ---- of the run
 
@@ -249,7 +170,7 @@ module _ (e : Elision) (s t : State) (r : AreReady e s t) (k : IsAtReturn e s t)
       outcome = refl;
       events = r.beside.world.events ∙ same_events s.world.events;
       allocs = r.beside.allocs
-          ∙ ((λ j. capped (t.world.allocs + (sym (count_dead e s t r k) j + none_held j)))
+          ∙ ((λ j. capped (t.world.allocs + (sym (count_dead e s t r ended) j + none_held j)))
           ∙ ap (λ (n : ℕ). capped (t.world.allocs + n)) (nothing (given_frames (returned t))));
     }
 

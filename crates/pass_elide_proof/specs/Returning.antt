@@ -4,7 +4,7 @@ use Rattle.elide_sites.specs.Sites.{IsDestroyed}
 use Rattle.pass_elide_proof.specs.Calling.{HoldsStill, IsAlike, differing}
 use Rattle.pass_elide_proof.specs.Counts.{capped, given_frames}
 use Rattle.pass_elide_proof.specs.Elision.{Elision, function_in, rooms}
-use Rattle.pass_elide_proof.specs.Invariant.{HaveCallers, IsCalledIn, IsSiteOf}
+use Rattle.pass_elide_proof.specs.Invariant.{HasCaller, HaveCallers, IsCalledIn, IsSiteOf}
 use Rattle.pass_elide_proof.specs.Match.{held_name, is_given_mode}
 use Rattle.pass_elide_proof.specs.Places.{instrs_of, put_by, room_at}
 use Rattle.pass_proofs.specs.ir_base.declared.outcome.Outcome.{Outcome}
@@ -78,6 +78,18 @@ AreFreed e s t =
     → is_given t.world.memory y ≡ true → is_finished y.status ≡ true
     → (x.freed ≡ true) ⊎ IsCalledIn e t.world.memory y number [] (t.top ∷ t.below)
 
+-- ---- an activation that may end
+
+-- It holds no block, and waits for no instance whose frame lies in an alloca of it.
+pub record MayEnd (e : Elision) (s t : State) : Type 0 where
+  pub held : held_name e (is_given_mode t.top.mode) s.top ≡ None
+  pub alone : (y : Instance) (number : ℕ) → HasCaller e t.world.memory y number t.top [] → ⊥
+  -- of both runs
+  pub ours : HaveOwnBlocks s
+  pub theirs : HaveOwnSlots t
+  pub callers : HaveCallers e t
+  pub freed : AreFreed e s t
+
 -- ---- a return
 
 -- what is returned is no name that differs
@@ -130,9 +142,9 @@ pub record HaveReturned (s t : State) : Type 0 where
   pub events : t.world.events ≡ s.world.events
   pub allocs : s.world.allocs ≡ capped (t.world.allocs + given_frames t)
 
--- ---- the end in a ramp that has left
+-- ---- the end behind a suspend
 
--- what is asked where a ramp whose coroutine was suspended comes to coro.end
+-- what is asked where an activation whose coroutine was suspended comes to coro.end
 pub record IsAtLeftEnd (e : Elision) (s t : State) : Type 0 where
   pub runs : s.outcome ≡ Outcome.Running
   pub result : Option ℕ
@@ -143,7 +155,20 @@ pub record IsAtLeftEnd (e : Elision) (s t : State) : Type 0 where
       ≡ Some (Instr.Call result must_tail ty (Callee.Intrinsic Intrinsic.CoroEnd) args)
   pub none : room_at (rooms e s.top.func) (function_in e s.top.func) s.top.block s.top.at
       (Instr.Call result must_tail ty (Callee.Intrinsic Intrinsic.CoroEnd) args) ≡ None
-  pub ramp : s.top.mode ≡ Mode.Ramp
   pub left : s.top.has_left ≡ true
+
+-- a ramp goes on
+pub record GoesOnBehind (e : Elision) (s : State) (result : Option ℕ) : Type 0 where
+  pub ramp : s.top.mode ≡ Mode.Ramp
   pub holds : HoldsStill e s
   pub sets : SetsAlike e (record s.top { at = s.top.at + 1 }) result
+
+-- an activation that was resumed returns; calls in a coroutine give no alloca
+pub record LeadsBack (e : Elision) (s t : State) : Type 0 where
+  pub resumed : s.top.mode ≡ Mode.Resumed
+  pub coroutine : (function_in e s.top.func).coroutine ≡ true
+  pub returns : ReturnsTo e s
+  pub ours : HaveOwnBlocks s
+  pub theirs : HaveOwnSlots t
+  pub callers : HaveCallers e t
+  pub freed : AreFreed e s t
