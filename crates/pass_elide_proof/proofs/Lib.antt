@@ -34,3 +34,4 @@ pub mod Returns
 pub mod GivenValues
 pub mod AllocaBlocks
 pub mod OwnSlots
+pub mod OverRuns
