@@ -35,3 +35,4 @@ pub mod GivenValues
 pub mod AllocaBlocks
 pub mod OwnSlots
 pub mod OverRuns
+pub mod Slotted

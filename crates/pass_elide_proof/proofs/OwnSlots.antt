@@ -3,7 +3,7 @@ use Rattle.std.proofs.Common.{◌≡◌, ◌≤◌, ◌+◌, ◌∙◌, ◌∷�
 use Rattle.std.specs.Prelude.{filter, is_none, negsuc, None, Some, option_and_then, option_map, slice_get, unwrap_or, ◌&&◌, ◌==◌}
 use Rattle.pass_elide_proof.proofs.AllocaBlocks.{ActionKeeps, Carries, CarriesAll, action_keeps, disown_carries, kill_carries, own_carries}
 use Rattle.pass_elide_proof.proofs.Killing.{IsSlotOf, spared}
-use Rattle.pass_elide_proof.specs.OwnSlots.{CountsSlots, HaveNoSlots, once_if, times, times_on}
+use Rattle.pass_elide_proof.specs.OwnSlots.{CountsSlots, HaveNoSlots}
 use Rattle.pass_elide_proof.specs.Returning.{HaveOwnSlots, IsAllocaBlock}
 use Rattle.pass_proofs.proofs.ir_laws.facts.Lists.{get_within}
 use Rattle.pass_proofs.proofs.ir_laws.facts.Truth.{equal_numbers, itself}
@@ -40,6 +40,7 @@ use Rattle.pass_proofs.specs.run_step.Step.{Action, AtInstr, AtTerm, Coro, Deall
 use Rattle.pass_proofs.specs.run_step.Values.{Env, arg_values, integer, nth}
 use Rattle.pass_proofs.specs.run_step.declared.world.Slot.{Slot}
 use Rattle.std.specs.List.{list_all}
+use Rattle.run_slots.specs.Slots.{once_if, times, times_on}
 
 -- ---- counts
 
