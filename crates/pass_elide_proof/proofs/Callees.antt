@@ -85,7 +85,7 @@ module _ (e : Elision) (func : ℕ) where
     none_put : (block at : ℕ) → put_up_to (rooms e func block) (phi_count f block) (instrs_of f block) at ≡ 0
     none_put block at = nothing_put (rooms e func block) (unput block) (phi_count f block) (instrs_of f block) at
 
-    same_place : (block p at : ℕ) → front_at (rooms e func) (function_in e func) block p
+    pub same_place : (block p at : ℕ) → front_at (rooms e func) (function_in e func) block p
         ≡ own_at (rooms e func) (function_in e func) block at → p ≡ at
     same_place block zero at is = let put = none_put block at in omega (arith, is, put)
     same_place block (suc p) at is =

@@ -1,29 +1,34 @@
 -- A call that gives its callee no frame enters the same function in both runs.
-use Rattle.std.proofs.Common.{◌≡◌, ℕ, Bool, true, List, Option, Ok, sym, ap, ◌∙◌, subst, if◌then◌else◌}
+use Rattle.std.proofs.Common.{◌≡◌, ℕ, Bool, true, false, List, Option, Ok, refl, sym, ap, ◌∙◌, subst, if◌then◌else◌}
 use Rattle.std.specs.Prelude.{None, Some, slice_get, unwrap_or}
 use Rattle.pass_elide_proof.proofs.Called.{args_are, plain_called, plain_holds}
 use Rattle.pass_elide_proof.proofs.Callers.{args_stand, ours, pushed, theirs}
 use Rattle.pass_elide_proof.proofs.Found.{fits_same}
 use Rattle.pass_elide_proof.proofs.Modules.{finds_alike}
 use Rattle.pass_elide_proof.proofs.Sized.{stepped}
+use Rattle.pass_elide_proof.proofs.Stacks.{pushed_callers}
 use Rattle.pass_elide_proof.specs.Calling.{AreReady, CallsTo, IsAtCall}
-use Rattle.pass_elide_proof.specs.Elision.{Elision, elided, elided_code, framed, function_in, rooms}
+use Rattle.pass_elide_proof.specs.Elision.{Elision, elided, elided_code, framed, function_in, function_in_elided, rooms}
+use Rattle.pass_elide_proof.specs.Invariant.{HaveCallers}
 use Rattle.pass_elide_proof.specs.Match.{AreElided, sides}
-use Rattle.pass_elide_proof.specs.Places.{elided_instr, name_at}
+use Rattle.pass_elide_proof.specs.Places.{elided_instr, instrs_of, name_at, own_at}
 use Rattle.pass_elide.specs.declared.given.GivenFrame.{GivenFrame}
+use Rattle.elide_sites.specs.Sites.{is_destroy_of}
 use Rattle.pass_proofs.specs.ir_base.declared.cause.Cause.{Cause}
 use Rattle.pass_proofs.specs.ir_base.declared.name.Name.{Name}
 use Rattle.pass_proofs.specs.ir_model.Names.{declaration_named, function_named}
 use Rattle.pass_proofs.specs.ir_model.Ty.{Ty}
 use Rattle.pass_proofs.specs.ir_model.declared.instr.Instr.{Instr}
+use Rattle.pass_proofs.specs.ir_model.declared.module.Function.{Function}
 use Rattle.pass_proofs.specs.ir_model.declared.operand.Arg.{Arg}
 use Rattle.pass_proofs.specs.ir_model.declared.operand.Callee.{Callee}
 use Rattle.pass_proofs.specs.run_framed.Framed.{FramedGiven, enter_given, framed_act, framed_context, framed_next, framed_step, given_ramp}
 use Rattle.pass_proofs.specs.run_laws.memory.Pointers.{IsValue}
 use Rattle.pass_proofs.specs.run_memory.declared.pointer.Pointer.{Pointer}
 use Rattle.pass_proofs.specs.run_memory.declared.pointer.Value.{Value}
-use Rattle.pass_proofs.specs.run_source.Source.{enter}
+use Rattle.pass_proofs.specs.run_source.Source.{enter, mode_of}
 use Rattle.pass_proofs.specs.run_source.State.{work_of}
+use Rattle.pass_proofs.specs.run_source.declared.state.Mode.{Mode}
 use Rattle.pass_proofs.specs.run_source.declared.state.State.{State}
 use Rattle.pass_proofs.specs.run_step.Step.{AtInstr, Enter, Stuck, action_of, fits_function, indirect_call, named_call}
 use Rattle.pass_proofs.specs.run_step.Values.{arg_values, value_in}
@@ -113,3 +118,33 @@ module _ (e : Elision) (s t : State) (r : AreReady e s t) (k : IsAtCall e s t) w
 
   pub calls_beside : AreElided e (framed_step (framed e) s) (framed_step (elided e) t)
   calls_beside = subst (λ (p : State × State). AreElided e p.0 p.1) (λ j. (sym steps j, sym other_steps j)) beside
+
+-- ---- callers of instances
+
+destroys_none : (result : Option ℕ) (must_tail : Bool) (ty : Option Ty) (args : List Arg) (callee : Callee)
+    (e : Elision) (s t : State) (func : ℕ) → CallsTo e s t ty args func callee → (v : Option ℕ)
+    → is_destroy_of v (Instr.Call result must_tail ty callee args) ≡ false
+destroys_none result must_tail ty args (Callee.Named n) e s t func h None = refl
+destroys_none result must_tail ty args (Callee.Named n) e s t func h (Some v) = refl
+destroys_none result must_tail ty args (Callee.Local n) e s t func h None = refl
+destroys_none result must_tail ty args (Callee.Local n) e s t func h (Some v) = refl
+destroys_none result must_tail ty args (Callee.Allocator a) e s t func h v = absurd h
+destroys_none result must_tail ty args (Callee.Intrinsic i) e s t func h v = absurd h
+
+module _ (e : Elision) (s t : State) (r : AreReady e s t) (k : IsAtCall e s t) where
+  ungiven : (f : Function) (frame : Value) → mode_of f ≡ Mode.GivenRamp frame → ⊥
+  ungiven f frame is = by f.coroutine is
+    where
+      by : (b : Bool) → (if b then Mode.Ramp else Mode.Plain) ≡ Mode.GivenRamp frame → ⊥
+      by true is = absurd (cc)
+      by false is = absurd (cc)
+
+  pub calls_keep : HaveCallers e t → HaveCallers e (framed_step (elided e) t)
+  calls_keep h =
+      subst (HaveCallers e) (sym (other_steps e s t r k))
+      (pushed_callers e t _ s.top.at (Instr.Call k.result k.must_tail k.ty k.callee k.args)
+      ((λ j. slice_get (instrs_of (function_in e (r.beside.top.func j)) (r.block j)) s.top.at) ∙ k.there)
+      (r.at ∙ (λ j. own_at (rooms e (sym r.beside.top.func j)) (function_in e (sym r.beside.top.func j))
+      (sym r.block j) s.top.at))
+      (destroys_none k.result k.must_tail k.ty k.args k.callee e s t k.func k.calls)
+      (ungiven (function_in_elided e k.func)) h)

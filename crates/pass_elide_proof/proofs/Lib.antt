@@ -36,3 +36,4 @@ pub mod AllocaBlocks
 pub mod OwnSlots
 pub mod OverRuns
 pub mod Slotted
+pub mod Stacks

@@ -7,6 +7,7 @@ pub mod code;
 pub mod counts;
 pub mod frames;
 pub mod handles;
+pub mod keeping;
 pub mod over;
 pub mod own_slots;
 pub mod returning;
