@@ -9,11 +9,13 @@ use Rattle.pass_elide_proof.proofs.Kept.{alloca_kept, below_kept}
 use Rattle.pass_elide_proof.proofs.Making.{HasMade, IsMade, all_made, made_at}
 use Rattle.pass_elide_proof.proofs.Markers.{markers_same, nothing_put, plain_put}
 use Rattle.pass_elide_proof.proofs.Modules.{finds_alike}
-use Rattle.pass_elide_proof.proofs.MoreBlocks.{count_more, frames_more, instances_more, keeps_more, mates_more, new_free, world_more}
+use Rattle.pass_elide_proof.proofs.MoreBlocks.{count_more, frames_more, given_more, instances_more, keeps_more, mates_more, new_free, world_more}
+use Rattle.pass_elide_proof.proofs.Stacks.{IsLiveIn, called_over, called_under, given_on}
 use Rattle.pass_elide_proof.proofs.Standing.{has_code}
 use Rattle.pass_elide_proof.specs.Calling.{AreReady, IsAtFront, IsBehindFront, at_front}
 use Rattle.pass_elide_proof.specs.Counts.{capped}
 use Rattle.pass_elide_proof.specs.Elision.{Elision, differs_in, elided, function_in, function_in_elided, rooms}
+use Rattle.pass_elide_proof.specs.Invariant.{HasCaller, HaveCallers}
 use Rattle.pass_elide_proof.specs.Match.{AreActivations, AreBelow, AreElided, AreNamed, Beside, HasAlloca, HasAllocas, HoldApart, Sides, held_blocks, instance_in, is_given_mode, sides, was_given}
 use Rattle.pass_elide_proof.specs.Places.{allocas_ahead, front_at, instrs_of, own_at, phi_count, put_by, put_up_to}
 use Rattle.pass_proofs.proofs.ir_laws.facts.Lists.{get_before}
@@ -34,6 +36,7 @@ use Rattle.pass_proofs.specs.run_memory.declared.block.Kind.{Kind}
 use Rattle.pass_proofs.specs.run_memory.declared.pointer.Value.{Value}
 use Rattle.pass_proofs.specs.run_source.State.{function_of}
 use Rattle.pass_proofs.specs.run_source.declared.state.Activation.{Activation}
+use Rattle.pass_proofs.specs.run_source.declared.state.Instance.{Instance}
 use Rattle.pass_proofs.specs.run_source.declared.state.Mode.{Mode}
 use Rattle.pass_proofs.specs.run_source.declared.state.State.{State}
 use Rattle.pass_proofs.specs.run_step.Step.{has_markers}
@@ -279,6 +282,32 @@ module _ (e : Elision) (s t : State) (r : AreElided e s t) (at : IsAtFront e s t
   pub fronts_made : AreReady e s (iterate (framed_step (elided e))
       (length (allocas_ahead (rooms e s.top.func) (function_in e s.top.func))) t)
   fronts_made = subst (AreReady e s) (sym made.comes) ready
+
+  -- callers of instances stay: the activation has no slot yet, so it is none
+  no_caller : (y : Instance) (number : ℕ) → HasCaller e t.world.memory y number t.top [] → ⊥
+  no_caller y number h =
+      let lt = h.slot.1 in
+      let none : length t.top.slots ≡ 0 = ap length at.slots in
+      omega (arith, lt, none)
+
+  grown_lives : (b : ℕ) → IsLiveIn t.world.memory b → IsLiveIn (t.world.memory ++ made.more) b
+  grown_lives b z = (z.0, get_before t.world.memory made.more b z.0 z.1, z.2)
+
+  pub fronts_keep : HaveCallers e t → HaveCallers e (iterate (framed_step (elided e))
+      (length (allocas_ahead (rooms e s.top.func) (function_in e s.top.func))) t)
+  fronts_keep h =
+      subst (HaveCallers e) (sym made.comes) (record {
+        each = λ number y there given going.
+            called_over e t.world.memory (t.world.memory ++ made.more) y number (grown_lives y.block) []
+            (u.top ∷ t.below)
+            (called_under e t.world.memory y number t.top u.top t.below
+            (record { func = refl; block = refl; result = refl; mode = refl; instance = refl; has_left = refl })
+            (no_caller y number)
+            (h.each number y there (sym (given_more e s t r made.more number y there) ∙ given) going));
+        last = λ number later y z there after lt given.
+            h.last number later y z there after lt (sym (given_more e s t r made.more number y there) ∙ given);
+        ramps = given_on e t.instances t.top u.top t.below refl refl refl h.ramps;
+      })
 
 -- ---- at any other place
 

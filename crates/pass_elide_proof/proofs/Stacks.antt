@@ -1,5 +1,5 @@
 -- Callers of instances stay on the stack where their activation goes on by one instruction and calls another one.
-use Rattle.std.proofs.Common.{◌≡◌, ◌+◌, ◌⊎◌, ◌∙◌, ◌||◌, ◌&&◌, ◌==◌, ◌∷◌, [], ap, arith, false, inl, inr, List, Option, refl, suc, sym, ℕ, length, if◌then◌else◌}
+use Rattle.std.proofs.Common.{◌≡◌, ◌+◌, ◌⊎◌, ◌∙◌, ◌||◌, ◌&&◌, ◌==◌, ◌∷◌, [], ap, arith, false, inl, inr, List, Option, refl, suc, sym, true, ℕ, length, if◌then◌else◌}
 use Rattle.std.proofs.lemmas.Bool.{lt-ltb}
 use Rattle.std.specs.Prelude.{IsTrue, None, Some, map, slice_get}
 use Rattle.elide_sites.specs.Sites.{destroys_of, is_destroy_of}
@@ -20,6 +20,7 @@ use Rattle.pass_proofs.specs.ir_parts.Contents.{result_of}
 use Rattle.pass_proofs.specs.ir_paths.Paths.{entry_point, has_point, nexts, nexts_in, targets}
 use Rattle.pass_proofs.specs.ir_paths.Windows.{instr_at, instr_in}
 use Rattle.pass_proofs.specs.ir_paths.declared.point.Point.{Point}
+use Rattle.pass_proofs.specs.run_memory.Memory.{is_live}
 use Rattle.pass_proofs.specs.run_memory.declared.block.MemoryBlock.{MemoryBlock}
 use Rattle.pass_proofs.specs.run_memory.declared.pointer.Value.{Value}
 use Rattle.pass_proofs.specs.run_source.Source.{push}
@@ -97,7 +98,7 @@ module _ (e : Elision) (memory : List MemoryBlock) (y : Instance) (number : ℕ)
     has_left = refl;
   }
 
-  called_on : (above others rows : List Activation) → SameHead above others → IsCalledIn e memory y number above rows
+  pub called_on : (above others rows : List Activation) → SameHead above others → IsCalledIn e memory y number above rows
       → IsCalledIn e memory y number others rows
   called_on above others [] same h = absurd (called_at e memory y number above [] h)
   called_on above others (c ∷ below) same h =
@@ -122,6 +123,50 @@ module _ (e : Elision) (memory : List MemoryBlock) (y : Instance) (number : ℕ)
       by (inl caller) = Here c' (new ∷ []) below (to caller)
       by (inr further) =
           Below c' (new ∷ []) below (called_on (c ∷ []) (c' ∷ new ∷ []) below keeps further)
+
+-- ---- another memory, in which the frame's block lives too
+
+abbrev pub IsLiveIn : List MemoryBlock → ℕ → Type 0
+IsLiveIn memory b = (z : MemoryBlock) × (slice_get memory b ≡ Some z) × (is_live z.life ≡ true)
+
+module _ (e : Elision) (memory other : List MemoryBlock) (y : Instance) (number : ℕ)
+    (lives : IsLiveIn memory y.block → IsLiveIn other y.block) where
+  caller_over : (c : Activation) (above : List Activation) → HasCaller e memory y number c above
+      → HasCaller e other y number c above
+  caller_over c above h = record {
+    call = h.call;
+    instr = h.instr;
+    name = h.name;
+    site = h.site;
+    start = h.start;
+    address = h.address;
+    slot = h.slot;
+    lives = lives h.lives;
+    holds = h.holds;
+  }
+
+  pub called_over : (above rows : List Activation) → IsCalledIn e memory y number above rows
+      → IsCalledIn e other y number above rows
+  called_over above [] h = absurd (called_at e memory y number above [] h)
+  called_over above (c ∷ below) h = by (called_at e memory y number above (c ∷ below) h) (called_over (c ∷ above) below)
+    where
+      by : HasCaller e memory y number c above ⊎ IsCalledIn e memory y number (c ∷ above) below
+          → (IsCalledIn e memory y number (c ∷ above) below → IsCalledIn e other y number (c ∷ above) below)
+          → IsCalledIn e other y number above (c ∷ below)
+      by (inl caller) again = Here c above below (caller_over c above caller)
+      by (inr further) again = Below c above below (again further)
+
+-- the first activation changes, and is no caller itself
+pub called_under : (e : Elision) (memory : List MemoryBlock) (y : Instance) (number : ℕ) (c c' : Activation)
+    (below : List Activation) → KeepsHead c c' → (HasCaller e memory y number c [] → ⊥)
+    → IsCalledIn e memory y number [] (c ∷ below) → IsCalledIn e memory y number [] (c' ∷ below)
+called_under e memory y number c c' below keeps never h = by (called_at e memory y number [] (c ∷ below) h)
+  where
+    by : HasCaller e memory y number c [] ⊎ IsCalledIn e memory y number (c ∷ []) below
+        → IsCalledIn e memory y number [] (c' ∷ below)
+    by (inl caller) = absurd (never caller)
+    by (inr further) =
+        Below c' [] below (called_on e memory y number (c ∷ []) (c' ∷ []) below keeps further)
 
 -- ---- the next point of a block
 
@@ -198,7 +243,7 @@ module _ (e : Elision) (c new : Activation) (at : ℕ) (i : Instr)
 
 -- ---- all of them
 
-given_on : (e : Elision) (xs : List Instance) (c c' : Activation) (below : List Activation) → c'.result ≡ c.result
+pub given_on : (e : Elision) (xs : List Instance) (c c' : Activation) (below : List Activation) → c'.result ≡ c.result
     → c'.mode ≡ c.mode → c'.instance ≡ c.instance → AreGivenBy e xs (c ∷ below) → AreGivenBy e xs (c' ∷ below)
 given_on e xs c c' [] result mode instance h = λ frame is. h frame (sym mode ∙ is)
 given_on e xs c c' (b ∷ below) result mode instance h = (

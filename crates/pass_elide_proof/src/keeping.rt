@@ -1,8 +1,12 @@
 //! Callers of instances whose frames lie in their allocas, where they call others.
 
-ghost use Rattle.pass_elide_proof.specs.Calling.{AreReady, IsAtCall};
-ghost use Rattle.pass_elide_proof.specs.Elision.{Elision, elided};
+ghost use Rattle.std.specs.Prelude.{length};
+ghost use Rattle.pass_elide_proof.specs.Calling.{AreReady, IsAtCall, IsAtFront};
+ghost use Rattle.pass_elide_proof.specs.Elision.{Elision, elided, function_in, rooms};
 ghost use Rattle.pass_elide_proof.specs.Invariant.{HaveCallers};
+ghost use Rattle.pass_elide_proof.specs.Match.{AreElided};
+ghost use Rattle.pass_elide_proof.specs.Places.{allocas_ahead};
+ghost use Rattle.pass_proofs.specs.run_agreement.Machines.{iterate};
 ghost use Rattle.pass_proofs.specs.run_framed.Framed.{framed_step};
 ghost use Rattle.pass_proofs.specs.run_source.declared.state.State.{State};
 
@@ -10,4 +14,12 @@ ghost use Rattle.pass_proofs.specs.run_source.declared.state.State.{State};
 pub fn calls_keep_callers()
     ensures { (e : Elision) (s t : State) → AreReady e s t → IsAtCall e s t → HaveCallers e t
         → HaveCallers e (framed_step (elided e) t) }
+{}
+
+/// Where a function has just been entered it has no slot, so it is no caller yet. Those below stay while it makes its
+/// new allocas.
+pub fn fronts_keep_callers()
+    ensures { (e : Elision) (s t : State) → AreElided e s t → IsAtFront e s t → HaveCallers e t
+        → HaveCallers e (iterate (framed_step (elided e))
+        (length (allocas_ahead (rooms e s.top.func) (function_in e s.top.func))) t) }
 {}
