@@ -2,13 +2,13 @@
 use Rattle.std.proofs.Common.{◌≡◌, ◌<◌, ◌+◌, ◌⊎◌, ◌∙◌, ◌&&◌, ◌||◌, ◌==◌, ◌∷◌, [], ap, arith, Bool, false, inl, inr, List, Option, refl, subst, suc, sym, true, zero, ℕ, length, if◌then◌else◌}
 use Rattle.std.specs.Prelude.{IsTrue, None, Some, option_and_then, option_map, slice_get, slice_index_or}
 use Rattle.elide_shape.specs.Calls.{value_at}
-use Rattle.elide_sites.specs.Sites.{destroys_of, ends_use, is_ret_at, is_ret_in}
+use Rattle.elide_sites.specs.Sites.{destroys_of, ends_use, is_ret_at, is_ret_in, IsDestroyed}
 use Rattle.pass_elide.specs.Elided.{coroutine_frame}
 use Rattle.pass_elide.specs.Frames.{callee_layout, frame_of, layout_of, site_frame}
 use Rattle.pass_elide.specs.Places.{is_site}
 use Rattle.pass_elide.specs.declared.given.GivenFrame.{GivenFrame}
 use Rattle.pass_elide_proof.proofs.Holding.{ends}
-use Rattle.pass_elide_proof.proofs.Markers.{nothing_put}
+use Rattle.pass_elide_proof.proofs.Markers.{nothing_put, plain_put}
 use Rattle.pass_elide_proof.specs.Calling.{AreReady}
 use Rattle.pass_elide_proof.specs.Elision.{Elision, function_in, rooms}
 use Rattle.pass_elide_proof.specs.Invariant.{Below, Calling, Destroying, HasCaller, Held, Here, Holds, IsCalledIn, IsSiteOf, StandsAt}
@@ -164,31 +164,18 @@ module _ (e : Elision) (memory : List MemoryBlock) (y : Instance) (number : ℕ)
             same = h.same;
           }
 
--- ---- at a return
+-- ---- a caller that waits for nobody is at no place that ends the use of its handle
 
-module _ (e : Elision) (s t : State) (r : AreReady e s t) (k : IsAtReturn e s t) where
+module _ (e : Elision) (s t : State) (r : AreReady e s t)
+    (destroyed : (call : Point) (i : Instr) (name : ℕ) → IsSiteOf e s.top.func call i name
+    → IsDestroyed (function_in e s.top.func) call) where
   abbrev own : Function
   own = function_in e s.top.func
 
-  -- the place is a return
-  returns : (p : Point) → p.block ≡ s.top.block → p.at ≡ s.top.at → IsTrue (is_ret_at (function_in e s.top.func) p)
-  returns p block at =
-      (λ j. is_ret_in (slice_get own.blocks (block j)) (at j))
-      ∙ (ap (λ (o : Option Block). is_ret_in o s.top.at) k.has_block
-      ∙ ((λ j. (k.at j == length k.block.instrs) && is_return (k.term j))
-      ∙ ap (λ (b : Bool). b && true) (itself (length k.block.instrs))))
-
-  ends_here : (call p : Point) → p.block ≡ s.top.block → p.at ≡ s.top.at
-      → IsTrue (ends_use (function_in e s.top.func) call p)
-  ends_here call p block at = last (same_point p call) (is_ret_at (function_in e s.top.func) p) (returns p block at)
-    where
-      last : (a b : Bool) → b ≡ true → (a || b) ≡ true
-      last true b h = refl
-      last false b h = h
-
-  -- the topmost activation is no caller of an instance
-  not_held : (y : Instance) (number : ℕ) → HasCaller e t.world.memory y number t.top [] → ⊥
-  not_held y number h = by t.top.func r.beside.top.func h.site held.stands.at held.reached
+  pub never_held : (y : Instance) (number : ℕ) (h : HasCaller e t.world.memory y number t.top [])
+      → ((p : Point) → p.block ≡ s.top.block → p.at ≡ s.top.at
+      → IsTrue (ends_use (function_in e s.top.func) h.call p)) → ⊥
+  never_held y number h ends_at = by t.top.func r.beside.top.func h.site held.stands.at held.reached
     where
       held : IsHeldAt e t.top h.call h.instr
       held = held_at e y number h.call h.instr t.top [] h.holds refl
@@ -206,12 +193,36 @@ module _ (e : Elision) (s t : State) (r : AreReady e s t) (k : IsAtReturn e s t)
           ≡ own_at (rooms e s.top.func) own s.top.block s.top.at
           = (λ j. front_at (rooms e (sym same j)) (function_in e (sym same j)) (sym block j) held.point.at)
           ∙ (sym at ∙ r.at) in
-          ends own h.call held.point (k.destroyed h.call h.instr h.name mine)
+          ends own h.call held.point (destroyed h.call h.instr h.name mine)
           (subst (λ (o : Option ℕ). IsReached own (h.call ∷ []) (destroys_of own o) held.point)
           (sym (site_value e s.top.func h.call h.instr h.name mine))
           (subst (λ (n : ℕ). IsReached (function_in e n) (h.call ∷ []) (destroys_of (function_in e n)
           (result_of h.instr)) held.point) same reached))
-          (ends_here h.call held.point block (same_place e s.top.func k.unput s.top.block held.point.at s.top.at front))
+          (ends_at held.point block
+          (same_place e s.top.func (plain_put e s.top.func mine.plain) s.top.block held.point.at s.top.at front))
+
+-- ---- at a return
+
+module _ (e : Elision) (s t : State) (r : AreReady e s t) (k : IsAtReturn e s t) where
+  -- the place is a return
+  returns : (p : Point) → p.block ≡ s.top.block → p.at ≡ s.top.at → IsTrue (is_ret_at (function_in e s.top.func) p)
+  returns p block at =
+      (λ j. is_ret_in (slice_get (function_in e s.top.func).blocks (block j)) (at j))
+      ∙ (ap (λ (o : Option Block). is_ret_in o s.top.at) k.has_block
+      ∙ ((λ j. (k.at j == length k.block.instrs) && is_return (k.term j))
+      ∙ ap (λ (b : Bool). b && true) (itself (length k.block.instrs))))
+
+  ends_here : (call p : Point) → p.block ≡ s.top.block → p.at ≡ s.top.at
+      → IsTrue (ends_use (function_in e s.top.func) call p)
+  ends_here call p block at = last (same_point p call) (is_ret_at (function_in e s.top.func) p) (returns p block at)
+    where
+      last : (a b : Bool) → b ≡ true → (a || b) ≡ true
+      last true b h = refl
+      last false b h = h
+
+  -- the topmost activation is no caller of an instance
+  not_held : (y : Instance) (number : ℕ) → HasCaller e t.world.memory y number t.top [] → ⊥
+  not_held y number h = never_held e s t r k.destroyed y number h (ends_here h.call)
 
   pub may_end : MayEnd e s t
   may_end = record {

@@ -147,4 +147,4 @@ module _ (e : Elision) (s t : State) (r : AreReady e s t) (k : IsAtCall e s t) w
       (r.at ∙ (λ j. own_at (rooms e (sym r.beside.top.func j)) (function_in e (sym r.beside.top.func j))
       (sym r.block j) s.top.at))
       (destroys_none k.result k.must_tail k.ty k.args k.callee e s t k.func k.calls)
-      (ungiven (function_in_elided e k.func)) h)
+      (λ frame is none. absurd (ungiven (function_in_elided e k.func) frame is)) h)

@@ -37,3 +37,4 @@ pub mod OwnSlots
 pub mod OverRuns
 pub mod Slotted
 pub mod Stacks
+pub mod SiteCallers

@@ -45,24 +45,24 @@ map_long h [] = refl
 map_long h (y ∷ ys) = ap suc (map_long h ys)
 
 module _ (e : Elision) (s t : State) (r : AreReady e s t) (k : IsAtSite e s t) where
-  abbrev name : ℕ
+  abbrev pub name : ℕ
   name = name_at (rooms e s.top.func) (function_in e s.top.func) s.top.block s.top.at
 
-  abbrev i : Instr
+  abbrev pub i : Instr
   i = Instr.Call k.result k.must_tail k.ty (Callee.Named k.name) k.args
 
   abbrev vs : List Value
   vs = arg_values e.code s.top.values k.args
 
-  abbrev us : List Value
+  abbrev pub us : List Value
   us = arg_values (elided_code e) t.top.values k.args
 
   -- ---- the alloca
 
-  abbrev HasIt : Instr → Type 0
+  abbrev pub HasIt : Instr → Type 0
   HasIt = HasAlloca r.beside.homes r.beside.hides (sides s t) t.top r.beside.top.own
 
-  room : HasIt (Instr.Alloca name (array k.size (int 8)) k.align)
+  pub room : HasIt (Instr.Alloca name (array k.size (int 8)) k.align)
   room =
       alloca_there (rooms e s.top.func) (function_in e s.top.func) s.top.block s.top.at i k.size k.align HasIt r.made
       k.there k.room
@@ -71,7 +71,7 @@ module _ (e : Elision) (s t : State) (r : AreReady e s t) (k : IsAtSite e s t) w
   named_by (Instr.Alloca n ty align) = n
   named_by _ = 0
 
-  has_address : value_in t.top.values name ≡ pointer_to room.block
+  pub has_address : value_in t.top.values name ≡ pointer_to room.block
   has_address = ap (value_in t.top.values) (ap named_by room.is) ∙ room.address
 
   -- ---- the steps
@@ -87,7 +87,7 @@ module _ (e : Elision) (s t : State) (r : AreReady e s t) (k : IsAtSite e s t) w
   abbrev more : Arg
   more = record { ty = ptr; value = Operand.Local name }
 
-  abbrev other : State
+  abbrev pub other : State
   other =
       push t (called (elided_code e) k.func (us ++ pointer_to room.block ∷ []) k.result
       (Mode.GivenRamp (address_in room.block 0)))
@@ -113,7 +113,7 @@ module _ (e : Elision) (s t : State) (r : AreReady e s t) (k : IsAtSite e s t) w
       ∙ ap (λ (w : Value). Ok (push t (called (elided_code e) k.func (us ++ pointer_to room.block ∷ []) k.result
       (Mode.GivenRamp w)))) (last_is us (pointer_to room.block)))
 
-  other_steps : framed_step (elided e) t ≡ other
+  pub other_steps : framed_step (elided e) t ≡ other
   other_steps =
       stepped (elided e) t other (AtInstr j) (r.beside.outcome ∙ k.runs)
       (theirs e s t r i k.there ∙ ap (λ (o : Option GivenFrame). AtInstr (elided_instr name o i)) k.room) other_next

@@ -7,7 +7,7 @@ use Rattle.pass_elide_proof.proofs.Callees.{called_at, same_place}
 use Rattle.pass_elide_proof.proofs.Holding.{on}
 use Rattle.pass_elide_proof.proofs.Markers.{plain_put}
 use Rattle.pass_elide_proof.specs.Elision.{Elision, function_in, rooms}
-use Rattle.pass_elide_proof.specs.Invariant.{AreGivenBy, Below, Calling, Destroying, HasCaller, HaveCallers, Held, Here, Holds, IsCalledIn, IsDestroying}
+use Rattle.pass_elide_proof.specs.Invariant.{AreGivenBy, Below, Calling, Destroying, HasCaller, HaveCallers, Held, Here, Holds, IsCalledIn, IsDestroying, IsGivenBy}
 use Rattle.pass_elide_proof.specs.Places.{front_at, instrs_in, instrs_of, own_at}
 use Rattle.pass_proofs.proofs.ir_laws.facts.Lists.{get_within}
 use Rattle.pass_proofs.proofs.ir_laws.facts.Truth.{itself}
@@ -98,7 +98,8 @@ module _ (e : Elision) (memory : List MemoryBlock) (y : Instance) (number : ℕ)
     has_left = refl;
   }
 
-  pub called_on : (above others rows : List Activation) → SameHead above others → IsCalledIn e memory y number above rows
+  pub called_on : (above others rows : List Activation) → SameHead above others
+      → IsCalledIn e memory y number above rows
       → IsCalledIn e memory y number others rows
   called_on above others [] same h = absurd (called_at e memory y number above [] h)
   called_on above others (c ∷ below) same h =
@@ -269,10 +270,11 @@ module _ (e : Elision) (t : State) (new : Activation) (at : ℕ) (i : Instr)
     (there : slice_get (instrs_of (function_in e t.top.func) t.top.block) at ≡ Some i)
     (stands : t.top.at ≡ own_at (rooms e t.top.func) (function_in e t.top.func) t.top.block at)
     (destroys : (v : Option ℕ) → is_destroy_of v i ≡ false) where
-  -- where the new one is no ramp that was given its frame
-  pub pushed_callers : ((frame : Value) → new.mode ≡ Mode.GivenRamp frame → ⊥) → HaveCallers e t
+  -- where the new one was given its frame by the one below it, if it is a ramp that was given one
+  pub pushed_callers : ((frame : Value) → new.mode ≡ Mode.GivenRamp frame → new.instance ≡ None
+      → IsGivenBy e t.instances frame new (record t.top { at = t.top.at + 1 })) → HaveCallers e t
       → HaveCallers e (push t new)
-  pushed_callers none h = record {
+  pushed_callers ramp h = record {
     each = λ number y is given going.
         called_below e t.world.memory y number t.top (record t.top { at = t.top.at + 1 }) new t.below
         (record { func = refl; block = refl; result = refl; mode = refl; instance = refl; has_left = refl })
@@ -280,7 +282,7 @@ module _ (e : Elision) (t : State) (new : Activation) (at : ℕ) (i : Instr)
         (h.each number y is given going);
     last = h.last;
     ramps = (
-      λ frame is instance. absurd (none frame is),
+      ramp,
       given_on e t.instances t.top (record t.top { at = t.top.at + 1 }) t.below refl refl refl h.ramps,
     );
   }

@@ -1,7 +1,9 @@
 -- Calls in both runs: what is asked of the two states and of what stands at their place.
 use Rattle.std.specs.Prelude.{◌≡◌, ◌+◌, ◌⊎◌, ◌≤◌, ℕ, Bool, true, false, List, [], length, slice_get, Some, None, Option}
+use Rattle.elide_sites.specs.Sites.{IsDestroyed}
 use Rattle.pass_elide.specs.declared.given.GivenFrame.{GivenFrame}
 use Rattle.pass_elide_proof.specs.Elision.{Elision, Shape, differs_in, function_in, function_in_elided, rooms}
+use Rattle.pass_elide_proof.specs.Invariant.{IsSiteOf}
 use Rattle.pass_elide_proof.specs.Match.{AreElided, HasAlloca, is_given_mode, sides, was_given}
 use Rattle.pass_elide_proof.specs.Places.{allocas_ahead, front_at, instrs_of, own_at, put_by, room_at}
 use Rattle.pass_proofs.specs.ir_base.declared.name.Name.{Name}
@@ -15,6 +17,7 @@ use Rattle.pass_proofs.specs.ir_model.declared.module.Param.{Param}
 use Rattle.pass_proofs.specs.ir_model.declared.operand.Arg.{Arg}
 use Rattle.pass_proofs.specs.ir_model.declared.operand.Callee.{Callee}
 use Rattle.pass_proofs.specs.ir_model.declared.operand.Operand.{Operand}
+use Rattle.pass_proofs.specs.ir_paths.declared.point.Point.{Point}
 use Rattle.pass_proofs.specs.run_framed.Framed.{given_ramp}
 use Rattle.pass_proofs.specs.run_laws.changed.Changed.{Each, values_of}
 use Rattle.pass_proofs.specs.run_memory.declared.pointer.Pointer.{Pointer}
@@ -161,3 +164,8 @@ pub record IsBehindFront (e : Elision) (s t : State) : Type 0 where
   pub at : t.top.at ≡ front_at (rooms e s.top.func) (function_in e s.top.func) s.top.block s.top.at
   pub unput : (block at : ℕ) (i : Instr) → put_by (rooms e s.top.func block at i) ≡ 0
   pub none : s.top.block ≡ 0 → s.top.at ≡ 0 → allocas_ahead (rooms e s.top.func) (function_in e s.top.func) ≡ []
+
+-- handles of sites of a function are destroyed before it returns or calls them again
+abbrev pub DestroysHandles : Elision → ℕ → Type 0
+DestroysHandles e func =
+    (call : Point) (i : Instr) (name : ℕ) → IsSiteOf e func call i name → IsDestroyed (function_in e func) call
