@@ -8,7 +8,7 @@ use Rattle.pass_elide.specs.Frames.{callee_layout, frame_of, layout_of, site_fra
 use Rattle.pass_elide.specs.Places.{is_site}
 use Rattle.pass_elide.specs.declared.given.GivenFrame.{GivenFrame}
 use Rattle.pass_elide_proof.proofs.Holding.{ends}
-use Rattle.pass_elide_proof.proofs.Markers.{nothing_put, plain_put}
+use Rattle.pass_elide_proof.proofs.GivingMarkers.{nothing_put, plain_put}
 use Rattle.pass_elide_proof.specs.Calling.{AreReady}
 use Rattle.pass_elide_proof.specs.Elision.{Elision, function_in, rooms}
 use Rattle.pass_elide_proof.specs.Invariant.{Below, Calling, Destroying, HasCaller, Held, Here, Holds, IsCalledIn, IsSiteOf, StandsAt}

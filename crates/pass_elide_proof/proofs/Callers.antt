@@ -2,7 +2,7 @@
 use Rattle.std.proofs.Common.{◌≡◌, ◌+◌, inr, ℕ, suc, Bool, true, false, List, [], ◌∷◌, Option, refl, sym, ap, ◌∙◌, subst, arith}
 use Rattle.std.specs.Prelude.{None, Some, slice_get}
 use Rattle.pass_elide_proof.proofs.Apart.{apart_more, apart_same, held_by, held_more}
-use Rattle.pass_elide_proof.proofs.Found.{fetched, operand_stands}
+use Rattle.pass_elide_proof.proofs.ElidedFound.{fetched, operand_stands}
 use Rattle.pass_elide_proof.proofs.Modules.{finds_alike}
 use Rattle.pass_elide_proof.proofs.Standing.{has_code}
 use Rattle.pass_elide_proof.specs.Calling.{AreReady, HoldsStill, IsAlike, at_front, differing}

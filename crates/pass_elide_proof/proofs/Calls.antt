@@ -3,7 +3,7 @@ use Rattle.std.proofs.Common.{◌≡◌, ℕ, Bool, true, false, List, Option, O
 use Rattle.std.specs.Prelude.{None, Some, slice_get, unwrap_or}
 use Rattle.pass_elide_proof.proofs.Called.{args_are, plain_called, plain_holds}
 use Rattle.pass_elide_proof.proofs.Callers.{args_stand, ours, pushed, theirs}
-use Rattle.pass_elide_proof.proofs.Found.{fits_same}
+use Rattle.pass_elide_proof.proofs.ElidedFound.{fits_same}
 use Rattle.pass_elide_proof.proofs.Modules.{finds_alike}
 use Rattle.pass_elide_proof.proofs.Sized.{stepped}
 use Rattle.pass_elide_proof.proofs.Stacks.{pushed_callers}

@@ -2,7 +2,7 @@
 use Rattle.std.proofs.Common.{◌≡◌, ◌<◌, ◌≤◌, ◌∙◌, ◌∷◌, [], ap, arith, Bool, false, inl, inr, ⊎_elim, List, Option, refl, subst, suc, sym, zero, ℕ, length}
 use Rattle.std.specs.Prelude.{None, Some, replicate, slice_get}
 use Rattle.pass_elide_proof.proofs.Called.{AllStand}
-use Rattle.pass_elide_proof.proofs.Found.{operand_stands}
+use Rattle.pass_elide_proof.proofs.ElidedFound.{operand_stands}
 use Rattle.pass_elide_proof.proofs.Unelided.{front_same, none_ahead}
 use Rattle.pass_elide_proof.specs.Elision.{Elision, elided_code, function_in, rooms}
 use Rattle.pass_elide_proof.specs.Match.{AreActivations, Beside, HasAlloca, Same, Sides, held_name, is_given_mode}

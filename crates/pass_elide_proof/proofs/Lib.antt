@@ -7,7 +7,7 @@ pub mod Holding
 pub mod Starts
 pub mod Sized
 pub mod Allocated
-pub mod Found
+pub mod ElidedFound
 pub mod Apart
 pub mod Callers
 pub mod Called
@@ -15,10 +15,10 @@ pub mod Calls
 pub mod Sites
 pub mod SiteCalls
 pub mod Kept
-pub mod Markers
+pub mod GivingMarkers
 pub mod Making
 pub mod MoreBlocks
-pub mod Fronts
+pub mod FrontsMade
 pub mod Unelided
 pub mod LastOnes
 pub mod Sleepers
@@ -35,6 +35,6 @@ pub mod GivenValues
 pub mod AllocaBlocks
 pub mod OwnSlots
 pub mod OverRuns
-pub mod Slotted
+pub mod UnownedSlots
 pub mod Stacks
 pub mod SiteCallers

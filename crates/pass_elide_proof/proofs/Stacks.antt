@@ -5,7 +5,7 @@ use Rattle.std.specs.Prelude.{IsTrue, None, Some, map, slice_get}
 use Rattle.elide_sites.specs.Sites.{destroys_of, is_destroy_of}
 use Rattle.pass_elide_proof.proofs.Callees.{called_at, same_place}
 use Rattle.pass_elide_proof.proofs.Holding.{on}
-use Rattle.pass_elide_proof.proofs.Markers.{plain_put}
+use Rattle.pass_elide_proof.proofs.GivingMarkers.{plain_put}
 use Rattle.pass_elide_proof.specs.Elision.{Elision, function_in, rooms}
 use Rattle.pass_elide_proof.specs.Invariant.{AreGivenBy, Below, Calling, Destroying, HasCaller, HaveCallers, Held, Here, Holds, IsCalledIn, IsDestroying, IsGivenBy}
 use Rattle.pass_elide_proof.specs.Places.{front_at, instrs_in, instrs_of, own_at}

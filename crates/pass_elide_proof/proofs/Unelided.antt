@@ -3,7 +3,7 @@ use Rattle.std.proofs.Common.{◌≡◌, ◌+◌, ◌∙◌, ◌++◌, ◌∷◌
 use Rattle.std.specs.Prelude.{codes, None}
 use Rattle.pass_elide.specs.Elided.{block_frames, blocks_frames, elided_blocks, elided_by, elided_function, elided_instrs, frame_allocas, frames_by, function_frames, instr_frames, with_front}
 use Rattle.pass_elide.specs.declared.given.GivenFrame.{GivenFrame}
-use Rattle.pass_elide_proof.proofs.Markers.{nothing_put}
+use Rattle.pass_elide_proof.proofs.GivingMarkers.{nothing_put}
 use Rattle.pass_elide_proof.specs.Places.{Rooms, allocas_ahead, front_at, instrs_of, own_at, phi_count, put_by}
 use Rattle.pass_proofs.specs.ir_model.declared.instr.Instr.{Instr}
 use Rattle.pass_proofs.specs.ir_model.declared.module.Block.{Block}

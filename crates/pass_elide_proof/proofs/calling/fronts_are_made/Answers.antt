@@ -1,4 +1,4 @@
-use Rattle.pass_elide_proof.proofs.Fronts.{fronts_made, places_ready}
+use Rattle.pass_elide_proof.proofs.FrontsMade.{fronts_made, places_ready}
 use Rattle.pass_elide_proof.proofs.calling.fronts_are_made.Goals as goal
 
 pub returns-clause-first : goal.returns-clause-first

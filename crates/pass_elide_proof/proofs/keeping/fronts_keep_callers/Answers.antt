@@ -1,4 +1,4 @@
-use Rattle.pass_elide_proof.proofs.Fronts.{fronts_keep}
+use Rattle.pass_elide_proof.proofs.FrontsMade.{fronts_keep}
 use Rattle.pass_elide_proof.proofs.keeping.fronts_keep_callers.Goals as goal
 
 pub returns : goal.returns

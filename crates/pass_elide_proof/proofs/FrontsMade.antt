@@ -7,7 +7,7 @@ use Rattle.pass_elide_proof.proofs.Apart.{apart_same}
 use Rattle.pass_elide_proof.proofs.Callers.{allocas_same}
 use Rattle.pass_elide_proof.proofs.Kept.{alloca_kept, below_kept}
 use Rattle.pass_elide_proof.proofs.Making.{HasMade, IsMade, all_made, made_at}
-use Rattle.pass_elide_proof.proofs.Markers.{markers_same, nothing_put, plain_put}
+use Rattle.pass_elide_proof.proofs.GivingMarkers.{markers_same, nothing_put, plain_put}
 use Rattle.pass_elide_proof.proofs.Modules.{finds_alike}
 use Rattle.pass_elide_proof.proofs.MoreBlocks.{count_more, frames_more, given_more, instances_more, keeps_more, mates_more, new_free, world_more}
 use Rattle.pass_elide_proof.proofs.Stacks.{IsLiveIn, called_over, called_under, given_on}
