@@ -28,3 +28,7 @@ pub mod Looking
 pub mod Saves
 pub mod Rooms
 pub mod Sound
+pub mod Calling
+pub mod Waking
+pub mod Returning
+pub mod OwnSlots

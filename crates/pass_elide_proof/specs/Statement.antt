@@ -8,6 +8,7 @@ use Rattle.pass_elide_proof.specs.Counts.{LosesCalls, uncounted}
 use Rattle.pass_elide_proof.specs.Elision.{Elision, elided, elided_code, function_in, rooms}
 use Rattle.pass_elide_proof.specs.Invariant.{DoGivenFramesLive, HaveCallers, IsCalledIn, IsDestroying, IsSiteOf}
 use Rattle.pass_elide_proof.specs.Match.{AreElided}
+use Rattle.pass_elide_proof.specs.Returning.{HaveReturned}
 use Rattle.pass_elide_proof.specs.Shapes.{AsksForFrame}
 use Rattle.pass_proofs.specs.ir_base.declared.outcome.Word.{Word}
 use Rattle.pass_proofs.specs.ir_model.declared.instr.Instr.{Instr}
@@ -48,6 +49,10 @@ pub record AreRelated (e : Elision) (s t : State) : Type 0 where
       → slice_get t.instances number ≡ Some y → is_given t.world.memory y ≡ true → Contains (s.top ∷ s.below) a
       → IsDestroying e y number a → IsOnItsWay e x a
 
+-- They are related, or both runs are over: behind the entry's return its allocas are dead.
+abbrev pub AreRelatedOrOver : Elision → State → State → Type 0
+AreRelatedOrOver e s t = AreRelated e s t ⊎ HaveReturned s t
+
 -- ---- the statements
 
 -- the sites are those of a source that has the same functions that are no coroutines, and no function has more than so
@@ -73,7 +78,7 @@ elided_run e entry args = framed_machine (elided_code e) e.layouts entry args e.
 abbrev pub ElisionKeepsStates : Elision → ℕ → Type 0
 ElisionKeepsStates e most =
     (entry : ℕ) (args : List Word) → (function_in e entry).coroutine ≡ false
-    → AgreesBy (AreRelated e) (IsNear (elided_run e entry args) (1 + most) (AreRelated e))
+    → AgreesBy (AreRelatedOrOver e) (IsNear (elided_run e entry args) (1 + most) (AreRelatedOrOver e))
     (uncounted (framed_run e entry args)) (λ s. 1 + most) (uncounted (elided_run e entry args)) (λ t. 1)
 
 -- The second makes fewer allocator calls by the calls that it executes without allocation.

@@ -3,6 +3,7 @@
 #![tactic(auto)]
 
 pub mod beginning;
+pub mod calling;
 pub mod code;
 pub mod counts;
 pub mod edges;
@@ -12,6 +13,11 @@ pub mod ordinary;
 pub mod slots;
 pub mod intrinsics;
 pub mod sound;
+pub mod keeping;
+pub mod over;
+pub mod own_slots;
+pub mod returning;
 pub mod starting;
 pub mod waiting;
+pub mod waking;
 pub mod worked;
