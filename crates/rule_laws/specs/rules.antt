@@ -1,6 +1,7 @@
 pub mod begin_order
 pub mod counted
 pub mod function_rules
+pub mod given_calls
 pub mod local_rules
 pub mod names_apart
 pub mod order_rules

@@ -8,6 +8,7 @@ pub mod edges;
 pub mod fetching_rules;
 pub mod front_rules;
 pub mod function_rules;
+pub mod given_calls;
 pub mod known_labels;
 pub mod local_rules;
 pub mod named_results;

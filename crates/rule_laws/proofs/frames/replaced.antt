@@ -1,3 +1,4 @@
+pub mod Extended
 pub mod Modules
 pub mod Replaced
 pub mod Saves

@@ -1,4 +1,4 @@
--- What a module of parts knows of the module before it: types are the same, and names are known as before.
+-- What a module with the functions of another one knows of it: types are the same, and names are known as before.
 use Rattle.std.proofs.Common.{◌≡◌, ℕ, suc, Bool, true, false, List, [], ◌∷◌, refl, sym, ap, ◌∙◌}
 use Rattle.std.specs.List.{list_all}
 use Rattle.std.specs.Prelude.{None, Option, Some, codes, is_some, map, not, option_map, slice_get, ◌&&◌, ◌||◌, if◌then◌else◌}
@@ -22,7 +22,7 @@ use Rattle.rule_locals.specs.Extents.{breaks_extents, is_aligned, is_sized, most
 use Rattle.rule_names.specs.Known.{allocator_name, is_intrinsic, knows_address, knows_callee, knows_name, knows_type, knows_types}
 use Rattle.rule_names.specs.Reserved.{name_begins}
 use Rattle.rule_names.specs.declared.stage.Stage.{Stage}
-use Rattle.rule_laws.specs.frames.same_names.Parts.{HasPartsOf, HasSignature}
+use Rattle.rule_laws.specs.frames.same_names.Parts.{HasFunctionsOf, HasPartsOf, HasSignature}
 use Rattle.rule_types.specs.Depth.{is_shallow}
 use Rattle.rule_types.specs.Limits.{all_fit}
 use Rattle.rule_types.specs.Signatures.{are_wanted, fits_callee, fits_declaration, fits_declared, fits_function, fits_named, fits_position, is_result, same_list, same_result}
@@ -44,7 +44,17 @@ found_there {A = A} t (x ∷ xs) k e = on (t x) (first_where t xs) refl e (λ j 
     on false None d e more = absurd (cc)
     on false (Some j) d e more = let next : suc j ≡ k = cc in let y = more j d in (y.0, ap (λ i. slice_get (x ∷ xs) i) (sym next) ∙ y.1)
 
-module _ (m n : Module) (h : HasPartsOf m n) where
+pub has_functions : (m n : Module) → HasPartsOf m n → HasFunctionsOf m n
+has_functions m n h =
+    record {
+      types = h.types;
+      globals = h.globals;
+      declarations = h.declarations;
+      functions = h.functions;
+      others = h.others;
+    }
+
+module _ (m n : Module) (h : HasFunctionsOf m n) where
   -- ---- types
 
   mutual

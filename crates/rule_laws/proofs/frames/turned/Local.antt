@@ -21,7 +21,7 @@ use Rattle.ir_laws.specs.ir_locals.Tables.{first_in, or_first}
 use Rattle.rule_laws.proofs.frames.turned.Turned.{AreTurned, Becomes, Destroyed, IsTurned, NoneTurned, OneTurned, Promised, Resumed, Same, Tested, becomes, names_behind, turned}
 use Rattle.rule_laws.proofs.rules.turned.Turned.{IsOuter}
 use Rattle.rule_laws.specs.frames.same_names.Parts.{HasPartsOf}
-use Rattle.rule_laws.proofs.frames.replaced.Modules.{size_there}
+use Rattle.rule_laws.proofs.frames.replaced.Modules.{has_functions, size_there}
 use Rattle.ir_laws.specs.run_laws.changed.Changed.{Each}
 use Rattle.rule_values.specs.Kinds.{block_kind, instr_kind, kind_if, phi_kind}
 use Rattle.rule_values.specs.declared.kinds.Kind.{Kind}
@@ -115,7 +115,7 @@ or_none (Some y) = refl
 
 module _ (m n : Module) (h : HasPartsOf m n) where
   same_made : (i : Instr) (v : ℕ) → made_size n i v ≡ made_size m i v
-  same_made (Instr.Alloca r ty align) v = ap (λ (size : ℕ). if r == v then Some size else None) (size_there m n h ty)
+  same_made (Instr.Alloca r ty align) v = ap (λ (size : ℕ). if r == v then Some size else None) (size_there m n (has_functions m n h) ty)
   same_made _ v = refl
 
   size_becomes : (first : ℕ) (i : Instr) (js : List Instr) (taken v : ℕ) → Becomes first i js taken → first_in (made_size n) js v ≡ made_size m i v

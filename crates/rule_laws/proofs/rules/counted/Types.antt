@@ -6,12 +6,13 @@ use Rattle.ir_laws.proofs.facts.Truth.{equal_numbers, itself}
 use Rattle.ir_laws.specs.ir_model.Layout.{size_of}
 use Rattle.ir_laws.specs.ir_model.Ty.{Ty, int, ptr}
 use Rattle.ir_laws.specs.ir_model.declared.module.Module.{Module}
-use Rattle.rule_locals.specs.Extents.{is_sized}
+use Rattle.rule_locals.specs.Extents.{is_sized, most_of_alloca}
 use Rattle.rule_names.specs.Known.{knows_type}
 use Rattle.rule_types.specs.Depth.{is_shallow}
 use Rattle.rule_values.specs.Fits.{fits_kind, is_scalar, is_tokenless}
 use Rattle.rule_values.specs.Kinds.{kind_of}
 use Rattle.ir_laws.proofs.facts.names_apart.Words.{either as either_true}
+use Rattle.rule_names.specs.declared.stage.Stage.{Stage}
 
 abbrev pub is_cell_type : Ty → Bool
 is_cell_type (int w) = is_width w
@@ -30,10 +31,16 @@ module _ (P : ℕ → Type 0) where
       (either_true (w == 8) ((w == 16) || ((w == 32) || (w == 64))) h1))
       (either_true (w == 1) ((w == 8) || ((w == 16) || ((w == 32) || (w == 64)))) h)
 
-pub cell_sized : (m : Module) (t : Ty) → is_cell_type t ≡ true → is_sized 1048576 (size_of m t) ≡ true
-cell_sized m (int w) h = width_cases (λ n. is_sized 1048576 (size_of m (int n)) ≡ true) refl refl refl refl refl w h
-cell_sized m ptr h = refl
-cell_sized m _ h = absurd (cc)
+pub cell_sized : (stage : Stage) (m : Module) (t : Ty) → is_cell_type t ≡ true
+    → is_sized (most_of_alloca stage) (size_of m t) ≡ true
+cell_sized Stage.Source m (int w) h =
+    width_cases (λ n. is_sized 1048576 (size_of m (int n)) ≡ true) refl refl refl refl refl w h
+cell_sized Stage.Source m ptr h = refl
+cell_sized Stage.Source m _ h = absurd (cc)
+cell_sized Stage.Plain m (int w) h =
+    width_cases (λ n. is_sized 16777216 (size_of m (int n)) ≡ true) refl refl refl refl refl w h
+cell_sized Stage.Plain m ptr h = refl
+cell_sized Stage.Plain m _ h = absurd (cc)
 
 pub cell_scalar : (t : Ty) → is_cell_type t ≡ true → is_scalar t ≡ true
 cell_scalar (int w) h = refl

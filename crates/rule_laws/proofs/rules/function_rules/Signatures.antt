@@ -5,10 +5,10 @@ use Rattle.std.specs.List.{list_all}
 use Rattle.std.specs.Prelude.{is_some, slice_get}
 use Rattle.ir_laws.specs.ir_base.declared.name.Name.{Name}
 use Rattle.ir_laws.specs.ir_base.declared.outcome.Place.{Place}
-use Rattle.rule_laws.specs.rules.local_rules.Local.{BreaksNoLocalRuleIn}
+use Rattle.rule_laws.specs.rules.local_rules.Local.{BreaksNoLocalRuleAt}
 use Rattle.ir_parts.specs.Contents.{part_labels, part_operands, part_types}
 use Rattle.ir_parts.specs.Parts.{OfInstr, Part, first_part, parts_of}
-use Rattle.rule_laws.specs.rules.function_rules.Kept.{KeepsFunctionRules}
+use Rattle.rule_laws.specs.rules.function_rules.Kept.{KeepsFunctionRules, KeepsFunctionRulesAt}
 use Rattle.ir_laws.specs.facts.function_rules.Signatures.{HaveSameSignatures, Heading, heading}
 use Rattle.rule_laws.specs.rules.plain_rules.Kept.{KeepsPlainRules}
 use Rattle.ir_laws.specs.ir_model.Layout.{unnamed}
@@ -24,6 +24,7 @@ use Rattle.ir_laws.specs.ir_model.declared.operand.Operand.{Operand}
 use Rattle.rule_locals.specs.Calls.{calls_closed, is_closed, is_closed_at, is_closed_declaration}
 use Rattle.rule_locals.specs.Instrs.{on_instr}
 use Rattle.rule_names.specs.Known.{allocator_name, is_intrinsic, is_label, is_value, knows_called, knows_callee, knows_name, knows_operand, knows_type, knows_types, names_unknown}
+use Rattle.rule_names.specs.declared.stage.Stage.{Stage}
 use Rattle.rule_types.specs.Signatures.{are_wanted, calls_otherwise, fits_callee, fits_declaration, fits_function, fits_named, fits_position, is_result, same_list, same_result}
 use Rattle.rule_types.specs.Wants.{allocator_params, allocator_result}
 use Rattle.rule_values.specs.Fits.{fits, fits_integer, is_tokenless}
@@ -172,8 +173,8 @@ module _ (m : Module) (fs : List Function) (same : map heading fs ≡ map headin
   first_same : (a b : Place → Part → Bool) → ((p : Place) (x : Part) → a p x ≡ b p x) → (xs : List (Place × Part)) → first_part a xs ≡ first_part b xs
   first_same a b h xs = ap (λ (t : Place → Part → Bool). first_part t xs) (λ k p x. h p x k)
 
-  local_same : (k : ℕ) (f : Function) → BreaksNoLocalRuleIn m k f → BreaksNoLocalRuleIn n k f
-  local_same k f h = record {
+  local_same : (stage : Stage) (k : ℕ) (f : Function) → BreaksNoLocalRuleAt stage m k f → BreaksNoLocalRuleAt stage n k f
+  local_same stage k f h = record {
     values = first_same (breaks_values n (value_kind f) f.result) (breaks_values m (value_kind f) f.result) (values_same (value_kind f) f.result) (parts_of k f) ∙ h.values;
     closed_calls = first_same (on_instr (calls_closed n)) (on_instr (calls_closed m)) closed_calls_same (parts_of k f) ∙ h.closed_calls;
     extents = h.extents;
@@ -184,14 +185,14 @@ module _ (m : Module) (fs : List Function) (same : map heading fs ≡ map headin
     marks = h.marks;
   }
 
-  rules_same : (k : ℕ) (f : Function) → KeepsFunctionRules m k f → KeepsFunctionRules n k f
-  rules_same k f h = record {
+  rules_same : (stage : Stage) (k : ℕ) (f : Function) → KeepsFunctionRulesAt stage m k f → KeepsFunctionRulesAt stage n k f
+  rules_same stage k f h = record {
     tabled = h.tabled;
     definitions = h.definitions;
     known = first_same (names_unknown n (is_value k f) (is_label k f)) (names_unknown m (is_value k f) (is_label k f)) (unknown_same (is_value k f) (is_label k f)) (parts_of k f) ∙ h.known;
     depths = h.depths;
     calls = first_same (calls_otherwise n) (calls_otherwise m) calls_same (parts_of k f) ∙ h.calls;
-    local = local_same k f h.local;
+    local = local_same stage k f h.local;
     edges = h.edges;
     uses = h.uses;
   }
@@ -213,14 +214,19 @@ module _ (m : Module) (fs : List Function) (same : map heading fs ≡ map headin
   }
 
 -- the same functions in a module with the same types, globals and declarations
-pub go_by_signatures : (m n : Module) (k : ℕ) (f : Function) → HaveSameSignatures m n → KeepsFunctionRules m k f → KeepsFunctionRules n k f
-go_by_signatures m n k f same h =
+pub go_by_signatures_at : (stage : Stage) (m n : Module) (k : ℕ) (f : Function) → HaveSameSignatures m n
+    → KeepsFunctionRulesAt stage m k f → KeepsFunctionRulesAt stage n k f
+go_by_signatures_at stage m n k f same h =
     let types = sym same.types in
     let globals = sym same.globals in
     let declarations = sym same.declarations in
     let is : record { types = m.types; globals = m.globals; declarations = m.declarations; functions = n.functions } ≡ n =
     (λ i. record { types = types i; globals = globals i; declarations = declarations i; functions = n.functions }) in
-    subst (λ (x : Module). KeepsFunctionRules x k f) is (rules_same m n.functions same.functions k f h)
+    subst (λ (x : Module). KeepsFunctionRulesAt stage x k f) is (rules_same m n.functions same.functions stage k f h)
+
+pub go_by_signatures : (m n : Module) (k : ℕ) (f : Function) → HaveSameSignatures m n → KeepsFunctionRules m k f
+    → KeepsFunctionRules n k f
+go_by_signatures = go_by_signatures_at Stage.Source
 
 pub plain_rules_by_signatures : (m n : Module) (k : ℕ) (f : Function) → HaveSameSignatures m n → KeepsPlainRules m k f → KeepsPlainRules n k f
 plain_rules_by_signatures m n k f same h =

@@ -25,6 +25,13 @@ module _ (m : Module) (values labels : ℕ → Bool) (p : Place) (x : FunctionPa
   pub operands_before : list_all (knows_operand m values) (part_operands x) ≡ true
   operands_before = and_first (list_all (knows_operand m values) (part_operands x)) (list_all labels (part_labels x) && knows_called m x) (and_second (list_all (knows_type m) (part_types x)) Names whole)
 
+  pub labels_before : list_all labels (part_labels x) ≡ true
+  labels_before =
+      and_first (list_all labels (part_labels x)) (knows_called m x)
+      (and_second (list_all (knows_operand m values) (part_operands x))
+      (list_all labels (part_labels x) && knows_called m x)
+      (and_second (list_all (knows_type m) (part_types x)) Names whole))
+
   pub called_before : knows_called m x ≡ true
   called_before =
       and_second (list_all labels (part_labels x)) (knows_called m x)

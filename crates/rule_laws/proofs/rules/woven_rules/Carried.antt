@@ -1,5 +1,5 @@
 -- A rule that no part of a function breaks is broken by no part of the result.
-use Rattle.std.proofs.Common.{◌≡◌, ℕ, ◌+◌, Bool, false, List, [], ◌∷◌, ◌++◌, length, refl}
+use Rattle.std.proofs.Common.{◌≡◌, ◌⊎◌, inl, inr, ℕ, ◌+◌, Bool, false, List, [], ◌∷◌, ◌++◌, length, refl}
 use Rattle.std.specs.Prelude.{Some, None}
 use Rattle.ir_laws.specs.ir_base.declared.outcome.Place.{Place}
 use Rattle.rule_uses.specs.Uses.{phi_values}
@@ -15,7 +15,7 @@ use Rattle.ir_laws.specs.ir_model.declared.module.Function.{Function}
 use Rattle.ir_laws.specs.ir_model.declared.module.Module.{Module}
 use Rattle.rule_locals.specs.Instrs.{on_instr}
 use Rattle.ir_laws.specs.run_laws.changed.Changed.{Each}
-use Rattle.rule_laws.proofs.rules.woven_rules.Laid.{HasLabelsOnce, AreLaid, AreLaidBlocks, IsLaidBlock, IsLike, NoneLaid, OneLaid, PutFits, Remains}
+use Rattle.rule_laws.proofs.rules.woven_rules.Laid.{AreOnceOrSame, HasLabelsOnce, AreLaid, AreLaidBlocks, IsLaidBlock, IsLike, NoneLaid, OneLaid, PutFits, Remains}
 use Rattle.rule_laws.specs.rules.woven_rules.Blocks.{Done, Gone, Put, Remain}
 use Rattle.ir_laws.specs.facts.woven_rules.Pairs.{Empty, Pair, Pairwise}
 use Rattle.rule_laws.specs.rules.woven_rules.Parts.{PhiStays}
@@ -26,14 +26,15 @@ use Rattle.rule_laws.specs.rules.woven_rules.Weaving.{Weaving}
 pub record Carries (w : Weaving) (m : Module) (f g : Function) (breaks now : Place → Part → Bool) : Type 0 where
   pub signature : (p : Place) → breaks p (Signature f) ≡ false → now p (Signature g) ≡ false
   pub head : (p : Place) (b c : Block) → c.label ≡ b.label → breaks p (Head b) ≡ false → now p (Head c) ≡ false
-  pub phi : (p : Place) (x y : Phi) → PhiStays (λ (from : ℕ). IsLike w f g) x y → HasLabelsOnce x → breaks p (OfPhi x) ≡ false → now p (OfPhi y) ≡ false
-  pub put : (block : ℕ) (q : Place) (j : Instr) → q.block ≡ Some block → PutFits m g block j → now q (OfInstr j) ≡ false
+  pub phi : (p : Place) (x y : Phi) → PhiStays (λ (from : ℕ). IsLike w f g) x y
+      → HasLabelsOnce x ⊎ (y ≡ x) → breaks p (OfPhi x) ≡ false → now p (OfPhi y) ≡ false
+  pub put : (block : ℕ) (q : Place) (j : Instr) → q.block ≡ Some block → PutFits w.stage m g block j → now q (OfInstr j) ≡ false
   pub remain : (p q : Place) (i j : Instr) → q.block ≡ p.block → Remains w f g i j → breaks p (OfInstr i) ≡ false → now q (OfInstr j) ≡ false
   pub ending : (p q : Place) (t u : Terminator) → TermStays (IsLike w f g) t u → breaks p (Ending t) ≡ false → now q (Ending u) ≡ false
 
 -- a rule on instructions alone
 pub record CarriesInstrs (w : Weaving) (m : Module) (f g : Function) (breaks now : Place → Instr → Bool) : Type 0 where
-  pub put_one : (block : ℕ) (q : Place) (j : Instr) → q.block ≡ Some block → PutFits m g block j → now q j ≡ false
+  pub put_one : (block : ℕ) (q : Place) (j : Instr) → q.block ≡ Some block → PutFits w.stage m g block j → now q j ≡ false
   pub remain_one : (p q : Place) (i j : Instr) → q.block ≡ p.block → Remains w f g i j → breaks p i ≡ false → now q j ≡ false
 
 pub on_instrs : (w : Weaving) (m : Module) (f g : Function) (breaks now : Place → Instr → Bool) → CarriesInstrs w m f g breaks now → Carries w m f g (on_instr breaks) (on_instr now)
@@ -47,10 +48,22 @@ on_instrs w m f g breaks now h =
       ending = λ p q t u s e. refl;
     }
 
+first_phi : (p q : Phi) (ps qs : List Phi) → AreOnceOrSame (p ∷ ps) (q ∷ qs) → HasLabelsOnce p ⊎ (q ≡ p)
+first_phi p q ps qs (inl h) = inl h.0
+first_phi p q ps qs (inr e) = inr (cc)
+
+other_phis : (p q : Phi) (ps qs : List Phi) → AreOnceOrSame (p ∷ ps) (q ∷ qs) → AreOnceOrSame ps qs
+other_phis p q ps qs (inl h) = inl h.1
+other_phis p q ps qs (inr e) = inr (cc)
+
 module _ (w : Weaving) (m : Module) (f g : Function) (breaks now : Place → Part → Bool) (over : Carries w m f g breaks now) (func : ℕ) where
-  phis_carried : (block at : ℕ) (ps qs : List Phi) → Pairwise (PhiStays (λ (from : ℕ). IsLike w f g)) ps qs → Each HasLabelsOnce ps → Passing breaks (phi_parts func block at ps) → Passing now (phi_parts func block at qs)
+  phis_carried : (block at : ℕ) (ps qs : List Phi) → Pairwise (PhiStays (λ (from : ℕ). IsLike w f g)) ps qs
+      → AreOnceOrSame ps qs → Passing breaks (phi_parts func block at ps) → Passing now (phi_parts func block at qs)
   phis_carried block at _ _ Empty once h = tt
-  phis_carried block at _ _ (Pair p q ps qs s rest) once h = (over.phi (instr_place func block at) p q s once.0 h.0, phis_carried block (at + 1) ps qs rest once.1 h.1)
+  phis_carried block at _ _ (Pair p q ps qs s rest) once h = (
+    over.phi (instr_place func block at) p q s (first_phi p q ps qs once) h.0,
+    phis_carried block (at + 1) ps qs rest (other_phis p q ps qs once) h.1,
+  )
 
   instrs_carried : (block at : ℕ) (made : List ℕ) (is js : List Instr) → AreLaid w m f g block made is js → Passing breaks (instr_parts func block at is) → (now_at : ℕ) → Passing now (instr_parts func block now_at js)
   instrs_carried block at made _ _ (Done _) h now_at = tt

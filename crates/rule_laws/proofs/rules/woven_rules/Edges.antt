@@ -1,9 +1,10 @@
 -- Blocks, labels and edges stay, so the rule on phis and edges does (F1), where a phi's labels are all different.
-use Rattle.std.proofs.Common.{◌≡◌, inl, inr, ℕ, zero, suc, ◌+◌, Bool, true, false, List, [], ◌∷◌, ◌++◌, length, refl, sym, ap, ◌∙◌, subst}
+use Rattle.std.proofs.Common.{◌≡◌, ◌⊎◌, inl, inr, ℕ, zero, suc, ◌+◌, Bool, true, false, List, [], ◌∷◌, ◌++◌, length, refl, sym, ap, ◌∙◌, subst}
 use Rattle.std.specs.List.{list_all, list_any}
 use Rattle.std.specs.Prelude.{None, Option, Some, filter, map, not, option_map, slice_get, unwrap_or, if◌then◌else◌, ◌==◌, ◌&&◌, ◌||◌}
 use Rattle.flow_blocks.specs.Edges.{block_edges, edges_of_blocks}
 use Rattle.rule_uses.specs.Uses.{values_at}
+use Rattle.ir_laws.specs.ir_base.declared.outcome.Place.{Place}
 use Rattle.ir_laws.proofs.facts.Truth.{itself, and_both, and_first, and_second, not_breaks}
 use Rattle.ir_laws.proofs.facts.local_rules.Woven.{other_number}
 use Rattle.ir_laws.proofs.paths.source_rules.Locals.{Apart}
@@ -116,15 +117,24 @@ module _ (w : Weaving) (m : Module) (f g : Function) where
     into_there None = refl
     into_there (Some k) = into_same k 0 f.blocks g.blocks blocks
 
+    abbrev sources : Place → List ℕ
+    sources p = into_block (predecessors f) (block_at f p.block)
+
+    phi_fits : (p : Place) (x y : Phi) → PhiStays (λ (from : ℕ). IsLike w f g) x y → HasLabelsOnce x ⊎ (y ≡ x)
+        → not (fits_edges (sources p) x.incoming) ≡ false → not (fits_edges (sources p) y.incoming) ≡ false
+    phi_fits p x y s (inl once) e =
+        not_breaks (fits_edges (sources p) x.incoming) (fits_edges (sources p) y.incoming)
+        (fits_again (sources p) x.incoming y.incoming
+        (same_incoming (λ (from : ℕ). IsLike w f g) x.incoming y.incoming s.incoming) once) e
+    phi_fits p x y s (inr same) e = ap (λ (z : Phi). not (fits_edges (sources p) z.incoming)) same ∙ e
+
     edges_carried : Carries w m f g (breaks_edges f) (breaks_edges g)
     edges_carried =
         record {
           signature = λ p e. refl;
           head = λ p b c same e. ap (λ (ls : List ℕ). is_entry p.block && not (is_empty ls)) (same_predecessors c.label ∙ ap (predecessors f) same) ∙ e;
           phi = λ p x y s once e.
-              ap (λ (ls : List ℕ). not (fits_edges ls y.incoming)) (into_there p.block)
-              ∙ not_breaks (fits_edges (into_block (predecessors f) (block_at f p.block)) x.incoming) (fits_edges (into_block (predecessors f) (block_at f p.block)) y.incoming)
-              (fits_again (into_block (predecessors f) (block_at f p.block)) x.incoming y.incoming (same_incoming (λ (from : ℕ). IsLike w f g) x.incoming y.incoming s.incoming) once) e;
+              ap (λ (ls : List ℕ). not (fits_edges ls y.incoming)) (into_there p.block) ∙ phi_fits p x y s once e;
           put = λ block q j e s. refl;
           remain = λ p q i j same s e. refl;
           ending = λ p q t u s e. refl;

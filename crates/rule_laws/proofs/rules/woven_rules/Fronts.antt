@@ -1,5 +1,5 @@
 -- Allocas at the front of the entry block are woven in.
-use Rattle.std.proofs.Common.{◌≡◌, ℕ, ◌+◌, ◌<◌, ◌≤◌, false, List, [], ◌∷◌, ◌++◌, length, refl, sym, ap, subst, arith}
+use Rattle.std.proofs.Common.{◌≡◌, inr, ℕ, zero, suc, ◌+◌, ◌<◌, ◌≤◌, false, List, [], ◌∷◌, ◌++◌, length, refl, sym, ap, ◌∙◌, subst, arith}
 use Rattle.std.proofs.lemmas.List.{length-append}
 use Rattle.std.specs.Prelude.{Some, slice_get, ◌==◌}
 use Rattle.ir_laws.specs.ir_base.declared.name.Name.{Name}
@@ -10,7 +10,7 @@ use Rattle.ir_laws.proofs.paths.source_rules.Locals.{listed_left, listed_right}
 use Rattle.ir_laws.proofs.facts.Lists.{phi_names, row_of, times_joined}
 use Rattle.ir_laws.specs.flow_solver.Paths.{IsListed}
 use Rattle.ir_parts.specs.Contents.{ending_operands, instr_operands}
-use Rattle.rule_laws.specs.rules.function_rules.Kept.{KeepsFunctionRules}
+use Rattle.rule_laws.specs.rules.function_rules.Kept.{KeepsFunctionRulesAt}
 use Rattle.ir_laws.specs.ir_model.Names.{position_of}
 use Rattle.ir_laws.specs.ir_model.declared.instr.Instr.{Instr}
 use Rattle.ir_laws.specs.ir_model.declared.module.Block.{Block}
@@ -19,7 +19,7 @@ use Rattle.ir_laws.specs.ir_model.declared.module.Module.{Module}
 use Rattle.ir_laws.specs.ir_model.declared.operand.Operand.{Operand}
 use Rattle.ir_laws.specs.ir_locals.Tables.{first_in}
 use Rattle.rule_values.specs.Kinds.{block_kind}
-use Rattle.rule_laws.proofs.rules.woven_rules.All.{rules_woven}
+use Rattle.rule_laws.proofs.rules.woven_rules.All.{rules_woven_by}
 use Rattle.rule_laws.proofs.rules.woven_rules.Once.{apart_once, names_below, times_block}
 use Rattle.ir_laws.proofs.paths.woven_rules.Once.{times_none}
 use Rattle.ir_laws.proofs.facts.Members.{each_all}
@@ -29,11 +29,11 @@ use Rattle.rule_laws.proofs.rules.woven_rules.Told.{told}
 use Rattle.ir_laws.proofs.paths.woven_rules.Unbroken.{of_listed}
 use Rattle.rule_laws.specs.rules.woven_rules.Blocks.{AreWoven, AreWovenBlocks, Done, IsNew, IsPutIn, IsWoven, IsWovenBlock, NoBlock, OneBlock, Remain, times_made}
 use Rattle.rule_laws.specs.rules.woven_rules.Fronts.{FrontFits, IsNewAlloca, results_of, with_front, with_front_block}
-use Rattle.rule_laws.specs.rules.woven_rules.Pairs.{AreIncomingOnce}
 use Rattle.ir_laws.specs.facts.woven_rules.Pairs.{Pairwise, one_if, times}
 use Rattle.rule_laws.specs.rules.woven_rules.Parts.{PhiStays}
 use Rattle.ir_laws.specs.facts.woven_rules.Parts.{TermStays}
 use Rattle.rule_laws.specs.rules.woven_rules.Weaving.{IsInPlace, Same, Weaving, goes_in}
+use Rattle.rule_names.specs.declared.stage.Stage.{Stage}
 
 results_row : (is : List Instr) → results_of is ≡ row_of made_by is
 results_row [] = refl
@@ -69,12 +69,13 @@ made_front n front (b ∷ bs) none =
     let g : times n (row_of made_by (front ++ b.instrs)) ≡ times n (row_of made_by front) + times n (row_of made_by b.instrs) = row_joined n front b.instrs in
     omega (arith, rest, here, d, e, g)
 
-module _ (m : Module) (k : ℕ) (f : Function) (front : List Instr) (names : List Name) (keeps : KeepsFunctionRules m k f) (fit : FrontFits m f front names) where
+module _ (stage : Stage) (m : Module) (k : ℕ) (f : Function) (front : List Instr) (names : List Name)
+    (keeps : KeepsFunctionRulesAt stage m k f) (fit : FrontFits stage m f front names) where
   abbrev G : Function
   G = with_front front names f
 
   abbrev W : Weaving
-  W = record { first = length f.names; after = length f.names + length names; kinds = first_in block_kind G.blocks; fronts = []; goes = λ n. false }
+  W = record { stage = stage; first = length f.names; after = length f.names + length names; kinds = first_in block_kind G.blocks; fronts = []; goes = λ n. false }
 
   once : (n : ℕ) → length f.names ≤ n → times_made n G.blocks ≤ 1
   once n low =
@@ -90,7 +91,7 @@ module _ (m : Module) (k : ℕ) (f : Function) (front : List Instr) (names : Lis
 
   front_put : (b : Block) → slice_get G.blocks 0 ≡ Some (record b { instrs = front ++ b.instrs }) → (j : Instr) → IsListed j front → (now : List ℕ) → IsPutIn W m f 0 now j
   front_put b there j l now =
-      let x = of_listed (IsNewAlloca m (length f.names) (length f.names + length names)) front fit.each j l in
+      let x = of_listed (IsNewAlloca stage m (length f.names) (length f.names + length names)) front fit.each j l in
       let i : Instr = Instr.Alloca x.name x.ty x.align in
       let c : Block = record b { instrs = front ++ b.instrs } in
       let inside : IsListed i c.instrs = listed_left i front b.instrs (subst (λ (y : Instr). IsListed y front) x.is l) in
@@ -148,5 +149,19 @@ module _ (m : Module) (k : ℕ) (f : Function) (front : List Instr) (names : Lis
         once = once;
       }
 
-  pub front_keeps : AreIncomingOnce f → KeepsFunctionRules m k G
-  front_keeps labels = rules_woven W m k f G front_woven keeps labels
+  -- each block has the phis that it had
+  phis_stay : (at : ℕ) (bs : List Block) (b c : Block) → slice_get bs at ≡ Some b
+      → slice_get (with_front_block front bs) at ≡ Some c → c.phis ≡ b.phis
+  phis_stay at [] b c d e = absurd (cc)
+  phis_stay zero (x ∷ bs) b c d e =
+      let old : x ≡ b = cc in
+      let new : record x { instrs = front ++ x.instrs } ≡ c = cc in
+      ap (λ (y : Block). y.phis) (sym new) ∙ ap (λ (y : Block). y.phis) old
+  phis_stay (suc at) (x ∷ bs) b c d e =
+      let both : Some c ≡ Some b = sym e ∙ d in
+      let same : c ≡ b = cc in
+      ap (λ (y : Block). y.phis) same
+
+  pub front_keeps : KeepsFunctionRulesAt stage m k G
+  front_keeps =
+      rules_woven_by W m k f G front_woven keeps (λ at b c there stands. inr (phis_stay at f.blocks b c there stands))

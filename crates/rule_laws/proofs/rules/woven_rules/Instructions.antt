@@ -37,7 +37,7 @@ module _ (w : Weaving) (m : Module) (f g : Function) (k : ℕ) (blocks : AreLaid
 
   -- what remains is the same to a rule, and what is put in doesn't break it
   record Leaves (breaks now : Place → Instr → Bool) : Type 0 where
-    put_in : (block : ℕ) (q : Place) (j : Instr) → q.block ≡ Some block → may_stand block j ≡ true → ((p : Place) → breaks_extents Stage.Source m p j ≡ false) → now q j ≡ false
+    put_in : (block : ℕ) (q : Place) (j : Instr) → q.block ≡ Some block → may_stand block j ≡ true → ((p : Place) → breaks_extents w.stage m p j ≡ false) → now q j ≡ false
     same : (p q : Place) (i j : Instr) → q.block ≡ p.block → InstrStays Like i j → now q j ≡ breaks p i
     id : (p q : Place) (r : Option ℕ) (must_tail : Bool) (ty : Option Ty) (xs ys : List Arg) → now q (Instr.Call r must_tail ty (Callee.Intrinsic Intrinsic.CoroId) ys) ≡ breaks p (Instr.Call r must_tail ty (Callee.Intrinsic Intrinsic.CoroId) xs)
 
@@ -73,13 +73,13 @@ module _ (w : Weaving) (m : Module) (f g : Function) (k : ℕ) (blocks : AreLaid
 
   -- ---- Y4
 
-  extents_same : (p q : Place) (i j : Instr) → InstrStays Like i j → breaks_extents Stage.Source m q j ≡ breaks_extents Stage.Source m p i
+  extents_same : (p q : Place) (i j : Instr) → InstrStays Like i j → breaks_extents w.stage m q j ≡ breaks_extents w.stage m p i
   extents_same p q _ _ (Binary r op flags ty a b c d x y) = refl
   extents_same p q _ _ _ = refl
 
-  pub extents_woven : first_past_extent Stage.Source m k f ≡ None → first_past_extent Stage.Source m k g ≡ None
+  pub extents_woven : first_past_extent w.stage m k f ≡ None → first_past_extent w.stage m k g ≡ None
   extents_woven =
-      left_out (breaks_extents Stage.Source m) (breaks_extents Stage.Source m)
+      left_out (breaks_extents w.stage m) (breaks_extents w.stage m)
       (record { put_in = λ block q j e s x. x q; same = λ p q i j e s. extents_same p q i j s; id = λ p q r must_tail ty xs ys. refl })
 
   -- ---- Y5

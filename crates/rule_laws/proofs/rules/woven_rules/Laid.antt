@@ -74,15 +74,23 @@ once_each f h = each_there (λ (b : Block). Each HasLabelsOnce b.phis) f.blocks 
 pub each_once : (f : Function) → AllLabelsOnce f.blocks → AreIncomingOnce f
 each_once f h k j b p e d = at_each HasLabelsOnce b.phis j p (at_each (λ (b : Block). Each HasLabelsOnce b.phis) f.blocks k b h e) d
 
+pub block_once : (f : Function) → AreIncomingOnce f → (at : ℕ) (b : Block) → slice_get f.blocks at ≡ Some b
+    → Each HasLabelsOnce b.phis
+block_once f once at b there = at_each (λ (x : Block). Each HasLabelsOnce x.phis) f.blocks at b (once_each f once) there
+
+-- the labels of the phis' operands are all different, or the phis stay
+abbrev pub AreOnceOrSame : List Phi → List Phi → Type 0
+AreOnceOrSame ps qs = Each HasLabelsOnce ps ⊎ (qs ≡ ps)
+
 -- ---- instructions and blocks
 
-pub record PutFits (m : Module) (g : Function) (block : ℕ) (j : Instr) : Type 0 where
+pub record PutFits (stage : Stage) (m : Module) (g : Function) (block : ℕ) (j : Instr) : Type 0 where
   pub operands : Each (IsSafe g) (instr_operands j)
   pub stands : may_stand block j ≡ true
   pub fits : fits_instr m (value_kind g) j ≡ true
   pub types : list_all (knows_type m) (instr_types j) ≡ true
   pub depths : all_fit m (instr_types j) ≡ true
-  pub extents : (p : Place) → breaks_extents Stage.Source m p j ≡ false
+  pub extents : (p : Place) → breaks_extents stage m p j ≡ false
   pub calls : (p : Place) → calls_otherwise m p (OfInstr j) ≡ false
 
 pub data Remains (w : Weaving) (f g : Function) : Instr → Instr → Type 0 where
@@ -90,12 +98,12 @@ pub data Remains (w : Weaving) (f g : Function) : Instr → Instr → Type 0 whe
   NoPromise : (r : Option ℕ) (must_tail : Bool) (ty : Option Ty) (a p : Arg) (args : List Arg) → Each (λ (b : Arg). goes_in w b.value ≡ false) (a ∷ args) → Remains w f g (Instr.Call r must_tail ty (Callee.Intrinsic Intrinsic.CoroId) (a ∷ p ∷ args)) (Instr.Call r must_tail ty (Callee.Intrinsic Intrinsic.CoroId) (a ∷ record p { value = Operand.Null } ∷ args))
 
 abbrev pub AreLaid : Weaving → Module → Function → Function → ℕ → List ℕ → List Instr → List Instr → Type 0
-AreLaid w m f g block = WeavesAll (λ (made : List ℕ). PutFits m g block) (MayGo w) (λ (made : List ℕ). Remains w f g)
+AreLaid w m f g block = WeavesAll (λ (made : List ℕ). PutFits w.stage m g block) (MayGo w) (λ (made : List ℕ). Remains w f g)
 
 pub record IsLaidBlock (w : Weaving) (m : Module) (f g : Function) (block : ℕ) (b c : Block) : Type 0 where
   pub label : c.label ≡ b.label
   pub phis : Pairwise (PhiStays (λ (from : ℕ). IsLike w f g)) b.phis c.phis
-  pub once : Each HasLabelsOnce b.phis
+  pub once : AreOnceOrSame b.phis c.phis
   pub instrs : AreLaid w m f g block (phi_values c) b.instrs c.instrs
   pub term : TermStays (IsLike w f g) b.term c.term
 
@@ -148,7 +156,7 @@ module _ (w : Weaving) (m : Module) (f g : Function) (h : IsWoven w m f g) (belo
     safe _ (Old v stays e reached) = Valued v (ap (λ (o : Option Kind). is_some o) (old_kind w m f g v (valued_old v e) stays h) ∙ e)
     safe _ (Constant x e) = Unnamed x e
 
-    put_fits : (j : Instr) → IsPutIn w m f block made j → PutFits m g block j
+    put_fits : (j : Instr) → IsPutIn w m f block made j → PutFits w.stage m g block j
     put_fits j p =
         record {
           operands = each_turns (IsKnown w f block made) (IsSafe g) safe (instr_operands j) p.operands;
@@ -184,7 +192,7 @@ module _ (w : Weaving) (m : Module) (f g : Function) (h : IsWoven w m f g) (belo
       (λ from x y u k. like (position_of g from) (values_at g (position_of g from)) (λ n l. l) x y k) p q (each_all (λ (x : Operand). Unit {0}) (λ x. tt) (map (λ (i : Incoming). i.value) p.incoming)) s)
       (phis_laid ps qs rest)
 
-  laid_block : (block : ℕ) (b c : Block) → slice_get g.blocks block ≡ Some c → Each HasLabelsOnce b.phis → IsWovenBlock w m f g block b c → IsLaidBlock w m f g block b c
+  laid_block : (block : ℕ) (b c : Block) → slice_get g.blocks block ≡ Some c → AreOnceOrSame b.phis c.phis → IsWovenBlock w m f g block b c → IsLaidBlock w m f g block b c
   laid_block block b c e once s =
       let up : (n : ℕ) → IsListed n (block_values c) → IsListed n (values_at g block) = λ n l. subst (λ (o : Option Block). IsListed n (values_in o)) (sym e) l in
       record {
@@ -195,15 +203,21 @@ module _ (w : Weaving) (m : Module) (f g : Function) (h : IsWoven w m f g) (belo
         term = laid_term block (block_values c) up b.term c.term s.term;
       }
 
-  laid_blocks : (block : ℕ) (bs cs : List Block) → ((at : ℕ) (c : Block) → slice_get cs at ≡ Some c → slice_get g.blocks (block + at) ≡ Some c) → AllLabelsOnce bs → AreWovenBlocks w m f g block bs cs → AreLaidBlocks w m f g block bs cs
+  laid_blocks : (block : ℕ) (bs cs : List Block)
+      → ((at : ℕ) (c : Block) → slice_get cs at ≡ Some c → slice_get g.blocks (block + at) ≡ Some c)
+      → ((at : ℕ) (b c : Block) → slice_get bs at ≡ Some b → slice_get cs at ≡ Some c → AreOnceOrSame b.phis c.phis)
+      → AreWovenBlocks w m f g block bs cs → AreLaidBlocks w m f g block bs cs
   laid_blocks block _ _ there once (NoBlock _) = NoneLaid block
   laid_blocks block _ _ there once (OneBlock _ b c bs cs s rest) =
       let here : block + 0 ≡ block = omega arith in
       OneLaid block b c bs cs
-      (laid_block block b c (subst (λ (n : ℕ). slice_get g.blocks n ≡ Some c) here (there 0 c refl)) once.0 s)
-      (laid_blocks (block + 1) bs cs (λ at d e. let next : block + suc at ≡ block + 1 + at = omega arith in subst (λ (n : ℕ). slice_get g.blocks n ≡ Some d) next (there (suc at) d e)) once.1 rest)
+      (laid_block block b c (subst (λ (n : ℕ). slice_get g.blocks n ≡ Some c) here (there 0 c refl)) (once 0 b c refl refl) s)
+      (laid_blocks (block + 1) bs cs (λ at d e. let next : block + suc at ≡ block + 1 + at = omega arith in subst (λ (n : ℕ). slice_get g.blocks n ≡ Some d) next (there (suc at) d e)) (λ at x y d e. once (suc at) x y d e) rest)
+
+  pub laid_by : ((at : ℕ) (b c : Block) → slice_get f.blocks at ≡ Some b → slice_get g.blocks at ≡ Some c
+      → AreOnceOrSame b.phis c.phis) → AreLaidBlocks w m f g 0 f.blocks g.blocks
+  laid_by once =
+      laid_blocks 0 f.blocks g.blocks (λ at c e. let same : at ≡ 0 + at = omega arith in subst (λ (n : ℕ). slice_get g.blocks n ≡ Some c) same e) once h.blocks
 
   pub laid : AreIncomingOnce f → AreLaidBlocks w m f g 0 f.blocks g.blocks
-  laid all_once =
-      let once : AllLabelsOnce f.blocks = once_each f all_once in
-      laid_blocks 0 f.blocks g.blocks (λ at c e. let same : at ≡ 0 + at = omega arith in subst (λ (n : ℕ). slice_get g.blocks n ≡ Some c) same e) once h.blocks
+  laid all_once = laid_by (λ at b c d e. inl (block_once f all_once at b d))

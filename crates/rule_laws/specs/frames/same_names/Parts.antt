@@ -24,6 +24,17 @@ pub record HasPart (n : Module) (x : Name) : Type 0 where
   pub is_no_global : global_named n x ≡ None
   pub is_not_declared : declaration_named n x ≡ None
 
+-- The second module has the types, globals and declarations of the first, and its functions with their names and types; what
+-- the first only declares, or has as a global, is no function of the second.
+pub record HasFunctionsOf (m n : Module) : Type 0 where
+  pub types : n.types ≡ m.types
+  pub globals : n.globals ≡ m.globals
+  pub declarations : n.declarations ≡ m.declarations
+  pub functions : (x : Name) (k : ℕ) (f : Function) → function_named m x ≡ Some k → slice_get m.functions k ≡ Some f
+      → HasSignature n x f.result (map (λ p. p.ty) f.params)
+  pub others : (x : Name) → function_named m x ≡ None
+      → (is_some (declaration_named m x) || is_some (global_named m x)) ≡ true → function_named n x ≡ None
+
 -- The second module has the types, globals and declarations of the first, its functions with their names and types, and
 -- of each coroutine its parts; what the first only declares, or has as a global, is no function of the second.
 pub record HasPartsOf (m n : Module) : Type 0 where

@@ -17,16 +17,20 @@ use Rattle.rule_types.specs.Signatures.{other_types}
 use Rattle.rule_values.specs.Initials.{wrong_initials}
 use Rattle.rule_values.specs.Values.{first_wrong_value}
 
--- a function breaks none of Y1, Y3, Y4, Y5, F3, P1, K1 and K13
-pub record BreaksNoLocalRuleIn (m : Module) (k : ℕ) (f : Function) : Type 0 where
+-- a function breaks none of Y1, Y3, Y4, Y5, F3, P1, K1 and K13, and its allocas are no larger than a stage allows
+pub record BreaksNoLocalRuleAt (stage : Stage) (m : Module) (k : ℕ) (f : Function) : Type 0 where
   pub values : first_wrong_value m k f ≡ None
   pub closed_calls : first_closed_call m k f ≡ None
-  pub extents : first_past_extent Stage.Source m k f ≡ None
+  pub extents : first_past_extent stage m k f ≡ None
   pub transfers : first_wrong_transfer Stage.Source k f ≡ None
   pub allocas : first_late_alloca k f ≡ None
   pub function_pointers : first_function_pointer m k f ≡ None
   pub misplaced : first_misplaced Stage.Source k f ≡ None
   pub marks : first_other_mark m k f ≡ None
+
+-- so it is by the limits of sources
+abbrev pub BreaksNoLocalRuleIn : Module → ℕ → Function → Type 0
+BreaksNoLocalRuleIn m k f = BreaksNoLocalRuleAt Stage.Source m k f
 
 -- a module breaks none of N1, N2 and Y2, of Y1 and Y4 of globals, and of these
 pub record BreaksNoLocalRule (m : Module) : Type 0 where

@@ -19,7 +19,6 @@ use Rattle.ir_laws.specs.ir_model.declared.operand.Operand.{Operand}
 use Rattle.rule_locals.specs.Extents.{breaks_extents}
 use Rattle.rule_locals.specs.Markers.{is_marker}
 use Rattle.rule_names.specs.Known.{knows_type}
-use Rattle.rule_names.specs.declared.stage.Stage.{Stage}
 use Rattle.ir_laws.specs.run_laws.changed.Changed.{Each}
 use Rattle.rule_types.specs.Limits.{all_fit}
 use Rattle.rule_types.specs.Signatures.{calls_otherwise}
@@ -57,7 +56,7 @@ pub record IsPutIn (w : Weaving) (m : Module) (f : Function) (block : ℕ) (made
   pub fits : fits_instr m (kinds_with w f) i ≡ true
   pub types : list_all (knows_type m) (instr_types i) ≡ true
   pub depths : all_fit m (instr_types i) ≡ true
-  pub extents : (p : Place) → breaks_extents Stage.Source m p i ≡ false
+  pub extents : (p : Place) → breaks_extents w.stage m p i ≡ false
   pub calls : (p : Place) → calls_otherwise m p (OfInstr i) ≡ false
 
 -- ---- those that go and those that stay

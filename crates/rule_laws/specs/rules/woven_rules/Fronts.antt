@@ -30,8 +30,8 @@ abbrev pub results_of : List Instr → List ℕ
 results_of [] = []
 results_of (i ∷ is) = option_to_list (result_of i) ++ results_of is
 
--- an alloca of a new name, of a type and an alignment that may stand in a module
-pub record IsNewAlloca (m : Module) (first after : ℕ) (i : Instr) : Type 0 where
+-- an alloca of a new name, of a type and an alignment that may stand in a module at a stage
+pub record IsNewAlloca (stage : Stage) (m : Module) (first after : ℕ) (i : Instr) : Type 0 where
   pub name : ℕ
   pub ty : Ty
   pub align : ℕ
@@ -41,9 +41,10 @@ pub record IsNewAlloca (m : Module) (first after : ℕ) (i : Instr) : Type 0 whe
   pub tokenless : is_tokenless ty ≡ true
   pub types : list_all (knows_type m) (instr_types (Instr.Alloca name ty align)) ≡ true
   pub depths : all_fit m (instr_types (Instr.Alloca name ty align)) ≡ true
-  pub extents : (p : Place) → breaks_extents Stage.Source m p (Instr.Alloca name ty align) ≡ false
+  pub extents : (p : Place) → breaks_extents stage m p (Instr.Alloca name ty align) ≡ false
 
 -- the instructions are such allocas, each of another name
-pub record FrontFits (m : Module) (f : Function) (front : List Instr) (names : List Name) : Type 0 where
-  pub each : Each (IsNewAlloca m (length f.names) (length f.names + length names)) front
-  pub different : AreDifferent (results_of front)
+pub record FrontFits (stage : Stage) (m : Module) (f : Function) (front : List Instr) (names : List Name) : Type 0
+  where
+    pub each : Each (IsNewAlloca stage m (length f.names) (length f.names + length names)) front
+    pub different : AreDifferent (results_of front)

@@ -5,12 +5,14 @@ use Rattle.ir_laws.specs.flow_solver.Paths.{IsListed}
 use Rattle.ir_laws.specs.ir_model.declared.module.Function.{Function}
 use Rattle.ir_laws.specs.ir_model.declared.operand.Operand.{Operand}
 use Rattle.ir_laws.specs.ir_locals.Tables.{or_first}
+use Rattle.rule_names.specs.declared.stage.Stage.{Stage}
 use Rattle.rule_values.specs.Kinds.{value_kind}
 use Rattle.rule_values.specs.declared.kinds.Kind.{Kind}
 
 -- Names from `first` on and before `after` are new; `kinds` says what a new value is; `fronts` are new values that the entry block
--- makes; `goes` says which of the names before `first` are no more.
+-- makes; `goes` says which of the names before `first` are no more. Allocas are no larger than `stage` allows.
 pub record Weaving : Type 0 where
+  pub stage : Stage
   pub first : ℕ
   pub after : ℕ
   pub kinds : ℕ → Option Kind
