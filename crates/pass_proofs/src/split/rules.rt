@@ -14,7 +14,7 @@ ghost use Rattle.rule_laws.specs.pass_intrinsics.declared.shape.Shape.{Shape};
 ghost use Rattle.ir_model.specs.declared.module.Block.{Block};
 ghost use Rattle.pass_proofs.specs.split.rules.Pieced.{ArePiecesOf};
 ghost use Rattle.rule_laws.specs.frame_layout.declared.layout.Layout.{Layout};
-ghost use Rattle.rule_laws.specs.rules.function_rules.Kept.{KeepsFunctionRules};
+ghost use Rattle.rule_laws.specs.rules.function_rules.Kept.{KeepsFunctionRules, KeepsFunctionRulesAt};
 ghost use Rattle.rule_laws.specs.pass_intrinsics.Shapes.{shape_of};
 ghost use Rattle.ir_model.specs.declared.module.Function.{Function};
 ghost use Rattle.ir_model.specs.declared.module.Module.{Module};
@@ -24,6 +24,7 @@ ghost use Rattle.pass_proofs.specs.split.rules.Parted.{IsPartOf};
 ghost use Rattle.pass_split.specs.Parts.{plain_of, plain_shape};
 ghost use Rattle.rule_laws.specs.pass_intrinsics.Cuts.{goes_on};
 ghost use Rattle.rule_laws.specs.rule_names.Known.{first_unknown};
+ghost use Rattle.rule_laws.specs.rule_names.declared.stage.Stage.{Stage};
 ghost use Rattle.rule_laws.specs.frames.replaced.Parted.{IsSmall};
 ghost use Rattle.rule_laws.specs.rules.replaced.Returns.{ReturnsNothing};
 ghost use Rattle.pass_proofs.specs.split.rules.Splittable.{IsSplittable};
@@ -46,7 +47,9 @@ pub fn parts_keep_rules_of_instructions()
 
 /// Nor does a function that is no coroutine, once its resumes, destroys, tests and promises are turned.
 pub fn plain_functions_keep_rules_of_instructions()
-    ensures { (m n : Module) (k l : ℕ) (f : Function) → HasPartsOf m n → slice_get m.functions k ≡ Some f → f.coroutine ≡ false → KeepsFunctionRules m k f → KeepsRulesOfInstructions n l (plain_of (plain_shape f) f) }
+    ensures { (stage : Stage) (m n : Module) (k l : ℕ) (f : Function) → HasPartsOf m n
+        → slice_get m.functions k ≡ Some f → f.coroutine ≡ false → KeepsFunctionRulesAt stage m k f
+        → KeepsRulesOfInstructions n l (plain_of (plain_shape f) f) }
 {}
 
 /// In the parts of a coroutine names are known (N2) and operands and results fit their types (Y1), where the locals that they
@@ -57,7 +60,8 @@ pub fn parts_know_names_and_fit_types()
 
 /// So it is in what becomes of a function that is no coroutine.
 pub fn plain_functions_know_names_and_fit_types()
-    ensures { (m n : Module) (k l : ℕ) (f : Function) → HasPartsOf m n → slice_get m.functions k ≡ Some f → f.coroutine ≡ false → KeepsFunctionRules m k f → KnowsItsLocals l (plain_of (plain_shape f) f) → (first_unknown n l (plain_of (plain_shape f) f) ≡ None) × (first_wrong_value n l (plain_of (plain_shape f) f) ≡ None) }
+    ensures { (stage : Stage) (m n : Module) (k l : ℕ) (f : Function) → HasPartsOf m n
+        → slice_get m.functions k ≡ Some f → f.coroutine ≡ false → KeepsFunctionRulesAt stage m k f → KnowsItsLocals l (plain_of (plain_shape f) f) → (first_unknown n l (plain_of (plain_shape f) f) ≡ None) × (first_wrong_value n l (plain_of (plain_shape f) f) ≡ None) }
 {}
 
 /// The labels that are flagged are those to which paths lead from the entry.

@@ -10,6 +10,7 @@ use Rattle.pass_proofs.proofs.rule_laws.rules.source_rules.Locals.{own_label}
 use Rattle.pass_proofs.proofs.rule_laws.rules.turned.Turned.{IsOuter}
 use Rattle.pass_proofs.specs.ir_laws.paths.woven_rules.Pairs.{AreDifferent}
 use Rattle.pass_proofs.specs.rule_laws.rules.function_rules.Kept.{KeepsFunctionRules}
+use Rattle.pass_proofs.specs.rule_names.declared.stage.Stage.{Stage}
 use Rattle.pass_proofs.specs.ir_model.Names.{position_of}
 use Rattle.pass_proofs.specs.ir_model.declared.instr.Instr.{Instr}
 use Rattle.pass_proofs.specs.ir_model.declared.instr.Terminator.{Terminator}
@@ -85,7 +86,7 @@ module _ (m : Module) (k : ℕ) (f : Function) (coroutine : f.coroutine ≡ fals
   last = next_after s Part.Ramp [] s.base f.blocks
 
   turned : AreTurned (plain_shape f) (length f.names) f.blocks (plain_of (plain_shape f) f).blocks
-  turned = blocks_turned m k f coroutine rules
+  turned = blocks_turned Stage.Source m k f coroutine rules
 
   different : AreDifferent (labels g.blocks)
   different = subst AreDifferent (sym (labels_stay s (length f.names) f.blocks g.blocks turned))

@@ -68,7 +68,7 @@ module _ (w : Weaving) (m : Module) (f : Function) (block : ℕ) (made : List �
         fits = cell_tokenless t h;
         types = λ j. cell_known m t h j && true;
         depths = λ j. cell_shallow m t h j && true;
-        extents = λ p j. not (cell_sized m t h j && cell_aligned t h j);
+        extents = λ p j. not (cell_sized w.stage m t h j && cell_aligned t h j);
         calls = λ p. refl;
       }
 

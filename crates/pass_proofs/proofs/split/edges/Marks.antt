@@ -34,7 +34,7 @@ use Rattle.pass_proofs.proofs.split.edges.Sources.{pruned_part}
 use Rattle.rule_laws.specs.frames.same_names.Parts.{HasPartsOf}
 use Rattle.pass_proofs.proofs.split.rules.Carried.{index_instrs, part_carried}
 use Rattle.pass_proofs.proofs.split.rules.Local.{instr_carried}
-use Rattle.rule_laws.proofs.frames.replaced.Modules.{size_there}
+use Rattle.rule_laws.proofs.frames.replaced.Modules.{has_functions, size_there}
 use Rattle.rule_laws.proofs.frames.replaced.Saves.{saves_below}
 use Rattle.pass_proofs.specs.split.rules.Parted.{IsPartOf}
 use Rattle.pass_proofs.specs.split.rules.Pieced.{ArePiecesOf, NoBlock, OneBlock}
@@ -84,7 +84,7 @@ front_size m (i ∷ xs) ys v z e = on (made_size m i v) e (front_size m xs ys v 
 -- types have the sizes that they had
 module _ (m n : Module) (h : HasPartsOf m n) where
   made_there : (i : Instr) (v : ℕ) → made_size n i v ≡ made_size m i v
-  made_there (Instr.Alloca r ty align) v = ap (λ (k : ℕ). if r == v then Some k else None) (size_there m n h ty)
+  made_there (Instr.Alloca r ty align) v = ap (λ (k : ℕ). if r == v then Some k else None) (size_there m n (has_functions m n h) ty)
   made_there _ v = refl
 
   sizes_there : (is : List Instr) (v : ℕ) → first_in (made_size n) is v ≡ first_in (made_size m) is v

@@ -12,7 +12,7 @@ use Rattle.rule_laws.specs.rules.source_rules.Named.{HasTabledLocals}
 use Rattle.rule_laws.specs.ir_parts.Contents.{ending_labels}
 use Rattle.rule_laws.specs.ir_parts.Locals.{locals_of}
 use Rattle.rule_laws.specs.ir_parts.Parts.{Ending, OfInstr, parts_of}
-use Rattle.rule_laws.specs.rules.function_rules.Kept.{KeepsFunctionRules}
+use Rattle.rule_laws.specs.rules.function_rules.Kept.{KeepsFunctionRulesAt}
 use Rattle.rule_laws.specs.pass_intrinsics.declared.shape.Part.{Part}
 use Rattle.rule_laws.specs.pass_intrinsics.declared.shape.Shape.{Shape}
 use Rattle.ir_model.specs.Ty.{Ty}
@@ -26,6 +26,7 @@ use Rattle.ir_model.specs.declared.operand.Intrinsic.{Intrinsic}
 use Rattle.rule_laws.specs.rule_locals.Instrs.{on_instr}
 use Rattle.rule_laws.specs.rule_locals.Intrinsics.{calls_inner, is_inner}
 use Rattle.rule_laws.specs.rule_names.Known.{is_label, is_value, names_unknown}
+use Rattle.rule_laws.specs.rule_names.declared.stage.Stage.{Stage}
 use Rattle.rule_laws.proofs.rules.turned.Defined.{defined_low}
 use Rattle.rule_laws.proofs.frames.turned.Edges.{edges_turned}
 use Rattle.rule_laws.proofs.frames.turned.Known.{locals_known, term_labels}
@@ -119,8 +120,10 @@ module _ (m : Module) (k : ℕ) (f : Function) (tabled : HasTabledLocals k f) wh
 -- ---- the function
 
 -- the blocks, turned
-pub blocks_turned : (m : Module) (k : ℕ) (f : Function) → f.coroutine ≡ false → KeepsFunctionRules m k f → AreTurned (plain_shape f) (length f.names) f.blocks (plain_of (plain_shape f) f).blocks
-blocks_turned m k f coroutine rules =
+pub blocks_turned : (stage : Stage) (m : Module) (k : ℕ) (f : Function) → f.coroutine ≡ false
+    → KeepsFunctionRulesAt stage m k f
+    → AreTurned (plain_shape f) (length f.names) f.blocks (plain_of (plain_shape f) f).blocks
+blocks_turned stage m k f coroutine rules =
     let s : Shape = plain_shape f in
     let g : Function = plain_of s f in
     let fits = no_either (either (on_instr (calls_inner f.coroutine)) (calls_otherwise m)) (breaks_values m (value_kind f) f.result) (parts_of k f)
@@ -129,13 +132,15 @@ blocks_turned m k f coroutine rules =
     (outer_blocks m f coroutine f.blocks (all_pass (Fits m f) k f fits))
     (no_end_blocks m k f rules.tabled f.blocks (all_pass (names_unknown m (is_value k f) (is_label k f)) k f rules.known))).0
 
-pub turned_keeps : (m n : Module) (k l : ℕ) (f : Function) → HasPartsOf m n → slice_get m.functions k ≡ Some f → f.coroutine ≡ false → KeepsFunctionRules m k f → KeepsPlainRules n l (plain_of (plain_shape f) f)
-turned_keeps m n k l f h stands coroutine rules =
+pub turned_keeps : (stage : Stage) (m n : Module) (k l : ℕ) (f : Function) → HasPartsOf m n
+    → slice_get m.functions k ≡ Some f → f.coroutine ≡ false → KeepsFunctionRulesAt stage m k f
+    → KeepsPlainRules n l (plain_of (plain_shape f) f)
+turned_keeps stage m n k l f h stands coroutine rules =
     let s : Shape = plain_shape f in
     let g : Function = plain_of s f in
-    let blocks : AreTurned s (length f.names) f.blocks g.blocks = blocks_turned m k f coroutine rules in
-    let kept = plain_kept m n k l f h stands coroutine rules in
-    let named = plain_named m n k l f h stands coroutine rules (locals_known s m k l f g (length f.names) blocks refl rules.known) in
+    let blocks : AreTurned s (length f.names) f.blocks g.blocks = blocks_turned stage m k f coroutine rules in
+    let kept = plain_kept stage m n k l f h stands coroutine rules in
+    let named = plain_named stage m n k l f h stands coroutine rules (locals_known s m k l f g (length f.names) blocks refl rules.known) in
     record {
       definitions = once_turned s k l f g blocks refl rules.tabled rules.definitions;
       known = named.0;

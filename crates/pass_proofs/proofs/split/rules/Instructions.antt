@@ -14,7 +14,7 @@ use Rattle.rule_laws.proofs.ir_laws.facts.Truth.{and_both, first_no, holds, seco
 use Rattle.rule_laws.specs.frame_layout.declared.layout.Layout.{Layout}
 use Rattle.rule_laws.specs.ir_parts.Contents.{part_types}
 use Rattle.rule_laws.specs.ir_parts.Parts.{OfInstr, Part as FunctionPart, Signature, first_part, parts_of}
-use Rattle.rule_laws.specs.rules.function_rules.Kept.{KeepsFunctionRules}
+use Rattle.rule_laws.specs.rules.function_rules.Kept.{KeepsFunctionRules, KeepsFunctionRulesAt}
 use Rattle.rule_laws.specs.pass_intrinsics.Lowered.{number_of_save}
 use Rattle.rule_laws.specs.pass_intrinsics.Shapes.{given_name, shape_of}
 use Rattle.rule_laws.specs.pass_intrinsics.declared.shape.Part.{Part}
@@ -41,7 +41,7 @@ use Rattle.rule_laws.proofs.rules.replaced.Known.{called_before, types_before}
 use Rattle.pass_proofs.proofs.split.rules.Known.{KnowsParts, known_carried, now_known}
 use Rattle.pass_proofs.proofs.split.rules.Local.{calls_carried, closed_before, closed_carried, deep, deep_again, depths_carried, extents_carried, transfers_carried}
 use Rattle.rule_laws.proofs.rules.fetching_rules.Puts.{ptr_shallow as shallow_ptr}
-use Rattle.rule_laws.proofs.frames.replaced.Modules.{all_known}
+use Rattle.rule_laws.proofs.frames.replaced.Modules.{all_known, has_functions}
 use Rattle.rule_laws.proofs.frames.replaced.Saves.{saves_below}
 use Rattle.rule_laws.specs.rules.replaced.Instructions.{KeepsRulesOfInstructions, names_strange}
 use Rattle.pass_proofs.specs.split.rules.Parted.{IsCleanup, IsDestroy, IsGivenRamp, IsPartOf, IsRamp, IsResume}
@@ -87,7 +87,8 @@ signature_types P join s _ f _ IsResume a b = b
 signature_types P join s _ f _ IsDestroy a b = b
 signature_types P join s _ f _ IsCleanup a b = b
 
-module _ (m n : Module) (k l : ℕ) (f g : Function) (h : HasPartsOf m n) (stands : slice_get m.functions k ≡ Some f) (rules : KeepsFunctionRules m k f) where
+module _ (stage : Stage) (m n : Module) (k l : ℕ) (f g : Function) (h : HasPartsOf m n)
+    (stands : slice_get m.functions k ≡ Some f) (rules : KeepsFunctionRulesAt stage m k f) where
   -- what is known of the names of parts, for calls that store them
   abbrev Own : Shape → Part → (Place → FunctionPart → Bool) → Type 0
   Own s part extra = (p : Place) (r : Option ℕ) (must_tail : Bool) (ty : Option Ty) (x : Intrinsic) (args : List Arg) → extra p (OfInstr (Instr.Call r must_tail ty (Callee.Intrinsic x) args)) ≡ false → is_inner x ≡ true → KnowsParts n s part
@@ -99,7 +100,7 @@ module _ (m n : Module) (k l : ℕ) (f g : Function) (h : HasPartsOf m n) (stand
   labels = is_label k f
 
   known_signature : (p q : Place) → names_unknown m values labels p (Signature f) ≡ false → names_strange n q (Signature f) ≡ false
-  known_signature p q e = now_known m n h values labels q (Signature f) (all_known m n h (part_types (Signature f)) ∙ types_before m values labels p (Signature f) e) refl refl
+  known_signature p q e = now_known m n h values labels q (Signature f) (all_known m n (has_functions m n h) (part_types (Signature f)) ∙ types_before m values labels p (Signature f) e) refl refl
 
   -- each rule is carried where each signature is
   module _ (s : Shape) (part : Part) (saves : (r : Option ℕ) (j : ℕ) → number_of_save s r ≡ Some j → j < length s.suspends)
@@ -110,7 +111,7 @@ module _ (m n : Module) (k l : ℕ) (f g : Function) (h : HasPartsOf m n) (stand
     strange_signature p q e =
         let before = first_no (names_unknown m values labels p (Signature f)) false (first_no (names_unknown m values labels p (Signature f) || false) (extra p (Signature f)) e) in
         now_known m n h values labels q (Signature g)
-        (types (λ (ts : List Ty). list_all (knows_type n) ts ≡ true) (λ ts us a b. list_all-append (knows_type n) ts us ∙ and_both (list_all (knows_type n) ts) (list_all (knows_type n) us) a b) (all_known m n h (part_types (Signature f)) ∙ types_before m values labels p (Signature f) before) refl) refl refl
+        (types (λ (ts : List Ty). list_all (knows_type n) ts ≡ true) (λ ts us a b. list_all-append (knows_type n) ts us ∙ and_both (list_all (knows_type n) ts) (list_all (knows_type n) us) a b) (all_known m n (has_functions m n h) (part_types (Signature f)) ∙ types_before m values labels p (Signature f) before) refl) refl refl
 
     deep_joined : (q : Place) (ts us : List Ty) → (is_block_past Stage.Plain q.block || not (all_fit n ts)) ≡ false → (is_block_past Stage.Plain q.block || not (all_fit n us)) ≡ false → (is_block_past Stage.Plain q.block || not (all_fit n (ts ++ us))) ≡ false
     deep_joined q ts us a b =
@@ -136,8 +137,9 @@ module _ (m n : Module) (k l : ℕ) (f g : Function) (h : HasPartsOf m n) (stand
           calls = carry (calls_otherwise m) (calls_otherwise n) (calls_carried m n h s part saves) (λ p q e. refl) calls;
           closed_calls = carry (either (on_instr (closed_before m)) (calls_otherwise m)) (on_instr (calls_closed n)) (closed_carried m n h s part saves) (λ p q e. refl)
               (no_either (on_instr (closed_before m)) (calls_otherwise m) (parts_of k f) (closed_too m values labels (parts_of k f) rules.local.closed_calls rules.known) calls);
-          extents = carry (either (on_instr (breaks_extents Stage.Source m)) (calls_otherwise m)) (on_instr (breaks_extents Stage.Plain n)) (extents_carried m n h s part saves) (λ p q e. refl)
-              (no_either (on_instr (breaks_extents Stage.Source m)) (calls_otherwise m) (parts_of k f) rules.local.extents calls);
+          extents = carry (either (on_instr (breaks_extents stage m)) (calls_otherwise m))
+              (on_instr (breaks_extents Stage.Plain n)) (extents_carried m n h s part saves stage) (λ p q e. refl)
+              (no_either (on_instr (breaks_extents stage m)) (calls_otherwise m) (parts_of k f) rules.local.extents calls);
           transfers = carry (either (on_instr (breaks_transfers Stage.Source f)) (calls_otherwise m)) (on_instr (breaks_transfers Stage.Plain g)) (transfers_carried m n h s part saves f g) (λ p q e. refl)
               (no_either (on_instr (breaks_transfers Stage.Source f)) (calls_otherwise m) (parts_of k f) rules.local.transfers calls);
         }
@@ -148,7 +150,7 @@ parts_kept m n k l layout part f g h stands coroutine rules is given =
     let s : Shape = shape_of f layout in
     let resume : knows_name n s.resume_name ≡ true = part_there n s.resume_name (h.resumes k f stands coroutine) in
     let destroy : knows_name n s.destroy_name ≡ true = part_there n s.destroy_name (h.destroys k f stands coroutine) in
-    instructions_kept m n k l f g h stands rules s part (saves_below f layout)
+    instructions_kept Stage.Source m n k l f g h stands rules s part (saves_below f layout)
     (λ breaks now over signature e. part_carried s part 0 breaks now over (omega arith) k l f g is signature e) (λ P join a b. signature_types P join s part f g is a b) (λ p x. false)
     (λ p r must_tail ty x args e o. record { resume = resume; destroy = destroy; cleanup = λ d. part_there n s.cleanup_name (given d) }) (never (parts_of k f))
   where
@@ -164,9 +166,11 @@ pub no_saves : (f : Function) (r : Option ℕ) (j : ℕ) → number_of_save (pla
 no_saves f None j e = absurd (cc)
 no_saves f (Some r) j e = absurd (cc)
 
-pub plain_kept : (m n : Module) (k l : ℕ) (f : Function) → HasPartsOf m n → slice_get m.functions k ≡ Some f → f.coroutine ≡ false → KeepsFunctionRules m k f → KeepsRulesOfInstructions n l (plain_of (plain_shape f) f)
-plain_kept m n k l f h stands coroutine rules =
+pub plain_kept : (stage : Stage) (m n : Module) (k l : ℕ) (f : Function) → HasPartsOf m n
+    → slice_get m.functions k ≡ Some f → f.coroutine ≡ false → KeepsFunctionRulesAt stage m k f
+    → KeepsRulesOfInstructions n l (plain_of (plain_shape f) f)
+plain_kept stage m n k l f h stands coroutine rules =
     let s : Shape = plain_shape f in
-    instructions_kept m n k l f (plain_of s f) h stands rules s Part.Ramp (no_saves f)
+    instructions_kept stage m n k l f (plain_of s f) h stands rules s Part.Ramp (no_saves f)
     (λ breaks now over signature e. plain_carried s 0 breaks now over (omega arith) k l f signature e) (λ P join a b. a) (on_instr (calls_inner false)) (no_parts n s)
     (subst (λ (b : Bool). first_part (misplaces Stage.Source b) (parts_of k f) ≡ None) coroutine rules.local.misplaced)

@@ -30,7 +30,7 @@ use Rattle.rule_laws.specs.rule_names.Known.{knows_address, knows_called, knows_
 use Rattle.rule_laws.specs.frames.same_names.Parts.{HasPartsOf}
 use Rattle.pass_proofs.proofs.split.rules.Carried.{Carries}
 use Rattle.pass_proofs.proofs.split.rules.Local.{Lowers, Replaced, Same, lowers, same_term_operands, same_term_types}
-use Rattle.rule_laws.proofs.frames.replaced.Modules.{address_known, all_known, callee_known}
+use Rattle.rule_laws.proofs.frames.replaced.Modules.{address_known, all_known, callee_known, has_functions}
 use Rattle.rule_laws.specs.rules.replaced.Instructions.{names_strange}
 use Rattle.rule_laws.specs.frames.replaced.Replaced.{Address, Calls, First, Frame, Given, IsPointer, Loads, NoFrame, Number, OfParameter, Replaces, Second, StoresCleanup, StoresDestroy, StoresIndex, StoresNull, StoresResume, Tests, Truth}
 use Rattle.rule_laws.specs.run_laws.changed.Changed.{Each}
@@ -64,7 +64,7 @@ module _ (m n : Module) (h : HasPartsOf m n) (values labels : ℕ → Bool) wher
 
   known_again : (x : Operand) → Before x → Known x
   known_again (Operand.Local v) e = refl
-  known_again (Operand.Global x) e = address_known m n h x e
+  known_again (Operand.Global x) e = address_known m n (has_functions m n h) x e
   known_again (Operand.Number z) e = refl
   known_again Operand.True e = refl
   known_again Operand.False e = refl
@@ -83,12 +83,12 @@ module _ (m n : Module) (h : HasPartsOf m n) (values labels : ℕ → Bool) wher
       (and_both (list_all (λ (l : ℕ). true) (part_labels y)) (knows_called n y) (all_true (part_labels y)) c)))
 
   called_again : (i : Instr) → knows_called m (OfInstr i) ≡ true → knows_called n (OfInstr i) ≡ true
-  called_again (Instr.Call r must_tail ty callee args) e = callee_known m n h callee e
+  called_again (Instr.Call r must_tail ty callee args) e = callee_known m n (has_functions m n h) callee e
   called_again _ e = refl
 
   same_again : (p q : Place) (i : Instr) → names_unknown m values labels p (OfInstr i) ≡ false → names_strange n q (OfInstr i) ≡ false
   same_again p q i e =
-      now_known q (OfInstr i) (all_known m n h (instr_types i) ∙ types_before m values labels p (OfInstr i) e) (all_again (instr_operands i) (operands_before m values labels p (OfInstr i) e)) (called_again i (called_before m values labels p (OfInstr i) e))
+      now_known q (OfInstr i) (all_known m n (has_functions m n h) (instr_types i) ∙ types_before m values labels p (OfInstr i) e) (all_again (instr_operands i) (operands_before m values labels p (OfInstr i) e)) (called_again i (called_before m values labels p (OfInstr i) e))
 
   module _ (s : Shape) (part : Part) (saves : (r : Option ℕ) (j : ℕ) → number_of_save s r ≡ Some j → j < length s.suspends) (extra : Place → FunctionPart → Bool) (stores : (p : Place) (r : Option ℕ) (must_tail : Bool) (ty : Option Ty) (x : Intrinsic) (args : List Arg) → extra p (OfInstr (Instr.Call r must_tail ty (Callee.Intrinsic x) args)) ≡ false → is_inner x ≡ true → KnowsParts n s part) where
     pointer_known : (k : ℕ) (y : Intrinsic) (args : List Arg) (x : Operand) → Each Before (arg_operands args) → IsPointer s part k y args x → Known x
@@ -165,7 +165,7 @@ module _ (m n : Module) (h : HasPartsOf m n) (values labels : ℕ → Bool) wher
           phi = λ p q x y of e.
               let before = first_no (names_unknown m values labels p (OfPhi x)) false (first_no (names_unknown m values labels p (OfPhi x) || false) (extra p (OfPhi x)) e) in
               let test : Operand → Bool = knows_operand n (λ v. true) in
-              now_known q (OfPhi y) (ap (λ (t : Ty). list_all (knows_type n) (t ∷ [])) of.ty ∙ all_known m n h (x.ty ∷ []) ∙ types_before m values labels p (OfPhi x) before)
+              now_known q (OfPhi y) (ap (λ (t : Ty). list_all (knows_type n) (t ∷ [])) of.ty ∙ all_known m n (has_functions m n h) (x.ty ∷ []) ∙ types_before m values labels p (OfPhi x) before)
               (all_mapped test (λ (i : Incoming). i.value) y.incoming
               ∙ of.values test (sym (all_mapped test (λ (i : Incoming). i.value) x.incoming) ∙ all_again (part_operands (OfPhi x)) (operands_before m values labels p (OfPhi x) before))) refl;
           instr = λ p q k i low again e.
@@ -174,7 +174,7 @@ module _ (m n : Module) (h : HasPartsOf m n) (values labels : ℕ → Bool) wher
               (second_no (names_unknown m values labels p (OfInstr i) || calls_otherwise m p (OfInstr i)) (extra p (OfInstr i)) e);
           ending = λ p q t e.
               let before = first_no (names_unknown m values labels p (Ending t)) false (first_no (names_unknown m values labels p (Ending t) || false) (extra p (Ending t)) e) in
-              now_known q (Ending (redirected_term s t)) (ap (list_all (knows_type n)) (same_term_types s t) ∙ all_known m n h (ending_types t) ∙ types_before m values labels p (Ending t) before)
+              now_known q (Ending (redirected_term s t)) (ap (list_all (knows_type n)) (same_term_types s t) ∙ all_known m n (has_functions m n h) (ending_types t) ∙ types_before m values labels p (Ending t) before)
               (ap (list_all (knows_operand n (λ v. true))) (same_term_operands s t) ∙ all_again (ending_operands t) (operands_before m values labels p (Ending t) before)) refl;
           jump = λ q l. refl;
           return = λ e q. refl;

@@ -1,12 +1,11 @@
 -- Rules that look at an instruction alone: L1 of types, Y2 to Y5, and of N2 the names of types, functions and globals.
-use Rattle.std.proofs.Common.{◌≡◌, inl, inr, ⊎_elim, ℕ, ◌+◌, ◌<◌, ◌≤◌, Bool, true, false, List, [], ◌∷◌, ◌++◌, length, refl, sym, ap, ◌∙◌, subst, arith}
-use Rattle.std.proofs.lemmas.Bool.{le-leb, leb-true}
-use Rattle.std.specs.Prelude.{None, Option, Some, map, nat_le, not, if◌then◌else◌, ◌&&◌, ◌||◌}
+use Rattle.std.proofs.Common.{◌≡◌, inl, inr, ⊎_elim, ℕ, ◌+◌, ◌<◌, Bool, true, false, List, [], ◌∷◌, ◌++◌, length, refl, sym, ap, ◌∙◌, subst}
+use Rattle.std.specs.Prelude.{None, Option, Some, map, not, if◌then◌else◌, ◌&&◌, ◌||◌}
 use Rattle.rule_laws.specs.ir_base.declared.outcome.Place.{Place}
 use Rattle.pass_split.specs.Parts.{case_of, cases_from, entry_term, is_entered}
 use Rattle.pass_split.specs.Pieces.{redirected_case, redirected_term}
 use Rattle.rule_laws.proofs.rules.local_rules.Fitting.{either}
-use Rattle.rule_laws.proofs.ir_laws.facts.Truth.{and_both, and_first, and_second, holds, first_no, second_no}
+use Rattle.rule_laws.proofs.ir_laws.facts.Truth.{and_both, holds, first_no, second_no}
 use Rattle.rule_laws.specs.ir_parts.Contents.{ending_operands, ending_types, instr_types}
 use Rattle.rule_laws.specs.ir_parts.Parts.{Ending, OfInstr, OfPhi}
 use Rattle.rule_laws.specs.pass_intrinsics.Lowered.{lowered, number_of_save}
@@ -14,7 +13,6 @@ use Rattle.rule_laws.specs.pass_intrinsics.Shapes.{index_bytes}
 use Rattle.rule_laws.specs.pass_intrinsics.declared.shape.Part.{Part}
 use Rattle.rule_laws.specs.pass_intrinsics.declared.shape.Shape.{Shape}
 use Rattle.rule_laws.specs.pass_intrinsics.declared.shape.SuspendPoint.{SuspendPoint}
-use Rattle.ir_model.specs.Layout.{size_of}
 use Rattle.ir_model.specs.Ty.{Ty, int, ptr}
 use Rattle.ir_model.specs.TypeView.{bits_of}
 use Rattle.ir_model.specs.declared.instr.Case.{Case}
@@ -28,14 +26,15 @@ use Rattle.ir_model.specs.declared.operand.Callee.{Callee}
 use Rattle.ir_model.specs.declared.operand.Intrinsic.{Intrinsic}
 use Rattle.ir_model.specs.declared.operand.Operand.{Operand}
 use Rattle.rule_laws.specs.rule_locals.Calls.{calls_closed, is_closed}
-use Rattle.rule_laws.specs.rule_locals.Extents.{breaks_extents, is_aligned, is_sized}
+use Rattle.rule_laws.proofs.rules.function_rules.Stages.{extents_larger}
+use Rattle.rule_laws.specs.rule_locals.Extents.{breaks_extents, is_aligned}
 use Rattle.rule_laws.specs.rule_locals.Instrs.{on_instr}
 use Rattle.rule_laws.specs.rule_locals.Transfers.{breaks_transfers, may_transfer}
 use Rattle.rule_laws.specs.rule_names.Known.{knows_callee}
 use Rattle.rule_laws.specs.rule_names.declared.stage.Stage.{Stage}
 use Rattle.rule_laws.specs.frames.same_names.Parts.{HasPartsOf}
 use Rattle.pass_proofs.proofs.split.rules.Carried.{Carries, index_instrs}
-use Rattle.rule_laws.proofs.frames.replaced.Modules.{callee_fits, closed_there, depths_there, extents_there}
+use Rattle.rule_laws.proofs.frames.replaced.Modules.{callee_fits, closed_there, depths_there, extents_there, has_functions}
 use Rattle.rule_laws.proofs.frames.replaced.Replaced.{IsKeptOne, replaced}
 use Rattle.rule_laws.specs.frames.replaced.Replaced.{Address, Calls, Loads, Number, Replaces, StoresCleanup, StoresDestroy, StoresIndex, StoresNull, StoresResume, Tests, Truth}
 use Rattle.rule_laws.specs.run_laws.changed.Changed.{Each}
@@ -165,30 +164,6 @@ module _ (m n : Module) (h : HasPartsOf m n) (s : Shape) (part : Part) (saves : 
 
   -- ---- Y4
 
-  larger : (k : ℕ) (b : Bool) → not (is_sized 1048576 k && b) ≡ false → not (is_sized 16777216 k && b) ≡ false
-  larger k b e =
-      let both = holds (is_sized 1048576 k && b) e in
-      let sized = and_first (is_sized 1048576 k) b both in
-      ap not
-      (and_both (is_sized 16777216 k) b
-      (and_both (nat_le 1 k) (nat_le k 16777216) (and_first (nat_le 1 k) (nat_le k 1048576) sized)
-      (below (and_second (nat_le 1 k) (nat_le k 1048576) sized)))
-      (and_second (is_sized 1048576 k) b both))
-    where
-      below : nat_le k 1048576 ≡ true → nat_le k 16777216 ≡ true
-      below d = let le : k ≤ 1048576 = leb-true k 1048576 d in le-leb k 16777216 (omega (arith, le))
-
-  extents_larger : (q : Place) (i : Instr) → breaks_extents Stage.Source n q i ≡ false → breaks_extents Stage.Plain n q i ≡ false
-  extents_larger q (Instr.Alloca r ty align) e = larger (size_of n ty) (is_aligned align) e
-  extents_larger q (Instr.Binary r op flags ty left right) e = refl
-  extents_larger q (Instr.Icmp r pred ty left right) e = refl
-  extents_larger q (Instr.Select r c a b) e = refl
-  extents_larger q (Instr.Cast r op nneg arg to) e = refl
-  extents_larger q (Instr.Load r ty x align) e = e
-  extents_larger q (Instr.Store arg x align) e = e
-  extents_larger q (Instr.Gep r inbounds ty base indices) e = e
-  extents_larger q (Instr.Call r must_tail ty callee args) e = refl
-
   bytes_aligned : (w : IntWidth) → is_aligned (index_bytes w) ≡ true
   bytes_aligned IntWidth.I16 = refl
   bytes_aligned _ = refl
@@ -206,9 +181,12 @@ module _ (m n : Module) (h : HasPartsOf m n) (s : Shape) (part : Part) (saves : 
   extents_put q k x r ty args _ (Calls v p a b) = refl
   extents_put q k x r ty args _ (Tests v a b) = refl
 
-  pub extents_carried : Carries s part 0 (either (on_instr (breaks_extents Stage.Source m)) (calls_otherwise m)) (on_instr (breaks_extents Stage.Plain n))
-  extents_carried =
-      instr_carried (breaks_extents Stage.Source m) (breaks_extents Stage.Plain n) (λ p q i e. extents_larger q i (extents_there m n h Stage.Source p q i ∙ e)) extents_put
+  pub extents_carried : (stage : Stage)
+      → Carries s part 0 (either (on_instr (breaks_extents stage m)) (calls_otherwise m))
+      (on_instr (breaks_extents Stage.Plain n))
+  extents_carried stage =
+      instr_carried (breaks_extents stage m) (breaks_extents Stage.Plain n)
+      (λ p q i e. extents_larger stage n q i (extents_there m n (has_functions m n h) stage p q i ∙ e)) extents_put
       (λ q. (refl, (ap not (bytes_aligned s.width), tt)))
 
   -- ---- Y3
@@ -227,7 +205,7 @@ module _ (m n : Module) (h : HasPartsOf m n) (s : Shape) (part : Part) (saves : 
   closed_put q k x r ty args _ (Tests v a b) = refl
 
   closed_same : (p q : Place) (i : Instr) → closed_before m p i ≡ false → calls_closed n q i ≡ false
-  closed_same p q (Instr.Call r must_tail ty (Callee.Named x) args) e = closed_there m n h x (holds (knows_callee m (Callee.Named x)) (second_no (is_closed m x) (not (knows_callee m (Callee.Named x))) e)) (first_no (is_closed m x) (not (knows_callee m (Callee.Named x))) e)
+  closed_same p q (Instr.Call r must_tail ty (Callee.Named x) args) e = closed_there m n (has_functions m n h) x (holds (knows_callee m (Callee.Named x)) (second_no (is_closed m x) (not (knows_callee m (Callee.Named x))) e)) (first_no (is_closed m x) (not (knows_callee m (Callee.Named x))) e)
   closed_same p q _ e = refl
 
   pub closed_carried : Carries s part 0 (either (on_instr (closed_before m)) (calls_otherwise m)) (on_instr (calls_closed n))
@@ -239,7 +217,7 @@ module _ (m n : Module) (h : HasPartsOf m n) (s : Shape) (part : Part) (saves : 
   otherwise_one q j = calls_otherwise n q (OfInstr j)
 
   otherwise_same : (p q : Place) (i : Instr) → calls_otherwise m p (OfInstr i) ≡ false → calls_otherwise n q (OfInstr i) ≡ false
-  otherwise_same p q (Instr.Call r must_tail ty callee args) e = ap not (callee_fits m n h ty args callee (holds _ e))
+  otherwise_same p q (Instr.Call r must_tail ty callee args) e = ap not (callee_fits m n (has_functions m n h) ty args callee (holds _ e))
   otherwise_same p q _ e = refl
 
   otherwise_put : (q : Place) (k : ℕ) (x : Intrinsic) (r : Option ℕ) (ty : Option Ty) (args : List Arg) (j : Instr) → Replaces s part k x r ty args j → calls_otherwise n q (OfInstr j) ≡ false
@@ -276,7 +254,7 @@ module _ (m n : Module) (h : HasPartsOf m n) (s : Shape) (part : Part) (saves : 
 
   pub deep_again : (p q : Place) (ts us : List Ty) → us ≡ ts → (is_block_past Stage.Plain p.block || not (all_fit m ts)) ≡ false → (is_block_past Stage.Plain q.block || not (all_fit n us)) ≡ false
   deep_again p q ts us same e =
-      deep q us (ap (all_fit n) same ∙ depths_there m n h ts ∙ holds (all_fit m ts) (second_no (is_block_past Stage.Plain p.block) (not (all_fit m ts)) e))
+      deep q us (ap (all_fit n) same ∙ depths_there m n (has_functions m n h) ts ∙ holds (all_fit m ts) (second_no (is_block_past Stage.Plain p.block) (not (all_fit m ts)) e))
 
   one_fits : (t : Ty) → is_shallow n.types t ≡ true → all_fit n (t ∷ []) ≡ true
   one_fits t e = and_both (is_shallow n.types t) true e refl

@@ -37,7 +37,7 @@ use Rattle.pass_proofs.proofs.split.rules.Carried.{Carries, IsPhiOf}
 use Rattle.rule_laws.proofs.ir_laws.paths.replaced.Known.{listed_mapped, of_listed}
 use Rattle.rule_laws.proofs.rules.replaced.Known.{operands_before}
 use Rattle.pass_proofs.proofs.split.rules.Local.{Lowers, Replaced, Same, lowers}
-use Rattle.rule_laws.proofs.frames.replaced.Modules.{instr_there}
+use Rattle.rule_laws.proofs.frames.replaced.Modules.{has_functions, instr_there}
 use Rattle.pass_proofs.proofs.split.rules.PartKinds.{AreNewKinds}
 use Rattle.rule_laws.specs.frames.replaced.Kinds.{kinds_with}
 use Rattle.rule_laws.specs.frames.replaced.Parted.{IsSmall}
@@ -128,7 +128,7 @@ module _ (m n : Module) (h : HasPartsOf m n) (k : ℕ) (f : Function) (s : Shape
   each_alike xs e = each_turns Before (λ (x : Operand). IsAlike was K x x) alike xs (each_passes (knows_operand m values) xs e)
 
   same_fits : (i : Instr) → list_all (knows_operand m values) (instr_operands i) ≡ true → fits_instr m was i ≡ true → fits_instr n K i ≡ true
-  same_fits i e d = instr_there m n h K i ∙ instr_alike m was K i i (instr_itself (IsAlike was K) i (each_alike (instr_operands i) e)) ∙ d
+  same_fits i e d = instr_there m n (has_functions m n h) K i ∙ instr_alike m was K i i (instr_itself (IsAlike was K) i (each_alike (instr_operands i) e)) ∙ d
 
   -- ---- what replaces a call
 

@@ -15,7 +15,7 @@ use Rattle.rule_laws.proofs.rules.source_rules.Locals.{names_are}
 use Rattle.rule_laws.specs.frame_layout.declared.layout.Layout.{Layout}
 use Rattle.rule_laws.specs.ir_parts.Locals.{locals_of}
 use Rattle.rule_laws.specs.ir_parts.Parts.{Ending, OfInstr, OfPhi, Part as FunctionPart, Signature, first_part, function_place, parts_of}
-use Rattle.rule_laws.specs.rules.function_rules.Kept.{KeepsFunctionRules}
+use Rattle.rule_laws.specs.rules.function_rules.Kept.{KeepsFunctionRules, KeepsFunctionRulesAt}
 use Rattle.rule_laws.specs.pass_intrinsics.Cuts.{goes_on}
 use Rattle.rule_laws.specs.pass_intrinsics.Shapes.{first_name, given_name, shape_of}
 use Rattle.rule_laws.specs.pass_intrinsics.declared.shape.Part.{Part}
@@ -57,7 +57,7 @@ use Rattle.rule_laws.proofs.ir_laws.facts.Members.{each_joined, each_turns}
 
 -- ---- what is asked of the function
 
-module _ (m : Module) (k : ℕ) (f : Function) (rules : KeepsFunctionRules m k f) where
+module _ (stage : Stage) (m : Module) (k : ℕ) (f : Function) (rules : KeepsFunctionRulesAt stage m k f) where
   names_apart : Apart (numbers f)
   names_apart = subst Apart (names_are k f) (apart_names [] (locals_of k f) rules.definitions)
 
@@ -130,7 +130,7 @@ parts_values m n k l layout part begin f g h rules named small is known returns 
     (part_carried s part (first_name s) old (misfits (goes_on part) n K g.result)
     (values_carried m n h k f s part (saves_below f layout) (first_name s) (part_kind s) nothing_more kinds small (index_literal f layout small) (goes_on part) g.result (part_result s part f g is)
     (λ e flags. switch_fits s flags part K (index_below f layout small) g.result (kinds.index e)) (part_void s part f g is))
-    (omega arith) k l f g is signature (four m k f rules nothing_more (never (parts_of k f))))
+    (omega arith) k l f g is signature (four Stage.Source m k f rules nothing_more (never (parts_of k f))))
     known returns
   where
     s : Shape
@@ -140,10 +140,10 @@ parts_values m n k l layout part begin f g h rules named small is known returns 
     K = kinds_with f (part_kind (shape_of f layout))
 
     apart : Apart (numbers f)
-    apart = names_apart m k f rules
+    apart = names_apart Stage.Source m k f rules
 
     kinds : AreNewKinds f (shape_of f layout) part (first_name (shape_of f layout)) (part_kind (shape_of f layout)) nothing_more
-    kinds = part_kinds m k f layout begin rules.tabled (names_apart m k f rules) named (calls_pass m k f rules) part
+    kinds = part_kinds m k f layout begin rules.tabled (names_apart Stage.Source m k f rules) named (calls_pass Stage.Source m k f rules) part
 
     old : Place → FunctionPart → Bool
     old = either (either (either (breaks_values m (value_kind f) f.result) (calls_otherwise m)) (names_unknown m (is_value k f) (is_label k f))) nothing_more
@@ -165,17 +165,18 @@ parts_values m n k l layout part begin f g h rules named small is known returns 
         (sym (kinds.frame (function_place 0) None false None Intrinsic.CoroBegin [] refl refl))
         (λ d. sym (kinds.given d)))
         (part_all s part (first_name s) (PhiMakesIn (value_kind f)) (PhiMakesIn K) (λ (i : Instr). MakesIn (value_kind f) i × Passes (either (calls_otherwise m) nothing_more) (OfInstr i)) (MakesIn K) (λ (t : Terminator). Unit {0}) (λ (t : Terminator). Unit {0})
-        (kinds_become m f s part (saves_below f layout) (first_name s) (part_kind s) nothing_more kinds) (omega arith) f g is (told m k f rules nothing_more (never (parts_of k f))))
+        (kinds_become m f s part (saves_below f layout) (first_name s) (part_kind s) nothing_more kinds) (omega arith) f g is (told Stage.Source m k f rules nothing_more (never (parts_of k f))))
         e
 
 -- ---- a function that is no coroutine
 
-pub plain_values : (m n : Module) (k l : ℕ) (f : Function) → HasPartsOf m n → f.coroutine ≡ false → KeepsFunctionRules m k f → first_unknown n l (plain_of (plain_shape f) f) ≡ None → first_wrong_value n l (plain_of (plain_shape f) f) ≡ None
-plain_values m n k l f h coroutine rules known =
+pub plain_values : (stage : Stage) (m n : Module) (k l : ℕ) (f : Function) → HasPartsOf m n → f.coroutine ≡ false
+    → KeepsFunctionRulesAt stage m k f → first_unknown n l (plain_of (plain_shape f) f) ≡ None → first_wrong_value n l (plain_of (plain_shape f) f) ≡ None
+plain_values stage m n k l f h coroutine rules known =
     values_now n l g K right false (λ e. absurd (cc))
     (plain_carried s (length f.names) old (misfits false n K f.result)
     (values_carried m n h k f s Part.Ramp (no_saves f) (length f.names) plain_kind inner kinds (plain_small f) (λ j low. absurd (omega (arith, low))) false f.result (inr refl) (λ e flags. absurd (cc)) (λ e. absurd (cc)))
-    (omega arith) k l f signature (four m k f rules inner none))
+    (omega arith) k l f signature (four stage m k f rules inner none))
     known (λ e. absurd (cc))
   where
     s : Shape
@@ -210,7 +211,7 @@ plain_values m n k l f h coroutine rules known =
     right : (v : ℕ) → is_some (value_kind g v) ≡ true → value_kind g v ≡ K v
     right v e =
         value_is K v g (λ (t : Terminator). Unit {0})
-        (each_turns (λ (p : Param). Some (kind_of p.ty) ≡ value_kind f p.name) (λ (p : Param). Some (kind_of p.ty) ≡ K p.name) (λ p d. old_same m f s Part.Ramp (no_saves f) (length f.names) plain_kind inner kinds p.name (kind_of p.ty) d) f.params (own_params f (names_apart m k f rules)))
+        (each_turns (λ (p : Param). Some (kind_of p.ty) ≡ value_kind f p.name) (λ (p : Param). Some (kind_of p.ty) ≡ K p.name) (λ p d. old_same m f s Part.Ramp (no_saves f) (length f.names) plain_kind inner kinds p.name (kind_of p.ty) d) f.params (own_params f (names_apart stage m k f rules)))
         (plain_all s (length f.names) (PhiMakesIn (value_kind f)) (PhiMakesIn K) (λ (i : Instr). MakesIn (value_kind f) i × Passes (either (calls_otherwise m) inner) (OfInstr i)) (MakesIn K) (λ (t : Terminator). Unit {0}) (λ (t : Terminator). Unit {0})
-        (kinds_become m f s Part.Ramp (no_saves f) (length f.names) plain_kind inner kinds) (omega arith) f (told m k f rules inner none))
+        (kinds_become m f s Part.Ramp (no_saves f) (length f.names) plain_kind inner kinds) (omega arith) f (told stage m k f rules inner none))
         e

@@ -8,6 +8,7 @@ use Rattle.rule_laws.specs.run_laws.changed.Changed.{Each}
 use Rattle.rule_laws.specs.rule_values.Kinds.{value_kind}
 use Rattle.rule_laws.specs.rule_values.declared.kinds.Kind.{Kind}
 use Rattle.rule_laws.specs.rules.woven_rules.Weaving.{Weaving}
+use Rattle.rule_laws.specs.rule_names.declared.stage.Stage.{Stage}
 
 -- the name is that of a slot in the frame
 abbrev pub lies_in_frame : List (Option ℕ) → ℕ → Bool
@@ -34,4 +35,4 @@ pub record AddressesFit (k : ℕ) (f : Function) (begin : ℕ) (offsets : List (
 
 -- no name is new, and some go
 abbrev pub turning_weaving : Function → (ℕ → Bool) → Weaving
-turning_weaving f goes = record { first = length f.names; after = length f.names; kinds = λ n. None; fronts = []; goes = goes }
+turning_weaving f goes = record { stage = Stage.Source; first = length f.names; after = length f.names; kinds = λ n. None; fronts = []; goes = goes }

@@ -11,6 +11,7 @@ use Rattle.rule_laws.specs.pass_cells.Written.{kept_allocas, link_allocas}
 use Rattle.rule_laws.specs.pass_cells.declared.plan.Plan.{Plan}
 use Rattle.rule_laws.specs.rule_values.Kinds.{value_kind}
 use Rattle.rule_laws.specs.rules.woven_rules.Weaving.{Weaving}
+use Rattle.rule_laws.specs.rule_names.declared.stage.Stage.{Stage}
 
 -- the allocas at the front of the entry block
 abbrev pub front_allocas : Plan → List Instr
@@ -24,7 +25,7 @@ front_cells p (b ∷ bs) = made_by_instrs [] (front_allocas p)
 abbrev pub plan_weaving : Module → Plan → Function → Weaving
 plan_weaving m p f =
     let g = with_plan m p f in
-    record { first = length f.names; after = length g.names; kinds = value_kind g; fronts = front_cells p f.blocks; goes = λ n. false }
+    record { stage = Stage.Source; first = length f.names; after = length g.names; kinds = value_kind g; fronts = front_cells p f.blocks; goes = λ n. false }
 
 -- the new names are the cells and fields, and what is loaded and summed; nothing goes
 abbrev pub cells_weaving : Module → Function → List (ℕ × ℕ) → List Bool → Weaving

@@ -13,6 +13,7 @@ use Rattle.rule_laws.specs.ir_locals.Tables.{first_in}
 use Rattle.rule_laws.specs.run_laws.changed.Changed.{Each}
 use Rattle.rule_laws.specs.rule_values.Kinds.{block_kind}
 use Rattle.rule_laws.specs.rules.woven_rules.Weaving.{IsThere, Weaving}
+use Rattle.rule_laws.specs.rule_names.declared.stage.Stage.{Stage}
 
 -- the slots that get temporaries
 abbrev pub copied_slots : Function → List Bool → List Bool → List ℕ → List EarlySlot
@@ -40,6 +41,7 @@ front_names (s ∷ ss) = s.temporary ∷ s.cell ∷ front_names ss
 abbrev pub copy_weaving : Function → List Bool → List EarlySlot → Weaving
 copy_weaving f before slots =
     record {
+      stage = Stage.Source;
       first = length f.names;
       after = after_blocks (copying_of f slots) before (first_fetched f (copying_of f slots)) f.blocks;
       kinds = first_in block_kind (copied_function f before (copying_of f slots)).blocks;

@@ -18,6 +18,7 @@ use Rattle.rule_laws.specs.rule_values.Kinds.{block_kind, kind_of, value_kind}
 use Rattle.rule_laws.specs.rule_values.declared.kinds.Kind.{Kind}
 use Rattle.rule_laws.specs.rules.woven_rules.Blocks.{is_mark}
 use Rattle.rule_laws.specs.rules.woven_rules.Weaving.{Weaving}
+use Rattle.rule_laws.specs.rule_names.declared.stage.Stage.{Stage}
 
 -- ---- a fetch
 
@@ -74,6 +75,7 @@ second_name f t = next_after_phis_by t (length f.names) f.blocks
 abbrev pub fetch_weaving : Function → List (Option Fetch) → List ℕ → Weaving
 fetch_weaving f t word =
     record {
+      stage = Stage.Source;
       first = length f.names;
       after = next_after_blocks t (second_name f t) f.blocks;
       kinds = first_in block_kind (with_fetches f t word).blocks;
