@@ -23,6 +23,7 @@ pub use Rattle.pass_cleanup.specs as pass_cleanup
 pub use Rattle.pass_proofs.specs.pass_copies as pass_copies
 pub use Rattle.pass_proofs.specs.pass_distances as pass_distances
 pub use Rattle.pass_early.specs as pass_early
+pub use Rattle.pass_elide.specs as pass_elide
 pub use Rattle.pass_proofs.specs.pass_edges as pass_edges
 pub use Rattle.pass_proofs.specs.pass_exits as pass_exits
 pub use Rattle.pass_proofs.specs.pass_fetch as pass_fetch

@@ -1,1 +1,2 @@
+pub mod elided_forms
 pub mod Passed

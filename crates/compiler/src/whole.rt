@@ -3,6 +3,7 @@
 
 pub mod cleanable_sources;
 pub mod cleaned_sources;
+pub mod elided_forms;
 pub mod exit_sources;
 pub mod exits;
 pub mod lowered_sources;

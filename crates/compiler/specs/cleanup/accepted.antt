@@ -1,1 +1,2 @@
+pub mod Ramps
 pub mod Ready

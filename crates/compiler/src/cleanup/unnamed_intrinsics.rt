@@ -10,7 +10,7 @@ ghost use Rattle.text_canonical.specs.order.Shape.{IsShaped};
 ghost use Rattle.pass_proofs.specs.rule_names.declared.stage.Stage.{Stage};
 ghost use Rattle.pass_proofs.specs.rule_laws.rules.plain_rules.Items.{KeepsItemRules};
 ghost use Rattle.compiler.specs.cleanup.unnamed_intrinsics.Unnamed.{NamesNoIntrinsic};
-ghost use Rattle.pass_proofs.specs.rule_laws.rules.function_rules.Kept.{KeepsFunctionRules};
+ghost use Rattle.pass_proofs.specs.rule_laws.rules.function_rules.Kept.{KeepsFunctionRules, KeepsFunctionRulesAt};
 ghost use Rattle.pass_proofs.specs.rule_laws.rules.woven_rules.Blocks.{IsWoven};
 ghost use Rattle.pass_proofs.specs.rule_laws.rules.woven_rules.Pairs.{AreIncomingOnce};
 ghost use Rattle.pass_proofs.specs.rule_laws.rules.woven_rules.Weaving.{Weaving};
@@ -38,5 +38,7 @@ pub fn parts_name_no_intrinsic()
 
 /// Nor does a function that is no coroutine, once it is turned.
 pub fn turned_functions_name_no_intrinsic()
-    ensures { (m : Module) (k l : ℕ) (f : Function) → f.coroutine ≡ false → KeepsFunctionRules m k f → NamesNoIntrinsic k f → NamesNoIntrinsic l (plain_of (plain_shape f) f) }
+    ensures { (stage : Stage) (m : Module) (k l : ℕ) (f : Function) → f.coroutine ≡ false
+        → KeepsFunctionRulesAt stage m k f → NamesNoIntrinsic k f
+        → NamesNoIntrinsic l (plain_of (plain_shape f) f) }
 {}

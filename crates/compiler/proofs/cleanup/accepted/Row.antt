@@ -23,7 +23,9 @@ use Rattle.ir_model.specs.declared.module.Module.{Module}
 use Rattle.pass_proofs.proofs.exits.exited.Exited.{coroutine_stands, exited_module, parts_exited}
 use Rattle.pass_proofs.proofs.split.exited.Exited.{splittable_exited}
 use Rattle.pass_proofs.proofs.split.exited.Whence.{ComesBy, comes_by}
-use Rattle.compiler.specs.cleanup.accepted.Ready.{IsCoroutineReady, IsPlainReady, IsReady}
+use Rattle.compiler.proofs.cleanup.accepted.Ramps.{functions_stay, has_given_ramps}
+use Rattle.compiler.specs.cleanup.accepted.Ramps.{with_given_ramps}
+use Rattle.compiler.specs.cleanup.accepted.Ready.{IsCoroutineReady, IsPlainReady, IsReady, IsReadyIn}
 use Rattle.pass_proofs.specs.rule_names.declared.stage.Stage.{Stage}
 use Rattle.pass_proofs.proofs.split.edges.Kept.{part_edges_kept}
 use Rattle.pass_proofs.proofs.split.edges.Late.{part_allocas_kept}
@@ -88,53 +90,87 @@ some_part s true f g (suc (suc (suc zero))) e = let same : pruned (later_part s 
 some_part s true f g (suc (suc (suc (suc zero)))) e = let same : pruned (given_ramp_of s f) ≡ g = cc in record { part = Part.GivenRamp; is = subst (IsPartOf s f Part.GivenRamp) same IsGivenRamp; where_given = λ d. refl }
 some_part s true f g (suc (suc (suc (suc (suc k))))) e = absurd (cc)
 
-module _ (ls : Layouts) (m : Module) (ready : IsReady ls m) where
+-- The rules of functions are judged in a module in which those of the first stand, and whose parts the split module has.
+module _ (stage : Stage) (ls : Layouts) (m r : Module) (parts : HasPartsOf r (split_module ls m))
+    (stay : (k : ℕ) (f : Function) → slice_get m.functions k ≡ Some f → slice_get r.functions k ≡ Some f)
+    (ready : IsReadyIn stage r ls m) where
   abbrev n : Module
   n = split_module ls m
-
-  parts : HasPartsOf m n
-  parts = has_parts ls m ready.items ready.short
 
   given_parts : HasGivenParts m n
   given_parts = has_given_parts ls m ready.items ready.short
 
-  part_kept : (k l : ℕ) (f g : Function) (layout : Layout) (number : ℕ) → slice_get m.functions k ≡ Some f → f.coroutine ≡ true → IsSmall (shape_of (with_exit_blocks f) layout) → IsCoroutineReady m ls k f → slice_get (marked_parts layout (has_given_call m f) (with_exit_blocks f)) number ≡ Some g → IsKept n l g
-  part_kept k l f g layout number stands c small r e =
+  part_kept : (k l : ℕ) (f g : Function) (layout : Layout) (number : ℕ) → slice_get m.functions k ≡ Some f
+      → f.coroutine ≡ true → IsSmall (shape_of (with_exit_blocks f) layout) → IsCoroutineReady r ls k f
+      → slice_get (marked_parts layout (has_given_call m f) (with_exit_blocks f)) number ≡ Some g → IsKept n l g
+  part_kept k l f g layout number stands c small own e =
       let h : Function = with_exit_blocks f in
       let p = some_part (shape_of h layout) (has_given_call m f) h g number e in
-      let there : slice_get (exited_module m).functions k ≡ Some h = coroutine_stands m k f stands c in
-      let s : IsSplittable (exited_module m) k h r.begin = splittable_exited m k h r.begin r.splittable in
+      let there : slice_get (exited_module r).functions k ≡ Some h = coroutine_stands r k f (stay k f stands) c in
+      let s : IsSplittable (exited_module r) k h own.begin = splittable_exited r k h own.begin own.splittable in
       record {
-        rules = part_rules (exited_module m) n k l layout p.part r.begin h g (parts_exited m n parts) there s small p.is (λ d. given_parts.cleanups k f stands c (p.where_given d));
-        names = parts_free (exited_module m) n k l layout p.part h g (parts_exited m n parts) there s.coroutine p.is (λ d. given_parts.cleanups k f stands c (p.where_given d)) r.names;
+        rules = part_rules (exited_module r) n k l layout p.part own.begin h g (parts_exited r n parts) there s small
+            p.is (λ d. given_parts.cleanups k f stands c (p.where_given d));
+        names = parts_free (exited_module r) n k l layout p.part h g (parts_exited r n parts) there s.coroutine p.is
+            (λ d. given_parts.cleanups k f stands c (p.where_given d)) own.names;
       }
 
-  plain_kept : (k l : ℕ) (f g : Function) (number : ℕ) → slice_get m.functions k ≡ Some f → f.coroutine ≡ false → IsPlainReady m k f → slice_get (plain_of (plain_shape f) f ∷ []) number ≡ Some g → IsKept n l g
-  plain_kept k l f g zero stands c r e =
+  plain_kept : (k l : ℕ) (f g : Function) (number : ℕ) → slice_get m.functions k ≡ Some f → f.coroutine ≡ false
+      → IsPlainReady stage r k f → slice_get (plain_of (plain_shape f) f ∷ []) number ≡ Some g → IsKept n l g
+  plain_kept k l f g zero stands c own e =
       let same : plain_of (plain_shape f) f ≡ g = cc in
-      subst (IsKept n l) same (record { rules = turned_keeps m n k l f parts stands c r.rules; names = turned_free m k l f c r.rules r.names })
-  plain_kept k l f g (suc number) stands c r e = absurd (cc)
+      subst (IsKept n l) same (record {
+        rules = turned_keeps stage r n k l f parts (stay k f stands) c own.rules;
+        names = turned_free stage r k l f c own.rules own.names;
+      })
+  plain_kept k l f g (suc number) stands c own e = absurd (cc)
 
   function_kept : (l : ℕ) (g : Function) → slice_get n.functions l ≡ Some g → IsKept n l g
-  function_kept l g there = on r.source.coroutine refl r.is_one
+  function_kept l g there = on whence.source.coroutine refl whence.is_one
     where
-      r : ComesBy ls.coroutines m m.functions g
-      r = comes_by ls.coroutines m m.functions l g there
+      whence : ComesBy ls.coroutines m m.functions g
+      whence = comes_by ls.coroutines m m.functions l g there
 
-      on : (b : Bool) → r.source.coroutine ≡ b → slice_get (if b then marked_parts r.layout (has_given_call m r.source) (with_exit_blocks r.source) else plain_of (plain_shape r.source) r.source ∷ []) r.number ≡ Some g → IsKept n l g
+      on : (b : Bool) → whence.source.coroutine ≡ b
+          → slice_get (if b then marked_parts whence.layout (has_given_call m whence.source) (with_exit_blocks whence.source)
+          else plain_of (plain_shape whence.source) whence.source ∷ []) whence.number ≡ Some g → IsKept n l g
       on true c e =
-          let is_ready = ready.coroutines r.position r.source r.stands c in
-          part_kept r.position l r.source g r.layout r.number r.stands c (is_ready.small r.layout r.given) is_ready e
-      on false c e = plain_kept r.position l r.source g r.number r.stands c (ready.plain r.position r.source r.stands c) e
+          let own = ready.coroutines whence.position whence.source whence.stands c in
+          part_kept whence.position l whence.source g whence.layout whence.number whence.stands c
+          (own.small whence.layout whence.given) own e
+      on false c e =
+          plain_kept whence.position l whence.source g whence.number whence.stands c
+          (ready.plain whence.position whence.source whence.stands c) e
 
-  pub all_kept : AllKeepPlainRules (split_module ls m)
-  all_kept l g there = (function_kept l g there).rules
+  pub all_kept_in : AllKeepPlainRules (split_module ls m)
+  all_kept_in l g there = (function_kept l g there).rules
 
   nothing : calls_id_alone n ≡ true → NameNothingGone n
   nothing alone l g there = let h = function_kept l g there in nothing_gone n l g there alone h.rules h.names
 
-pub split_accepted : (ls : Layouts) (m : Module) → IsReady ls m → list_all (λ f. not f.coroutine) (split_module ls m).functions ≡ true → calls_id_alone (split_module ls m) ≡ true → IsRefused Stage.Plain (clean_module (split_module ls m)) None
-split_accepted ls m ready ordinary alone =
-    let n : Module = split_module ls m in
-    let gone = nothing ls m ready alone in
-    accepted (clean_module n) (items_clean n (split_keeps_items ls m ready.items ready.short)) (all_clean n (all_kept ls m ready) gone) (none_left n ordinary alone gone)
+  pub split_accepted_in : list_all (λ f. not f.coroutine) (split_module ls m).functions ≡ true
+      → calls_id_alone (split_module ls m) ≡ true → IsRefused Stage.Plain (clean_module (split_module ls m)) None
+  split_accepted_in ordinary alone =
+      let gone = nothing alone in
+      accepted (clean_module n) (items_clean n (split_keeps_items ls m ready.items ready.short))
+      (all_clean n all_kept_in gone) (none_left n ordinary alone gone)
+
+-- ---- where no call gives a frame, and with the ramps that are given frames
+
+module _ (ls : Layouts) (m : Module) (ready : IsReady ls m) where
+  parts_of_itself : HasPartsOf m (split_module ls m)
+  parts_of_itself = has_parts ls m ready.items ready.short
+
+  pub all_kept : AllKeepPlainRules (split_module ls m)
+  all_kept = all_kept_in Stage.Source ls m m parts_of_itself (λ k f e. e) ready
+
+  pub split_accepted : list_all (λ f. not f.coroutine) (split_module ls m).functions ≡ true
+      → calls_id_alone (split_module ls m) ≡ true → IsRefused Stage.Plain (clean_module (split_module ls m)) None
+  split_accepted = split_accepted_in Stage.Source ls m m parts_of_itself (λ k f e. e) ready
+
+pub given_accepted : (stage : Stage) (ls : Layouts) (m : Module) → IsReadyIn stage (with_given_ramps m) ls m
+    → list_all (λ f. not f.coroutine) (split_module ls m).functions ≡ true
+    → calls_id_alone (split_module ls m) ≡ true → IsRefused Stage.Plain (clean_module (split_module ls m)) None
+given_accepted stage ls m ready =
+    split_accepted_in stage ls m (with_given_ramps m) (has_given_ramps ls m ready.items ready.short) (functions_stay m)
+    ready

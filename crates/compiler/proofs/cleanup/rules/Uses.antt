@@ -39,6 +39,7 @@ use Rattle.pass_proofs.specs.rule_laws.rules.woven_rules.Blocks.{AreWoven, AreWo
 use Rattle.pass_proofs.specs.ir_laws.facts.woven_rules.Pairs.{Empty, Pair, Pairwise, times}
 use Rattle.pass_proofs.specs.rule_laws.rules.woven_rules.Parts.{IncomingStays, PhiStays}
 use Rattle.pass_proofs.specs.rule_laws.rules.woven_rules.Weaving.{IsInPlace, Same, Weaving, goes_in}
+use Rattle.pass_proofs.specs.rule_names.declared.stage.Stage.{Stage}
 
 -- what blocks make stands among their names
 made_least : (v : ℕ) (bs : List Block) → times_made v bs ≤ times v (row_of block_names bs)
@@ -55,7 +56,7 @@ module _ (m : Module) (k : ℕ) (f : Function) where
   g = clean_function f
 
   abbrev w : Weaving
-  w = record { first = length f.names; after = length f.names; kinds = λ v. None; fronts = []; goes = goes f }
+  w = record { stage = Stage.Plain; first = length f.names; after = length f.names; kinds = λ v. None; fronts = []; goes = goes f }
 
   not_gone : (x : Operand) → is_left f x ≡ true → goes_in w x ≡ false
   not_gone (Operand.Local v) e = on (goes f v) e

@@ -8,7 +8,7 @@ use Rattle.pass_cleanup.specs.Cleanup.{is_kept_callee}
 use Rattle.pass_split.specs.Parts.{plain_of, plain_shape}
 use Rattle.frame_layout.specs.declared.layout.Layout.{Layout}
 use Rattle.compiler.specs.cleanup.rules.Clean.{calls_left}
-use Rattle.pass_proofs.specs.rule_laws.rules.function_rules.Kept.{KeepsFunctionRules}
+use Rattle.pass_proofs.specs.rule_laws.rules.function_rules.Kept.{KeepsFunctionRulesAt}
 use Rattle.pass_proofs.specs.rule_laws.frames.same_names.Parts.{HasPart, HasPartsOf}
 use Rattle.pass_proofs.specs.ir_parts.Contents.{part_operands}
 use Rattle.pass_proofs.specs.ir_parts.Parts.{Part as FunctionPart, first_part, parts_of}
@@ -58,7 +58,8 @@ parts_free m n k l layout part f g h stands coroutine is given e =
     let destroy : is_kept s.destroy_name ≡ true = free_name s.destroy_name (h.destroys k f stands coroutine).is_free in
     subst (Unbroken l g) rule_same (parts_pass is_kept s part k l f g (resume, destroy, (λ d. free_name s.cleanup_name (given d).is_free)) is (subst (Unbroken k f) (sym rule_same) e))
 
-pub turned_free : (m : Module) (k l : ℕ) (f : Function) → f.coroutine ≡ false → KeepsFunctionRules m k f → NamesNoIntrinsic k f → NamesNoIntrinsic l (plain_of (plain_shape f) f)
-turned_free m k l f coroutine rules e =
+pub turned_free : (stage : Stage) (m : Module) (k l : ℕ) (f : Function) → f.coroutine ≡ false
+    → KeepsFunctionRulesAt stage m k f → NamesNoIntrinsic k f → NamesNoIntrinsic l (plain_of (plain_shape f) f)
+turned_free stage m k l f coroutine rules e =
     let outer : first_part (misplaces Stage.Source false) (parts_of k f) ≡ None = subst (λ (b : Bool). first_part (misplaces Stage.Source b) (parts_of k f) ≡ None) coroutine rules.local.misplaced in
     subst (Unbroken l (plain_of (plain_shape f) f)) rule_same (turned_passes is_kept k l f outer (subst (Unbroken k f) (sym rule_same) e))

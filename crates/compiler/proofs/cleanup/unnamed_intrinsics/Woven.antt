@@ -14,7 +14,7 @@ use Rattle.ir_model.specs.declared.operand.Operand.{Operand}
 use Rattle.compiler.proofs.cleanup.unnamed_intrinsics.Early.{calls_free, named_by, operands_free}
 use Rattle.compiler.specs.cleanup.unnamed_intrinsics.Unnamed.{NamesNoIntrinsic, is_no_intrinsic, names_intrinsic}
 use Rattle.pass_proofs.proofs.rule_laws.rules.woven_rules.Carried.{Carries, carried}
-use Rattle.pass_proofs.proofs.rule_laws.rules.woven_rules.Laid.{IsLike, IsSafe, KeptOne, NoPromise, Remains, Renamed, Stayed, Unnamed, Valued, laid}
+use Rattle.pass_proofs.proofs.rule_laws.rules.woven_rules.Laid.{AreLaidBlocks, IsLike, IsSafe, KeptOne, NoPromise, Remains, Renamed, Stayed, Unnamed, Valued, laid}
 use Rattle.pass_proofs.proofs.rule_laws.rules.woven_rules.Once.{below}
 use Rattle.pass_proofs.proofs.rule_laws.rules.woven_rules.Operands.{all_beside, term_pairs}
 use Rattle.pass_proofs.proofs.ir_laws.facts.Members.{all_pass, each_turns}
@@ -89,6 +89,10 @@ module _ (w : Weaving) (m : Module) (f g : Function) where
             named_by q (Ending u) (all_beside Like is_no_intrinsic is_no_intrinsic like_free (part_operands (Ending t)) (part_operands (Ending u)) (term_pairs Like t u s) (operands_free p (Ending t) e)) refl;
       }
 
+pub woven_free_by : (w : Weaving) (m : Module) (k : ℕ) (f g : Function) → AreLaidBlocks w m f g 0 f.blocks g.blocks
+    → NamesNoIntrinsic k f → NamesNoIntrinsic k g
+woven_free_by w m k f g blocks e = carried w m f g names_intrinsic names_intrinsic (intrinsics_carried w m f g) k blocks e
+
 pub woven_free : (w : Weaving) (m : Module) (k : ℕ) (f g : Function) → IsWoven w m f g → KeepsFunctionRules m k f → AreIncomingOnce f → NamesNoIntrinsic k f → NamesNoIntrinsic k g
 woven_free w m k f g h rules once e =
-    carried w m f g names_intrinsic names_intrinsic (intrinsics_carried w m f g) k (laid w m f g h (below w m k f g h rules.tabled) once) e
+    woven_free_by w m k f g (laid w m f g h (below w m k f g h rules.tabled) once) e

@@ -43,7 +43,7 @@ module _ (text : List ℕ) (m : Module) (stands : StandsFor text m) (accepted : 
   short : HaveShortNames n
   short = names_stay_short e n (framed_names layouts e n form) (names_stay_short m e (early_names m) (text_names_short text m stands))
 
-  plain_by : (k : ℕ) (f g : Function) → slice_get (early_module m).functions k ≡ Some f → Becomes (early_module m) layouts.coroutines f g → g.coroutine ≡ false → IsPlainReady n k g
+  plain_by : (k : ℕ) (f g : Function) → slice_get (early_module m).functions k ≡ Some f → Becomes (early_module m) layouts.coroutines f g → g.coroutine ≡ false → IsPlainReady Stage.Source n k g
   plain_by k f _ there (Unchanged plain) c =
       record { rules = go_by_signatures e n k f (framed_signatures layouts e n form) (early_rules text m stands accepted k f there); names = early_unnamed text m stands accepted k f there }
   plain_by k f g there (FramedBy taken _ marked framed) c =

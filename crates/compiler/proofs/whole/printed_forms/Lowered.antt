@@ -256,7 +256,7 @@ module _ (text : List ℕ) (m : Module) (bytes : AreBytes text) (stands : Stands
   turned_good : (k l : ℕ) (f : Function) → slice_get n.functions k ≡ Some f → f.coroutine ≡ false → IsGood l (plain_of (plain_shape f) f)
   turned_good k l f there c =
       let rules = (ready.plain k f there c).rules in
-      let turned = blocks_turned n k f c rules in
+      let turned = blocks_turned Stage.Source n k f c rules in
       let full = framed_full k f there c in
       record {
         spelled = turned_spelled f (framed_one k f there);

@@ -1,0 +1,10 @@
+pub mod Allocas
+pub mod Callable
+pub mod Called
+pub mod Calls
+pub mod Free
+pub mod Plain
+pub mod Ramp
+pub mod Ready
+pub mod Rooms
+pub mod Same
