@@ -17,16 +17,16 @@ pub fn calls_keep_callers()
         → HaveCallers e (framed_step (elided e) t) }
 {}
 
-/// Where a function has just been entered it has no slot, so it is no caller yet. Those below stay while it makes its
-/// new allocas.
+/// While a function makes its new allocas the callers below it stay. Where it has just been entered it has no slot, so
+/// it is no caller yet.
 pub fn fronts_keep_callers()
     ensures { (e : Elision) (s t : State) → AreElided e s t → IsAtFront e s t → HaveCallers e t
         → HaveCallers e (iterate (framed_step (elided e))
         (length (allocas_ahead (rooms e s.top.func) (function_in e s.top.func))) t) }
 {}
 
-/// So they do at a call that gives an alloca. All that began there before is Finished, since its caller would be at its
-/// call again with the handle held.
+/// At a call that gives an alloca callers stay on the stack too. All that began there before is Finished, since its
+/// caller would be at its call again with the handle held.
 pub fn sites_keep_callers()
     ensures { (e : Elision) (s t : State) → AreReady e s t → IsAtSite e s t
         → (function_in e s.top.func).coroutine ≡ false → DestroysHandles e s.top.func → HaveOwnSlots t → HaveCallers e t

@@ -23,15 +23,15 @@ ghost use Rattle.pass_proofs.specs.run_memory.declared.pointer.Value.{Value};
 ghost use Rattle.pass_proofs.specs.run_source.declared.state.State.{State};
 ghost use Rattle.pass_proofs.specs.run_step.Step.{Work};
 
-/// An ordinary instruction makes, marks and allocates no block. Where it reads no name that differs, both runs do the
-/// same by it, and their states stand beside each other afterwards.
+/// Behind an ordinary instruction that reads no name that differs, the states stand beside each other again. Both runs
+/// do the same by it, and it makes, marks and allocates no block.
 pub fn ordinary_steps_stay_beside()
     ensures { (e : Elision) (s t : State) (i : Instr) (v : Work) → AreElided e s t → StandsInFront e s t
         → IsAtOrdinary e s t i v → AreElided e (framed_step (framed e) s) (framed_step (elided e) t) }
 {}
 
-/// So they do behind an alloca of the function, and behind a call of an allocator by which both runs allocate. The new
-/// block stands in the other one's.
+/// They stand so behind an alloca of the function, and behind a call of an allocator by which both runs allocate. The
+/// new block stands in the other one's.
 pub fn new_blocks_stay_beside()
     ensures allocas { (e : Elision) (s t : State) (name : ℕ) (ty : Ty) (align : ℕ) → AreElided e s t
         → StandsInFront e s t → IsAtAlloca e s t name ty align
@@ -42,8 +42,8 @@ pub fn new_blocks_stay_beside()
         → AreElided e (framed_step (framed e) s) (framed_step (elided e) t) }
 {}
 
-/// So they do behind a lifetime marker and behind a deallocation, where no frame lies in the block. Both runs change
-/// the block alike.
+/// Both runs change a block alike by a lifetime marker and by a deallocation, where no frame lies in it. Their states
+/// stand beside each other afterwards.
 pub fn changed_blocks_stay_beside()
     ensures markers { (e : Elision) (s t : State) (j : Intrinsic) (result : Option ℕ) (must_tail : Bool)
         (ty : Option Ty) (args : List Arg) → AreElided e s t → StandsInFront e s t
@@ -63,7 +63,7 @@ pub fn loads_stay_aside()
         → AreElided e (framed_step (framed e) s) (framed_step (elided e) t) }
 {}
 
-/// So it is at the first place of a function, once the allocas have been made that are put in front of it. Up to then
+/// At the first place of a function the states stay beside each other once its new allocas have been made. Up to then
 /// the relation has the elided run's activation in front of them.
 pub fn first_steps_stay_beside()
     ensures ordinary { (e : Elision) (s t : State) (n : ℕ) (i : Instr) (v : Work) (r : AreElided e s (with_at t n))

@@ -14,7 +14,7 @@ pub fn states_with_dead_slots_have_no_allocas()
         → allocas_ahead (rooms e s.top.func) (function_in e s.top.func) ≡ [] }
 {}
 
-/// So the last states of a worked run, whose entry has a site, aren't beside each other. Both runs have returned there.
+/// The last states of a worked run, whose entry has a site, aren't beside each other. Both runs have returned there.
 #[tactic(none)]
 pub fn a_worked_run_is_over()
     ensures apart { AreElided the_elision (before 51) (after 49) → ⊥ }
