@@ -25,3 +25,8 @@ pub mod FramesStay
 pub mod LeftWindows
 pub mod EdgeLeaving
 pub mod EdgeFronts
+pub mod LastFound
+pub mod FrameDies
+pub mod FreedAlone
+pub mod FreesWaited
+pub mod PassedAlone

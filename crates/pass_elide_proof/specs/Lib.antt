@@ -15,3 +15,4 @@ pub mod Edges
 pub mod EdgesAsking
 pub mod EdgesFreeing
 pub mod EdgesLeaving
+pub mod Ending

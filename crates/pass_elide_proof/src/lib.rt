@@ -5,6 +5,7 @@
 pub mod code;
 pub mod counts;
 pub mod edges;
+pub mod ending;
 pub mod frames;
 pub mod handles;
 pub mod starting;
