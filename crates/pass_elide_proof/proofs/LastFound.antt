@@ -6,7 +6,7 @@ use Rattle.pass_proofs.specs.run_source.State.{began_at, last_from, last_where, 
 use Rattle.pass_proofs.specs.run_source.declared.state.Instance.{Instance}
 
 -- the number is one of the list, counted from a number on
-record IsFoundFrom (test : Instance → Bool) (k : ℕ) (xs : List Instance) (j : ℕ) : Type 0 where
+pub record IsFoundFrom (test : Instance → Bool) (k : ℕ) (xs : List Instance) (j : ℕ) : Type 0 where
   pub at : ℕ
   pub instance : Instance
   pub number : j ≡ k + at
@@ -16,7 +16,7 @@ record IsFoundFrom (test : Instance → Bool) (k : ℕ) (xs : List Instance) (j 
 same_number : {a b : ℕ} → Some a ≡ Some b → a ≡ b
 same_number z = cc
 
-found_from : (test : Instance → Bool) (k : ℕ) (xs : List Instance) (j : ℕ) → last_from test k xs ≡ Some j
+pub found_from : (test : Instance → Bool) (k : ℕ) (xs : List Instance) (j : ℕ) → last_from test k xs ≡ Some j
     → IsFoundFrom test k xs j
 found_from test k [] j e = absurd (cc)
 found_from test k (x ∷ xs) j e = on (λ i h. found_from test (suc k) xs i h) (last_from test (suc k) xs) refl e

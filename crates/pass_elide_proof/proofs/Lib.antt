@@ -30,3 +30,8 @@ pub mod FrameDies
 pub mod FreedAlone
 pub mod FreesWaited
 pub mod PassedAlone
+pub mod BothDie
+pub mod GoesOn
+pub mod Deallocates
+pub mod FreesBeside
+pub mod FreesTogether

@@ -1,12 +1,12 @@
 -- Where frames are freed: what is asked of the calls of deallocators.
 use Rattle.std.specs.Option.{option_map_or}
-use Rattle.std.specs.Prelude.{◌≡◌, ◌≢◌, ◌+◌, ℕ, Bool, true, false, List, Some, None, Ok, Option}
+use Rattle.std.specs.Prelude.{◌≡◌, ◌≢◌, ◌+◌, ℕ, Bool, true, false, List, length, slice_get, Some, None, Ok, Option}
 use Rattle.elide_shape.specs.Calls.{deals}
 use Rattle.elide_shape.specs.declared.calls.Dealing.{Dealing}
-use Rattle.pass_elide_proof.specs.Edges.{GivesNone}
+use Rattle.pass_elide_proof.specs.Edges.{GivesNone, IsAlike}
 use Rattle.pass_elide_proof.specs.Elision.{Elision, Shape, framed, function_in, rooms}
-use Rattle.pass_elide_proof.specs.Match.{IsAtEnd, instance_in, sides, was_given}
-use Rattle.pass_elide_proof.specs.Places.{front_at}
+use Rattle.pass_elide_proof.specs.Match.{IsAtEnd, IsNoGivenFrame, instance_in, sides, was_given}
+use Rattle.pass_elide_proof.specs.Places.{allocas_ahead, front_at, own_at, room_at}
 use Rattle.pass_proofs.specs.ir_base.declared.outcome.Outcome.{Outcome}
 use Rattle.pass_proofs.specs.ir_model.Ty.{Ty}
 use Rattle.pass_proofs.specs.ir_model.declared.instr.Instr.{Instr}
@@ -16,12 +16,15 @@ use Rattle.pass_proofs.specs.ir_model.declared.operand.Callee.{Callee}
 use Rattle.pass_proofs.specs.ir_model.declared.operand.Operand.{Operand}
 use Rattle.pass_proofs.specs.ir_paths.Windows.{operand_at}
 use Rattle.pass_proofs.specs.run_framed.Framed.{framed_next, is_given}
+use Rattle.pass_proofs.specs.run_memory.declared.pointer.Offset.{Offset}
+use Rattle.pass_proofs.specs.run_memory.declared.pointer.Pointer.{Pointer}
 use Rattle.pass_proofs.specs.run_memory.declared.pointer.Value.{Value}
 use Rattle.pass_proofs.specs.run_source.Source.{deallocate}
 use Rattle.pass_proofs.specs.run_source.State.{function_of, gives}
+use Rattle.pass_proofs.specs.run_source.declared.state.Instance.{Instance}
 use Rattle.pass_proofs.specs.run_source.declared.state.State.{State}
 use Rattle.pass_proofs.specs.run_step.Step.{AtInstr, fetch}
-use Rattle.pass_proofs.specs.run_step.Values.{address, value_in}
+use Rattle.pass_proofs.specs.run_step.Values.{address, arg_values, nth, value_in}
 
 -- ---- the frame of the activation's instance, which was given in the second run
 
@@ -79,3 +82,31 @@ pub record IsAtPassed (e : Elision) (s t : State) (result : Option ℕ) (w : Val
   -- the name of a block that is held isn't set
   pub holds : (e.shape s.top.func).holds s.top.block (s.top.at + 1) ≡ (e.shape s.top.func).holds s.top.block s.top.at
   pub kept : (v name : ℕ) → result ≡ Some v → (e.shape s.top.func).holds s.top.block s.top.at ≡ Some name → name ≢ v
+
+-- ---- a block that both runs free
+
+-- a deallocator is called with what stands for the same in both runs
+pub record IsAtFreeBeside (e : Elision) (s t : State) (a : Allocator) (result : Option ℕ) (must_tail : Bool)
+    (ty : Option Ty) (args : List Arg) : Type 0 where
+  pub runs : s.outcome ≡ Outcome.Running
+  pub frees : deals Dealing.Frees a ≡ true
+  pub there : fetch (function_of (framed e).given s) s.top.block s.top.at
+      ≡ AtInstr (Instr.Call result must_tail ty (Callee.Allocator a) args)
+  pub beside : t.top.block ≡ s.top.block
+  pub stands : t.top.at ≡ own_at (rooms e s.top.func) (function_in e s.top.func) s.top.block s.top.at
+  pub made : length t.top.slots
+      ≡ length s.top.slots + length (allocas_ahead (rooms e s.top.func) (function_in e s.top.func))
+  -- the call gives no frame
+  pub room : room_at (rooms e s.top.func) (function_in e s.top.func) s.top.block s.top.at
+      (Instr.Call result must_tail ty (Callee.Allocator a) args) ≡ None
+  pub alike : IsAlike e s t (operand_at args 0)
+  -- it is no frame that was given in the second run
+  pub own : (block : ℕ) (o : Offset)
+      → address (nth (arg_values e.code s.top.values args) 0) ≡ Value.Ptr (Pointer.At block o)
+      → IsNoGivenFrame (sides s t) block
+  -- each frame begins a block, as where the sites are in functions that are no coroutines
+  pub starts : (i : ℕ) (y : Instance) → slice_get t.instances i ≡ Some y → y.start ≡ 0
+  pub holds : (e.shape s.top.func).holds s.top.block (s.top.at + 1) ≡ (e.shape s.top.func).holds s.top.block s.top.at
+  -- the framed run isn't undefined here
+  pub after : State
+  pub goes : deallocate s (address (nth (arg_values e.code s.top.values args) 0)) ≡ Ok after

@@ -2,7 +2,7 @@
 
 ghost use Rattle.std.specs.Prelude.{Bool, List, Option, ℕ};
 ghost use Rattle.pass_elide_proof.specs.Elision.{Elision, elided, framed};
-ghost use Rattle.pass_elide_proof.specs.Ending.{IsAtFree, IsAtFreeOfNull, IsAtPassed};
+ghost use Rattle.pass_elide_proof.specs.Ending.{IsAtFree, IsAtFreeBeside, IsAtFreeOfNull, IsAtPassed};
 ghost use Rattle.pass_elide_proof.specs.Match.{AreElided};
 ghost use Rattle.pass_proofs.specs.ir_model.Ty.{Ty};
 ghost use Rattle.pass_proofs.specs.ir_model.declared.operand.Allocator.{Allocator};
@@ -30,4 +30,12 @@ pub fn frees_of_null_stay_beside()
 pub fn passed_values_are_waited_for()
     ensures { (e : Elision) (s t : State) (result : Option ℕ) (w : Value) → AreElided e s t
         → IsAtPassed e s t result w → AreElided e (framed_step (framed e) s) t }
+{}
+
+/// Both runs free the same block, which has no frame that was given, or both free null. What is freed stands at its own
+/// home, and dies there too.
+pub fn frees_stay_beside()
+    ensures { (e : Elision) (s t : State) (a : Allocator) (result : Option ℕ) (must_tail : Bool) (ty : Option Ty)
+        (args : List Arg) → AreElided e s t → IsAtFreeBeside e s t a result must_tail ty args
+        → AreElided e (framed_step (framed e) s) (framed_step (elided e) t) }
 {}
