@@ -4,6 +4,7 @@ use Rattle.std.proofs.lemmas.Bool.{cases_eq}
 use Rattle.std.specs.Option.{option_map_or}
 use Rattle.std.specs.Prelude.{None, Option, Some, filter, if◌then◌else◌, option_map, slice_get}
 use Rattle.pass_elide_proof.proofs.FrameDies.{changed_long}
+use Rattle.pass_elide_proof.proofs.KindsStay.{given_kept, many_kept, one_kept}
 use Rattle.pass_elide_proof.specs.Counts.{capped, counted, given_frames}
 use Rattle.pass_elide_proof.specs.Elision.{Elision, elided, framed, function_in, rooms}
 use Rattle.pass_elide_proof.specs.Match.{AreActivations, AreBelow, AreElided, AreInstances, AreMates, AreNamed, AreReleased, HasAlloca, HasAllocas, HoldsBlock, IsAt, IsFreedAs, IsNoGivenFrame, Sides, frame_size, held_blocks, held_name, instance_in, is_given_mode, sides, was_given}
@@ -38,33 +39,8 @@ use Rattle.run_access_worked.proofs.run_laws_worked.Frames.{frame_rights_fit}
 
 -- ---- kinds stay
 
-stack_same : (n : List MemoryBlock) (k c : ℕ) → is_stack_block (killed n k) c ≡ is_stack_block n c
-stack_same [] k c = refl
-stack_same (y ∷ n) zero zero = refl
-stack_same (y ∷ n) zero (suc c) = refl
-stack_same (y ∷ n) (suc k) zero = refl
-stack_same (y ∷ n) (suc k) (suc c) = stack_same n k c
-
 pub given_still : (n : List MemoryBlock) (k : ℕ) (z : Instance) → is_given (killed n k) z ≡ is_given n z
-given_still n k z = ap (λ (b : Bool). b || not (z.start == 0)) (stack_same n k z.block)
-
-one_still : (n : List MemoryBlock) (k : ℕ) (o : Option Instance)
-    → option_map_or (is_given (killed n k)) o false ≡ option_map_or (is_given n) o false
-one_still n k None = refl
-one_still n k (Some z) = given_still n k z
-
-many_still : (n : List MemoryBlock) (k : ℕ) (ys : List Instance)
-    → length (filter (is_given (killed n k)) ys) ≡ length (filter (is_given n) ys)
-many_still n k [] = refl
-many_still n k (y ∷ ys) =
-    (λ i. length (if given_still n k y i then y ∷ filter (is_given (killed n k)) ys
-    else filter (is_given (killed n k)) ys)) ∙ on (is_given n y) (many_still n k ys)
-  where
-    on : (b : Bool) → length (filter (is_given (killed n k)) ys) ≡ length (filter (is_given n) ys)
-        → length (if b then y ∷ filter (is_given (killed n k)) ys else filter (is_given (killed n k)) ys)
-        ≡ length (if b then y ∷ filter (is_given n) ys else filter (is_given n) ys)
-    on true h = ap suc h
-    on false h = h
+given_still n k z = given_kept killed_block (λ y. refl) n k z
 
 lit : (a : Bool) → a ≡ true → a ≡ false → ⊥
 lit true y n = absurd (cc)
@@ -262,7 +238,7 @@ module _ (e : Elision) (s t : State) (r : AreElided e s t) (b k : ℕ) (x : Memo
           → (if g then true else option_map_or (is_given (killed n k)) (instance_in t.instances c.instance) false)
           ≡ (if g then true else option_map_or (is_given n) (instance_in t.instances c.instance) false)
       on true = refl
-      on false = one_still n k (instance_in t.instances c.instance)
+      on false = one_kept killed_block (λ y. refl) n k (instance_in t.instances c.instance)
 
   alloca_left : (c : Activation) (ss : List Slot) (i : Instr) → HasAlloca r.homes r.hides d c ss i
       → HasAlloca r.homes r.hides q c ss i
@@ -340,7 +316,7 @@ module _ (e : Elision) (s t : State) (r : AreElided e s t) (b k : ℕ) (x : Memo
   allocs =
       r.allocs
       ∙ ap (λ (c : ℕ). capped (t.world.allocs + (c + held_blocks e (s.top ∷ s.below) (t.top ∷ t.below))))
-      (sym (many_still n k t.instances))
+      (sym (many_kept killed_block (λ y. refl) n k t.instances))
 
   pub both_die : AreElided e (with_memory s (killed m b)) (with_memory t (killed n k))
   both_die = record {
@@ -359,3 +335,12 @@ module _ (e : Elision) (s t : State) (r : AreElided e s t) (b k : ℕ) (x : Memo
     allocs = allocs;
     outcome = r.outcome;
   }
+
+  -- where blocks stand stays
+  pub homes_stay : both_die.homes ≡ r.homes
+  unfolding both_die
+  homes_stay = refl
+
+  pub hidden_stay : both_die.hides ≡ r.hides
+  unfolding both_die
+  hidden_stay = refl

@@ -35,3 +35,7 @@ pub mod GoesOn
 pub mod Deallocates
 pub mod FreesBeside
 pub mod FreesTogether
+pub mod KindsStay
+pub mod DisownedToo
+pub mod Finished
+pub mod EndsRamp

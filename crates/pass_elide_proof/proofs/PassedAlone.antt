@@ -17,7 +17,7 @@ use Rattle.pass_proofs.specs.run_step.Step.{fetch}
 use Rattle.pass_proofs.specs.run_step.Values.{Env, value_in, with_result}
 
 -- a name that is held has the same value in other values
-held_in : (env vs : Env) (o q : Option ℕ) → q ≡ o
+pub held_in : (env vs : Env) (o q : Option ℕ) → q ≡ o
     → ((name : ℕ) → o ≡ Some name → value_in vs name ≡ value_in env name) → SameHeld env vs o q
 held_in env vs o q is same = subst (λ (p : Option ℕ). SameHeld env vs o p) (sym is) (on o same)
   where

@@ -16,3 +16,4 @@ pub mod EdgesAsking
 pub mod EdgesFreeing
 pub mod EdgesLeaving
 pub mod Ending
+pub mod Ends
