@@ -157,7 +157,7 @@ module _ (e : Elision) (s t : State) (r : AreElided e s t) (none : GivesNone e s
 
 module _ (e : Elision) (s t : State) (r : AreElided e s t) (result : Option ℕ) (must_tail : Bool) (ty : Option Ty)
     (args : List Arg) (at : IsAtCoroEnd e s t r result must_tail ty args) where
-  abbrev call : Fetched
+  abbrev pub call : Fetched
   call = AtInstr (Instr.Call result must_tail ty (Callee.Intrinsic Intrinsic.CoroEnd) args)
 
   same_function : function_in_elided e t.top.func ≡ function_in e s.top.func

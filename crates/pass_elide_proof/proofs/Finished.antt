@@ -4,6 +4,7 @@ use Rattle.std.proofs.lemmas.List.{length-set}
 use Rattle.std.specs.Prelude.{None, Option, Some, if◌then◌else◌, slice_get, slice_set}
 use Rattle.pass_elide_proof.proofs.DisownedToo.{disowned_stays}
 use Rattle.pass_elide_proof.proofs.FramesStay.{instances_change}
+use Rattle.pass_elide_proof.proofs.FreedAlone.{all_same}
 use Rattle.pass_elide_proof.proofs.LeftWindows.{own_again, set_instances}
 use Rattle.pass_elide_proof.specs.Elision.{Elision}
 use Rattle.pass_elide_proof.specs.Ends.{HaveOwn, LiesInAlloca}
@@ -20,6 +21,7 @@ use Rattle.pass_proofs.specs.run_source.declared.state.Status.{Status}
 use Rattle.pass_proofs.specs.run_step.Step.{without_slots}
 use Rattle.pass_proofs.specs.run_step.declared.world.Slot.{Slot}
 use Rattle.run_access_worked.proofs.Ended.{set_frames}
+use Rattle.run_access_worked.specs.Frames.{AreSameFrames}
 
 -- ---- the step
 
@@ -115,6 +117,8 @@ pub record EndsBoth (e : Elision) (s t u w : State) : Type 0 where
   pub memory : List MemoryBlock
   pub first : u ≡ record s { instances = xs }
   pub second : w ≡ with_memory (record t { instances = ys }) memory
+  pub firsts : AreSameFrames s.instances xs
+  pub seconds : AreSameFrames t.instances ys
   pub beside : AreElided e (record s { instances = xs }) (with_memory (record t { instances = ys }) memory)
 
 module _ (e : Elision) (s t : State) (r : AreElided e s t) (own : HaveOwn e s t r) where
@@ -140,6 +144,14 @@ module _ (e : Elision) (s t : State) (r : AreElided e s t) (own : HaveOwn e s t 
       → IsNoGivenFrame (sides s t) b → (home_of r.homes b).block ≢ y.block
   away lies b lt calm free same = lies.alloca.free b lt calm free (same ∙ sym lies.block)
 
+  over_first : AreSameFrames s.instances (slice_set s.instances j (over x))
+  over_first =
+      set_frames s.instances j x (over x) own.there (record { coroutine = refl; block = refl; start = refl })
+
+  over_second : AreSameFrames t.instances (slice_set t.instances j (over y))
+  over_second =
+      set_frames t.instances j y (over y) own.beside (record { coroutine = refl; block = refl; start = refl })
+
   by_owner : (b : Bool) → owns_stack t y ≡ b → EndsBoth e s t (framed_finish s) (framed_finish t)
   by_owner false is = record {
     xs = slice_set s.instances j (over x);
@@ -147,6 +159,8 @@ module _ (e : Elision) (s t : State) (r : AreElided e s t) (own : HaveOwn e s t 
     memory = t.world.memory;
     first = first;
     second = second false is;
+    firsts = over_first;
+    seconds = over_second;
     beside = ended_both e s t r j x y own.there own.beside;
   }
   by_owner true is =
@@ -158,6 +172,8 @@ module _ (e : Elision) (s t : State) (r : AreElided e s t) (own : HaveOwn e s t 
         memory = disown t.world.memory y.block;
         first = first;
         second = second true is;
+        firsts = over_first;
+        seconds = over_second;
         beside = ended_both e s (with_memory t (disown t.world.memory y.block))
             (disowned_stays e s t r y.block (away (own.lies given))) j x y own.there own.beside;
       }
@@ -174,6 +190,8 @@ module _ (e : Elision) (s t : State) (r : AreElided e s t) (own : HaveOwn e s t 
     memory = t.world.memory;
     first = refl;
     second = refl;
+    firsts = all_same s.instances;
+    seconds = all_same t.instances;
     beside = r;
   }
   ends_both false false same = finished

@@ -39,3 +39,6 @@ pub mod KindsStay
 pub mod DisownedToo
 pub mod Finished
 pub mod EndsRamp
+pub mod SlotsDie
+pub mod Popped
+pub mod EndsResumed
