@@ -16,7 +16,7 @@ pub both_empty : {A : Type 0} (xs ys : List A) → xs ++ ys ≡ [] → (xs ≡ [
 both_empty [] ys h = (refl, h)
 both_empty (x ∷ xs) ys h = absurd (cc)
 
-and_none : {A : Type 0} (xs : List A) → xs ++ [] ≡ xs
+pub and_none : {A : Type 0} (xs : List A) → xs ++ [] ≡ xs
 and_none [] = refl
 and_none (x ∷ xs) = ap (λ ys. x ∷ ys) (and_none xs)
 

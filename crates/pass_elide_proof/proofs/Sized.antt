@@ -33,12 +33,12 @@ other_value (a ∷ rs) zero (suc u) w ne = refl
 other_value (a ∷ rs) (suc v) zero w ne = refl
 other_value (a ∷ rs) (suc v) (suc u) w ne = other_value rs v u w (λ e. ne (ap suc e))
 
-other_result : (env : Env) (result : Option ℕ) (u : ℕ) (w : Value) → ((v : ℕ) → result ≡ Some v → u ≢ v)
+pub other_result : (env : Env) (result : Option ℕ) (u : ℕ) (w : Value) → ((v : ℕ) → result ≡ Some v → u ≢ v)
     → value_in (with_result env result w) u ≡ value_in env u
 other_result env None u w ne = refl
 other_result env (Some v) u w ne = other_value env v u w (ne v refl)
 
-result_long : (env : Env) (result : Option ℕ) (w : Value) → length (with_result env result w) ≡ length env
+pub result_long : (env : Env) (result : Option ℕ) (w : Value) → length (with_result env result w) ≡ length env
 result_long env None w = refl
 result_long env (Some v) w = length-set env v (Some w)
 

@@ -32,3 +32,5 @@ pub mod Calling
 pub mod Waking
 pub mod Returning
 pub mod OwnSlots
+pub mod Ending
+pub mod Ends

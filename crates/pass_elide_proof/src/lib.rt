@@ -7,6 +7,7 @@ pub mod calling;
 pub mod code;
 pub mod counts;
 pub mod edges;
+pub mod ending;
 pub mod frames;
 pub mod handles;
 pub mod intrinsics;
