@@ -170,8 +170,7 @@ module _ (e : Elision) (s t : State) (r : AreElided e s t) (b k : ℕ) (x : Memo
 
   mate_here : (y : MemoryBlock) → slice_get (killed m b) b ≡ Some y → HasMate b y
   mate_here y is =
-      let same : killed_block x ≡ y = same_some (killed_block x) y (sym (changed_here m b killed_block x there) ∙ is) in
-      (
+      let same : killed_block x ≡ y = same_some (killed_block x) y (sym (changed_here m b killed_block x there) ∙ is) in (
         k,
         [],
         home,
@@ -182,8 +181,7 @@ module _ (e : Elision) (s t : State) (r : AreElided e s t) (b k : ℕ) (x : Memo
   mate_there : (c : ℕ) (y : MemoryBlock) → c ≢ b → slice_get m c ≡ Some y → r.hides c ≡ false → IsNoGivenFrame d c
       → HasMate c y
   mate_there c y ne is calm free =
-      let h = r.mates.each c y is calm free in
-      (
+      let h = r.mates.each c y is calm free in (
         h.0,
         h.1,
         h.2,
@@ -208,9 +206,11 @@ module _ (e : Elision) (s t : State) (r : AreElided e s t) (b k : ℕ) (x : Memo
 
   freed_on : (y z : Instance) (g : Bool) → (g ≡ true → z.block ≢ k) → IsFreedAs n y z g → IsFreedAs (killed n k) y z g
   freed_on y z false far h = h
-  freed_on y z true far h =
-      (h.0, λ running.
-      let l = h.1 running in (l.0, changed_elsewhere n k z.block killed_block (far refl) ∙ l.1, l.2))
+  freed_on y z true far h = (
+    h.0,
+    λ running.
+        let l = h.1 running in (l.0, changed_elsewhere n k z.block killed_block (far refl) ∙ l.1, l.2),
+  )
 
   instances : (i : ℕ) (y z : Instance) → slice_get s.instances i ≡ Some y → slice_get t.instances i ≡ Some z
       → AreInstances e r.homes (killed n k) y z

@@ -177,8 +177,7 @@ module _ (e : Elision) (s t : State) (r : AreElided e s t) (c : ℕ)
   mates : AreMates r.homes r.hides q
   mates = record {
     each = λ b x here calm free.
-        let h = r.mates.each b x here calm (no_given b free) in
-        (
+        let h = r.mates.each b x here calm (no_given b free) in (
           h.0,
           h.1,
           h.2,
@@ -193,10 +192,12 @@ module _ (e : Elision) (s t : State) (r : AreElided e s t) (c : ℕ)
 
   freed_on : (y z : Instance) (g : Bool) → IsFreedAs n y z g → IsFreedAs l y z g
   freed_on y z false h = h
-  freed_on y z true h =
-      (h.0, λ running.
-      let old = h.1 running in
-      let now = kept_there n c z.block old.0 old.1 in (now.0, now.1, now.2.live ∙ old.2))
+  freed_on y z true h = (
+    h.0,
+    λ running.
+        let old = h.1 running in
+        let now = kept_there n c z.block old.0 old.1 in (now.0, now.1, now.2.live ∙ old.2),
+  )
 
   instances : (i : ℕ) (y z : Instance) → slice_get s.instances i ≡ Some y → slice_get t.instances i ≡ Some z
       → AreInstances e r.homes l y z

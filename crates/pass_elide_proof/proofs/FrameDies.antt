@@ -85,8 +85,7 @@ disowned_dies m b = record {
       ap (λ (z : MemoryBlock). is_live z.life) (sym y.2);
   sized = λ x is.
       let y = was_there (with_block m b disowned) b killed_block x is in
-      let z = was_there m b disowned y.0 y.1 in
-      (
+      let z = was_there m b disowned y.0 y.1 in (
         z.0,
         z.1,
         ap (λ (q : MemoryBlock). q.size) z.2 ∙ ap (λ (q : MemoryBlock). q.size) y.2,

@@ -186,16 +186,15 @@ module _ (e : Elision) (s t : State) (r : AreElided e s t) (ready : StandsReady 
 
     stays : Kills s b start after → (deallocate t (started k) ≡ behind_it t k start)
         → (v : State) × (deallocate t (started k) ≡ Ok v) × AreElided e after v
-    stays h none =
-        (
-          next (with_memory t (killed n k)),
-          none
-              ∙ kills_too t k start refl (ap (is_unkilled Kind.Allocator) mate.3
-              ∙ (ap (is_unkilled Kind.Allocator) (sym it.1) ∙ h.unkilled))
-              (ap is_owned mate.3 ∙ (ap is_owned (sym it.1) ∙ h.unowned)),
-          subst (λ (v : State). AreElided e v (next (with_memory t (killed n k)))) h.is
-              (both_go e (with_memory s (killed m b)) (with_memory t (killed n k)) died ready),
-        )
+    stays h none = (
+      next (with_memory t (killed n k)),
+      none
+          ∙ kills_too t k start refl (ap (is_unkilled Kind.Allocator) mate.3
+          ∙ (ap (is_unkilled Kind.Allocator) (sym it.1) ∙ h.unkilled))
+          (ap is_owned mate.3 ∙ (ap is_owned (sym it.1) ∙ h.unowned)),
+      subst (λ (v : State). AreElided e v (next (with_memory t (killed n k)))) h.is
+          (both_go e (with_memory s (killed m b)) (with_memory t (killed n k)) died ready),
+    )
 
     -- ---- an instance of a number does
 
@@ -253,16 +252,15 @@ module _ (e : Elision) (s t : State) (r : AreElided e s t) (ready : StandsReady 
 
       lets_go : Kills gone b start after → (deallocate t (started k) ≡ behind_it gone_too k start)
           → (v : State) × (deallocate t (started k) ≡ Ok v) × AreElided e after v
-      lets_go h by =
-          (
-            next (with_memory gone_too (killed (disown n k) k)),
-            by ∙ kills_too gone_too k start refl (unkilled_if h.unkilled)
-                (ap is_owned (changed_here n k disowned (record x { bytes = mate.1 }) mate.3)),
-            subst (λ (v : State). AreElided e v (next (with_memory gone_too (killed (disown n k) k)))) h.is
-                (subst (λ (p : List MemoryBlock × List MemoryBlock).
-                AreElided e (next (with_memory gone p.0)) (next (with_memory gone_too p.1)))
-                (λ i. (sym (disowned_too m b) i, sym (disowned_too n k) i)) freed_both),
-          )
+      lets_go h by = (
+        next (with_memory gone_too (killed (disown n k) k)),
+        by ∙ kills_too gone_too k start refl (unkilled_if h.unkilled)
+            (ap is_owned (changed_here n k disowned (record x { bytes = mate.1 }) mate.3)),
+        subst (λ (v : State). AreElided e v (next (with_memory gone_too (killed (disown n k) k)))) h.is
+            (subst (λ (p : List MemoryBlock × List MemoryBlock).
+            AreElided e (next (with_memory gone p.0)) (next (with_memory gone_too p.1)))
+            (λ i. (sym (disowned_too m b) i, sym (disowned_too n k) i)) freed_both),
+      )
 
       may_too : may_be_freed z ≡ may_be_freed y
       may_too =

@@ -80,8 +80,7 @@ module _ (e : Elision) (s t : State) (a : Allocator) (result : Option ℕ) (must
       let zero_bits : o.bits ≡ 0 = equal_numbers o.bits 0 k.start in
       let begins : o ≡ start = λ i. record { bits = zero_bits i } in
       let f = frees_both e s t r ready at.starts b h.0 (at.own b o is) at.after
-      (ap (λ (x : Offset). deallocate s (Value.Ptr (Pointer.At b x))) (sym begins) ∙ goes) in
-      (
+      (ap (λ (x : Offset). deallocate s (Value.Ptr (Pointer.At b x))) (sym begins) ∙ goes) in (
         f.0,
         ap (deallocate t) h.1
             ∙ (ap (λ (x : Offset). deallocate t (Value.Ptr (Pointer.At (home_of r.homes b).block
@@ -92,12 +91,11 @@ module _ (e : Elision) (s t : State) (a : Allocator) (result : Option ℕ) (must
   by_value : (v u : Value) → IsValue r.homes v u → p ≡ v → deallocate s v ≡ Ok at.after → FreesToo u
   by_value Value.Poison u h is goes = absurd (cc)
   by_value (Value.Int x) u h is goes = absurd (cc)
-  by_value (Value.Ptr Pointer.Null) u h is goes =
-      (
-        next t,
-        ap (deallocate t) h.1,
-        subst (λ (v : State). AreElided e v (next t)) (same_given (next s) at.after goes) (both_go e s t r ready),
-      )
+  by_value (Value.Ptr Pointer.Null) u h is goes = (
+    next t,
+    ap (deallocate t) h.1,
+    subst (λ (v : State). AreElided e v (next t)) (same_given (next s) at.after goes) (both_go e s t r ready),
+  )
   by_value (Value.Ptr (Pointer.Func k)) u h is goes = absurd (cc)
   by_value (Value.Ptr (Pointer.At b o)) u h is goes = at_block b o u h is goes
 

@@ -20,14 +20,14 @@ pub fn frees_are_waited_for()
         → AreElided e (framed_step (framed e) s) t }
 {}
 
-/// Where there is no test, the other run frees null.
+/// Where there is no test for null, the other run frees null while the framed one frees the frame.
 pub fn frees_of_null_stay_beside()
     ensures { (e : Elision) (s t : State) (a : Allocator) (result : Option ℕ) (must_tail : Bool) (ty : Option Ty)
         (args : List Arg) → AreElided e s t → IsAtFreeOfNull e s t a result must_tail ty args
         → AreElided e (framed_step (framed e) s) (framed_step (elided e) t) }
 {}
 
-/// So it does while the framed run sets another name in the block that frees.
+/// The other run waits too while the framed one sets another name in the block that frees.
 pub fn passed_values_are_waited_for()
     ensures { (e : Elision) (s t : State) (result : Option ℕ) (w : Value) → AreElided e s t
         → IsAtPassed e s t result w → AreElided e (framed_step (framed e) s) t }
