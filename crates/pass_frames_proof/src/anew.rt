@@ -1,16 +1,16 @@
 //! Slots that a woken coroutine makes anew, one after another, until it enters the block on the edge.
 
 ghost use Rattle.std.specs.Prelude.{◌≡◌, ℕ, List};
-ghost use Rattle.pass_proofs.specs.ir_model.Ty.{Ty};
-ghost use Rattle.pass_proofs.specs.ir_model.declared.instr.Instr.{Instr};
-ghost use Rattle.pass_frames_proof.specs.Anew.{HasCellsMade, HasNextAnew, HasNoneLeft, IsAtAnew, MakesLine};
-ghost use Rattle.pass_frames_proof.specs.Entering.{behind_allocas};
-ghost use Rattle.pass_frames_proof.specs.Followed.{IsFollowed};
-ghost use Rattle.pass_frames_proof.specs.Related.{AreBuiltOf, Building};
-ghost use Rattle.pass_frames_proof.specs.Slotted.{HasSlotsThere};
-ghost use Rattle.pass_frames_proof.specs.Stepping.{AreGiven};
-ghost use Rattle.pass_renewed_proof.specs.Renewed.{RenewedGiven};
-ghost use Rattle.pass_proofs.specs.run_source.declared.state.State.{State};
+ghost use Rattle.pass_frames_steps.specs.ir_model.Ty.{Ty};
+ghost use Rattle.pass_frames_steps.specs.ir_model.declared.instr.Instr.{Instr};
+ghost use Rattle.pass_frames_steps.specs.Anew.{HasCellsMade, HasNextAnew, HasNoneLeft, IsAtAnew, MakesLine};
+ghost use Rattle.pass_frames_steps.specs.Entering.{behind_allocas};
+ghost use Rattle.pass_frames_steps.specs.Followed.{IsFollowed};
+ghost use Rattle.pass_frames_steps.specs.Related.{AreBuiltOf, Building};
+ghost use Rattle.pass_frames_steps.specs.Slotted.{HasSlotsThere};
+ghost use Rattle.pass_frames_steps.specs.Stepping.{AreGiven};
+ghost use Rattle.pass_frames_steps.specs.pass_renewed_proof.Renewed.{RenewedGiven};
+ghost use Rattle.pass_frames_steps.specs.run_source.declared.state.State.{State};
 
 /// A slot is made anew in both runs. The framed run also makes the allocas up to the next such slot, or all that are
 /// left. Then the block on the edge is entered: fields are right, and all cells are there.

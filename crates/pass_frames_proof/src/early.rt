@@ -1,31 +1,31 @@
 //! Slots that are used before begin: what stands right behind it is executed.
 
 ghost use Rattle.std.specs.Prelude.{◌≡◌, ◌≢◌, ◌+◌, ◌<◌, ◌^◌, ℕ, List, None, false, set};
-ghost use Rattle.pass_proofs.specs.flow_solver.Paths.{IsListed};
-ghost use Rattle.pass_proofs.specs.ir_model.declared.instr.Instr.{Instr};
-ghost use Rattle.pass_proofs.specs.ir_model.declared.operand.Operand.{Operand};
-ghost use Rattle.pass_proofs.specs.ir_parts.Contents.{instr_operands};
-ghost use Rattle.pass_proofs.specs.pass_copies.Uses.{is_access};
-ghost use Rattle.pass_proofs.specs.pass_copies.declared.slot.EarlySlot.{EarlySlot};
-ghost use Rattle.pass_proofs.specs.pass_fetch.Fetching.{fetch_of};
-ghost use Rattle.pass_proofs.specs.pass_frames.Tables.{offset_at};
-ghost use Rattle.pass_frames_proof.specs.Code.{is_ahead, loaded, slot_table};
-ghost use Rattle.pass_frames_proof.specs.Early.{AreCopied, IsCopiedSlot, IsOfField, MayComeThere, MayCopyAll};
-ghost use Rattle.pass_frames_proof.specs.Framings.{IsFraming};
-ghost use Rattle.pass_frames_proof.specs.FromEdges.{IsEarlyInFrame};
-ghost use Rattle.pass_frames_proof.specs.Offsets.{AreHeldOnce};
-ghost use Rattle.pass_frames_proof.specs.Places.{Framing, Placed, copies};
-ghost use Rattle.pass_frames_proof.specs.Stepping.{IsUnlocated};
-ghost use Rattle.pass_proofs.specs.fetch.rules.Fetches.{AreUnfetched};
-ghost use Rattle.pass_proofs.specs.run_laws.changed.Changed.{Each};
-ghost use Rattle.pass_proofs.specs.run_laws.memory.Pointers.{Home};
-ghost use Rattle.pass_proofs.specs.run_laws.memory.Standing.{AreByteRights};
-ghost use Rattle.pass_proofs.specs.run_laws.transfer.Places.{AreStanding};
-ghost use Rattle.pass_proofs.specs.run_laws.transfer.Ready.{Place, home_at};
-ghost use Rattle.pass_proofs.specs.run_memory.Memory.{Rights};
-ghost use Rattle.pass_proofs.specs.run_memory.declared.block.MemoryBlock.{MemoryBlock};
-ghost use Rattle.pass_proofs.specs.run_source.declared.state.Activation.{Activation};
-ghost use Rattle.pass_proofs.specs.run_step.Step.{Context, Work};
+ghost use Rattle.pass_frames_steps.specs.flow_solver.Paths.{IsListed};
+ghost use Rattle.pass_frames_steps.specs.ir_model.declared.instr.Instr.{Instr};
+ghost use Rattle.pass_frames_steps.specs.ir_model.declared.operand.Operand.{Operand};
+ghost use Rattle.pass_frames_steps.specs.ir_parts.Contents.{instr_operands};
+ghost use Rattle.pass_frames_steps.specs.pass_copies.Uses.{is_access};
+ghost use Rattle.pass_frames_steps.specs.pass_copies.declared.slot.EarlySlot.{EarlySlot};
+ghost use Rattle.pass_frames_steps.specs.pass_fetch.Fetching.{fetch_of};
+ghost use Rattle.pass_frames_steps.specs.pass_frames.Tables.{offset_at};
+ghost use Rattle.pass_frames_steps.specs.Code.{is_ahead, loaded, slot_table};
+ghost use Rattle.pass_frames_steps.specs.Early.{AreCopied, IsCopiedSlot, IsOfField, MayComeThere, MayCopyAll};
+ghost use Rattle.pass_frames_steps.specs.Framings.{IsFraming};
+ghost use Rattle.pass_frames_steps.specs.FromEdges.{IsEarlyInFrame};
+ghost use Rattle.pass_frames_steps.specs.Offsets.{AreHeldOnce};
+ghost use Rattle.pass_frames_steps.specs.Places.{Framing, Placed, copies};
+ghost use Rattle.pass_frames_steps.specs.Stepping.{IsUnlocated};
+ghost use Rattle.pass_frames_steps.specs.pass_proofs.fetch.rules.Fetches.{AreUnfetched};
+ghost use Rattle.pass_frames_steps.specs.run_laws.changed.Changed.{Each};
+ghost use Rattle.pass_frames_steps.specs.run_laws.memory.Pointers.{Home};
+ghost use Rattle.pass_frames_steps.specs.run_laws.memory.Standing.{AreByteRights};
+ghost use Rattle.pass_frames_steps.specs.run_laws.transfer.Places.{AreStanding};
+ghost use Rattle.pass_frames_steps.specs.run_laws.transfer.Ready.{Place, home_at};
+ghost use Rattle.pass_frames_steps.specs.run_memory.Memory.{Rights};
+ghost use Rattle.pass_frames_steps.specs.run_memory.declared.block.MemoryBlock.{MemoryBlock};
+ghost use Rattle.pass_frames_steps.specs.run_source.declared.state.Activation.{Activation};
+ghost use Rattle.pass_frames_steps.specs.run_step.Step.{Context, Work};
 
 /// Each slot that is used before begin lies in the frame, where it has its place among what is held, and is as large as
 /// its field. No address is made of its temporary or of its cell, and no cell has the name of a temporary.

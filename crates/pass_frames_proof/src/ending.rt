@@ -1,15 +1,15 @@
 //! Ends of coroutines, from state to state: the instance is over in both runs, where the activation hasn't left.
 
 ghost use Rattle.std.specs.Prelude.{ℕ, Bool, List, Option};
-ghost use Rattle.pass_proofs.specs.ir_model.Ty.{Ty};
-ghost use Rattle.pass_proofs.specs.ir_model.declared.operand.Arg.{Arg};
-ghost use Rattle.pass_frames_proof.specs.Ending.{GoesOnPast, IsAtEnd, LeadsBack};
-ghost use Rattle.pass_frames_proof.specs.Followed.{IsFollowed};
-ghost use Rattle.pass_frames_proof.specs.Related.{AreBuiltOf, Building};
-ghost use Rattle.pass_frames_proof.specs.Stepping.{AreGiven};
-ghost use Rattle.pass_renewed_proof.specs.Renewed.{RenewedGiven};
-ghost use Rattle.pass_proofs.specs.run_source.declared.state.Activation.{Activation};
-ghost use Rattle.pass_proofs.specs.run_source.declared.state.State.{State};
+ghost use Rattle.pass_frames_steps.specs.ir_model.Ty.{Ty};
+ghost use Rattle.pass_frames_steps.specs.ir_model.declared.operand.Arg.{Arg};
+ghost use Rattle.pass_frames_steps.specs.Ending.{GoesOnPast, IsAtEnd, LeadsBack};
+ghost use Rattle.pass_frames_steps.specs.Followed.{IsFollowed};
+ghost use Rattle.pass_frames_steps.specs.Related.{AreBuiltOf, Building};
+ghost use Rattle.pass_frames_steps.specs.Stepping.{AreGiven};
+ghost use Rattle.pass_frames_steps.specs.pass_renewed_proof.Renewed.{RenewedGiven};
+ghost use Rattle.pass_frames_steps.specs.run_source.declared.state.Activation.{Activation};
+ghost use Rattle.pass_frames_steps.specs.run_source.declared.state.State.{State};
 
 /// The end of a coroutine is followed: a resumed activation leads back to its resumer, behind its call, and a ramp is
 /// given false and goes on behind it.

@@ -1,25 +1,25 @@
 //! Allocas that a resumed activation of the framed run makes again before it enters a label.
 
 ghost use Rattle.std.specs.Prelude.{◌≡◌, ◌<◌, ◌≤◌, ◌+◌, ◌++◌, ◌∷◌, [], ℕ, List, None, Some, false, length, slice_get, suc, take};
-ghost use Rattle.pass_proofs.specs.flow_solver.Paths.{IsListed};
-ghost use Rattle.pass_proofs.specs.ir_laws.paths.woven_rules.Pairs.{AreDifferent};
-ghost use Rattle.pass_proofs.specs.ir_model.Layout.{size_of};
-ghost use Rattle.pass_proofs.specs.ir_model.Ty.{Ty};
-ghost use Rattle.pass_proofs.specs.ir_model.declared.instr.Instr.{Instr};
-ghost use Rattle.pass_proofs.specs.ir_paths.Slots.{allocas_in};
-ghost use Rattle.pass_proofs.specs.pass_fetch.Fetching.{value_bytes};
-ghost use Rattle.pass_frames_proof.specs.Costs.{allocas_before};
-ghost use Rattle.pass_frames_proof.specs.Entering.{AreAllocasBetween, IsGoodAlloca, IsMaking, behind_alloca, behind_allocas, entered, front_allocas};
-ghost use Rattle.pass_frames_proof.specs.Places.{Framing, framed, instrs_at};
-ghost use Rattle.pass_frames_proof.specs.Related.{Anything, IsCell};
-ghost use Rattle.pass_proofs.specs.run_framed.Framed.{FramedGiven, alloca_from, frame_rights, framed_step};
-ghost use Rattle.pass_proofs.specs.run_laws.access.Lines.{StandAt};
-ghost use Rattle.pass_proofs.specs.run_laws.changed.Changed.{Each};
-ghost use Rattle.pass_proofs.specs.run_source.State.{function_of};
-ghost use Rattle.pass_proofs.specs.run_source.declared.state.Instance.{Instance};
-ghost use Rattle.pass_proofs.specs.run_source.declared.state.State.{State};
-ghost use Rattle.pass_proofs.specs.run_step.Runs.{iterate};
-ghost use Rattle.pass_proofs.specs.run_step.Step.{has_markers};
+ghost use Rattle.pass_frames_steps.specs.flow_solver.Paths.{IsListed};
+ghost use Rattle.pass_frames_steps.specs.ir_laws.paths.woven_rules.Pairs.{AreDifferent};
+ghost use Rattle.pass_frames_steps.specs.ir_model.Layout.{size_of};
+ghost use Rattle.pass_frames_steps.specs.ir_model.Ty.{Ty};
+ghost use Rattle.pass_frames_steps.specs.ir_model.declared.instr.Instr.{Instr};
+ghost use Rattle.pass_frames_steps.specs.ir_paths.Slots.{allocas_in};
+ghost use Rattle.pass_frames_steps.specs.pass_fetch.Fetching.{value_bytes};
+ghost use Rattle.pass_frames_steps.specs.Costs.{allocas_before};
+ghost use Rattle.pass_frames_steps.specs.Entering.{AreAllocasBetween, IsGoodAlloca, IsMaking, behind_alloca, behind_allocas, entered, front_allocas};
+ghost use Rattle.pass_frames_steps.specs.Places.{Framing, framed, instrs_at};
+ghost use Rattle.pass_frames_steps.specs.Related.{Anything, IsCell};
+ghost use Rattle.pass_frames_steps.specs.run_framed.Framed.{FramedGiven, alloca_from, frame_rights, framed_step};
+ghost use Rattle.pass_frames_steps.specs.run_laws.access.Lines.{StandAt};
+ghost use Rattle.pass_frames_steps.specs.run_laws.changed.Changed.{Each};
+ghost use Rattle.pass_frames_steps.specs.run_source.State.{function_of};
+ghost use Rattle.pass_frames_steps.specs.run_source.declared.state.Instance.{Instance};
+ghost use Rattle.pass_frames_steps.specs.run_source.declared.state.State.{State};
+ghost use Rattle.pass_frames_steps.specs.run_step.Runs.{iterate};
+ghost use Rattle.pass_frames_steps.specs.run_step.Step.{has_markers};
 
 /// Each alloca up to another one is a step of the framed run, and makes its block and its slot. Behind the last alloca
 /// of all the label is entered.

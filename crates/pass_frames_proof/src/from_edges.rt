@@ -1,20 +1,20 @@
 //! Jumps of a coroutine from blocks on resume and destroy edges are followed.
 
-ghost use Rattle.pass_frames_proof.specs.Code.{end_code, end_term, front_code, last_state};
-ghost use Rattle.pass_frames_proof.specs.Edges.{EndsLed, PhisGiven};
-ghost use Rattle.pass_frames_proof.specs.Followed.{IsFollowed};
-ghost use Rattle.pass_frames_proof.specs.FromEdges.{IsAtReturn, IsFrontDone, IsOutOfEdge};
-ghost use Rattle.pass_frames_proof.specs.Jumps.{MayJumpBy};
-ghost use Rattle.pass_frames_proof.specs.Leaving.{further};
-ghost use Rattle.pass_frames_proof.specs.Lined.{lined};
-ghost use Rattle.pass_frames_proof.specs.Passes.{block_at};
-ghost use Rattle.pass_frames_proof.specs.Places.{edged};
-ghost use Rattle.pass_frames_proof.specs.Related.{AreBuiltOf, Building};
-ghost use Rattle.pass_frames_proof.specs.Stepping.{AreGiven};
-ghost use Rattle.pass_renewed_proof.specs.Renewed.{RenewedGiven, renewed_step};
-ghost use Rattle.pass_proofs.specs.run_agreement.Machines.{IsFine};
-ghost use Rattle.pass_proofs.specs.run_source.Source.{left_windows};
-ghost use Rattle.pass_proofs.specs.run_source.declared.state.State.{State};
+ghost use Rattle.pass_frames_steps.specs.Code.{end_code, end_term, front_code, last_state};
+ghost use Rattle.pass_frames_steps.specs.Edges.{EndsLed, PhisGiven};
+ghost use Rattle.pass_frames_steps.specs.Followed.{IsFollowed};
+ghost use Rattle.pass_frames_steps.specs.FromEdges.{IsAtReturn, IsFrontDone, IsOutOfEdge};
+ghost use Rattle.pass_frames_steps.specs.Jumps.{MayJumpBy};
+ghost use Rattle.pass_frames_steps.specs.Leaving.{further};
+ghost use Rattle.pass_frames_steps.specs.Lined.{lined};
+ghost use Rattle.pass_frames_steps.specs.Passes.{block_at};
+ghost use Rattle.pass_frames_steps.specs.Places.{edged};
+ghost use Rattle.pass_frames_steps.specs.Related.{AreBuiltOf, Building};
+ghost use Rattle.pass_frames_steps.specs.Stepping.{AreGiven};
+ghost use Rattle.pass_frames_steps.specs.pass_renewed_proof.Renewed.{RenewedGiven, renewed_step};
+ghost use Rattle.pass_frames_steps.specs.run_agreement.Machines.{IsFine};
+ghost use Rattle.pass_frames_steps.specs.run_source.Source.{left_windows};
+ghost use Rattle.pass_frames_steps.specs.run_source.declared.state.State.{State};
 ghost use Rattle.std.specs.Prelude.{◌≡◌, [], ℕ, length};
 
 /// In front of a block on a resume or destroy edge addresses of slots go to their cells, and what crosses comes from

@@ -2,30 +2,30 @@
 //! phis are stored in front of the next one.
 
 ghost use Rattle.std.specs.Prelude.{◌≡◌, ◌≢◌, ℕ, false, List, Some, length, slice_get};
-ghost use Rattle.pass_proofs.specs.ir_model.Names.{block_labelled, position_of};
-ghost use Rattle.pass_proofs.specs.ir_model.declared.module.Block.{Block};
-ghost use Rattle.pass_proofs.specs.pass_cells.Cells.{fetches_of};
-ghost use Rattle.pass_proofs.specs.pass_cells.Written.{stored_phis};
-ghost use Rattle.pass_proofs.specs.pass_fetch.Instrs.{fetched_term};
-ghost use Rattle.pass_frames_proof.specs.Code.{end_code, end_term, last_state, load_name};
-ghost use Rattle.pass_frames_proof.specs.Framings.{IsFraming};
-ghost use Rattle.pass_frames_proof.specs.Passes.{block_at};
-ghost use Rattle.pass_frames_proof.specs.Phis.{IsOrdinaryBlock};
-ghost use Rattle.pass_frames_proof.specs.Places.{Framing, edged, fetched, framed, is_return, plan, unmarked};
-ghost use Rattle.pass_proofs.specs.ir_model.declared.instr.Instr.{Instr};
-ghost use Rattle.pass_proofs.specs.ir_model.declared.instr.Terminator.{Terminator};
-ghost use Rattle.pass_frames_proof.specs.Edges.{AreEndsLed, AreFrontsLed, ArePhisGiven, EndsInPlace, FrontsInPlace, IsAtJump, block_to};
-ghost use Rattle.pass_frames_proof.specs.Leaving.{IsBranch, further};
-ghost use Rattle.pass_frames_proof.specs.Jumps.{CanJump, EndsAt, MayGo, MayJump, PhisInPlace};
-ghost use Rattle.pass_proofs.specs.run_framed.Framed.{framed_context};
-ghost use Rattle.pass_proofs.specs.run_memory.declared.pointer.Value.{Value};
-ghost use Rattle.pass_proofs.specs.run_source.State.{work_of};
-ghost use Rattle.pass_proofs.specs.run_step.Step.{GoTo, label_of, term_action};
-ghost use Rattle.pass_frames_proof.specs.Followed.{IsFollowed};
-ghost use Rattle.pass_frames_proof.specs.Related.{AreBuiltOf, Building};
-ghost use Rattle.pass_frames_proof.specs.Stepping.{AreGiven};
-ghost use Rattle.pass_renewed_proof.specs.Renewed.{RenewedGiven};
-ghost use Rattle.pass_proofs.specs.run_source.declared.state.State.{State};
+ghost use Rattle.pass_frames_steps.specs.ir_model.Names.{block_labelled, position_of};
+ghost use Rattle.pass_frames_steps.specs.ir_model.declared.module.Block.{Block};
+ghost use Rattle.pass_frames_steps.specs.pass_cells.Cells.{fetches_of};
+ghost use Rattle.pass_frames_steps.specs.pass_cells.Written.{stored_phis};
+ghost use Rattle.pass_frames_steps.specs.pass_fetch.Instrs.{fetched_term};
+ghost use Rattle.pass_frames_steps.specs.Code.{end_code, end_term, last_state, load_name};
+ghost use Rattle.pass_frames_steps.specs.Framings.{IsFraming};
+ghost use Rattle.pass_frames_steps.specs.Passes.{block_at};
+ghost use Rattle.pass_frames_steps.specs.Phis.{IsOrdinaryBlock};
+ghost use Rattle.pass_frames_steps.specs.Places.{Framing, edged, fetched, framed, is_return, plan, unmarked};
+ghost use Rattle.pass_frames_steps.specs.ir_model.declared.instr.Instr.{Instr};
+ghost use Rattle.pass_frames_steps.specs.ir_model.declared.instr.Terminator.{Terminator};
+ghost use Rattle.pass_frames_steps.specs.Edges.{AreEndsLed, AreFrontsLed, ArePhisGiven, EndsInPlace, FrontsInPlace, IsAtJump, block_to};
+ghost use Rattle.pass_frames_steps.specs.Leaving.{IsBranch, further};
+ghost use Rattle.pass_frames_steps.specs.Jumps.{CanJump, EndsAt, MayGo, MayJump, PhisInPlace};
+ghost use Rattle.pass_frames_steps.specs.run_framed.Framed.{framed_context};
+ghost use Rattle.pass_frames_steps.specs.run_memory.declared.pointer.Value.{Value};
+ghost use Rattle.pass_frames_steps.specs.run_source.State.{work_of};
+ghost use Rattle.pass_frames_steps.specs.run_step.Step.{GoTo, label_of, term_action};
+ghost use Rattle.pass_frames_steps.specs.Followed.{IsFollowed};
+ghost use Rattle.pass_frames_steps.specs.Related.{AreBuiltOf, Building};
+ghost use Rattle.pass_frames_steps.specs.Stepping.{AreGiven};
+ghost use Rattle.pass_frames_steps.specs.pass_renewed_proof.Renewed.{RenewedGiven};
+ghost use Rattle.pass_frames_steps.specs.run_source.declared.state.State.{State};
 
 /// At the end of a block stands what fetches its phis' and its terminator's operands, and then the terminator. In
 /// front

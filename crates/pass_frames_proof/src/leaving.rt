@@ -1,15 +1,15 @@
 //! Branches of a coroutine leave the same windows in both runs.
 
 ghost use Rattle.std.specs.Prelude.{◌≡◌, [], ℕ, false, length};
-ghost use Rattle.pass_frames_proof.specs.Code.{end_code, front_code, last_state};
-ghost use Rattle.pass_frames_proof.specs.FromEdges.{IsAtReturn};
-ghost use Rattle.pass_frames_proof.specs.Leaving.{IsAtBranch, IsBranch, further};
-ghost use Rattle.pass_frames_proof.specs.Places.{is_return};
-ghost use Rattle.pass_frames_proof.specs.Related.{AreBuiltOf, Building};
-ghost use Rattle.pass_frames_proof.specs.Stepping.{AreGiven};
-ghost use Rattle.pass_renewed_proof.specs.Renewed.{RenewedGiven};
-ghost use Rattle.pass_proofs.specs.run_source.Source.{left_windows};
-ghost use Rattle.pass_proofs.specs.run_source.declared.state.State.{State};
+ghost use Rattle.pass_frames_steps.specs.Code.{end_code, front_code, last_state};
+ghost use Rattle.pass_frames_steps.specs.FromEdges.{IsAtReturn};
+ghost use Rattle.pass_frames_steps.specs.Leaving.{IsAtBranch, IsBranch, further};
+ghost use Rattle.pass_frames_steps.specs.Places.{is_return};
+ghost use Rattle.pass_frames_steps.specs.Related.{AreBuiltOf, Building};
+ghost use Rattle.pass_frames_steps.specs.Stepping.{AreGiven};
+ghost use Rattle.pass_frames_steps.specs.pass_renewed_proof.Renewed.{RenewedGiven};
+ghost use Rattle.pass_frames_steps.specs.run_source.Source.{left_windows};
+ghost use Rattle.pass_frames_steps.specs.run_source.declared.state.State.{State};
 
 /// Where windows of the framed form are those of the coroutine at their places, a branch leaves the same ones. It leaves
 /// none in either run, or some in both. From a block on a resume or destroy edge it leaves none.

@@ -1,14 +1,14 @@
 //! Accesses before begin of slots that are used there.
 
-ghost use Rattle.pass_proofs.specs.ir_model.declared.instr.Instr.{Instr};
-ghost use Rattle.pass_frames_proof.specs.Followed.{IsFollowed};
-ghost use Rattle.pass_frames_proof.specs.Located.{IsAtAccess};
-ghost use Rattle.pass_frames_proof.specs.Related.{AreBuiltOf, Building};
-ghost use Rattle.pass_frames_proof.specs.Stepping.{AreFieldsSpared, AreGiven};
-ghost use Rattle.pass_frames_proof.specs.Temporaries.{HasLedSlots};
-ghost use Rattle.pass_renewed_proof.specs.Renewed.{RenewedGiven};
-ghost use Rattle.pass_proofs.specs.run_source.declared.state.State.{State};
-ghost use Rattle.pass_proofs.specs.run_step.Step.{Work};
+ghost use Rattle.pass_frames_steps.specs.ir_model.declared.instr.Instr.{Instr};
+ghost use Rattle.pass_frames_steps.specs.Followed.{IsFollowed};
+ghost use Rattle.pass_frames_steps.specs.Located.{IsAtAccess};
+ghost use Rattle.pass_frames_steps.specs.Related.{AreBuiltOf, Building};
+ghost use Rattle.pass_frames_steps.specs.Stepping.{AreFieldsSpared, AreGiven};
+ghost use Rattle.pass_frames_steps.specs.Temporaries.{HasLedSlots};
+ghost use Rattle.pass_frames_steps.specs.pass_renewed_proof.Renewed.{RenewedGiven};
+ghost use Rattle.pass_frames_steps.specs.run_source.declared.state.State.{State};
+ghost use Rattle.pass_frames_steps.specs.run_step.Step.{Work};
 
 /// A load, a store or a memcpy is followed that goes by the addresses in the cells of slots that are used before begin,
 /// where no live slot lies in the fields of suspended instances.

@@ -1,21 +1,21 @@
 //! Calls of ramps: the framed run executes the front of the entry with the call.
 
 ghost use Rattle.std.specs.Prelude.{◌≡◌, ◌≤◌, ℕ, Bool, List, Option, false, length, true};
-ghost use Rattle.pass_proofs.specs.ir_model.declared.instr.Instr.{Instr};
-ghost use Rattle.pass_proofs.specs.ir_model.declared.module.Module.{Module};
-ghost use Rattle.pass_proofs.specs.pass_copies.Uses.{flag_at};
-ghost use Rattle.pass_frames_proof.specs.Calling.{HasBlocks, IsAtCall, IsAtPlainCall};
-ghost use Rattle.pass_frames_proof.specs.Followed.{IsFollowed};
-ghost use Rattle.pass_frames_proof.specs.Framings.{IsFraming};
-ghost use Rattle.pass_frames_proof.specs.Places.{Framing, edged, framed, marked};
-ghost use Rattle.pass_frames_proof.specs.Ramps.{HasAllocasInFront, HasEntryFront, IsPlainEntry, IsRamp};
-ghost use Rattle.pass_frames_proof.specs.Related.{AreBuiltOf, Building, is_coroutine};
-ghost use Rattle.pass_frames_proof.specs.Stepping.{AreGiven};
-ghost use Rattle.pass_renewed_proof.specs.Renewed.{RenewedGiven};
-ghost use Rattle.pass_proofs.specs.rule_laws.rules.function_rules.Kept.{KeepsFunctionRules};
-ghost use Rattle.pass_proofs.specs.run_memory.declared.pointer.Value.{Value};
-ghost use Rattle.pass_proofs.specs.run_source.declared.state.State.{State};
-ghost use Rattle.pass_proofs.specs.run_step.Step.{has_markers};
+ghost use Rattle.pass_frames_steps.specs.ir_model.declared.instr.Instr.{Instr};
+ghost use Rattle.pass_frames_steps.specs.ir_model.declared.module.Module.{Module};
+ghost use Rattle.pass_frames_steps.specs.pass_copies.Uses.{flag_at};
+ghost use Rattle.pass_frames_steps.specs.Calling.{HasBlocks, IsAtCall, IsAtPlainCall};
+ghost use Rattle.pass_frames_steps.specs.Followed.{IsFollowed};
+ghost use Rattle.pass_frames_steps.specs.Framings.{IsFraming};
+ghost use Rattle.pass_frames_steps.specs.Places.{Framing, edged, framed, marked};
+ghost use Rattle.pass_frames_steps.specs.Ramps.{HasAllocasInFront, HasEntryFront, IsPlainEntry, IsRamp};
+ghost use Rattle.pass_frames_steps.specs.Related.{AreBuiltOf, Building, is_coroutine};
+ghost use Rattle.pass_frames_steps.specs.Stepping.{AreGiven};
+ghost use Rattle.pass_frames_steps.specs.pass_renewed_proof.Renewed.{RenewedGiven};
+ghost use Rattle.pass_frames_steps.specs.rule_laws.rules.function_rules.Kept.{KeepsFunctionRules};
+ghost use Rattle.pass_frames_steps.specs.run_memory.declared.pointer.Value.{Value};
+ghost use Rattle.pass_frames_steps.specs.run_source.declared.state.State.{State};
+ghost use Rattle.pass_frames_steps.specs.run_step.Step.{has_markers};
 
 /// In front of the entry stand all allocas, and behind them stores alone: of addresses of temporaries, and of
 /// parameters.

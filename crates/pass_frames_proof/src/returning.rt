@@ -2,17 +2,17 @@
 //! behind its call.
 
 ghost use Rattle.std.specs.Prelude.{◌≡◌, ℕ, List, Option, false};
-ghost use Rattle.pass_proofs.specs.ir_base.declared.outcome.Outcome.{Outcome};
-ghost use Rattle.pass_proofs.specs.ir_model.declared.operand.Arg.{Arg};
-ghost use Rattle.pass_frames_proof.specs.Followed.{IsFollowed};
-ghost use Rattle.pass_frames_proof.specs.Related.{AreBuiltOf, Building, is_coroutine};
-ghost use Rattle.pass_frames_proof.specs.Returning.{GoesBehind, HasOwnSlots, HasSlotKinds, HasSlotsListed, IsAtLast, IsAtReturn, IsGivenBehind, MayReturn, OwnsSlots};
-ghost use Rattle.pass_frames_proof.specs.Stepping.{AreGiven};
-ghost use Rattle.pass_renewed_proof.specs.Renewed.{RenewedGiven};
-ghost use Rattle.pass_proofs.specs.run_laws.memory.Pointers.{IsValue};
-ghost use Rattle.pass_proofs.specs.run_memory.declared.pointer.Value.{Value};
-ghost use Rattle.pass_proofs.specs.run_source.declared.state.Activation.{Activation};
-ghost use Rattle.pass_proofs.specs.run_source.declared.state.State.{State};
+ghost use Rattle.pass_frames_steps.specs.ir_base.declared.outcome.Outcome.{Outcome};
+ghost use Rattle.pass_frames_steps.specs.ir_model.declared.operand.Arg.{Arg};
+ghost use Rattle.pass_frames_steps.specs.Followed.{IsFollowed};
+ghost use Rattle.pass_frames_steps.specs.Related.{AreBuiltOf, Building, is_coroutine};
+ghost use Rattle.pass_frames_steps.specs.Returning.{GoesBehind, HasOwnSlots, HasSlotKinds, HasSlotsListed, IsAtLast, IsAtReturn, IsGivenBehind, MayReturn, OwnsSlots};
+ghost use Rattle.pass_frames_steps.specs.Stepping.{AreGiven};
+ghost use Rattle.pass_frames_steps.specs.pass_renewed_proof.Renewed.{RenewedGiven};
+ghost use Rattle.pass_frames_steps.specs.run_laws.memory.Pointers.{IsValue};
+ghost use Rattle.pass_frames_steps.specs.run_memory.declared.pointer.Value.{Value};
+ghost use Rattle.pass_frames_steps.specs.run_source.declared.state.Activation.{Activation};
+ghost use Rattle.pass_frames_steps.specs.run_source.declared.state.State.{State};
 
 /// An activation that is given the result of its call stores it into its cell, if it is a coroutine's and the result is
 /// kept. Then the states are related.

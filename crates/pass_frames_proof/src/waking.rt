@@ -1,15 +1,15 @@
 //! Resumes and destroys: the instance runs again, and slots are made anew.
 
 ghost use Rattle.std.specs.Prelude.{ℕ};
-ghost use Rattle.pass_proofs.specs.ir_model.declared.operand.Intrinsic.{Intrinsic};
-ghost use Rattle.pass_proofs.specs.ir_paths.Windows.{destroy_label, resume_label};
-ghost use Rattle.pass_frames_proof.specs.Followed.{IsFollowed};
-ghost use Rattle.pass_frames_proof.specs.Related.{AreBuiltOf, Building};
-ghost use Rattle.pass_frames_proof.specs.Stepping.{AreGiven};
-ghost use Rattle.pass_frames_proof.specs.Waking.{AreWoken, HasFirstAnew, HasNoneAnew, IsAtOwnWaking, IsAtWaking, IsSleeping, IsUnfinal};
-ghost use Rattle.pass_proofs.specs.pass_kept_proof.Kept.{kept};
-ghost use Rattle.pass_renewed_proof.specs.Renewed.{RenewedGiven};
-ghost use Rattle.pass_proofs.specs.run_source.declared.state.State.{State};
+ghost use Rattle.pass_frames_steps.specs.ir_model.declared.operand.Intrinsic.{Intrinsic};
+ghost use Rattle.pass_frames_steps.specs.ir_paths.Windows.{destroy_label, resume_label};
+ghost use Rattle.pass_frames_steps.specs.Followed.{IsFollowed};
+ghost use Rattle.pass_frames_steps.specs.Related.{AreBuiltOf, Building};
+ghost use Rattle.pass_frames_steps.specs.Stepping.{AreGiven};
+ghost use Rattle.pass_frames_steps.specs.Waking.{AreWoken, HasFirstAnew, HasNoneAnew, IsAtOwnWaking, IsAtWaking, IsSleeping, IsUnfinal};
+ghost use Rattle.pass_frames_steps.specs.pass_kept_proof.Kept.{kept};
+ghost use Rattle.pass_frames_steps.specs.pass_renewed_proof.Renewed.{RenewedGiven};
+ghost use Rattle.pass_frames_steps.specs.run_source.declared.state.State.{State};
 
 /// Where a coroutine is woken that makes slots anew, the instance runs in both runs. The framed run makes the allocas
 /// before the first of those slots.

@@ -1,14 +1,4 @@
-//! The proofs of the passes, one module a pass: what each keeps of meaning and rules, and what
-//! it asks.
+//! Building frames keeps rules. What is proved of the passes before and behind it is passed on.
 #![tactic(auto)]
 
-pub mod addresses;
-pub mod cells;
-pub mod copies;
-pub mod early;
-pub mod edges;
-pub mod exits;
-pub mod fetch;
 pub mod frames;
-pub mod kept;
-pub mod split;

@@ -2,35 +2,35 @@
 use Rattle.std.proofs.Common.{◌≡◌, ◌⊎◌, ◌+◌, ◌-◌, ◌<◌, ◌≤◌, ◌++◌, ◌∙◌, List, Some, ap, arith, false, length, subst, sym, ℕ, ⊎_elim}
 use Rattle.std.proofs.lemmas.Bool.{cases_lt}
 use Rattle.std.specs.Prelude.{slice_get}
-use Rattle.pass_proofs.specs.flow_solver.Paths.{IsListed}
-use Rattle.pass_proofs.proofs.ir_laws.facts.Lists.{get_behind, get_front}
-use Rattle.pass_proofs.proofs.ir_laws.facts.Members.{each_left, each_right}
-use Rattle.pass_proofs.proofs.ir_laws.paths.edges.Lists.{different_left, different_right}
-use Rattle.pass_proofs.proofs.ir_laws.paths.source_rules.Locals.{listed_left, listed_right}
-use Rattle.pass_proofs.specs.ir_laws.paths.woven_rules.Pairs.{AreDifferent}
-use Rattle.pass_proofs.specs.ir_model.Layout.{size_of}
-use Rattle.pass_proofs.specs.ir_model.Ty.{Ty}
-use Rattle.pass_proofs.specs.ir_model.declared.instr.Instr.{Instr}
-use Rattle.pass_proofs.specs.ir_model.declared.module.Function.{Function}
-use Rattle.pass_proofs.specs.ir_model.declared.module.Module.{Module}
-use Rattle.pass_proofs.specs.ir_paths.Slots.{allocas_in}
-use Rattle.pass_proofs.specs.pass_fetch.Fetching.{value_bytes}
+use Rattle.pass_frames_steps.specs.flow_solver.Paths.{IsListed}
+use Rattle.pass_frames_steps.proofs.ir_laws.facts.Lists.{get_behind, get_front}
+use Rattle.pass_frames_steps.proofs.ir_laws.facts.Members.{each_left, each_right}
+use Rattle.pass_frames_steps.proofs.ir_laws.paths.edges.Lists.{different_left, different_right}
+use Rattle.pass_frames_steps.proofs.ir_laws.paths.source_rules.Locals.{listed_left, listed_right}
+use Rattle.pass_frames_steps.specs.ir_laws.paths.woven_rules.Pairs.{AreDifferent}
+use Rattle.pass_frames_steps.specs.ir_model.Layout.{size_of}
+use Rattle.pass_frames_steps.specs.ir_model.Ty.{Ty}
+use Rattle.pass_frames_steps.specs.ir_model.declared.instr.Instr.{Instr}
+use Rattle.pass_frames_steps.specs.ir_model.declared.module.Function.{Function}
+use Rattle.pass_frames_steps.specs.ir_model.declared.module.Module.{Module}
+use Rattle.pass_frames_steps.specs.ir_paths.Slots.{allocas_in}
+use Rattle.pass_frames_steps.specs.pass_fetch.Fetching.{value_bytes}
 use Rattle.pass_frames_proof.proofs.anew.Lists.{alloca_listed, allocas_apart, allocas_append}
 use Rattle.pass_frames_proof.proofs.entering.Behind.{AreBehind, are_behind}
 use Rattle.pass_frames_proof.proofs.entering.Cells.{cells_made}
-use Rattle.pass_frames_proof.specs.Anew.{HasCellsMade, MakesLine}
-use Rattle.pass_frames_proof.specs.Entering.{IsGoodAlloca, behind_allocas, front_allocas, made_blocks}
-use Rattle.pass_frames_proof.specs.Places.{Framing, framed}
-use Rattle.pass_frames_proof.specs.Related.{Anything, Building, IsCell}
-use Rattle.pass_proofs.specs.run_framed.Framed.{frame_rights}
-use Rattle.pass_proofs.proofs.run_laws.access.Held.{grown_held}
-use Rattle.pass_proofs.specs.run_laws.access.Lines.{Holds}
-use Rattle.pass_proofs.specs.run_laws.changed.Changed.{Each}
-use Rattle.pass_proofs.specs.run_memory.Memory.{Rights}
-use Rattle.pass_proofs.specs.run_memory.declared.block.MemoryBlock.{MemoryBlock}
-use Rattle.pass_proofs.specs.run_source.State.{function_of}
-use Rattle.pass_proofs.specs.run_source.declared.state.State.{State}
-use Rattle.pass_proofs.specs.run_step.Step.{has_markers}
+use Rattle.pass_frames_steps.specs.Anew.{HasCellsMade, MakesLine}
+use Rattle.pass_frames_steps.specs.Entering.{IsGoodAlloca, behind_allocas, front_allocas, made_blocks}
+use Rattle.pass_frames_steps.specs.Places.{Framing, framed}
+use Rattle.pass_frames_steps.specs.Related.{Anything, Building, IsCell}
+use Rattle.pass_frames_steps.specs.run_framed.Framed.{frame_rights}
+use Rattle.pass_frames_steps.proofs.run_laws.access.Held.{grown_held}
+use Rattle.pass_frames_steps.specs.run_laws.access.Lines.{Holds}
+use Rattle.pass_frames_steps.specs.run_laws.changed.Changed.{Each}
+use Rattle.pass_frames_steps.specs.run_memory.Memory.{Rights}
+use Rattle.pass_frames_steps.specs.run_memory.declared.block.MemoryBlock.{MemoryBlock}
+use Rattle.pass_frames_steps.specs.run_source.State.{function_of}
+use Rattle.pass_frames_steps.specs.run_source.declared.state.State.{State}
+use Rattle.pass_frames_steps.specs.run_step.Step.{has_markers}
 
 -- where none is made yet
 pub none_made : (b : Building) (t : State) → t.top.at ≡ 0 → HasCellsMade b t

@@ -2,23 +2,23 @@
 use Rattle.std.proofs.Common.{◌≡◌, ◌≢◌, ◌⊎◌, ◌+◌, ◌-◌, ◌<◌, ◌≤◌, ◌==◌, ◌∷◌, ◌++◌, ◌∙◌, [], if◌then◌else◌, Bool, List, None, Option, Some, ap, append-nil, arith, false, inl, inr, length, length-append, refl, subst, suc, sym, take, ℕ, ⊎_elim}
 use Rattle.std.proofs.lemmas.Bool.{cases_eq}
 use Rattle.std.specs.Prelude.{option_map, slice_get}
-use Rattle.pass_proofs.specs.flow_solver.Paths.{IsListed}
-use Rattle.pass_proofs.proofs.ir_laws.facts.Lists.{get_within}
-use Rattle.pass_proofs.proofs.ir_laws.facts.Members.{each_left, each_right}
-use Rattle.pass_proofs.proofs.ir_laws.paths.edges.Lists.{different_right}
-use Rattle.pass_proofs.proofs.ir_laws.paths.source_rules.Locals.{listed_right}
-use Rattle.pass_proofs.specs.ir_laws.paths.woven_rules.Pairs.{AreDifferent}
-use Rattle.pass_proofs.specs.ir_model.Layout.{size_of}
-use Rattle.pass_proofs.specs.ir_model.Names.{function_at, position_of}
-use Rattle.pass_proofs.specs.ir_model.Ty.{Ty, int, ptr}
-use Rattle.pass_proofs.specs.ir_model.declared.instr.Instr.{Instr}
-use Rattle.pass_proofs.specs.ir_model.declared.module.Function.{Function}
-use Rattle.pass_proofs.specs.ir_paths.Slots.{allocas_in}
-use Rattle.pass_proofs.specs.ir_paths.declared.point.Point.{Point}
-use Rattle.pass_proofs.specs.pass_cells.Kept.{entry}
-use Rattle.pass_proofs.specs.pass_cells.declared.plan.KeptValue.{KeptValue}
-use Rattle.pass_proofs.specs.pass_fetch.Fetching.{value_bytes}
-use Rattle.pass_proofs.specs.pass_frames.Framed.{begin_of}
+use Rattle.pass_frames_steps.specs.flow_solver.Paths.{IsListed}
+use Rattle.pass_frames_steps.proofs.ir_laws.facts.Lists.{get_within}
+use Rattle.pass_frames_steps.proofs.ir_laws.facts.Members.{each_left, each_right}
+use Rattle.pass_frames_steps.proofs.ir_laws.paths.edges.Lists.{different_right}
+use Rattle.pass_frames_steps.proofs.ir_laws.paths.source_rules.Locals.{listed_right}
+use Rattle.pass_frames_steps.specs.ir_laws.paths.woven_rules.Pairs.{AreDifferent}
+use Rattle.pass_frames_steps.specs.ir_model.Layout.{size_of}
+use Rattle.pass_frames_steps.specs.ir_model.Names.{function_at, position_of}
+use Rattle.pass_frames_steps.specs.ir_model.Ty.{Ty, int, ptr}
+use Rattle.pass_frames_steps.specs.ir_model.declared.instr.Instr.{Instr}
+use Rattle.pass_frames_steps.specs.ir_model.declared.module.Function.{Function}
+use Rattle.pass_frames_steps.specs.ir_paths.Slots.{allocas_in}
+use Rattle.pass_frames_steps.specs.ir_paths.declared.point.Point.{Point}
+use Rattle.pass_frames_steps.specs.pass_cells.Kept.{entry}
+use Rattle.pass_frames_steps.specs.pass_cells.declared.plan.KeptValue.{KeptValue}
+use Rattle.pass_frames_steps.specs.pass_fetch.Fetching.{value_bytes}
+use Rattle.pass_frames_steps.specs.pass_frames.Framed.{begin_of}
 use Rattle.pass_frames_proof.proofs.anew.Cells.{made_on}
 use Rattle.pass_frames_proof.proofs.anew.Lists.{HasLast, allocas_append, allocas_apart, has_last, itself_moved, poison_stays, rooted_value, unrooted_value}
 use Rattle.pass_frames_proof.proofs.anew.Made as made
@@ -27,36 +27,36 @@ use Rattle.pass_frames_proof.proofs.anew.Next.{part_good}
 use Rattle.pass_frames_proof.proofs.entering.Allocas.{to_the_last, up_to_next}
 use Rattle.pass_frames_proof.proofs.entering.Edge.{edge_is, edge_too, no_phis, no_phis_too}
 use Rattle.pass_frames_proof.proofs.entering.Into.{enters, last_behind}
-use Rattle.pass_frames_proof.proofs.allocating.Stands.{stands_in_front}
+use Rattle.pass_frames_steps.proofs.allocating.Stands.{stands_in_front}
 use Rattle.pass_frames_proof.proofs.entering.Stand.{all_before, none_behind}
-use Rattle.pass_frames_proof.proofs.stepping.Stands.{top_is, values_of}
-use Rattle.pass_frames_proof.specs.Anew.{HasCellsMade, HasNoneLeft, IsAtAnew, MakesLine}
-use Rattle.pass_frames_proof.specs.Costs.{slot_cost}
-use Rattle.pass_frames_proof.specs.Entering.{IsGoodAlloca, allocas_up_to, behind_allocas, entered, front_allocas}
-use Rattle.pass_frames_proof.specs.Followed.{IsFollowed, IsOn}
-use Rattle.pass_frames_proof.specs.Meaning.{step_cost}
-use Rattle.pass_frames_proof.specs.Passes.{block_at}
-use Rattle.pass_frames_proof.specs.Places.{Framing, edged, framed, instrs_at, offsets, place_by, plan}
-use Rattle.pass_frames_proof.specs.Related.{Anything, AreActivations, AreBuiltOf, AreCellsThere, AreCoroutines, AreFieldsRight, AreGone, AreNamed, AreWheresThere, Building, HasCells, IsCell, IsHeldAs, IsKeptAs, IsKeptValue, is_coroutine, returned_from, top_place}
-use Rattle.pass_frames_proof.specs.Slotted.{HasSlotsThere}
-use Rattle.pass_frames_proof.specs.Stepping.{AreGiven}
-use Rattle.pass_frames_proof.specs.Waking.{AreFrontsGood, HasEdgeBlock, IsCellMade, StandsInFront}
-use Rattle.pass_proofs.specs.addresses.rules.Addresses.{lies_in_frame}
-use Rattle.pass_renewed_proof.specs.Renewed.{RenewedGiven, in_new_slot, renew_after, renewed_step, renewed_values}
-use Rattle.pass_proofs.specs.run_agreement.Machines.{iterate}
-use Rattle.pass_proofs.specs.run_framed.Framed.{alloca_from, frame_rights, framed_step}
-use Rattle.pass_proofs.specs.run_laws.access.Lines.{StandAt}
-use Rattle.pass_proofs.specs.run_laws.changed.Changed.{Each}
-use Rattle.pass_proofs.specs.run_laws.memory.Pointers.{IsValue}
-use Rattle.pass_proofs.specs.run_memory.Memory.{Rights, decode}
-use Rattle.pass_proofs.specs.run_memory.declared.pointer.Value.{Value}
-use Rattle.pass_proofs.specs.run_source.State.{function_of}
-use Rattle.pass_proofs.specs.run_source.declared.state.Activation.{Activation}
-use Rattle.pass_proofs.specs.run_source.declared.state.Instance.{Instance}
-use Rattle.pass_proofs.specs.run_source.declared.state.Mode.{Mode}
-use Rattle.pass_proofs.specs.run_source.declared.state.State.{State}
-use Rattle.pass_proofs.specs.run_step.Step.{has_markers, label_of, values_in}
-use Rattle.pass_proofs.specs.run_step.Values.{Env, access_of, pointer_to, value_in}
+use Rattle.pass_frames_steps.proofs.stepping.Stands.{top_is, values_of}
+use Rattle.pass_frames_steps.specs.Anew.{HasCellsMade, HasNoneLeft, IsAtAnew, MakesLine}
+use Rattle.pass_frames_steps.specs.Costs.{slot_cost}
+use Rattle.pass_frames_steps.specs.Entering.{IsGoodAlloca, allocas_up_to, behind_allocas, entered, front_allocas}
+use Rattle.pass_frames_steps.specs.Followed.{IsFollowed, IsOn}
+use Rattle.pass_frames_steps.specs.Meaning.{step_cost}
+use Rattle.pass_frames_steps.specs.Passes.{block_at}
+use Rattle.pass_frames_steps.specs.Places.{Framing, edged, framed, instrs_at, offsets, place_by, plan}
+use Rattle.pass_frames_steps.specs.Related.{Anything, AreActivations, AreBuiltOf, AreCellsThere, AreCoroutines, AreFieldsRight, AreGone, AreNamed, AreWheresThere, Building, HasCells, IsCell, IsHeldAs, IsKeptAs, IsKeptValue, is_coroutine, returned_from, top_place}
+use Rattle.pass_frames_steps.specs.Slotted.{HasSlotsThere}
+use Rattle.pass_frames_steps.specs.Stepping.{AreGiven}
+use Rattle.pass_frames_steps.specs.Waking.{AreFrontsGood, HasEdgeBlock, IsCellMade, StandsInFront}
+use Rattle.pass_frames_steps.specs.pass_proofs.addresses.rules.Addresses.{lies_in_frame}
+use Rattle.pass_frames_steps.specs.pass_renewed_proof.Renewed.{RenewedGiven, in_new_slot, renew_after, renewed_step, renewed_values}
+use Rattle.pass_frames_steps.specs.run_agreement.Machines.{iterate}
+use Rattle.pass_frames_steps.specs.run_framed.Framed.{alloca_from, frame_rights, framed_step}
+use Rattle.pass_frames_steps.specs.run_laws.access.Lines.{StandAt}
+use Rattle.pass_frames_steps.specs.run_laws.changed.Changed.{Each}
+use Rattle.pass_frames_steps.specs.run_laws.memory.Pointers.{IsValue}
+use Rattle.pass_frames_steps.specs.run_memory.Memory.{Rights, decode}
+use Rattle.pass_frames_steps.specs.run_memory.declared.pointer.Value.{Value}
+use Rattle.pass_frames_steps.specs.run_source.State.{function_of}
+use Rattle.pass_frames_steps.specs.run_source.declared.state.Activation.{Activation}
+use Rattle.pass_frames_steps.specs.run_source.declared.state.Instance.{Instance}
+use Rattle.pass_frames_steps.specs.run_source.declared.state.Mode.{Mode}
+use Rattle.pass_frames_steps.specs.run_source.declared.state.State.{State}
+use Rattle.pass_frames_steps.specs.run_step.Step.{has_markers, label_of, values_in}
+use Rattle.pass_frames_steps.specs.run_step.Values.{Env, access_of, pointer_to, value_in}
 
 module _ (b : Building) (g : RenewedGiven) (given : AreGiven b g) (s t : State) (r : AreBuiltOf b s t) (name : ℕ)
     (ty : Ty) (align from label order : ℕ) (h : IsAtAnew b g s name ty align from label order) (mine : HasSlotsThere s)

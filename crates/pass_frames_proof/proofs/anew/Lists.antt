@@ -1,16 +1,16 @@
 -- Allocas of a line and of its parts, and values whose addresses are moved.
 use Rattle.std.proofs.Common.{◌≡◌, ◌∷◌, ◌++◌, ◌∙◌, [], List, None, Option, Some, ap, inl, inr, length, refl, subst, suc, sym, zero, ℕ}
 use Rattle.std.specs.Prelude.{slice_get}
-use Rattle.pass_proofs.specs.flow_solver.Paths.{IsListed}
-use Rattle.pass_proofs.proofs.ir_laws.paths.edges.Lists.{different_both}
-use Rattle.pass_proofs.specs.ir_laws.paths.woven_rules.Pairs.{AreDifferent}
-use Rattle.pass_proofs.specs.ir_model.Ty.{Ty}
-use Rattle.pass_proofs.specs.ir_model.declared.instr.Instr.{Instr}
-use Rattle.pass_proofs.specs.ir_paths.Slots.{allocas_in}
-use Rattle.pass_renewed_proof.specs.Renewed.{in_new_slot, renewed_value, renewed_values}
-use Rattle.pass_proofs.specs.run_memory.declared.pointer.Pointer.{Pointer}
-use Rattle.pass_proofs.specs.run_memory.declared.pointer.Value.{Value}
-use Rattle.pass_proofs.specs.run_step.Values.{Env, value_in, value_or_poison}
+use Rattle.pass_frames_steps.specs.flow_solver.Paths.{IsListed}
+use Rattle.pass_frames_steps.proofs.ir_laws.paths.edges.Lists.{different_both}
+use Rattle.pass_frames_steps.specs.ir_laws.paths.woven_rules.Pairs.{AreDifferent}
+use Rattle.pass_frames_steps.specs.ir_model.Ty.{Ty}
+use Rattle.pass_frames_steps.specs.ir_model.declared.instr.Instr.{Instr}
+use Rattle.pass_frames_steps.specs.ir_paths.Slots.{allocas_in}
+use Rattle.pass_frames_steps.specs.pass_renewed_proof.Renewed.{in_new_slot, renewed_value, renewed_values}
+use Rattle.pass_frames_steps.specs.run_memory.declared.pointer.Pointer.{Pointer}
+use Rattle.pass_frames_steps.specs.run_memory.declared.pointer.Value.{Value}
+use Rattle.pass_frames_steps.specs.run_step.Values.{Env, value_in, value_or_poison}
 
 -- ---- allocas
 

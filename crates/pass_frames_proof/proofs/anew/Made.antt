@@ -4,84 +4,84 @@ use Rattle.std.proofs.Common.{◌≡◌, ◌≢◌, ◌⊎◌, ◌+◌, ◌<◌,
 use Rattle.std.proofs.lemmas.Bool.{cases_eq}
 use Rattle.std.specs.List.{Contains}
 use Rattle.std.specs.Prelude.{slice_get}
-use Rattle.pass_proofs.specs.flow_solver.Paths.{IsListed}
-use Rattle.pass_proofs.specs.ir_base.declared.outcome.Outcome.{Outcome}
-use Rattle.pass_proofs.proofs.ir_laws.facts.Lists.{get_before, get_within}
-use Rattle.pass_proofs.proofs.ir_laws.facts.Members.{each_left, each_right}
-use Rattle.pass_proofs.proofs.ir_laws.paths.crossing.Spots.{listed_or}
-use Rattle.pass_proofs.proofs.ir_laws.paths.edges.Lists.{different_left, different_right}
-use Rattle.pass_proofs.proofs.ir_laws.paths.source_rules.Locals.{listed_left, listed_right}
-use Rattle.pass_proofs.specs.ir_laws.paths.woven_rules.Pairs.{AreDifferent}
-use Rattle.pass_proofs.specs.ir_model.Layout.{size_of}
-use Rattle.pass_proofs.specs.ir_model.Names.{function_at}
-use Rattle.pass_proofs.specs.ir_model.Ty.{Ty}
-use Rattle.pass_proofs.specs.ir_model.declared.instr.Instr.{Instr}
-use Rattle.pass_proofs.specs.ir_model.declared.module.Function.{Function}
-use Rattle.pass_proofs.specs.ir_model.declared.module.Module.{Module}
-use Rattle.pass_proofs.specs.ir_paths.Slots.{allocas_in}
-use Rattle.pass_proofs.specs.ir_paths.declared.point.Point.{Point}
-use Rattle.pass_proofs.specs.pass_cells.Cells.{fetched_function}
-use Rattle.pass_proofs.specs.pass_cells.Kept.{entry}
-use Rattle.pass_proofs.specs.pass_cells.declared.plan.KeptValue.{KeptValue}
-use Rattle.pass_proofs.specs.pass_frames.Framed.{begin_of, celled, copied, placed}
-use Rattle.pass_frames_proof.proofs.allocating.Both.{mates_together, new_block, seen_below, stands_together}
-use Rattle.pass_frames_proof.proofs.allocating.Grown.{first_or_more, home_new, in_all, in_below, more_length}
-use Rattle.pass_frames_proof.proofs.allocating.Made.{fields_more, free_made, globals_made, hidden_made, instance_made, known_made, moves_made, over_made}
-use Rattle.pass_frames_proof.proofs.allocating.Ramp.{value_here}
-use Rattle.pass_frames_proof.proofs.allocating.Steps.{ends_first, slot_step}
-use Rattle.pass_frames_proof.proofs.allocating.Whole.{old_slot}
+use Rattle.pass_frames_steps.specs.flow_solver.Paths.{IsListed}
+use Rattle.pass_frames_steps.specs.ir_base.declared.outcome.Outcome.{Outcome}
+use Rattle.pass_frames_steps.proofs.ir_laws.facts.Lists.{get_before, get_within}
+use Rattle.pass_frames_steps.proofs.ir_laws.facts.Members.{each_left, each_right}
+use Rattle.pass_frames_steps.proofs.ir_laws.paths.crossing.Spots.{listed_or}
+use Rattle.pass_frames_steps.proofs.ir_laws.paths.edges.Lists.{different_left, different_right}
+use Rattle.pass_frames_steps.proofs.ir_laws.paths.source_rules.Locals.{listed_left, listed_right}
+use Rattle.pass_frames_steps.specs.ir_laws.paths.woven_rules.Pairs.{AreDifferent}
+use Rattle.pass_frames_steps.specs.ir_model.Layout.{size_of}
+use Rattle.pass_frames_steps.specs.ir_model.Names.{function_at}
+use Rattle.pass_frames_steps.specs.ir_model.Ty.{Ty}
+use Rattle.pass_frames_steps.specs.ir_model.declared.instr.Instr.{Instr}
+use Rattle.pass_frames_steps.specs.ir_model.declared.module.Function.{Function}
+use Rattle.pass_frames_steps.specs.ir_model.declared.module.Module.{Module}
+use Rattle.pass_frames_steps.specs.ir_paths.Slots.{allocas_in}
+use Rattle.pass_frames_steps.specs.ir_paths.declared.point.Point.{Point}
+use Rattle.pass_frames_steps.specs.pass_cells.Cells.{fetched_function}
+use Rattle.pass_frames_steps.specs.pass_cells.Kept.{entry}
+use Rattle.pass_frames_steps.specs.pass_cells.declared.plan.KeptValue.{KeptValue}
+use Rattle.pass_frames_steps.specs.pass_frames.Framed.{begin_of, celled, copied, placed}
+use Rattle.pass_frames_steps.proofs.allocating.Both.{mates_together, new_block, seen_below, stands_together}
+use Rattle.pass_frames_steps.proofs.allocating.Grown.{first_or_more, home_new, in_all, in_below, more_length}
+use Rattle.pass_frames_steps.proofs.allocating.Made.{fields_more, free_made, globals_made, hidden_made, instance_made, known_made, moves_made, over_made}
+use Rattle.pass_frames_steps.proofs.allocating.Ramp.{value_here}
+use Rattle.pass_frames_steps.proofs.allocating.Steps.{ends_first, slot_step}
+use Rattle.pass_frames_steps.proofs.allocating.Whole.{old_slot}
 use Rattle.pass_frames_proof.proofs.anew.Lists.{allocas_append}
 use Rattle.pass_frames_proof.proofs.entering.Behind.{AreBehind, are_behind}
 use Rattle.pass_frames_proof.proofs.entering.Stand.{front_stands}
-use Rattle.pass_frames_proof.proofs.followed.Assembly.{events_same}
-use Rattle.pass_frames_proof.proofs.lines.Cells.{other_block}
-use Rattle.pass_frames_proof.proofs.moved.Rest.{moved_related, same_place}
+use Rattle.pass_frames_steps.proofs.followed.Assembly.{events_same}
+use Rattle.pass_frames_steps.proofs.lines.Cells.{other_block}
+use Rattle.pass_frames_steps.proofs.moved.Rest.{moved_related, same_place}
 use Rattle.pass_frames_proof.proofs.returning.Behind.{stand_behind}
-use Rattle.pass_frames_proof.proofs.stepping.Fetch.{coroutine_values, own_blocks}
-use Rattle.pass_frames_proof.proofs.stepping.Rest.{got, seen_known}
+use Rattle.pass_frames_steps.proofs.stepping.Fetch.{coroutine_values, own_blocks}
+use Rattle.pass_frames_steps.proofs.stepping.Rest.{got, seen_known}
 use Rattle.pass_frames_proof.proofs.waking.Grown.{free_new, instance_grown}
-use Rattle.pass_frames_proof.specs.Anew.{IsAtAnew}
-use Rattle.pass_frames_proof.specs.Entering.{IsGoodAlloca, IsMaking, allocas_up_to, behind_allocas, front_allocas, made_blocks}
-use Rattle.pass_frames_proof.specs.Followed.{IsOn}
-use Rattle.pass_frames_proof.specs.Framings.{IsFraming}
-use Rattle.pass_frames_proof.specs.Moved.{IsSamePlace, MovesRest}
-use Rattle.pass_frames_proof.specs.Places.{Framing, alloca_place, edged, framed, instrs_at, offsets, plan}
-use Rattle.pass_frames_proof.specs.Related.{AreActivations, AreBuiltOf, AreCoroutines, AreFieldsHeld, AreGone, AreInstances, AreMates, Building, HasCells, IsAsked, IsCellName, IsFreeOf, IsHeldAs, IsKeptValue, IsOffsetOf, IsOwnSlot, IsSlotBy, instance_in, is_coroutine, is_first, place_by, point_of, returned_from, slots_below, top_place}
-use Rattle.pass_frames_proof.specs.Slotted.{HasSlotsThere}
-use Rattle.pass_frames_proof.specs.Stepping.{AreGiven}
-use Rattle.pass_proofs.specs.addresses.rules.Addresses.{lies_in_frame}
-use Rattle.pass_renewed_proof.specs.Renewed.{RenewedGiven, renew_after, renewed_from, renewed_slot, renewed_step}
-use Rattle.pass_proofs.specs.run_framed.Framed.{frame_rights}
-use Rattle.pass_proofs.proofs.run_laws.access.Held.{grown_held}
-use Rattle.pass_proofs.proofs.run_laws.memory.Homes.{append_extends, value_on}
-use Rattle.pass_proofs.proofs.run_laws.transfer.Muted.{muted_length}
-use Rattle.pass_proofs.proofs.run_laws.transfer.Places.{grown as target_grown, showing_it, showing_others}
-use Rattle.pass_proofs.proofs.run_laws.transfer.Sets.{set_elsewhere}
-use Rattle.pass_proofs.specs.run_laws.access.Lines.{Holds, StandAt}
-use Rattle.pass_proofs.specs.run_laws.changed.Changed.{Each}
-use Rattle.pass_proofs.specs.run_laws.embedded.Making.{whole_home}
-use Rattle.pass_proofs.specs.run_laws.memory.Pointers.{Extends, Home, IsValue, home_of}
-use Rattle.pass_proofs.specs.run_laws.memory.Standing.{blank_block}
-use Rattle.pass_proofs.specs.run_laws.transfer.Muted.{ended_if, muted}
-use Rattle.pass_proofs.specs.run_laws.transfer.Places.{AreStanding, AreThere, showing}
-use Rattle.pass_proofs.specs.run_laws.transfer.Transfer.{AreOver}
-use Rattle.pass_proofs.specs.run_memory.Memory.{Rights, decode, is_live, owner_rights}
-use Rattle.pass_proofs.specs.run_memory.Pointers.{moved, offset_of}
-use Rattle.pass_proofs.specs.run_memory.declared.block.Byte.{Byte}
-use Rattle.pass_proofs.specs.run_memory.declared.block.Kind.{Kind}
-use Rattle.pass_proofs.specs.run_memory.declared.block.Life.{Life}
-use Rattle.pass_proofs.specs.run_memory.declared.block.MemoryBlock.{MemoryBlock}
-use Rattle.pass_proofs.specs.run_memory.declared.pointer.Pointer.{Pointer}
-use Rattle.pass_proofs.specs.run_memory.declared.pointer.Value.{Value}
-use Rattle.pass_proofs.specs.run_source.State.{function_of}
-use Rattle.pass_proofs.specs.run_source.declared.state.Activation.{Activation}
-use Rattle.pass_proofs.specs.run_source.declared.state.Instance.{Instance}
-use Rattle.pass_proofs.specs.run_source.declared.state.Mode.{Mode}
-use Rattle.pass_proofs.specs.run_source.declared.state.State.{State}
-use Rattle.pass_proofs.specs.run_step.Step.{alloca_kind, has_markers}
-use Rattle.pass_proofs.specs.run_step.Values.{Env, access_of, pointer_to, value_in, with_value}
-use Rattle.pass_proofs.specs.run_step.declared.world.Slot.{Slot}
-use Rattle.pass_proofs.specs.run_step.declared.world.World.{World}
+use Rattle.pass_frames_steps.specs.Anew.{IsAtAnew}
+use Rattle.pass_frames_steps.specs.Entering.{IsGoodAlloca, IsMaking, allocas_up_to, behind_allocas, front_allocas, made_blocks}
+use Rattle.pass_frames_steps.specs.Followed.{IsOn}
+use Rattle.pass_frames_steps.specs.Framings.{IsFraming}
+use Rattle.pass_frames_steps.specs.Moved.{IsSamePlace, MovesRest}
+use Rattle.pass_frames_steps.specs.Places.{Framing, alloca_place, edged, framed, instrs_at, offsets, plan}
+use Rattle.pass_frames_steps.specs.Related.{AreActivations, AreBuiltOf, AreCoroutines, AreFieldsHeld, AreGone, AreInstances, AreMates, Building, HasCells, IsAsked, IsCellName, IsFreeOf, IsHeldAs, IsKeptValue, IsOffsetOf, IsOwnSlot, IsSlotBy, instance_in, is_coroutine, is_first, place_by, point_of, returned_from, slots_below, top_place}
+use Rattle.pass_frames_steps.specs.Slotted.{HasSlotsThere}
+use Rattle.pass_frames_steps.specs.Stepping.{AreGiven}
+use Rattle.pass_frames_steps.specs.pass_proofs.addresses.rules.Addresses.{lies_in_frame}
+use Rattle.pass_frames_steps.specs.pass_renewed_proof.Renewed.{RenewedGiven, renew_after, renewed_from, renewed_slot, renewed_step}
+use Rattle.pass_frames_steps.specs.run_framed.Framed.{frame_rights}
+use Rattle.pass_frames_steps.proofs.run_laws.access.Held.{grown_held}
+use Rattle.pass_frames_steps.proofs.run_laws.memory.Homes.{append_extends, value_on}
+use Rattle.pass_frames_steps.proofs.run_laws.transfer.Muted.{muted_length}
+use Rattle.pass_frames_steps.proofs.run_laws.transfer.Places.{grown as target_grown, showing_it, showing_others}
+use Rattle.pass_frames_steps.proofs.run_laws.transfer.Sets.{set_elsewhere}
+use Rattle.pass_frames_steps.specs.run_laws.access.Lines.{Holds, StandAt}
+use Rattle.pass_frames_steps.specs.run_laws.changed.Changed.{Each}
+use Rattle.pass_frames_steps.specs.run_laws.embedded.Making.{whole_home}
+use Rattle.pass_frames_steps.specs.run_laws.memory.Pointers.{Extends, Home, IsValue, home_of}
+use Rattle.pass_frames_steps.specs.run_laws.memory.Standing.{blank_block}
+use Rattle.pass_frames_steps.specs.run_laws.transfer.Muted.{ended_if, muted}
+use Rattle.pass_frames_steps.specs.run_laws.transfer.Places.{AreStanding, AreThere, showing}
+use Rattle.pass_frames_steps.specs.run_laws.transfer.Transfer.{AreOver}
+use Rattle.pass_frames_steps.specs.run_memory.Memory.{Rights, decode, is_live, owner_rights}
+use Rattle.pass_frames_steps.specs.run_memory.Pointers.{moved, offset_of}
+use Rattle.pass_frames_steps.specs.run_memory.declared.block.Byte.{Byte}
+use Rattle.pass_frames_steps.specs.run_memory.declared.block.Kind.{Kind}
+use Rattle.pass_frames_steps.specs.run_memory.declared.block.Life.{Life}
+use Rattle.pass_frames_steps.specs.run_memory.declared.block.MemoryBlock.{MemoryBlock}
+use Rattle.pass_frames_steps.specs.run_memory.declared.pointer.Pointer.{Pointer}
+use Rattle.pass_frames_steps.specs.run_memory.declared.pointer.Value.{Value}
+use Rattle.pass_frames_steps.specs.run_source.State.{function_of}
+use Rattle.pass_frames_steps.specs.run_source.declared.state.Activation.{Activation}
+use Rattle.pass_frames_steps.specs.run_source.declared.state.Instance.{Instance}
+use Rattle.pass_frames_steps.specs.run_source.declared.state.Mode.{Mode}
+use Rattle.pass_frames_steps.specs.run_source.declared.state.State.{State}
+use Rattle.pass_frames_steps.specs.run_step.Step.{alloca_kind, has_markers}
+use Rattle.pass_frames_steps.specs.run_step.Values.{Env, access_of, pointer_to, value_in, with_value}
+use Rattle.pass_frames_steps.specs.run_step.declared.world.Slot.{Slot}
+use Rattle.pass_frames_steps.specs.run_step.declared.world.World.{World}
 
 -- ---- what is shown where the framed run makes allocas
 

@@ -2,52 +2,52 @@
 use Rattle.std.proofs.Common.{◌≡◌, ◌≢◌, ◌⊎◌, ◌+◌, ◌-◌, ◌≤◌, ◌∷◌, ◌++◌, ◌∙◌, [], if◌then◌else◌, Bool, List, None, Option, Some, ap, append_assoc, arith, false, inl, inr, length, length-append, refl, subst, suc, sym, take, zero, ℕ, ⊎_elim}
 use Rattle.std.proofs.lemmas.List.{append_cancel_left}
 use Rattle.std.specs.Prelude.{drop, option_map, slice_get}
-use Rattle.pass_proofs.specs.flow_solver.Paths.{IsListed}
-use Rattle.pass_proofs.proofs.ir_laws.paths.edges.Lists.{different_right}
-use Rattle.pass_proofs.proofs.ir_laws.paths.source_rules.Locals.{listed_left, listed_right}
-use Rattle.pass_proofs.specs.ir_laws.paths.woven_rules.Pairs.{AreDifferent}
-use Rattle.pass_proofs.specs.ir_model.Names.{first_where, function_at}
-use Rattle.pass_proofs.specs.ir_model.Ty.{Ty}
-use Rattle.pass_proofs.specs.ir_model.declared.instr.Instr.{Instr}
-use Rattle.pass_proofs.specs.ir_model.declared.module.Block.{Block}
-use Rattle.pass_proofs.specs.ir_model.declared.module.Function.{Function}
-use Rattle.pass_proofs.specs.ir_paths.Slots.{allocas_in}
-use Rattle.pass_proofs.specs.ir_paths.declared.point.Point.{Point}
-use Rattle.pass_proofs.specs.pass_cells.Kept.{entry}
-use Rattle.pass_proofs.specs.pass_frames.Framed.{begin_of}
-use Rattle.pass_frames_proof.proofs.allocating.Stands.{stands_in_front}
+use Rattle.pass_frames_steps.specs.flow_solver.Paths.{IsListed}
+use Rattle.pass_frames_steps.proofs.ir_laws.paths.edges.Lists.{different_right}
+use Rattle.pass_frames_steps.proofs.ir_laws.paths.source_rules.Locals.{listed_left, listed_right}
+use Rattle.pass_frames_steps.specs.ir_laws.paths.woven_rules.Pairs.{AreDifferent}
+use Rattle.pass_frames_steps.specs.ir_model.Names.{first_where, function_at}
+use Rattle.pass_frames_steps.specs.ir_model.Ty.{Ty}
+use Rattle.pass_frames_steps.specs.ir_model.declared.instr.Instr.{Instr}
+use Rattle.pass_frames_steps.specs.ir_model.declared.module.Block.{Block}
+use Rattle.pass_frames_steps.specs.ir_model.declared.module.Function.{Function}
+use Rattle.pass_frames_steps.specs.ir_paths.Slots.{allocas_in}
+use Rattle.pass_frames_steps.specs.ir_paths.declared.point.Point.{Point}
+use Rattle.pass_frames_steps.specs.pass_cells.Kept.{entry}
+use Rattle.pass_frames_steps.specs.pass_frames.Framed.{begin_of}
+use Rattle.pass_frames_steps.proofs.allocating.Stands.{stands_in_front}
 use Rattle.pass_frames_proof.proofs.anew.Lists.{allocas_append, allocas_apart}
 use Rattle.pass_frames_proof.proofs.anew.Made as made
 use Rattle.pass_frames_proof.proofs.anew.Made.{MakesAnew, allocas_shown}
 use Rattle.pass_frames_proof.proofs.entering.Allocas.{up_to_next}
 use Rattle.pass_frames_proof.proofs.entering.Stand.{between}
-use Rattle.pass_frames_proof.proofs.layers.Standing.{take_whole}
-use Rattle.pass_frames_proof.proofs.stepping.Stands.{values_of}
-use Rattle.pass_frames_proof.specs.Waking.{StandsInFront}
-use Rattle.pass_frames_proof.specs.Anew.{HasNextAnew, IsAtAnew}
-use Rattle.pass_frames_proof.specs.Costs.{slot_cost}
-use Rattle.pass_frames_proof.specs.Entering.{AreAllocasBetween, IsGoodAlloca, allocas_up_to, behind_allocas, front_allocas}
-use Rattle.pass_frames_proof.specs.Followed.{IsFollowed, IsOn}
-use Rattle.pass_frames_proof.specs.Meaning.{step_cost}
-use Rattle.pass_frames_proof.specs.Places.{Framing, alloca_place, instrs_at, offsets, plan}
-use Rattle.pass_frames_proof.specs.Related.{AreActivations, AreBuiltOf, AreCoroutines, AreNamed, Building, HasCells, is_coroutine, point_of, top_place}
-use Rattle.pass_frames_proof.specs.Slotted.{HasSlotsThere}
-use Rattle.pass_frames_proof.specs.Stepping.{AreGiven}
-use Rattle.pass_proofs.specs.addresses.rules.Addresses.{lies_in_frame}
-use Rattle.pass_renewed_proof.specs.Renewed.{RenewedGiven, is_renewed, renew_after, renewed_from, renewed_in, renewed_step}
-use Rattle.pass_proofs.specs.run_agreement.Machines.{iterate}
-use Rattle.pass_proofs.specs.run_framed.Framed.{frame_rights, framed_step}
-use Rattle.pass_proofs.specs.run_laws.access.Lines.{StandAt}
-use Rattle.pass_proofs.specs.run_laws.changed.Changed.{Each}
-use Rattle.pass_proofs.specs.run_laws.memory.Pointers.{IsValue}
-use Rattle.pass_proofs.specs.run_memory.Memory.{Rights}
-use Rattle.pass_proofs.specs.run_memory.declared.pointer.Value.{Value}
-use Rattle.pass_proofs.specs.run_source.State.{function_of}
-use Rattle.pass_proofs.specs.run_source.declared.state.Activation.{Activation}
-use Rattle.pass_proofs.specs.run_source.declared.state.Instance.{Instance}
-use Rattle.pass_proofs.specs.run_source.declared.state.Mode.{Mode}
-use Rattle.pass_proofs.specs.run_source.declared.state.State.{State}
-use Rattle.pass_proofs.specs.run_step.Values.{Env, value_in}
+use Rattle.pass_frames_steps.proofs.layers.Standing.{take_whole}
+use Rattle.pass_frames_steps.proofs.stepping.Stands.{values_of}
+use Rattle.pass_frames_steps.specs.Waking.{StandsInFront}
+use Rattle.pass_frames_steps.specs.Anew.{HasNextAnew, IsAtAnew}
+use Rattle.pass_frames_steps.specs.Costs.{slot_cost}
+use Rattle.pass_frames_steps.specs.Entering.{AreAllocasBetween, IsGoodAlloca, allocas_up_to, behind_allocas, front_allocas}
+use Rattle.pass_frames_steps.specs.Followed.{IsFollowed, IsOn}
+use Rattle.pass_frames_steps.specs.Meaning.{step_cost}
+use Rattle.pass_frames_steps.specs.Places.{Framing, alloca_place, instrs_at, offsets, plan}
+use Rattle.pass_frames_steps.specs.Related.{AreActivations, AreBuiltOf, AreCoroutines, AreNamed, Building, HasCells, is_coroutine, point_of, top_place}
+use Rattle.pass_frames_steps.specs.Slotted.{HasSlotsThere}
+use Rattle.pass_frames_steps.specs.Stepping.{AreGiven}
+use Rattle.pass_frames_steps.specs.pass_proofs.addresses.rules.Addresses.{lies_in_frame}
+use Rattle.pass_frames_steps.specs.pass_renewed_proof.Renewed.{RenewedGiven, is_renewed, renew_after, renewed_from, renewed_in, renewed_step}
+use Rattle.pass_frames_steps.specs.run_agreement.Machines.{iterate}
+use Rattle.pass_frames_steps.specs.run_framed.Framed.{frame_rights, framed_step}
+use Rattle.pass_frames_steps.specs.run_laws.access.Lines.{StandAt}
+use Rattle.pass_frames_steps.specs.run_laws.changed.Changed.{Each}
+use Rattle.pass_frames_steps.specs.run_laws.memory.Pointers.{IsValue}
+use Rattle.pass_frames_steps.specs.run_memory.Memory.{Rights}
+use Rattle.pass_frames_steps.specs.run_memory.declared.pointer.Value.{Value}
+use Rattle.pass_frames_steps.specs.run_source.State.{function_of}
+use Rattle.pass_frames_steps.specs.run_source.declared.state.Activation.{Activation}
+use Rattle.pass_frames_steps.specs.run_source.declared.state.Instance.{Instance}
+use Rattle.pass_frames_steps.specs.run_source.declared.state.Mode.{Mode}
+use Rattle.pass_frames_steps.specs.run_source.declared.state.State.{State}
+use Rattle.pass_frames_steps.specs.run_step.Values.{Env, value_in}
 
 -- ---- the line up to the next one
 

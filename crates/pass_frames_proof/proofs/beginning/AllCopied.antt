@@ -1,19 +1,19 @@
 -- Right behind begin all slots that are used before it are copied.
 use Rattle.std.proofs.Common.{◌≡◌, ◌≢◌, ◌⊎◌, ◌+◌, ◌*◌, ◌<◌, ◌≤◌, ◌∷◌, ◌∙◌, [], List, None, Option, Some, ap, arith, inl, inr, length, map, refl, subst, sym, ℕ}
 use Rattle.std.specs.List.{Contains}
-use Rattle.pass_proofs.specs.flow_solver.Paths.{IsListed}
-use Rattle.pass_proofs.proofs.ir_laws.facts.Members.{each_turns}
-use Rattle.pass_proofs.specs.ir_laws.paths.woven_rules.Pairs.{AreDifferent}
-use Rattle.pass_proofs.specs.pass_copies.declared.slot.EarlySlot.{EarlySlot}
-use Rattle.pass_proofs.specs.pass_cells.Cells.{fetches_of}
-use Rattle.pass_proofs.specs.pass_fetch.Fetching.{next_after_all}
-use Rattle.pass_proofs.specs.ir_parts.Contents.{instr_operands}
-use Rattle.pass_proofs.proofs.fetch.rules.Puts.{fetch_rises}
-use Rattle.pass_proofs.specs.pass_frames.Framed.{begin_of}
-use Rattle.pass_proofs.specs.pass_frames.Tables.{offset_at}
-use Rattle.pass_frames_proof.proofs.allocating.Grown.{listed_in}
-use Rattle.pass_frames_proof.proofs.allocating.Ramp.{value_here}
-use Rattle.pass_frames_proof.proofs.allocating.Steps.{set_length}
+use Rattle.pass_frames_steps.specs.flow_solver.Paths.{IsListed}
+use Rattle.pass_frames_steps.proofs.ir_laws.facts.Members.{each_turns}
+use Rattle.pass_frames_steps.specs.ir_laws.paths.woven_rules.Pairs.{AreDifferent}
+use Rattle.pass_frames_steps.specs.pass_copies.declared.slot.EarlySlot.{EarlySlot}
+use Rattle.pass_frames_steps.specs.pass_cells.Cells.{fetches_of}
+use Rattle.pass_frames_steps.specs.pass_fetch.Fetching.{next_after_all}
+use Rattle.pass_frames_steps.specs.ir_parts.Contents.{instr_operands}
+use Rattle.pass_frames_steps.proofs.pass_proofs.fetch.rules.Puts.{fetch_rises}
+use Rattle.pass_frames_steps.specs.pass_frames.Framed.{begin_of}
+use Rattle.pass_frames_steps.specs.pass_frames.Tables.{offset_at}
+use Rattle.pass_frames_steps.proofs.allocating.Grown.{listed_in}
+use Rattle.pass_frames_steps.proofs.allocating.Ramp.{value_here}
+use Rattle.pass_frames_steps.proofs.allocating.Steps.{set_length}
 use Rattle.pass_frames_proof.proofs.beginning.Given.{Begins}
 use Rattle.pass_frames_proof.proofs.beginning.Ranges.{apart_disjoint, first_apart}
 use Rattle.pass_frames_proof.proofs.beginning.Loads.{I, M0, N0, W, low_names, old, same_room}
@@ -21,24 +21,24 @@ use Rattle.pass_frames_proof.proofs.beginning.Places.{B, X, slot_apart, ys}
 use Rattle.pass_frames_proof.proofs.beginning.Steps.{tB}
 use Rattle.pass_frames_proof.proofs.early.Copies.{slots_copied}
 use Rattle.pass_frames_proof.proofs.early.Placed.{cells_apart}
-use Rattle.pass_frames_proof.proofs.lines.Filled.{over_none}
-use Rattle.pass_frames_proof.proofs.stepping.May.{own_blocks}
-use Rattle.pass_frames_proof.specs.Beginning.{IsAtBegin}
-use Rattle.pass_frames_proof.specs.Early.{AllApart, AllAreCopied, AllMayCopy, AreCopied, IsApartFromAll, IsButCells, IsCopied, IsCopiedSlot, IsFilledThere, MayCopy, copies_line, range_of}
-use Rattle.pass_frames_proof.specs.Entry.{cells_of}
-use Rattle.pass_frames_proof.specs.Led.{RunsThrough}
-use Rattle.pass_frames_proof.specs.Lines.{RunsOver}
-use Rattle.pass_frames_proof.specs.Places.{Framing, copies, edged, framed, plan}
-use Rattle.pass_frames_proof.specs.Related.{AreBuiltOf, Building}
-use Rattle.pass_renewed_proof.specs.Renewed.{RenewedGiven}
-use Rattle.run_access_worked.proofs.run_laws_worked.Frames.{frame_rights_fit}
-use Rattle.pass_proofs.specs.run_framed.Framed.{framed_context}
-use Rattle.pass_proofs.specs.run_laws.access.Accessed.{Span}
-use Rattle.pass_proofs.specs.run_laws.changed.Changed.{Each}
-use Rattle.pass_proofs.specs.run_source.State.{work_of}
-use Rattle.pass_proofs.specs.run_source.declared.state.State.{State}
-use Rattle.pass_proofs.specs.run_step.Step.{Context, Work}
-use Rattle.pass_proofs.specs.run_step.Values.{pointer_to, value_in, with_result}
+use Rattle.pass_frames_steps.proofs.lines.Filled.{over_none}
+use Rattle.pass_frames_steps.proofs.stepping.May.{own_blocks}
+use Rattle.pass_frames_steps.specs.Beginning.{IsAtBegin}
+use Rattle.pass_frames_steps.specs.Early.{AllApart, AllAreCopied, AllMayCopy, AreCopied, IsApartFromAll, IsButCells, IsCopied, IsCopiedSlot, IsFilledThere, MayCopy, copies_line, range_of}
+use Rattle.pass_frames_steps.specs.Entry.{cells_of}
+use Rattle.pass_frames_steps.specs.Led.{RunsThrough}
+use Rattle.pass_frames_steps.specs.Lines.{RunsOver}
+use Rattle.pass_frames_steps.specs.Places.{Framing, copies, edged, framed, plan}
+use Rattle.pass_frames_steps.specs.Related.{AreBuiltOf, Building}
+use Rattle.pass_frames_steps.specs.pass_renewed_proof.Renewed.{RenewedGiven}
+use Rattle.pass_frames_steps.proofs.run_access_worked.run_laws_worked.Frames.{frame_rights_fit}
+use Rattle.pass_frames_steps.specs.run_framed.Framed.{framed_context}
+use Rattle.pass_frames_steps.specs.run_laws.access.Accessed.{Span}
+use Rattle.pass_frames_steps.specs.run_laws.changed.Changed.{Each}
+use Rattle.pass_frames_steps.specs.run_source.State.{work_of}
+use Rattle.pass_frames_steps.specs.run_source.declared.state.State.{State}
+use Rattle.pass_frames_steps.specs.run_step.Step.{Context, Work}
+use Rattle.pass_frames_steps.specs.run_step.Values.{pointer_to, value_in, with_result}
 use Rattle.pass_frames_proof.proofs.beginning.Copied.{may_copy, ready_place}
 
 module _ (facts : Begins) where

@@ -2,47 +2,47 @@
 -- and then the slots that are used before it are copied to the frame.
 use Rattle.std.proofs.Common.{◌≡◌, ◌≤◌, ◌∷◌, ◌++◌, ◌∙◌, [], Bool, List, None, Option, Some, ap, append-nil, arith, length, refl, subst, sym, true, ℕ}
 use Rattle.std.specs.Prelude.{slice_get}
-use Rattle.pass_proofs.proofs.ir_laws.facts.Members.{each_joined, each_turns}
-use Rattle.pass_proofs.specs.ir_model.Ty.{Ty}
-use Rattle.pass_proofs.specs.ir_model.declared.instr.Instr.{Instr}
-use Rattle.pass_proofs.specs.ir_model.declared.module.Module.{Module}
-use Rattle.pass_proofs.specs.ir_model.declared.operand.Arg.{Arg}
-use Rattle.pass_proofs.specs.ir_model.declared.operand.Callee.{Callee}
-use Rattle.pass_proofs.specs.ir_model.declared.operand.Intrinsic.{Intrinsic}
-use Rattle.pass_proofs.specs.ir_model.declared.operand.Operand.{Operand}
-use Rattle.pass_proofs.specs.ir_parts.Contents.{instr_operands}
-use Rattle.pass_proofs.specs.pass_addresses.Placing.{lies_outside, stays, without_promise_of}
-use Rattle.pass_proofs.specs.pass_cells.Cells.{fetches_of}
-use Rattle.pass_proofs.specs.pass_cells.Kept.{entry}
-use Rattle.pass_proofs.specs.pass_cells.Moves.{saved_values}
-use Rattle.pass_proofs.specs.pass_cells.Written.{save_row}
-use Rattle.pass_proofs.specs.pass_copies.BeginCopies.{begin_copies, copy, put}
-use Rattle.pass_proofs.specs.pass_copies.declared.slot.EarlySlot.{EarlySlot}
-use Rattle.pass_proofs.specs.pass_fetch.Blocks.{end_at}
-use Rattle.pass_proofs.specs.pass_fetch.Fetching.{fetch_of, fetched_args, fetches_of_all, next_by, operand_by}
-use Rattle.pass_proofs.specs.pass_fetch.Instrs.{with_fetched}
-use Rattle.pass_proofs.specs.pass_fetch.declared.fetch.Fetch.{Fetch}
-use Rattle.pass_proofs.specs.pass_front.Front.{is_no_alloca}
-use Rattle.pass_frames_proof.proofs.code.Idle.{each_idle, fetches_idle, not_stored, only_idle}
-use Rattle.pass_frames_proof.proofs.code.Instrs.{instr_code}
-use Rattle.pass_frames_proof.proofs.code.Left.{Far, far_named, parts_left}
-use Rattle.pass_frames_proof.proofs.code.Names.{far_left}
+use Rattle.pass_frames_steps.proofs.ir_laws.facts.Members.{each_joined, each_turns}
+use Rattle.pass_frames_steps.specs.ir_model.Ty.{Ty}
+use Rattle.pass_frames_steps.specs.ir_model.declared.instr.Instr.{Instr}
+use Rattle.pass_frames_steps.specs.ir_model.declared.module.Module.{Module}
+use Rattle.pass_frames_steps.specs.ir_model.declared.operand.Arg.{Arg}
+use Rattle.pass_frames_steps.specs.ir_model.declared.operand.Callee.{Callee}
+use Rattle.pass_frames_steps.specs.ir_model.declared.operand.Intrinsic.{Intrinsic}
+use Rattle.pass_frames_steps.specs.ir_model.declared.operand.Operand.{Operand}
+use Rattle.pass_frames_steps.specs.ir_parts.Contents.{instr_operands}
+use Rattle.pass_frames_steps.specs.pass_addresses.Placing.{lies_outside, stays, without_promise_of}
+use Rattle.pass_frames_steps.specs.pass_cells.Cells.{fetches_of}
+use Rattle.pass_frames_steps.specs.pass_cells.Kept.{entry}
+use Rattle.pass_frames_steps.specs.pass_cells.Moves.{saved_values}
+use Rattle.pass_frames_steps.specs.pass_cells.Written.{save_row}
+use Rattle.pass_frames_steps.specs.pass_copies.BeginCopies.{begin_copies, copy, put}
+use Rattle.pass_frames_steps.specs.pass_copies.declared.slot.EarlySlot.{EarlySlot}
+use Rattle.pass_frames_steps.specs.pass_fetch.Blocks.{end_at}
+use Rattle.pass_frames_steps.specs.pass_fetch.Fetching.{fetch_of, fetched_args, fetches_of_all, next_by, operand_by}
+use Rattle.pass_frames_steps.specs.pass_fetch.Instrs.{with_fetched}
+use Rattle.pass_frames_steps.specs.pass_fetch.declared.fetch.Fetch.{Fetch}
+use Rattle.pass_frames_steps.specs.pass_front.Front.{is_no_alloca}
+use Rattle.pass_frames_steps.proofs.code.Idle.{each_idle, fetches_idle, not_stored, only_idle}
+use Rattle.pass_frames_steps.proofs.code.Instrs.{instr_code}
+use Rattle.pass_frames_steps.proofs.code.Left.{Far, far_named, parts_left}
+use Rattle.pass_frames_steps.proofs.code.Names.{far_left}
 use Rattle.pass_frames_proof.proofs.early.Unlocated.{others_unlocated}
-use Rattle.pass_frames_proof.proofs.layers.Grown.{both_becomes}
-use Rattle.pass_frames_proof.proofs.layers.Idle.{all_stay, both_idle, state_stays}
-use Rattle.pass_frames_proof.proofs.led.Front.{all_still}
-use Rattle.pass_frames_proof.specs.Beginning.{IsPlainOperand, begin_call}
-use Rattle.pass_frames_proof.specs.Code.{address_state, addressed, code_of, copied_there, load_name, loaded, loads, located, past_addressed, saved, slot_table, stores, unmarked_one, write_name}
-use Rattle.pass_frames_proof.specs.Early.{copies_line}
-use Rattle.pass_frames_proof.specs.Framings.{IsFraming}
-use Rattle.pass_frames_proof.specs.Layers.{IsIdle, Layer, becomes, each, only}
-use Rattle.pass_frames_proof.specs.Led.{IsStill}
-use Rattle.pass_frames_proof.specs.Lined.{GivesNone}
-use Rattle.pass_frames_proof.specs.Passes.{block_at, fetched_first, fetching_at, phi_ends, unmarked_at}
-use Rattle.pass_frames_proof.specs.Places.{Framing, Placed, addressing_layer, copies, instrs_at, marked, named, offsets, placed_layer, plan, unmarked}
-use Rattle.pass_frames_proof.specs.Stepping.{IsUnlocated, state_in}
-use Rattle.pass_proofs.specs.fetch.rules.Fetches.{AreUnfetched}
-use Rattle.pass_proofs.specs.run_laws.changed.Changed.{Each}
+use Rattle.pass_frames_steps.proofs.layers.Grown.{both_becomes}
+use Rattle.pass_frames_steps.proofs.layers.Idle.{all_stay, both_idle, state_stays}
+use Rattle.pass_frames_steps.proofs.led.Front.{all_still}
+use Rattle.pass_frames_steps.specs.Beginning.{IsPlainOperand, begin_call}
+use Rattle.pass_frames_steps.specs.Code.{address_state, addressed, code_of, copied_there, load_name, loaded, loads, located, past_addressed, saved, slot_table, stores, unmarked_one, write_name}
+use Rattle.pass_frames_steps.specs.Early.{copies_line}
+use Rattle.pass_frames_steps.specs.Framings.{IsFraming}
+use Rattle.pass_frames_steps.specs.Layers.{IsIdle, Layer, becomes, each, only}
+use Rattle.pass_frames_steps.specs.Led.{IsStill}
+use Rattle.pass_frames_steps.specs.Lined.{GivesNone}
+use Rattle.pass_frames_steps.specs.Passes.{block_at, fetched_first, fetching_at, phi_ends, unmarked_at}
+use Rattle.pass_frames_steps.specs.Places.{Framing, Placed, addressing_layer, copies, instrs_at, marked, named, offsets, placed_layer, plan, unmarked}
+use Rattle.pass_frames_steps.specs.Stepping.{IsUnlocated, state_in}
+use Rattle.pass_frames_steps.specs.pass_proofs.fetch.rules.Fetches.{AreUnfetched}
+use Rattle.pass_frames_steps.specs.run_laws.changed.Changed.{Each}
 
 -- ---- tests that a begin passes, whatever its operands
 

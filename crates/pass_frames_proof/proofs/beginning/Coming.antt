@@ -3,13 +3,13 @@ use Rattle.std.proofs.Common.{◌≡◌, ◌≢◌, ◌+◌, ◌<◌, ◌≤◌,
 use Rattle.std.proofs.lemmas.List.{map-append}
 use Rattle.std.specs.List.{Contains}
 use Rattle.std.specs.Prelude.{filter, slice_get, unwrap_or}
-use Rattle.pass_proofs.specs.flow_solver.Paths.{IsListed}
-use Rattle.pass_proofs.specs.frame_contents.Held.{position_of}
-use Rattle.pass_proofs.proofs.ir_laws.paths.edges.Lists.{different_left}
-use Rattle.pass_proofs.specs.ir_laws.paths.woven_rules.Pairs.{AreDifferent}
-use Rattle.pass_proofs.specs.pass_copies.declared.slot.EarlySlot.{EarlySlot}
-use Rattle.pass_proofs.specs.pass_frames.Tables.{offset_at}
-use Rattle.pass_frames_proof.proofs.allocating.Grown.{in_all, listed_in}
+use Rattle.pass_frames_steps.specs.flow_solver.Paths.{IsListed}
+use Rattle.pass_frames_steps.specs.frame_contents.Held.{position_of}
+use Rattle.pass_frames_steps.proofs.ir_laws.paths.edges.Lists.{different_left}
+use Rattle.pass_frames_steps.specs.ir_laws.paths.woven_rules.Pairs.{AreDifferent}
+use Rattle.pass_frames_steps.specs.pass_copies.declared.slot.EarlySlot.{EarlySlot}
+use Rattle.pass_frames_steps.specs.pass_frames.Tables.{offset_at}
+use Rattle.pass_frames_steps.proofs.allocating.Grown.{in_all, listed_in}
 use Rattle.pass_frames_proof.proofs.beginning.AllCopied.{IsCopiedThere}
 use Rattle.pass_frames_proof.proofs.beginning.Copied.{early, leads_there, unplaced_slot}
 use Rattle.pass_frames_proof.proofs.beginning.Frame.{C, IsOwner, n1, owner_from, owner_start}
@@ -17,24 +17,24 @@ use Rattle.pass_frames_proof.proofs.beginning.Given.{Begins}
 use Rattle.pass_frames_proof.proofs.beginning.Places.{B, M, N, Q, X, block_in, different_filter, in_filter, seen, slot_apart, size, z}
 use Rattle.pass_frames_proof.proofs.beginning.Ranges.{held_byte}
 use Rattle.pass_frames_proof.proofs.early.Placed.{cells_apart}
-use Rattle.pass_frames_proof.proofs.lines.Cells.{contained, other_block}
-use Rattle.pass_frames_proof.proofs.stepping.May.{own_blocks}
-use Rattle.pass_frames_proof.specs.Beginning.{IsAtBegin, IsSlotAtBegin, is_in_frame}
-use Rattle.pass_frames_proof.specs.Places.{Framing}
-use Rattle.pass_frames_proof.specs.Related.{AreBuiltOf, Building, IsUnplacedSlot, slots_below}
-use Rattle.pass_frames_proof.specs.Slotted.{IsSlotField}
-use Rattle.pass_renewed_proof.specs.Renewed.{RenewedGiven}
-use Rattle.pass_proofs.specs.run_framed.Framed.{layout_of}
-use Rattle.pass_proofs.proofs.run_laws.memory.Written.{changed_elsewhere, same_some}
-use Rattle.pass_proofs.specs.run_laws.changed.Changed.{Each}
-use Rattle.pass_proofs.specs.run_laws.memory.Pointers.{Home, home_of}
-use Rattle.pass_proofs.specs.run_laws.memory.Standing.{AreApart, byte_of}
-use Rattle.pass_proofs.specs.run_laws.transfer.Ready.{ArePlacesApart, AreTwoPlaces, Place, home_at}
-use Rattle.pass_proofs.specs.run_memory.Memory.{is_below, is_live, owned_to, owner_rights}
-use Rattle.pass_proofs.specs.run_memory.declared.block.MemoryBlock.{MemoryBlock}
-use Rattle.pass_proofs.specs.run_source.declared.state.State.{State}
-use Rattle.pass_proofs.specs.run_step.Values.{pointer_to}
-use Rattle.pass_proofs.specs.run_step.declared.world.Slot.{Slot}
+use Rattle.pass_frames_steps.proofs.lines.Cells.{contained, other_block}
+use Rattle.pass_frames_steps.proofs.stepping.May.{own_blocks}
+use Rattle.pass_frames_steps.specs.Beginning.{IsAtBegin, IsSlotAtBegin, is_in_frame}
+use Rattle.pass_frames_steps.specs.Places.{Framing}
+use Rattle.pass_frames_steps.specs.Related.{AreBuiltOf, Building, IsUnplacedSlot, slots_below}
+use Rattle.pass_frames_steps.specs.Slotted.{IsSlotField}
+use Rattle.pass_frames_steps.specs.pass_renewed_proof.Renewed.{RenewedGiven}
+use Rattle.pass_frames_steps.specs.run_framed.Framed.{layout_of}
+use Rattle.pass_frames_steps.proofs.run_laws.memory.Written.{changed_elsewhere, same_some}
+use Rattle.pass_frames_steps.specs.run_laws.changed.Changed.{Each}
+use Rattle.pass_frames_steps.specs.run_laws.memory.Pointers.{Home, home_of}
+use Rattle.pass_frames_steps.specs.run_laws.memory.Standing.{AreApart, byte_of}
+use Rattle.pass_frames_steps.specs.run_laws.transfer.Ready.{ArePlacesApart, AreTwoPlaces, Place, home_at}
+use Rattle.pass_frames_steps.specs.run_memory.Memory.{is_below, is_live, owned_to, owner_rights}
+use Rattle.pass_frames_steps.specs.run_memory.declared.block.MemoryBlock.{MemoryBlock}
+use Rattle.pass_frames_steps.specs.run_source.declared.state.State.{State}
+use Rattle.pass_frames_steps.specs.run_step.Values.{pointer_to}
+use Rattle.pass_frames_steps.specs.run_step.declared.world.Slot.{Slot}
 
 pub each_of : {A C : Type 0} (f : A → C) (P : C → Type 0) (zs : List A) → ((z : A) → IsListed z zs → P (f z))
     → Each P (map f zs)

@@ -3,52 +3,52 @@ use Rattle.std.proofs.Common.{◌≡◌, ◌≢◌, ◌+◌, ◌<◌, ◌≤◌,
 use Rattle.std.proofs.lemmas.Bool.{cases_eq}
 use Rattle.std.specs.List.{Contains}
 use Rattle.std.specs.Prelude.{slice_get, unwrap_or}
-use Rattle.pass_proofs.specs.flow_solver.Paths.{IsListed}
-use Rattle.pass_proofs.specs.frame_contents.Held.{position_of}
-use Rattle.pass_proofs.proofs.ir_laws.facts.Members.{each_there}
-use Rattle.pass_proofs.specs.ir_model.Ty.{ptr}
-use Rattle.pass_proofs.specs.ir_model.declared.operand.Operand.{Operand}
-use Rattle.pass_proofs.specs.pass_addresses.Placing.{is_none as is_absent}
-use Rattle.pass_proofs.specs.pass_copies.declared.slot.EarlySlot.{EarlySlot}
-use Rattle.pass_proofs.specs.pass_cells.Cells.{fetches_of}
-use Rattle.pass_proofs.specs.pass_fetch.Fetching.{fetch_of, next_after_all, value_bytes}
-use Rattle.pass_proofs.specs.ir_parts.Contents.{instr_operands}
-use Rattle.pass_proofs.proofs.fetch.rules.Puts.{fetch_rises}
-use Rattle.pass_proofs.proofs.run_laws.transfer.Sets.{set_elsewhere}
-use Rattle.pass_proofs.specs.pass_frames.Tables.{offset_at}
-use Rattle.pass_frames_proof.proofs.allocating.Grown.{in_all, listed_in, other_get}
-use Rattle.pass_frames_proof.proofs.allocating.Rights.{frame_room, outside_rights}
+use Rattle.pass_frames_steps.specs.flow_solver.Paths.{IsListed}
+use Rattle.pass_frames_steps.specs.frame_contents.Held.{position_of}
+use Rattle.pass_frames_steps.proofs.ir_laws.facts.Members.{each_there}
+use Rattle.pass_frames_steps.specs.ir_model.Ty.{ptr}
+use Rattle.pass_frames_steps.specs.ir_model.declared.operand.Operand.{Operand}
+use Rattle.pass_frames_steps.specs.pass_addresses.Placing.{is_none as is_absent}
+use Rattle.pass_frames_steps.specs.pass_copies.declared.slot.EarlySlot.{EarlySlot}
+use Rattle.pass_frames_steps.specs.pass_cells.Cells.{fetches_of}
+use Rattle.pass_frames_steps.specs.pass_fetch.Fetching.{fetch_of, next_after_all, value_bytes}
+use Rattle.pass_frames_steps.specs.ir_parts.Contents.{instr_operands}
+use Rattle.pass_frames_steps.proofs.pass_proofs.fetch.rules.Puts.{fetch_rises}
+use Rattle.pass_frames_steps.proofs.run_laws.transfer.Sets.{set_elsewhere}
+use Rattle.pass_frames_steps.specs.pass_frames.Tables.{offset_at}
+use Rattle.pass_frames_steps.proofs.allocating.Grown.{in_all, listed_in, other_get}
+use Rattle.pass_frames_steps.proofs.allocating.Rights.{frame_room, outside_rights}
 use Rattle.pass_frames_proof.proofs.beginning.Given.{Begins}
 use Rattle.pass_frames_proof.proofs.beginning.Ranges.{each_in, many, range_held, same_early}
 use Rattle.pass_frames_proof.proofs.beginning.Loads.{I, M0, N0, W, high_stays, is, low_names, old_cells}
 use Rattle.pass_frames_proof.proofs.beginning.Places.{B, N, Q, X, frame_fits, free_apart, held, kinds, own, same_there, slot_apart, y0, y0_alone, y0_there, ys, z, zt, zt_small, zt_there, zt_whole}
 use Rattle.pass_frames_proof.proofs.beginning.Steps.{tB}
 use Rattle.pass_frames_proof.proofs.early.Placed.{temporaries_unplaced}
-use Rattle.pass_frames_proof.proofs.lines.Cells.{contained}
-use Rattle.pass_frames_proof.proofs.stepping.Names.{where_is_name}
-use Rattle.pass_frames_proof.proofs.stepping.Rest.{got}
-use Rattle.pass_frames_proof.specs.Beginning.{IsAtBegin, IsEarlyAtBegin, IsTemporary, is_in_frame}
-use Rattle.pass_frames_proof.specs.Code.{slot_table}
-use Rattle.pass_frames_proof.specs.Early.{IsCopiedSlot, MayCopy}
-use Rattle.pass_frames_proof.specs.Places.{Framing, copies, edged, offsets, plan, written}
-use Rattle.pass_frames_proof.specs.Related.{AreBuiltOf, Building, IsCellName, IsFreeOf, IsSlotBy, IsUnplacedSlot, is_coroutine}
-use Rattle.pass_frames_proof.specs.Slotted.{IsSlotField}
-use Rattle.pass_renewed_proof.specs.Renewed.{RenewedGiven}
-use Rattle.pass_proofs.specs.addresses.rules.Addresses.{lies_in_frame}
-use Rattle.pass_proofs.specs.run_framed.Framed.{framed_context, layout_of}
-use Rattle.pass_proofs.proofs.run_laws.memory.Written.{same_some}
-use Rattle.pass_proofs.specs.run_laws.changed.Changed.{Each}
-use Rattle.pass_proofs.specs.run_laws.memory.Standing.{HasRights, blank_block}
-use Rattle.pass_proofs.specs.run_laws.transfer.Places.{HasRoom}
-use Rattle.pass_proofs.specs.run_memory.Memory.{owner_rights}
-use Rattle.pass_proofs.specs.run_memory.declared.block.Kind.{Kind}
-use Rattle.pass_proofs.specs.run_memory.declared.block.MemoryBlock.{MemoryBlock}
-use Rattle.pass_proofs.specs.run_source.State.{work_of}
-use Rattle.pass_proofs.specs.run_source.declared.state.Instance.{Instance}
-use Rattle.pass_proofs.specs.run_source.declared.state.State.{State}
-use Rattle.pass_proofs.specs.run_step.Step.{Context, Work}
-use Rattle.pass_proofs.specs.run_step.Values.{pointer_to, value_in, with_result}
-use Rattle.pass_proofs.specs.run_step.declared.world.Slot.{Slot}
+use Rattle.pass_frames_steps.proofs.lines.Cells.{contained}
+use Rattle.pass_frames_steps.proofs.stepping.Names.{where_is_name}
+use Rattle.pass_frames_steps.proofs.stepping.Rest.{got}
+use Rattle.pass_frames_steps.specs.Beginning.{IsAtBegin, IsEarlyAtBegin, IsTemporary, is_in_frame}
+use Rattle.pass_frames_steps.specs.Code.{slot_table}
+use Rattle.pass_frames_steps.specs.Early.{IsCopiedSlot, MayCopy}
+use Rattle.pass_frames_steps.specs.Places.{Framing, copies, edged, offsets, plan, written}
+use Rattle.pass_frames_steps.specs.Related.{AreBuiltOf, Building, IsCellName, IsFreeOf, IsSlotBy, IsUnplacedSlot, is_coroutine}
+use Rattle.pass_frames_steps.specs.Slotted.{IsSlotField}
+use Rattle.pass_frames_steps.specs.pass_renewed_proof.Renewed.{RenewedGiven}
+use Rattle.pass_frames_steps.specs.pass_proofs.addresses.rules.Addresses.{lies_in_frame}
+use Rattle.pass_frames_steps.specs.run_framed.Framed.{framed_context, layout_of}
+use Rattle.pass_frames_steps.proofs.run_laws.memory.Written.{same_some}
+use Rattle.pass_frames_steps.specs.run_laws.changed.Changed.{Each}
+use Rattle.pass_frames_steps.specs.run_laws.memory.Standing.{HasRights, blank_block}
+use Rattle.pass_frames_steps.specs.run_laws.transfer.Places.{HasRoom}
+use Rattle.pass_frames_steps.specs.run_memory.Memory.{owner_rights}
+use Rattle.pass_frames_steps.specs.run_memory.declared.block.Kind.{Kind}
+use Rattle.pass_frames_steps.specs.run_memory.declared.block.MemoryBlock.{MemoryBlock}
+use Rattle.pass_frames_steps.specs.run_source.State.{work_of}
+use Rattle.pass_frames_steps.specs.run_source.declared.state.Instance.{Instance}
+use Rattle.pass_frames_steps.specs.run_source.declared.state.State.{State}
+use Rattle.pass_frames_steps.specs.run_step.Step.{Context, Work}
+use Rattle.pass_frames_steps.specs.run_step.Values.{pointer_to, value_in, with_result}
+use Rattle.pass_frames_steps.specs.run_step.declared.world.Slot.{Slot}
 
 module _ (facts : Begins) where
   abbrev b : Building

@@ -3,38 +3,38 @@ use Rattle.std.proofs.Common.{◌≡◌, ◌≢◌, ◌+◌, ◌≤◌, ◌∙�
 use Rattle.std.proofs.lemmas.Bool.{cases_eq, ltb-false}
 use Rattle.std.specs.List.{Contains}
 use Rattle.std.specs.Prelude.{slice_get}
-use Rattle.pass_proofs.specs.flow_solver.Paths.{IsListed}
-use Rattle.pass_proofs.proofs.ir_laws.facts.Members.{each_turns}
-use Rattle.pass_proofs.specs.pass_copies.declared.slot.EarlySlot.{EarlySlot}
-use Rattle.pass_frames_proof.proofs.allocating.Grown.{listed_in}
-use Rattle.pass_frames_proof.proofs.allocating.Rights.{frame_room, frames_compare}
+use Rattle.pass_frames_steps.specs.flow_solver.Paths.{IsListed}
+use Rattle.pass_frames_steps.proofs.ir_laws.facts.Members.{each_turns}
+use Rattle.pass_frames_steps.specs.pass_copies.declared.slot.EarlySlot.{EarlySlot}
+use Rattle.pass_frames_steps.proofs.allocating.Grown.{listed_in}
+use Rattle.pass_frames_steps.proofs.allocating.Rights.{frame_room, frames_compare}
 use Rattle.pass_frames_proof.proofs.beginning.AllCopied.{AreCopiedThere, IsSpanThere, all_copied}
 use Rattle.pass_frames_proof.proofs.beginning.Copied.{cell_free, early, inside_frame}
 use Rattle.pass_frames_proof.proofs.beginning.Given.{Begins}
 use Rattle.pass_frames_proof.proofs.beginning.Places.{B, M, N, Q, X, block_is, frame_fits, home_is, kinds, lives_alone, own, owned_muted, seen, shown_there, size, stands_owned, y0, y0_alone, y0_there, ys, z, zt, zt_small, zt_there}
-use Rattle.pass_frames_proof.proofs.lines.Filled.{all_refilled, source_stands}
-use Rattle.pass_frames_proof.proofs.stepping.Names.{where_is_name}
-use Rattle.pass_frames_proof.proofs.stepping.Stored.{IsBlock, is_block}
-use Rattle.pass_frames_proof.specs.Beginning.{IsAtBegin}
-use Rattle.pass_frames_proof.specs.Lines.{AreAway}
-use Rattle.pass_frames_proof.specs.Places.{Framing}
-use Rattle.pass_frames_proof.specs.Related.{AreBuiltOf, Building, IsFreeOf}
-use Rattle.pass_frames_proof.specs.Slotted.{IsSlotField}
-use Rattle.pass_renewed_proof.specs.Renewed.{RenewedGiven}
-use Rattle.run_access_worked.proofs.run_laws_worked.Frames.{frame_rights_fit}
-use Rattle.pass_proofs.specs.run_framed.Framed.{layout_of}
-use Rattle.pass_proofs.proofs.run_laws.embedded.Memories.{bounds_kept, same_refills}
-use Rattle.pass_proofs.proofs.run_laws.memory.Itself.{owner_rights_fit}
-use Rattle.pass_proofs.proofs.run_laws.memory.Written.{changed_elsewhere, changed_here, same_some}
-use Rattle.pass_proofs.specs.run_laws.access.Accessed.{Span}
-use Rattle.pass_proofs.specs.run_laws.embedded.Refilled.{AreRefilled}
-use Rattle.pass_proofs.specs.run_laws.memory.Pointers.{Home, home_of}
-use Rattle.pass_proofs.specs.run_laws.memory.Standing.{IsAway, Stands}
-use Rattle.pass_proofs.specs.run_laws.transfer.Muted.{muted}
-use Rattle.pass_proofs.specs.run_laws.transfer.Places.{AreStanding, HasRoom}
-use Rattle.pass_proofs.specs.run_memory.Memory.{is_below, is_live, owned_to, owner_rights}
-use Rattle.pass_proofs.specs.run_memory.declared.block.MemoryBlock.{MemoryBlock}
-use Rattle.pass_proofs.specs.run_source.declared.state.State.{State}
+use Rattle.pass_frames_steps.proofs.lines.Filled.{all_refilled, source_stands}
+use Rattle.pass_frames_steps.proofs.stepping.Names.{where_is_name}
+use Rattle.pass_frames_steps.proofs.stepping.Stored.{IsBlock, is_block}
+use Rattle.pass_frames_steps.specs.Beginning.{IsAtBegin}
+use Rattle.pass_frames_steps.specs.Lines.{AreAway}
+use Rattle.pass_frames_steps.specs.Places.{Framing}
+use Rattle.pass_frames_steps.specs.Related.{AreBuiltOf, Building, IsFreeOf}
+use Rattle.pass_frames_steps.specs.Slotted.{IsSlotField}
+use Rattle.pass_frames_steps.specs.pass_renewed_proof.Renewed.{RenewedGiven}
+use Rattle.pass_frames_steps.proofs.run_access_worked.run_laws_worked.Frames.{frame_rights_fit}
+use Rattle.pass_frames_steps.specs.run_framed.Framed.{layout_of}
+use Rattle.pass_frames_steps.proofs.run_laws.embedded.Memories.{bounds_kept, same_refills}
+use Rattle.pass_frames_steps.proofs.run_laws.memory.Itself.{owner_rights_fit}
+use Rattle.pass_frames_steps.proofs.run_laws.memory.Written.{changed_elsewhere, changed_here, same_some}
+use Rattle.pass_frames_steps.specs.run_laws.access.Accessed.{Span}
+use Rattle.pass_frames_steps.specs.run_laws.embedded.Refilled.{AreRefilled}
+use Rattle.pass_frames_steps.specs.run_laws.memory.Pointers.{Home, home_of}
+use Rattle.pass_frames_steps.specs.run_laws.memory.Standing.{IsAway, Stands}
+use Rattle.pass_frames_steps.specs.run_laws.transfer.Muted.{muted}
+use Rattle.pass_frames_steps.specs.run_laws.transfer.Places.{AreStanding, HasRoom}
+use Rattle.pass_frames_steps.specs.run_memory.Memory.{is_below, is_live, owned_to, owner_rights}
+use Rattle.pass_frames_steps.specs.run_memory.declared.block.MemoryBlock.{MemoryBlock}
+use Rattle.pass_frames_steps.specs.run_source.declared.state.State.{State}
 
 module _ (facts : Begins) where
   abbrev b : Building

@@ -2,12 +2,12 @@
 use Rattle.std.proofs.Common.{◌≡◌, ◌≢◌, ◌+◌, ◌&&◌, ◌∷◌, ◌++◌, ◌∙◌, [], List, ap, false, length, not, refl, suc, zero, ℕ}
 use Rattle.std.proofs.lemmas.Bool.{and_left, ne_eqb}
 use Rattle.std.specs.Prelude.{slice_get}
-use Rattle.run_access_worked.proofs.Begun.{judge_more}
-use Rattle.pass_proofs.specs.run_framed.Framed.{FramedGiven, covers, frame_rights, is_open, is_open_byte, judge_of, meets_in}
-use Rattle.pass_proofs.specs.run_laws.access.Lines.{Holds}
-use Rattle.pass_proofs.specs.run_memory.declared.block.Byte.{Byte}
-use Rattle.pass_proofs.specs.run_memory.declared.block.MemoryBlock.{MemoryBlock}
-use Rattle.pass_proofs.specs.run_source.declared.state.Instance.{Instance}
+use Rattle.pass_frames_steps.proofs.run_access_worked.Begun.{judge_more}
+use Rattle.pass_frames_steps.specs.run_framed.Framed.{FramedGiven, covers, frame_rights, is_open, is_open_byte, judge_of, meets_in}
+use Rattle.pass_frames_steps.specs.run_laws.access.Lines.{Holds}
+use Rattle.pass_frames_steps.specs.run_memory.declared.block.Byte.{Byte}
+use Rattle.pass_frames_steps.specs.run_memory.declared.block.MemoryBlock.{MemoryBlock}
+use Rattle.pass_frames_steps.specs.run_source.declared.state.Instance.{Instance}
 
 module _ (g : FramedGiven) (ys : List Instance) (y : Instance) (B : ℕ) (elsewhere : y.block ≢ B) where
   abbrev more : List Instance

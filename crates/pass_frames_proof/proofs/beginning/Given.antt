@@ -1,15 +1,15 @@
 -- All that is known where both runs stand at a begin.
 use Rattle.std.proofs.Common.{Bool, Option, ℕ}
-use Rattle.pass_proofs.specs.ir_model.Ty.{Ty}
-use Rattle.pass_proofs.specs.ir_model.declared.operand.Arg.{Arg}
-use Rattle.pass_proofs.specs.ir_model.declared.operand.Operand.{Operand}
-use Rattle.pass_frames_proof.specs.Beginning.{HasLiveTemporaries, HasPlainSlots, IsAtBegin}
-use Rattle.pass_frames_proof.specs.Related.{AreBuiltOf, Building}
-use Rattle.pass_frames_proof.specs.Slotted.{HasListedSlots, HasSlotsApart, HasSlotsThere}
-use Rattle.pass_frames_proof.specs.Stepping.{AreGiven}
-use Rattle.pass_frames_proof.specs.Temporaries.{HasLedSlots}
-use Rattle.pass_renewed_proof.specs.Renewed.{RenewedGiven}
-use Rattle.pass_proofs.specs.run_source.declared.state.State.{State}
+use Rattle.pass_frames_steps.specs.ir_model.Ty.{Ty}
+use Rattle.pass_frames_steps.specs.ir_model.declared.operand.Arg.{Arg}
+use Rattle.pass_frames_steps.specs.ir_model.declared.operand.Operand.{Operand}
+use Rattle.pass_frames_steps.specs.Beginning.{HasLiveTemporaries, HasPlainSlots, IsAtBegin}
+use Rattle.pass_frames_steps.specs.Related.{AreBuiltOf, Building}
+use Rattle.pass_frames_steps.specs.Slotted.{HasListedSlots, HasSlotsApart, HasSlotsThere}
+use Rattle.pass_frames_steps.specs.Stepping.{AreGiven}
+use Rattle.pass_frames_steps.specs.Temporaries.{HasLedSlots}
+use Rattle.pass_frames_steps.specs.pass_renewed_proof.Renewed.{RenewedGiven}
+use Rattle.pass_frames_steps.specs.run_source.declared.state.State.{State}
 
 pub record Begins : Type 0 where
   pub b : Building

@@ -5,31 +5,31 @@ use Rattle.std.proofs.lemmas.Bool.{cases_eq}
 use Rattle.std.proofs.lemmas.List.{get_or-set_same, length-set}
 use Rattle.std.specs.List.{Contains}
 use Rattle.std.specs.Prelude.{filter, slice_get}
-use Rattle.pass_proofs.specs.flow_solver.Paths.{IsListed}
-use Rattle.pass_proofs.specs.ir_laws.paths.woven_rules.Pairs.{AreDifferent}
-use Rattle.pass_proofs.specs.pass_copies.declared.slot.EarlySlot.{EarlySlot}
-use Rattle.pass_frames_proof.proofs.allocating.Rights.{frames_compare}
+use Rattle.pass_frames_steps.specs.flow_solver.Paths.{IsListed}
+use Rattle.pass_frames_steps.specs.ir_laws.paths.woven_rules.Pairs.{AreDifferent}
+use Rattle.pass_frames_steps.specs.pass_copies.declared.slot.EarlySlot.{EarlySlot}
+use Rattle.pass_frames_steps.proofs.allocating.Rights.{frames_compare}
 use Rattle.pass_frames_proof.proofs.beginning.Coming.{IsComingSlot, coming, copied_bytes, d_of, each_of, field_at, owner_apart, place_of, places_apart, there_was, two, was_copied, zs, zs_different}
 use Rattle.pass_frames_proof.proofs.beginning.Frame.{lives_there, mm, n1, room_there, stands_copied, y1, z1}
 use Rattle.pass_frames_proof.proofs.beginning.Given.{Begins}
 use Rattle.pass_frames_proof.proofs.beginning.Places.{B, M, Q, X, block_in, different_filter, frame_fits, in_filter, filter_in, mapped_in, shown_other, stood_other, stood_length, ys, zt_small}
 use Rattle.pass_frames_proof.proofs.early.Moved.{came_there}
-use Rattle.pass_frames_proof.proofs.marking.Changed.{hidden_dead}
-use Rattle.pass_frames_proof.specs.Beginning.{IsAtBegin}
-use Rattle.pass_frames_proof.specs.Places.{Framing, copies}
-use Rattle.pass_frames_proof.specs.Related.{AreBuiltOf, Building, IsUnplacedSlot}
-use Rattle.pass_renewed_proof.specs.Renewed.{RenewedGiven}
-use Rattle.pass_proofs.proofs.run_laws.transfer.Muted.{muted_get}
-use Rattle.pass_proofs.proofs.run_laws.transfer.Ready.{ready_all, still_hidden, stood_at, stood_extends}
-use Rattle.pass_proofs.specs.run_laws.memory.Pointers.{Extends, Home, home_of, nowhere}
-use Rattle.pass_proofs.specs.run_laws.memory.Standing.{AreApart, byte_of}
-use Rattle.pass_proofs.specs.run_laws.transfer.Muted.{muted}
-use Rattle.pass_proofs.specs.run_laws.transfer.Places.{AreStanding, IsApartFrom, MayBeSeen}
-use Rattle.pass_proofs.specs.run_laws.transfer.Ready.{ArePlaces, Comes, IsPlace, IsSettled, Place, Stays, home_at, shown_of, stood}
-use Rattle.pass_proofs.specs.run_memory.Memory.{is_live, owner_rights}
-use Rattle.pass_proofs.specs.run_memory.declared.block.MemoryBlock.{MemoryBlock}
-use Rattle.pass_proofs.specs.run_source.declared.state.State.{State}
-use Rattle.pass_proofs.specs.run_step.declared.world.Slot.{Slot}
+use Rattle.pass_frames_steps.proofs.marking.Changed.{hidden_dead}
+use Rattle.pass_frames_steps.specs.Beginning.{IsAtBegin}
+use Rattle.pass_frames_steps.specs.Places.{Framing, copies}
+use Rattle.pass_frames_steps.specs.Related.{AreBuiltOf, Building, IsUnplacedSlot}
+use Rattle.pass_frames_steps.specs.pass_renewed_proof.Renewed.{RenewedGiven}
+use Rattle.pass_frames_steps.proofs.run_laws.transfer.Muted.{muted_get}
+use Rattle.pass_frames_steps.proofs.run_laws.transfer.Ready.{ready_all, still_hidden, stood_at, stood_extends}
+use Rattle.pass_frames_steps.specs.run_laws.memory.Pointers.{Extends, Home, home_of, nowhere}
+use Rattle.pass_frames_steps.specs.run_laws.memory.Standing.{AreApart, byte_of}
+use Rattle.pass_frames_steps.specs.run_laws.transfer.Muted.{muted}
+use Rattle.pass_frames_steps.specs.run_laws.transfer.Places.{AreStanding, IsApartFrom, MayBeSeen}
+use Rattle.pass_frames_steps.specs.run_laws.transfer.Ready.{ArePlaces, Comes, IsPlace, IsSettled, Place, Stays, home_at, shown_of, stood}
+use Rattle.pass_frames_steps.specs.run_memory.Memory.{is_live, owner_rights}
+use Rattle.pass_frames_steps.specs.run_memory.declared.block.MemoryBlock.{MemoryBlock}
+use Rattle.pass_frames_steps.specs.run_source.declared.state.State.{State}
+use Rattle.pass_frames_steps.specs.run_step.declared.world.Slot.{Slot}
 
 trans_extends : (homes next most : List Home) → Extends homes next → Extends next most → Extends homes most
 trans_extends homes next most f g = record {

@@ -3,11 +3,11 @@ use Rattle.std.proofs.Common.{◌≡◌, ◌≢◌, ◌⊎◌, ◌+◌, ◌<◌,
 use Rattle.std.proofs.lemmas.Bool.{cases_eq}
 use Rattle.std.specs.List.{Contains}
 use Rattle.std.specs.Prelude.{filter, slice_get}
-use Rattle.pass_proofs.specs.flow_solver.Paths.{IsListed}
-use Rattle.pass_proofs.proofs.ir_laws.facts.Lists.{get_within}
-use Rattle.pass_proofs.specs.pass_frames.Tables.{offset_at}
-use Rattle.pass_frames_proof.proofs.allocating.Grown.{end_get, listed_in, more_length, other_get}
-use Rattle.pass_frames_proof.proofs.allocating.Made.{right_more}
+use Rattle.pass_frames_steps.specs.flow_solver.Paths.{IsListed}
+use Rattle.pass_frames_steps.proofs.ir_laws.facts.Lists.{get_within}
+use Rattle.pass_frames_steps.specs.pass_frames.Tables.{offset_at}
+use Rattle.pass_frames_steps.proofs.allocating.Grown.{end_get, listed_in, more_length, other_get}
+use Rattle.pass_frames_steps.proofs.allocating.Made.{right_more}
 use Rattle.pass_frames_proof.proofs.beginning.Coming.{IsComingSlot, coming, d_of, zs}
 use Rattle.pass_frames_proof.proofs.beginning.Frame.{n1, refilled, y1}
 use Rattle.pass_frames_proof.proofs.beginning.Given.{Begins}
@@ -15,28 +15,28 @@ use Rattle.pass_frames_proof.proofs.beginning.Homes.{hidden_behind, hides, homes
 use Rattle.pass_frames_proof.proofs.beginning.Places.{B, M, N, X, filter_in, home_is, in_filter, known as known_place, own, same_there, seen, size, y0, z}
 use Rattle.pass_frames_proof.proofs.beginning.Rest.{IsOneOf, c'', frame_other, held_there, made', many, more, moves, now, one_of, other_home, u', w, xs}
 use Rattle.pass_frames_proof.proofs.beginning.Steps.{instance_slots, ramps}
-use Rattle.pass_frames_proof.proofs.lines.Cells.{contained}
-use Rattle.pass_frames_proof.proofs.moved.Rest.{instance_on}
-use Rattle.pass_frames_proof.proofs.stepping.Rest.{got}
-use Rattle.pass_frames_proof.proofs.stepping.Stored.{is_block}
-use Rattle.pass_frames_proof.specs.Beginning.{IsAtBegin, is_in_frame}
-use Rattle.pass_frames_proof.specs.Moved.{AreMoved}
-use Rattle.pass_frames_proof.specs.Places.{Framing}
-use Rattle.pass_frames_proof.specs.Related.{AreBuiltOf, AreInstances, AreMates, Building, is_slot}
-use Rattle.pass_frames_proof.specs.Stepping.{AreGiven}
-use Rattle.pass_renewed_proof.specs.Renewed.{RenewedGiven}
-use Rattle.pass_proofs.specs.run_framed.Framed.{frame_rights}
-use Rattle.pass_proofs.proofs.run_laws.memory.Written.{changed_elsewhere, changed_here, same_some}
-use Rattle.pass_proofs.specs.run_laws.embedded.Making.{whole_home}
-use Rattle.pass_proofs.specs.run_laws.memory.Pointers.{Home, home_of}
-use Rattle.pass_proofs.specs.run_laws.transfer.Transfer.{AreOver}
-use Rattle.pass_proofs.specs.run_memory.Memory.{Rights, owned_to, owner_rights, with_block}
-use Rattle.pass_proofs.specs.run_memory.declared.block.Byte.{Byte}
-use Rattle.pass_proofs.specs.run_memory.declared.block.MemoryBlock.{MemoryBlock}
-use Rattle.pass_proofs.specs.run_source.Source.{is_among}
-use Rattle.pass_proofs.specs.run_source.declared.state.Instance.{Instance}
-use Rattle.pass_proofs.specs.run_source.declared.state.State.{State}
-use Rattle.pass_proofs.specs.run_step.declared.world.Slot.{Slot}
+use Rattle.pass_frames_steps.proofs.lines.Cells.{contained}
+use Rattle.pass_frames_steps.proofs.moved.Rest.{instance_on}
+use Rattle.pass_frames_steps.proofs.stepping.Rest.{got}
+use Rattle.pass_frames_steps.proofs.stepping.Stored.{is_block}
+use Rattle.pass_frames_steps.specs.Beginning.{IsAtBegin, is_in_frame}
+use Rattle.pass_frames_steps.specs.Moved.{AreMoved}
+use Rattle.pass_frames_steps.specs.Places.{Framing}
+use Rattle.pass_frames_steps.specs.Related.{AreBuiltOf, AreInstances, AreMates, Building, is_slot}
+use Rattle.pass_frames_steps.specs.Stepping.{AreGiven}
+use Rattle.pass_frames_steps.specs.pass_renewed_proof.Renewed.{RenewedGiven}
+use Rattle.pass_frames_steps.specs.run_framed.Framed.{frame_rights}
+use Rattle.pass_frames_steps.proofs.run_laws.memory.Written.{changed_elsewhere, changed_here, same_some}
+use Rattle.pass_frames_steps.specs.run_laws.embedded.Making.{whole_home}
+use Rattle.pass_frames_steps.specs.run_laws.memory.Pointers.{Home, home_of}
+use Rattle.pass_frames_steps.specs.run_laws.transfer.Transfer.{AreOver}
+use Rattle.pass_frames_steps.specs.run_memory.Memory.{Rights, owned_to, owner_rights, with_block}
+use Rattle.pass_frames_steps.specs.run_memory.declared.block.Byte.{Byte}
+use Rattle.pass_frames_steps.specs.run_memory.declared.block.MemoryBlock.{MemoryBlock}
+use Rattle.pass_frames_steps.specs.run_source.Source.{is_among}
+use Rattle.pass_frames_steps.specs.run_source.declared.state.Instance.{Instance}
+use Rattle.pass_frames_steps.specs.run_source.declared.state.State.{State}
+use Rattle.pass_frames_steps.specs.run_step.declared.world.Slot.{Slot}
 
 -- ---- a block that becomes owned
 

@@ -1,51 +1,51 @@
 -- In front of begin its memory is loaded, where a cell keeps it. What is loaded is the address of the block's mate.
 use Rattle.std.proofs.Common.{◌≡◌, ◌<◌, ◌≤◌, ◌∙◌, List, None, Option, Some, ap, arith, false, inr, length, refl, subst, sym, ℕ}
 use Rattle.std.specs.Prelude.{option_map}
-use Rattle.pass_proofs.proofs.ir_laws.facts.Members.{each_all, each_turns}
-use Rattle.pass_proofs.specs.ir_model.Names.{declaration_named, function_named}
-use Rattle.pass_proofs.specs.ir_model.declared.instr.Instr.{Instr}
-use Rattle.pass_proofs.specs.ir_model.declared.module.Module.{Module}
-use Rattle.pass_proofs.specs.ir_model.declared.operand.Operand.{Operand}
-use Rattle.pass_proofs.specs.ir_parts.Contents.{instr_operands}
-use Rattle.pass_proofs.specs.pass_cells.Cells.{fetches_of}
-use Rattle.pass_proofs.specs.pass_cells.Kept.{entry}
-use Rattle.pass_proofs.specs.pass_fetch.Fetching.{fetch_of, fetched_operand, next_after}
-use Rattle.pass_proofs.specs.pass_fetch.declared.fetch.Fetch.{Fetch}
-use Rattle.pass_proofs.specs.pass_frames.Framed.{begin_of}
+use Rattle.pass_frames_steps.proofs.ir_laws.facts.Members.{each_all, each_turns}
+use Rattle.pass_frames_steps.specs.ir_model.Names.{declaration_named, function_named}
+use Rattle.pass_frames_steps.specs.ir_model.declared.instr.Instr.{Instr}
+use Rattle.pass_frames_steps.specs.ir_model.declared.module.Module.{Module}
+use Rattle.pass_frames_steps.specs.ir_model.declared.operand.Operand.{Operand}
+use Rattle.pass_frames_steps.specs.ir_parts.Contents.{instr_operands}
+use Rattle.pass_frames_steps.specs.pass_cells.Cells.{fetches_of}
+use Rattle.pass_frames_steps.specs.pass_cells.Kept.{entry}
+use Rattle.pass_frames_steps.specs.pass_fetch.Fetching.{fetch_of, fetched_operand, next_after}
+use Rattle.pass_frames_steps.specs.pass_fetch.declared.fetch.Fetch.{Fetch}
+use Rattle.pass_frames_steps.specs.pass_frames.Framed.{begin_of}
 use Rattle.pass_frames_proof.proofs.beginning.Becoming.{front, front_still, i as begins, line, m as address_name, n as load_from, one, st}
 use Rattle.pass_frames_proof.proofs.beginning.Given.{Begins}
 use Rattle.pass_frames_proof.proofs.beginning.Places.{B, X, home_is}
-use Rattle.pass_frames_proof.proofs.code.Left.{Far, far_named, fetch_found}
-use Rattle.pass_frames_proof.proofs.distances.Sums.{more_below}
-use Rattle.pass_frames_proof.proofs.fetched.Runs.{fetched}
-use Rattle.pass_frames_proof.proofs.led.Steps.{still_others}
-use Rattle.pass_frames_proof.proofs.lines.Loads.{can_load, loaded_stands}
-use Rattle.pass_frames_proof.proofs.marking.Kept.{named_there}
-use Rattle.pass_frames_proof.proofs.stepping.After.{not_set}
-use Rattle.pass_frames_proof.proofs.stepping.May.{coroutine_values, not_returned}
-use Rattle.pass_frames_proof.proofs.stepping.Operands.{AreSameNames, asked, not_kept, other_stands, outside_not, slot_fetch}
-use Rattle.pass_frames_proof.specs.Beginning.{IsAtBegin}
-use Rattle.pass_frames_proof.specs.Code.{slot_table}
-use Rattle.pass_frames_proof.specs.Distances.{IsBelow}
-use Rattle.pass_frames_proof.specs.Fetched.{AreFetched, CanFetch, seen_by, seen_of}
-use Rattle.pass_frames_proof.specs.Framings.{IsFraming}
-use Rattle.pass_frames_proof.specs.Led.{IsStill}
-use Rattle.pass_frames_proof.specs.Loaded.{loaded_value}
-use Rattle.pass_frames_proof.specs.Places.{Framing, Placed, edged, framed, named, offsets, plan, written}
-use Rattle.pass_frames_proof.specs.Related.{AreBuiltOf, AreCellsRight, AreCoroutines, AreWheresRight, Building, HasCells, instance_in, is_coroutine}
-use Rattle.pass_frames_proof.specs.Stepping.{AreGiven, IsNotEntering}
-use Rattle.pass_renewed_proof.specs.Renewed.{RenewedGiven}
-use Rattle.pass_proofs.specs.addresses.rules.Addresses.{lies_in_frame}
-use Rattle.pass_proofs.specs.run_framed.Framed.{frame_rights, framed_context}
-use Rattle.pass_proofs.specs.run_laws.access.Lines.{Runs}
-use Rattle.pass_proofs.specs.run_laws.changed.Changed.{Each}
-use Rattle.pass_proofs.specs.run_laws.memory.Pointers.{IsValue}
-use Rattle.pass_proofs.specs.run_memory.Memory.{Rights}
-use Rattle.pass_proofs.specs.run_memory.declared.pointer.Value.{Value}
-use Rattle.pass_proofs.specs.run_source.State.{work_of}
-use Rattle.pass_proofs.specs.run_source.declared.state.State.{State}
-use Rattle.pass_proofs.specs.run_step.Step.{Context, Work}
-use Rattle.pass_proofs.specs.run_step.Values.{operand_value, pointer_to, value_in}
+use Rattle.pass_frames_steps.proofs.code.Left.{Far, far_named, fetch_found}
+use Rattle.pass_frames_steps.proofs.distances.Sums.{more_below}
+use Rattle.pass_frames_steps.proofs.fetched.Runs.{fetched}
+use Rattle.pass_frames_steps.proofs.led.Steps.{still_others}
+use Rattle.pass_frames_steps.proofs.lines.Loads.{can_load, loaded_stands}
+use Rattle.pass_frames_steps.proofs.marking.Kept.{named_there}
+use Rattle.pass_frames_steps.proofs.stepping.After.{not_set}
+use Rattle.pass_frames_steps.proofs.stepping.May.{coroutine_values, not_returned}
+use Rattle.pass_frames_steps.proofs.stepping.Operands.{AreSameNames, asked, not_kept, other_stands, outside_not, slot_fetch}
+use Rattle.pass_frames_steps.specs.Beginning.{IsAtBegin}
+use Rattle.pass_frames_steps.specs.Code.{slot_table}
+use Rattle.pass_frames_steps.specs.Distances.{IsBelow}
+use Rattle.pass_frames_steps.specs.Fetched.{AreFetched, CanFetch, seen_by, seen_of}
+use Rattle.pass_frames_steps.specs.Framings.{IsFraming}
+use Rattle.pass_frames_steps.specs.Led.{IsStill}
+use Rattle.pass_frames_steps.specs.Loaded.{loaded_value}
+use Rattle.pass_frames_steps.specs.Places.{Framing, Placed, edged, framed, named, offsets, plan, written}
+use Rattle.pass_frames_steps.specs.Related.{AreBuiltOf, AreCellsRight, AreCoroutines, AreWheresRight, Building, HasCells, instance_in, is_coroutine}
+use Rattle.pass_frames_steps.specs.Stepping.{AreGiven, IsNotEntering}
+use Rattle.pass_frames_steps.specs.pass_renewed_proof.Renewed.{RenewedGiven}
+use Rattle.pass_frames_steps.specs.pass_proofs.addresses.rules.Addresses.{lies_in_frame}
+use Rattle.pass_frames_steps.specs.run_framed.Framed.{frame_rights, framed_context}
+use Rattle.pass_frames_steps.specs.run_laws.access.Lines.{Runs}
+use Rattle.pass_frames_steps.specs.run_laws.changed.Changed.{Each}
+use Rattle.pass_frames_steps.specs.run_laws.memory.Pointers.{IsValue}
+use Rattle.pass_frames_steps.specs.run_memory.Memory.{Rights}
+use Rattle.pass_frames_steps.specs.run_memory.declared.pointer.Value.{Value}
+use Rattle.pass_frames_steps.specs.run_source.State.{work_of}
+use Rattle.pass_frames_steps.specs.run_source.declared.state.State.{State}
+use Rattle.pass_frames_steps.specs.run_step.Step.{Context, Work}
+use Rattle.pass_frames_steps.specs.run_step.Values.{operand_value, pointer_to, value_in}
 
 -- what has no address made lies in no frame
 outside_of : (x : Framing) (v : ℕ) → fetch_of (slot_table x) (Operand.Local v) ≡ None

@@ -4,45 +4,45 @@ use Rattle.std.proofs.lemmas.Bool.{and_parts, cases_eq, leb-true}
 use Rattle.std.proofs.lemmas.List.{length-set}
 use Rattle.std.specs.List.{Contains}
 use Rattle.std.specs.Prelude.{filter, if◌then◌else◌, is_some, slice_get}
-use Rattle.pass_proofs.specs.flow_solver.Paths.{IsListed}
-use Rattle.pass_proofs.proofs.ir_laws.facts.Lists.{get_within}
-use Rattle.pass_proofs.specs.ir_laws.paths.woven_rules.Pairs.{AreDifferent}
-use Rattle.pass_frames_proof.proofs.allocating.Grown.{end_get, listed_slot, other_get}
-use Rattle.pass_frames_proof.proofs.allocating.Lives.{Early, Itself, Placed, WhoLives, who_lives}
-use Rattle.pass_frames_proof.proofs.allocating.Rights.{frames_compare}
-use Rattle.pass_frames_proof.proofs.lines.Cells.{contained}
-use Rattle.pass_frames_proof.proofs.stepping.Rest.{got, seen_known}
-use Rattle.pass_frames_proof.specs.Beginning.{IsAtBegin}
-use Rattle.pass_frames_proof.specs.Places.{Framing}
-use Rattle.pass_frames_proof.specs.Related.{AreBuiltOf, AreInstances, Building, IsFreeOf}
-use Rattle.pass_renewed_proof.specs.Renewed.{RenewedGiven}
-use Rattle.run_access_worked.proofs.Begun.{begun_stands}
-use Rattle.pass_proofs.specs.run_framed.Framed.{frame_rights, layout_of}
-use Rattle.pass_proofs.proofs.run_laws.embedded.Mirrors.{bounds_changed}
-use Rattle.pass_proofs.proofs.run_laws.memory.Written.{changed_elsewhere, changed_here, same_some}
-use Rattle.pass_proofs.proofs.run_laws.transfer.Muted.{muted_change, muted_get}
-use Rattle.pass_proofs.proofs.run_laws.transfer.Places.{showing_others}
-use Rattle.pass_proofs.specs.run_laws.changed.Changed.{Each}
-use Rattle.pass_proofs.specs.run_laws.embedded.Making.{whole_home}
-use Rattle.pass_proofs.specs.run_laws.embedded.Marks.{LivesAlone}
-use Rattle.pass_proofs.specs.run_laws.memory.Pointers.{Home, home_of, nowhere}
-use Rattle.pass_proofs.specs.run_laws.memory.Standing.{AreBoundsKept, Embeds, Stands}
-use Rattle.pass_proofs.specs.run_laws.transfer.Muted.{muted}
-use Rattle.pass_proofs.specs.run_laws.transfer.Places.{AreStanding, showing}
-use Rattle.pass_proofs.specs.run_laws.transfer.Ready.{Place, home_at, shown_of, stood}
-use Rattle.pass_proofs.specs.run_memory.Memory.{Rights, is_live, may_be_owned, owned_to, owner_rights, same_kind, with_block}
-use Rattle.pass_proofs.specs.run_memory.declared.block.Byte.{Byte}
-use Rattle.pass_proofs.specs.run_memory.declared.block.Kind.{Kind}
-use Rattle.pass_proofs.specs.run_memory.declared.block.MemoryBlock.{MemoryBlock}
-use Rattle.pass_proofs.specs.run_source.Source.{new_instance}
-use Rattle.pass_proofs.specs.run_source.State.{own_frame}
-use Rattle.pass_proofs.specs.run_source.declared.state.Instance.{Instance}
-use Rattle.pass_proofs.specs.run_source.declared.state.State.{State}
-use Rattle.pass_proofs.specs.run_step.declared.world.Slot.{Slot}
+use Rattle.pass_frames_steps.specs.flow_solver.Paths.{IsListed}
+use Rattle.pass_frames_steps.proofs.ir_laws.facts.Lists.{get_within}
+use Rattle.pass_frames_steps.specs.ir_laws.paths.woven_rules.Pairs.{AreDifferent}
+use Rattle.pass_frames_steps.proofs.allocating.Grown.{end_get, listed_slot, other_get}
+use Rattle.pass_frames_steps.proofs.allocating.Lives.{Early, Itself, Placed, WhoLives, who_lives}
+use Rattle.pass_frames_steps.proofs.allocating.Rights.{frames_compare}
+use Rattle.pass_frames_steps.proofs.lines.Cells.{contained}
+use Rattle.pass_frames_steps.proofs.stepping.Rest.{got, seen_known}
+use Rattle.pass_frames_steps.specs.Beginning.{IsAtBegin}
+use Rattle.pass_frames_steps.specs.Places.{Framing}
+use Rattle.pass_frames_steps.specs.Related.{AreBuiltOf, AreInstances, Building, IsFreeOf}
+use Rattle.pass_frames_steps.specs.pass_renewed_proof.Renewed.{RenewedGiven}
+use Rattle.pass_frames_steps.proofs.run_access_worked.Begun.{begun_stands}
+use Rattle.pass_frames_steps.specs.run_framed.Framed.{frame_rights, layout_of}
+use Rattle.pass_frames_steps.proofs.run_laws.embedded.Mirrors.{bounds_changed}
+use Rattle.pass_frames_steps.proofs.run_laws.memory.Written.{changed_elsewhere, changed_here, same_some}
+use Rattle.pass_frames_steps.proofs.run_laws.transfer.Muted.{muted_change, muted_get}
+use Rattle.pass_frames_steps.proofs.run_laws.transfer.Places.{showing_others}
+use Rattle.pass_frames_steps.specs.run_laws.changed.Changed.{Each}
+use Rattle.pass_frames_steps.specs.run_laws.embedded.Making.{whole_home}
+use Rattle.pass_frames_steps.specs.run_laws.embedded.Marks.{LivesAlone}
+use Rattle.pass_frames_steps.specs.run_laws.memory.Pointers.{Home, home_of, nowhere}
+use Rattle.pass_frames_steps.specs.run_laws.memory.Standing.{AreBoundsKept, Embeds, Stands}
+use Rattle.pass_frames_steps.specs.run_laws.transfer.Muted.{muted}
+use Rattle.pass_frames_steps.specs.run_laws.transfer.Places.{AreStanding, showing}
+use Rattle.pass_frames_steps.specs.run_laws.transfer.Ready.{Place, home_at, shown_of, stood}
+use Rattle.pass_frames_steps.specs.run_memory.Memory.{Rights, is_live, may_be_owned, owned_to, owner_rights, same_kind, with_block}
+use Rattle.pass_frames_steps.specs.run_memory.declared.block.Byte.{Byte}
+use Rattle.pass_frames_steps.specs.run_memory.declared.block.Kind.{Kind}
+use Rattle.pass_frames_steps.specs.run_memory.declared.block.MemoryBlock.{MemoryBlock}
+use Rattle.pass_frames_steps.specs.run_source.Source.{new_instance}
+use Rattle.pass_frames_steps.specs.run_source.State.{own_frame}
+use Rattle.pass_frames_steps.specs.run_source.declared.state.Instance.{Instance}
+use Rattle.pass_frames_steps.specs.run_source.declared.state.State.{State}
+use Rattle.pass_frames_steps.specs.run_step.declared.world.Slot.{Slot}
 use Rattle.pass_frames_proof.proofs.beginning.Frames.{held_on}
 use Rattle.pass_frames_proof.proofs.beginning.Given.{Begins}
-use Rattle.pass_proofs.specs.run_laws.access.Lines.{Holds}
-use Rattle.pass_proofs.specs.run_source.declared.state.Activation.{Activation}
+use Rattle.pass_frames_steps.specs.run_laws.access.Lines.{Holds}
+use Rattle.pass_frames_steps.specs.run_source.declared.state.Activation.{Activation}
 
 -- ---- lists
 

@@ -3,17 +3,17 @@ use Rattle.std.proofs.Common.{◌≡◌, ◌≢◌, ◌+◌, ◌-◌, ◌<◌, �
 use Rattle.std.proofs.lemmas.Bool.{cases_lt, le-leb}
 use Rattle.std.proofs.lemmas.List.{length-drop, length-take-le}
 use Rattle.std.specs.Prelude.{nat_le, slice_get}
-use Rattle.pass_proofs.specs.flow_solver.Paths.{IsListed}
-use Rattle.pass_proofs.specs.ir_laws.paths.woven_rules.Pairs.{AreDifferent}
-use Rattle.pass_proofs.specs.pass_copies.declared.slot.EarlySlot.{EarlySlot}
-use Rattle.pass_frames_proof.specs.Slotted.{AreRangesApart}
-use Rattle.pass_proofs.specs.run_laws.access.Lines.{AreDisjoint, Holds}
-use Rattle.pass_proofs.specs.run_laws.changed.Changed.{Each}
-use Rattle.pass_proofs.specs.run_laws.memory.Standing.{HasRights, IsAlignment, blank_block, byte_of}
-use Rattle.pass_proofs.specs.run_memory.Memory.{Rights, is_live, owner_rights, same_kind}
-use Rattle.pass_proofs.specs.run_memory.declared.block.Byte.{Byte}
-use Rattle.pass_proofs.specs.run_memory.declared.block.Kind.{Kind}
-use Rattle.pass_proofs.specs.run_memory.declared.block.MemoryBlock.{MemoryBlock}
+use Rattle.pass_frames_steps.specs.flow_solver.Paths.{IsListed}
+use Rattle.pass_frames_steps.specs.ir_laws.paths.woven_rules.Pairs.{AreDifferent}
+use Rattle.pass_frames_steps.specs.pass_copies.declared.slot.EarlySlot.{EarlySlot}
+use Rattle.pass_frames_steps.specs.Slotted.{AreRangesApart}
+use Rattle.pass_frames_steps.specs.run_laws.access.Lines.{AreDisjoint, Holds}
+use Rattle.pass_frames_steps.specs.run_laws.changed.Changed.{Each}
+use Rattle.pass_frames_steps.specs.run_laws.memory.Standing.{HasRights, IsAlignment, blank_block, byte_of}
+use Rattle.pass_frames_steps.specs.run_memory.Memory.{Rights, is_live, owner_rights, same_kind}
+use Rattle.pass_frames_steps.specs.run_memory.declared.block.Byte.{Byte}
+use Rattle.pass_frames_steps.specs.run_memory.declared.block.Kind.{Kind}
+use Rattle.pass_frames_steps.specs.run_memory.declared.block.MemoryBlock.{MemoryBlock}
 
 -- ---- lists
 

@@ -3,14 +3,14 @@ use Rattle.std.proofs.Common.{◌≡◌, ◌≢◌, ◌⊎◌, ◌+◌, ◌<◌,
 use Rattle.std.proofs.lemmas.Bool.{cases_eq}
 use Rattle.std.specs.List.{Contains}
 use Rattle.std.specs.Prelude.{option_map, slice_get}
-use Rattle.pass_proofs.specs.flow_solver.Paths.{IsListed}
-use Rattle.pass_proofs.proofs.ir_laws.facts.Lists.{get_within}
-use Rattle.pass_proofs.proofs.ir_laws.paths.source_rules.Locals.{listed_right}
-use Rattle.pass_proofs.specs.ir_laws.paths.woven_rules.Pairs.{AreDifferent}
-use Rattle.pass_proofs.specs.ir_model.Ty.{Ty}
-use Rattle.pass_proofs.specs.pass_copies.declared.slot.EarlySlot.{EarlySlot}
-use Rattle.pass_frames_proof.proofs.allocating.Grown.{in_these, listed_in, other_get}
-use Rattle.pass_frames_proof.proofs.allocating.Made.{fields_more}
+use Rattle.pass_frames_steps.specs.flow_solver.Paths.{IsListed}
+use Rattle.pass_frames_steps.proofs.ir_laws.facts.Lists.{get_within}
+use Rattle.pass_frames_steps.proofs.ir_laws.paths.source_rules.Locals.{listed_right}
+use Rattle.pass_frames_steps.specs.ir_laws.paths.woven_rules.Pairs.{AreDifferent}
+use Rattle.pass_frames_steps.specs.ir_model.Ty.{Ty}
+use Rattle.pass_frames_steps.specs.pass_copies.declared.slot.EarlySlot.{EarlySlot}
+use Rattle.pass_frames_steps.proofs.allocating.Grown.{in_these, listed_in, other_get}
+use Rattle.pass_frames_steps.proofs.allocating.Made.{fields_more}
 use Rattle.pass_frames_proof.proofs.beginning.Coming.{zs}
 use Rattle.pass_frames_proof.proofs.beginning.Copied.{cell_free, early}
 use Rattle.pass_frames_proof.proofs.beginning.Frame.{C, n1}
@@ -19,31 +19,31 @@ use Rattle.pass_frames_proof.proofs.beginning.Homes.{extends, hides, homes, othe
 use Rattle.pass_frames_proof.proofs.beginning.Loads.{Front}
 use Rattle.pass_frames_proof.proofs.beginning.Places.{B, M, N, X, block_is, frame_apart_there, free_apart, held, home_is, in_filter, mapped_in, own, same_there, size, y0, ys, z}
 use Rattle.pass_frames_proof.proofs.beginning.Steps.{Copies, c', made}
-use Rattle.pass_frames_proof.proofs.moved.Rest.{same_place}
-use Rattle.pass_frames_proof.proofs.stepping.Names.{where_is_name}
-use Rattle.pass_frames_proof.proofs.stepping.Rest.{below_apart as apart_below, got, seen_known, stood_apart}
-use Rattle.pass_frames_proof.proofs.stepping.Stored.{free_below}
-use Rattle.pass_frames_proof.specs.Beginning.{IsAtBegin, is_in_frame}
-use Rattle.pass_frames_proof.specs.Moved.{IsSamePlace, MovesRest}
-use Rattle.pass_frames_proof.specs.Places.{Framing}
-use Rattle.pass_frames_proof.specs.Related.{AreBelow, AreBuiltOf, AreInstances, Building, HasFields, IsAhead, IsFreeOf, instance_in, slots_below}
-use Rattle.pass_frames_proof.specs.Stepping.{AreGiven}
-use Rattle.pass_renewed_proof.specs.Renewed.{RenewedGiven}
-use Rattle.pass_proofs.specs.run_framed.Framed.{frame_rights}
-use Rattle.pass_proofs.proofs.run_laws.memory.Written.{changed_elsewhere, same_some}
-use Rattle.pass_proofs.proofs.run_laws.transfer.Places.{muted_at}
-use Rattle.pass_proofs.specs.run_laws.access.Lines.{Holds}
-use Rattle.pass_proofs.specs.run_laws.embedded.Making.{whole_home}
-use Rattle.pass_proofs.specs.run_laws.memory.Pointers.{Extends, Home, home_of}
-use Rattle.pass_proofs.specs.run_laws.transfer.Muted.{ended_if, muted}
-use Rattle.pass_proofs.specs.run_memory.Memory.{Rights, is_live, owned_to}
-use Rattle.pass_proofs.specs.run_memory.declared.block.Byte.{Byte}
-use Rattle.pass_proofs.specs.run_memory.declared.block.MemoryBlock.{MemoryBlock}
-use Rattle.pass_proofs.specs.run_source.declared.state.Activation.{Activation}
-use Rattle.pass_proofs.specs.run_source.declared.state.Instance.{Instance}
-use Rattle.pass_proofs.specs.run_source.declared.state.State.{State}
-use Rattle.pass_proofs.specs.run_step.declared.world.Slot.{Slot}
-use Rattle.pass_proofs.specs.run_step.declared.world.World.{World}
+use Rattle.pass_frames_steps.proofs.moved.Rest.{same_place}
+use Rattle.pass_frames_steps.proofs.stepping.Names.{where_is_name}
+use Rattle.pass_frames_steps.proofs.stepping.Rest.{below_apart as apart_below, got, seen_known, stood_apart}
+use Rattle.pass_frames_steps.proofs.stepping.Stored.{free_below}
+use Rattle.pass_frames_steps.specs.Beginning.{IsAtBegin, is_in_frame}
+use Rattle.pass_frames_steps.specs.Moved.{IsSamePlace, MovesRest}
+use Rattle.pass_frames_steps.specs.Places.{Framing}
+use Rattle.pass_frames_steps.specs.Related.{AreBelow, AreBuiltOf, AreInstances, Building, HasFields, IsAhead, IsFreeOf, instance_in, slots_below}
+use Rattle.pass_frames_steps.specs.Stepping.{AreGiven}
+use Rattle.pass_frames_steps.specs.pass_renewed_proof.Renewed.{RenewedGiven}
+use Rattle.pass_frames_steps.specs.run_framed.Framed.{frame_rights}
+use Rattle.pass_frames_steps.proofs.run_laws.memory.Written.{changed_elsewhere, same_some}
+use Rattle.pass_frames_steps.proofs.run_laws.transfer.Places.{muted_at}
+use Rattle.pass_frames_steps.specs.run_laws.access.Lines.{Holds}
+use Rattle.pass_frames_steps.specs.run_laws.embedded.Making.{whole_home}
+use Rattle.pass_frames_steps.specs.run_laws.memory.Pointers.{Extends, Home, home_of}
+use Rattle.pass_frames_steps.specs.run_laws.transfer.Muted.{ended_if, muted}
+use Rattle.pass_frames_steps.specs.run_memory.Memory.{Rights, is_live, owned_to}
+use Rattle.pass_frames_steps.specs.run_memory.declared.block.Byte.{Byte}
+use Rattle.pass_frames_steps.specs.run_memory.declared.block.MemoryBlock.{MemoryBlock}
+use Rattle.pass_frames_steps.specs.run_source.declared.state.Activation.{Activation}
+use Rattle.pass_frames_steps.specs.run_source.declared.state.Instance.{Instance}
+use Rattle.pass_frames_steps.specs.run_source.declared.state.State.{State}
+use Rattle.pass_frames_steps.specs.run_step.declared.world.Slot.{Slot}
+use Rattle.pass_frames_steps.specs.run_step.declared.world.World.{World}
 
 -- ---- lists
 

@@ -1,10 +1,10 @@
 -- Behind begin and the copies the two states are related, and on the way the framed run shows what it showed.
 use Rattle.std.proofs.Common.{◌≡◌, ◌+◌, ◌-◌, ◌<◌, ◌≤◌, ◌∷◌, ◌∙◌, [], List, ap, arith, inl, length, length-append, refl, subst, sym, ℕ, ⊎_elim}
 use Rattle.std.proofs.lemmas.Bool.{cases_lt}
-use Rattle.pass_proofs.proofs.ir_laws.facts.Lists.{get_within}
-use Rattle.pass_proofs.specs.ir_model.declared.instr.Instr.{Instr}
-use Rattle.pass_frames_proof.proofs.allocating.Grown.{other_get}
-use Rattle.pass_frames_proof.proofs.allocating.Made.{right_more}
+use Rattle.pass_frames_steps.proofs.ir_laws.facts.Lists.{get_within}
+use Rattle.pass_frames_steps.specs.ir_model.declared.instr.Instr.{Instr}
+use Rattle.pass_frames_steps.proofs.allocating.Grown.{other_get}
+use Rattle.pass_frames_steps.proofs.allocating.Made.{right_more}
 use Rattle.pass_frames_proof.proofs.beginning.Becoming.{copies_gives}
 use Rattle.pass_frames_proof.proofs.beginning.Copied.{early, w0}
 use Rattle.pass_frames_proof.proofs.beginning.Frame.{C}
@@ -16,36 +16,36 @@ use Rattle.pass_frames_proof.proofs.beginning.Places.{B, X, held, y0, ys}
 use Rattle.pass_frames_proof.proofs.beginning.Rest.{IsOther, c'', frame_other, moves, now, u', w, xs}
 use Rattle.pass_frames_proof.proofs.beginning.Steps.{Copies, begin_is, begun_top, c', cost, loads_gives, loads_lead, parted, runs_there, source_is, tB}
 use Rattle.pass_frames_proof.proofs.beginning.Top.{t'', top_moved}
-use Rattle.pass_frames_proof.proofs.followed.Assembly.{events_same, other_instance}
-use Rattle.pass_frames_proof.proofs.led.Steps.{still_world}
-use Rattle.pass_frames_proof.proofs.lined.Lines.{each_between, line_last}
-use Rattle.pass_frames_proof.proofs.moved.Rest.{moved_related}
-use Rattle.pass_frames_proof.proofs.stepping.Shown.{still_shown}
-use Rattle.pass_frames_proof.specs.Beginning.{IsAtBegin}
-use Rattle.pass_frames_proof.specs.Early.{IsButCells}
-use Rattle.pass_frames_proof.specs.Followed.{IsFollowed, IsOn}
-use Rattle.pass_frames_proof.specs.Led.{IsStill, RunsThrough}
-use Rattle.pass_frames_proof.specs.Lined.{GivesNone, lined}
-use Rattle.pass_frames_proof.specs.Meaning.{step_cost}
-use Rattle.pass_frames_proof.specs.Places.{Framing, copies}
-use Rattle.pass_frames_proof.specs.Related.{AreBuiltOf, Building, IsStatus}
-use Rattle.pass_frames_proof.specs.Stepping.{AreGiven}
-use Rattle.pass_renewed_proof.specs.Renewed.{RenewedGiven}
-use Rattle.pass_proofs.proofs.run_agreement.Runs.{iterate-add}
-use Rattle.pass_proofs.specs.run_agreement.Machines.{iterate}
-use Rattle.pass_proofs.specs.run_framed.Framed.{frame_rights, framed_context, framed_step}
-use Rattle.pass_proofs.specs.run_laws.access.Lines.{Holds, Runs}
-use Rattle.pass_proofs.specs.run_laws.changed.Changed.{Each}
-use Rattle.pass_proofs.specs.run_laws.memory.Pointers.{Extends}
-use Rattle.pass_proofs.specs.run_memory.Memory.{Rights}
-use Rattle.pass_proofs.specs.run_memory.declared.block.Byte.{Byte}
-use Rattle.pass_proofs.specs.run_source.State.{work_of}
-use Rattle.pass_proofs.specs.run_source.declared.state.Activation.{Activation}
-use Rattle.pass_proofs.specs.run_source.declared.state.Instance.{Instance}
-use Rattle.pass_proofs.specs.run_source.declared.state.State.{State}
-use Rattle.pass_proofs.specs.run_source.declared.state.Status.{Status}
-use Rattle.pass_proofs.specs.run_step.Step.{Context, Work}
-use Rattle.pass_proofs.specs.run_step.declared.world.World.{World}
+use Rattle.pass_frames_steps.proofs.followed.Assembly.{events_same, other_instance}
+use Rattle.pass_frames_steps.proofs.led.Steps.{still_world}
+use Rattle.pass_frames_steps.proofs.lined.Lines.{each_between, line_last}
+use Rattle.pass_frames_steps.proofs.moved.Rest.{moved_related}
+use Rattle.pass_frames_steps.proofs.stepping.Shown.{still_shown}
+use Rattle.pass_frames_steps.specs.Beginning.{IsAtBegin}
+use Rattle.pass_frames_steps.specs.Early.{IsButCells}
+use Rattle.pass_frames_steps.specs.Followed.{IsFollowed, IsOn}
+use Rattle.pass_frames_steps.specs.Led.{IsStill, RunsThrough}
+use Rattle.pass_frames_steps.specs.Lined.{GivesNone, lined}
+use Rattle.pass_frames_steps.specs.Meaning.{step_cost}
+use Rattle.pass_frames_steps.specs.Places.{Framing, copies}
+use Rattle.pass_frames_steps.specs.Related.{AreBuiltOf, Building, IsStatus}
+use Rattle.pass_frames_steps.specs.Stepping.{AreGiven}
+use Rattle.pass_frames_steps.specs.pass_renewed_proof.Renewed.{RenewedGiven}
+use Rattle.pass_frames_steps.proofs.run_agreement.Runs.{iterate-add}
+use Rattle.pass_frames_steps.specs.run_agreement.Machines.{iterate}
+use Rattle.pass_frames_steps.specs.run_framed.Framed.{frame_rights, framed_context, framed_step}
+use Rattle.pass_frames_steps.specs.run_laws.access.Lines.{Holds, Runs}
+use Rattle.pass_frames_steps.specs.run_laws.changed.Changed.{Each}
+use Rattle.pass_frames_steps.specs.run_laws.memory.Pointers.{Extends}
+use Rattle.pass_frames_steps.specs.run_memory.Memory.{Rights}
+use Rattle.pass_frames_steps.specs.run_memory.declared.block.Byte.{Byte}
+use Rattle.pass_frames_steps.specs.run_source.State.{work_of}
+use Rattle.pass_frames_steps.specs.run_source.declared.state.Activation.{Activation}
+use Rattle.pass_frames_steps.specs.run_source.declared.state.Instance.{Instance}
+use Rattle.pass_frames_steps.specs.run_source.declared.state.State.{State}
+use Rattle.pass_frames_steps.specs.run_source.declared.state.Status.{Status}
+use Rattle.pass_frames_steps.specs.run_step.Step.{Context, Work}
+use Rattle.pass_frames_steps.specs.run_step.declared.world.World.{World}
 
 -- a line that leaves the world as it is does so at each of its instructions
 still_through : (c : Context) (world : World) (line : List Instr) → Each IsStill line → (w z : Work)

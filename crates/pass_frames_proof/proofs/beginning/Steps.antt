@@ -1,58 +1,58 @@
 -- Both runs execute begin: the framed one loads its memory before, where a cell keeps it.
 use Rattle.std.proofs.Common.{◌≡◌, ◌+◌, ◌-◌, ◌∷◌, ◌++◌, ◌∙◌, [], Bool, List, None, Ok, Option, Some, ap, append-nil, arith, false, length, not, refl, subst, sym, true, ℕ}
 use Rattle.std.specs.Prelude.{filter, if◌then◌else◌, is_none, slice_get, slice_set}
-use Rattle.pass_proofs.specs.flow_solver.Paths.{IsListed}
-use Rattle.pass_proofs.proofs.ir_laws.facts.Members.{each_turns}
-use Rattle.pass_proofs.specs.ir_base.declared.cause.Cause.{Cause}
-use Rattle.pass_proofs.specs.ir_base.declared.outcome.Outcome.{Outcome}
-use Rattle.pass_proofs.specs.ir_model.Names.{function_at}
-use Rattle.pass_proofs.specs.ir_model.declared.instr.Instr.{Instr}
-use Rattle.pass_proofs.specs.ir_model.declared.module.Frame.{Frame}
-use Rattle.pass_proofs.specs.ir_model.declared.module.Function.{Function}
-use Rattle.pass_proofs.specs.ir_model.declared.operand.Arg.{Arg}
-use Rattle.pass_proofs.specs.ir_model.declared.operand.Intrinsic.{Intrinsic}
-use Rattle.pass_proofs.specs.ir_paths.declared.point.Point.{Point}
-use Rattle.pass_proofs.specs.pass_cells.Cells.{fetches_of}
-use Rattle.pass_proofs.specs.pass_fetch.Fetching.{fetched_args}
-use Rattle.pass_frames_proof.proofs.allocating.Grown.{listed_in}
+use Rattle.pass_frames_steps.specs.flow_solver.Paths.{IsListed}
+use Rattle.pass_frames_steps.proofs.ir_laws.facts.Members.{each_turns}
+use Rattle.pass_frames_steps.specs.ir_base.declared.cause.Cause.{Cause}
+use Rattle.pass_frames_steps.specs.ir_base.declared.outcome.Outcome.{Outcome}
+use Rattle.pass_frames_steps.specs.ir_model.Names.{function_at}
+use Rattle.pass_frames_steps.specs.ir_model.declared.instr.Instr.{Instr}
+use Rattle.pass_frames_steps.specs.ir_model.declared.module.Frame.{Frame}
+use Rattle.pass_frames_steps.specs.ir_model.declared.module.Function.{Function}
+use Rattle.pass_frames_steps.specs.ir_model.declared.operand.Arg.{Arg}
+use Rattle.pass_frames_steps.specs.ir_model.declared.operand.Intrinsic.{Intrinsic}
+use Rattle.pass_frames_steps.specs.ir_paths.declared.point.Point.{Point}
+use Rattle.pass_frames_steps.specs.pass_cells.Cells.{fetches_of}
+use Rattle.pass_frames_steps.specs.pass_fetch.Fetching.{fetched_args}
+use Rattle.pass_frames_steps.proofs.allocating.Grown.{listed_in}
 use Rattle.pass_frames_proof.proofs.beginning.Becoming.{line_becomes, line_no_alloca, still_gives}
 use Rattle.pass_frames_proof.proofs.beginning.Given.{Begins}
 use Rattle.pass_frames_proof.proofs.beginning.Loads.{Front, I, Line, M0, N0, One, W, is, loads_run, not_entering, same_world, still, unkept, value_there}
 use Rattle.pass_frames_proof.proofs.beginning.Places.{B, N, X, filter_all, filter_none, mate, own, size, ys}
-use Rattle.pass_frames_proof.proofs.lined.Lines.{framed_does, line_last}
-use Rattle.pass_frames_proof.proofs.saving.Stepped.{stand_split}
-use Rattle.pass_frames_proof.proofs.stepping.Codes.{code_stands, instr_there}
-use Rattle.pass_frames_proof.proofs.stepping.Stands.{cost_is, renewed_does, top_is}
-use Rattle.pass_frames_proof.specs.Beginning.{IsAtBegin}
-use Rattle.pass_frames_proof.specs.Early.{copies_line}
-use Rattle.pass_frames_proof.specs.Led.{IsStill}
-use Rattle.pass_frames_proof.specs.Lined.{GivesNone}
-use Rattle.pass_frames_proof.specs.Meaning.{action_at, coroutine_cost, other_cost, step_cost}
-use Rattle.pass_frames_proof.specs.Places.{Framing, copies, edged, framed, place, plan}
-use Rattle.pass_frames_proof.specs.Related.{AreBuiltOf, Building, point_of}
-use Rattle.pass_frames_proof.specs.Stepping.{AreGiven, StandsInPlace}
-use Rattle.pass_renewed_proof.specs.Renewed.{RenewedGiven, renewed_step}
-use Rattle.pass_proofs.specs.run_framed.Framed.{framed_begin, framed_step}
-use Rattle.pass_proofs.specs.run_laws.access.Lines.{StandAt}
-use Rattle.pass_proofs.specs.run_laws.changed.Changed.{Each}
-use Rattle.pass_proofs.specs.run_memory.Memory.{check, may_be_owned, owned_to, with_block}
-use Rattle.pass_proofs.specs.run_memory.declared.block.Kind.{Kind}
-use Rattle.pass_proofs.specs.run_memory.declared.block.MemoryBlock.{MemoryBlock}
-use Rattle.pass_proofs.specs.run_memory.declared.pointer.Value.{Value}
-use Rattle.pass_proofs.specs.run_source.Source.{begin, begin_at, begun, context_of, is_among, new_instance}
-use Rattle.pass_proofs.specs.run_source.State.{function_of, gives, or_undefined, own_facts, own_frame, with_memory, work_of}
-use Rattle.pass_proofs.specs.run_source.declared.state.Activation.{Activation}
-use Rattle.pass_proofs.specs.run_source.declared.state.Instance.{Instance}
-use Rattle.pass_proofs.specs.run_source.declared.state.Mode.{Mode}
-use Rattle.pass_proofs.specs.run_source.declared.state.State.{State}
-use Rattle.pass_proofs.specs.run_source.declared.state.Status.{Status}
-use Rattle.pass_proofs.specs.run_source_tables.Given.{Given, frame_of}
-use Rattle.pass_proofs.specs.run_step.Results.{and_then, found, ok_if}
-use Rattle.pass_proofs.specs.run_step.Runs.{iterate}
-use Rattle.pass_proofs.specs.run_step.Step.{AtInstr, Coro, action_of, block_of, fetch}
-use Rattle.pass_proofs.specs.run_step.Values.{arg_values, nth, pointer_to, with_result}
-use Rattle.pass_proofs.specs.run_step.declared.world.Slot.{Slot}
-use Rattle.pass_proofs.specs.run_step.declared.world.World.{World}
+use Rattle.pass_frames_steps.proofs.lined.Lines.{framed_does, line_last}
+use Rattle.pass_frames_steps.proofs.saving.Stepped.{stand_split}
+use Rattle.pass_frames_steps.proofs.stepping.Codes.{code_stands, instr_there}
+use Rattle.pass_frames_steps.proofs.stepping.Stands.{cost_is, renewed_does, top_is}
+use Rattle.pass_frames_steps.specs.Beginning.{IsAtBegin}
+use Rattle.pass_frames_steps.specs.Early.{copies_line}
+use Rattle.pass_frames_steps.specs.Led.{IsStill}
+use Rattle.pass_frames_steps.specs.Lined.{GivesNone}
+use Rattle.pass_frames_steps.specs.Meaning.{action_at, coroutine_cost, other_cost, step_cost}
+use Rattle.pass_frames_steps.specs.Places.{Framing, copies, edged, framed, place, plan}
+use Rattle.pass_frames_steps.specs.Related.{AreBuiltOf, Building, point_of}
+use Rattle.pass_frames_steps.specs.Stepping.{AreGiven, StandsInPlace}
+use Rattle.pass_frames_steps.specs.pass_renewed_proof.Renewed.{RenewedGiven, renewed_step}
+use Rattle.pass_frames_steps.specs.run_framed.Framed.{framed_begin, framed_step}
+use Rattle.pass_frames_steps.specs.run_laws.access.Lines.{StandAt}
+use Rattle.pass_frames_steps.specs.run_laws.changed.Changed.{Each}
+use Rattle.pass_frames_steps.specs.run_memory.Memory.{check, may_be_owned, owned_to, with_block}
+use Rattle.pass_frames_steps.specs.run_memory.declared.block.Kind.{Kind}
+use Rattle.pass_frames_steps.specs.run_memory.declared.block.MemoryBlock.{MemoryBlock}
+use Rattle.pass_frames_steps.specs.run_memory.declared.pointer.Value.{Value}
+use Rattle.pass_frames_steps.specs.run_source.Source.{begin, begin_at, begun, context_of, is_among, new_instance}
+use Rattle.pass_frames_steps.specs.run_source.State.{function_of, gives, or_undefined, own_facts, own_frame, with_memory, work_of}
+use Rattle.pass_frames_steps.specs.run_source.declared.state.Activation.{Activation}
+use Rattle.pass_frames_steps.specs.run_source.declared.state.Instance.{Instance}
+use Rattle.pass_frames_steps.specs.run_source.declared.state.Mode.{Mode}
+use Rattle.pass_frames_steps.specs.run_source.declared.state.State.{State}
+use Rattle.pass_frames_steps.specs.run_source.declared.state.Status.{Status}
+use Rattle.pass_frames_steps.specs.run_source_tables.Given.{Given, frame_of}
+use Rattle.pass_frames_steps.specs.run_step.Results.{and_then, found, ok_if}
+use Rattle.pass_frames_steps.specs.run_step.Runs.{iterate}
+use Rattle.pass_frames_steps.specs.run_step.Step.{AtInstr, Coro, action_of, block_of, fetch}
+use Rattle.pass_frames_steps.specs.run_step.Values.{arg_values, nth, pointer_to, with_result}
+use Rattle.pass_frames_steps.specs.run_step.declared.world.Slot.{Slot}
+use Rattle.pass_frames_steps.specs.run_step.declared.world.World.{World}
 
 -- ---- lists
 

@@ -3,15 +3,15 @@ use Rattle.std.proofs.Common.{◌≡◌, ◌≢◌, ◌⊎◌, ◌+◌, ◌<◌,
 use Rattle.std.proofs.lemmas.Bool.{cases_lt}
 use Rattle.std.specs.List.{Contains}
 use Rattle.std.specs.Prelude.{filter}
-use Rattle.pass_proofs.specs.flow_solver.Paths.{IsListed}
-use Rattle.pass_proofs.specs.ir_model.Ty.{Ty}
-use Rattle.pass_proofs.specs.ir_parts.Contents.{instr_operands}
-use Rattle.pass_proofs.specs.pass_cells.Cells.{fetches_of}
-use Rattle.pass_proofs.specs.pass_cells.Kept.{entry}
-use Rattle.pass_proofs.specs.pass_copies.declared.slot.EarlySlot.{EarlySlot}
-use Rattle.pass_proofs.specs.pass_fetch.Fetching.{next_after_all}
-use Rattle.pass_frames_proof.proofs.allocating.Grown.{listed_in}
-use Rattle.pass_frames_proof.proofs.allocating.Ramp.{value_here}
+use Rattle.pass_frames_steps.specs.flow_solver.Paths.{IsListed}
+use Rattle.pass_frames_steps.specs.ir_model.Ty.{Ty}
+use Rattle.pass_frames_steps.specs.ir_parts.Contents.{instr_operands}
+use Rattle.pass_frames_steps.specs.pass_cells.Cells.{fetches_of}
+use Rattle.pass_frames_steps.specs.pass_cells.Kept.{entry}
+use Rattle.pass_frames_steps.specs.pass_copies.declared.slot.EarlySlot.{EarlySlot}
+use Rattle.pass_frames_steps.specs.pass_fetch.Fetching.{next_after_all}
+use Rattle.pass_frames_steps.proofs.allocating.Grown.{listed_in}
+use Rattle.pass_frames_steps.proofs.allocating.Ramp.{value_here}
 use Rattle.pass_frames_proof.proofs.beginning.AllCopied.{long}
 use Rattle.pass_frames_proof.proofs.beginning.Copied.{early}
 use Rattle.pass_frames_proof.proofs.beginning.Frame.{C, n1}
@@ -22,35 +22,35 @@ use Rattle.pass_frames_proof.proofs.beginning.Places.{B, M, X, free_apart, home_
 use Rattle.pass_frames_proof.proofs.beginning.Rest.{ahead_on, c'', free_on, many, more, now, u', w}
 use Rattle.pass_frames_proof.proofs.beginning.Steps.{Copies, at_place, begun_top, ramps, stands_here, top_slots}
 use Rattle.pass_frames_proof.proofs.early.Placed.{cells_apart}
-use Rattle.pass_frames_proof.proofs.lines.Cells.{contained, other_block}
-use Rattle.pass_frames_proof.proofs.stepping.After.{past_value, right_there, wheres_there}
-use Rattle.pass_frames_proof.proofs.stepping.Finish.{is_result}
-use Rattle.pass_frames_proof.proofs.stepping.May.{not_returned, own_blocks}
-use Rattle.pass_frames_proof.proofs.stepping.Names.{slots_new}
-use Rattle.pass_frames_proof.proofs.stepping.Operands.{asked}
-use Rattle.pass_frames_proof.proofs.stepping.Stands.{made_of, top_is, values_of}
-use Rattle.pass_frames_proof.specs.Beginning.{IsAtBegin, is_in_frame}
-use Rattle.pass_frames_proof.specs.Moved.{IsTopMoved}
-use Rattle.pass_frames_proof.specs.Places.{Framing, edged, framed, offsets, place, plan, written}
-use Rattle.pass_frames_proof.specs.Related.{AreActivations, AreAhead, AreBuiltOf, AreCoroutines, AreNamed, Building, HasCells, IsAhead, IsOwnSlot, IsSlotBy, IsWholeSlot, instance_in, is_coroutine, is_first, point_of, top_place}
-use Rattle.pass_frames_proof.specs.Stepping.{AreGiven}
-use Rattle.pass_proofs.proofs.fetch.rules.Puts.{fetch_rises}
-use Rattle.pass_proofs.specs.addresses.rules.Addresses.{lies_in_frame}
-use Rattle.pass_renewed_proof.specs.Renewed.{RenewedGiven}
-use Rattle.pass_proofs.specs.run_framed.Framed.{frame_rights}
-use Rattle.pass_proofs.proofs.run_laws.memory.Homes.{value_on}
-use Rattle.pass_proofs.specs.run_laws.embedded.Making.{whole_home}
-use Rattle.pass_proofs.specs.run_laws.memory.Pointers.{Home, IsValue, home_of}
-use Rattle.pass_proofs.specs.run_memory.Memory.{Rights}
-use Rattle.pass_proofs.specs.run_memory.Pointers.{moved, offset_of}
-use Rattle.pass_proofs.specs.run_memory.declared.block.MemoryBlock.{MemoryBlock}
-use Rattle.pass_proofs.specs.run_memory.declared.pointer.Pointer.{Pointer}
-use Rattle.pass_proofs.specs.run_memory.declared.pointer.Value.{Value}
-use Rattle.pass_proofs.specs.run_source.Source.{is_among}
-use Rattle.pass_proofs.specs.run_source.declared.state.Activation.{Activation}
-use Rattle.pass_proofs.specs.run_source.declared.state.State.{State}
-use Rattle.pass_proofs.specs.run_step.Values.{Env, pointer_to, value_in, with_result}
-use Rattle.pass_proofs.specs.run_step.declared.world.Slot.{Slot}
+use Rattle.pass_frames_steps.proofs.lines.Cells.{contained, other_block}
+use Rattle.pass_frames_steps.proofs.stepping.After.{past_value, right_there, wheres_there}
+use Rattle.pass_frames_steps.proofs.stepping.Finish.{is_result}
+use Rattle.pass_frames_steps.proofs.stepping.May.{not_returned, own_blocks}
+use Rattle.pass_frames_steps.proofs.stepping.Names.{slots_new}
+use Rattle.pass_frames_steps.proofs.stepping.Operands.{asked}
+use Rattle.pass_frames_steps.proofs.stepping.Stands.{made_of, top_is, values_of}
+use Rattle.pass_frames_steps.specs.Beginning.{IsAtBegin, is_in_frame}
+use Rattle.pass_frames_steps.specs.Moved.{IsTopMoved}
+use Rattle.pass_frames_steps.specs.Places.{Framing, edged, framed, offsets, place, plan, written}
+use Rattle.pass_frames_steps.specs.Related.{AreActivations, AreAhead, AreBuiltOf, AreCoroutines, AreNamed, Building, HasCells, IsAhead, IsOwnSlot, IsSlotBy, IsWholeSlot, instance_in, is_coroutine, is_first, point_of, top_place}
+use Rattle.pass_frames_steps.specs.Stepping.{AreGiven}
+use Rattle.pass_frames_steps.proofs.pass_proofs.fetch.rules.Puts.{fetch_rises}
+use Rattle.pass_frames_steps.specs.pass_proofs.addresses.rules.Addresses.{lies_in_frame}
+use Rattle.pass_frames_steps.specs.pass_renewed_proof.Renewed.{RenewedGiven}
+use Rattle.pass_frames_steps.specs.run_framed.Framed.{frame_rights}
+use Rattle.pass_frames_steps.proofs.run_laws.memory.Homes.{value_on}
+use Rattle.pass_frames_steps.specs.run_laws.embedded.Making.{whole_home}
+use Rattle.pass_frames_steps.specs.run_laws.memory.Pointers.{Home, IsValue, home_of}
+use Rattle.pass_frames_steps.specs.run_memory.Memory.{Rights}
+use Rattle.pass_frames_steps.specs.run_memory.Pointers.{moved, offset_of}
+use Rattle.pass_frames_steps.specs.run_memory.declared.block.MemoryBlock.{MemoryBlock}
+use Rattle.pass_frames_steps.specs.run_memory.declared.pointer.Pointer.{Pointer}
+use Rattle.pass_frames_steps.specs.run_memory.declared.pointer.Value.{Value}
+use Rattle.pass_frames_steps.specs.run_source.Source.{is_among}
+use Rattle.pass_frames_steps.specs.run_source.declared.state.Activation.{Activation}
+use Rattle.pass_frames_steps.specs.run_source.declared.state.State.{State}
+use Rattle.pass_frames_steps.specs.run_step.Values.{Env, pointer_to, value_in, with_result}
+use Rattle.pass_frames_steps.specs.run_step.declared.world.Slot.{Slot}
 use Rattle.pass_frames_proof.proofs.beginning.TopCells.{result_length, rises, other_source, other_target, new_target, right_now, wheres_now}
 
 module _ (facts : Begins) where

@@ -1,16 +1,16 @@
 -- Behind begin the cells of the activation on top are right again.
 use Rattle.std.proofs.Common.{◌≡◌, ◌≢◌, ◌+◌, ◌<◌, ◌≤◌, ◌∙◌, Bool, List, None, Option, Some, ap, arith, length, refl, subst, sym, ℕ}
 use Rattle.std.specs.List.{Contains}
-use Rattle.pass_proofs.specs.flow_solver.Paths.{IsListed}
-use Rattle.pass_proofs.specs.ir_model.Ty.{Ty, int}
-use Rattle.pass_proofs.specs.ir_parts.Contents.{instr_operands}
-use Rattle.pass_proofs.specs.pass_cells.Cells.{fetches_of}
-use Rattle.pass_proofs.specs.pass_cells.Kept.{entry}
-use Rattle.pass_proofs.specs.pass_cells.declared.plan.KeptValue.{KeptValue}
-use Rattle.pass_proofs.specs.pass_copies.declared.slot.EarlySlot.{EarlySlot}
-use Rattle.pass_proofs.specs.pass_fetch.Fetching.{next_after_all}
-use Rattle.pass_frames_proof.proofs.allocating.Grown.{listed_in}
-use Rattle.pass_frames_proof.proofs.allocating.Steps.{set_length}
+use Rattle.pass_frames_steps.specs.flow_solver.Paths.{IsListed}
+use Rattle.pass_frames_steps.specs.ir_model.Ty.{Ty, int}
+use Rattle.pass_frames_steps.specs.ir_parts.Contents.{instr_operands}
+use Rattle.pass_frames_steps.specs.pass_cells.Cells.{fetches_of}
+use Rattle.pass_frames_steps.specs.pass_cells.Kept.{entry}
+use Rattle.pass_frames_steps.specs.pass_cells.declared.plan.KeptValue.{KeptValue}
+use Rattle.pass_frames_steps.specs.pass_copies.declared.slot.EarlySlot.{EarlySlot}
+use Rattle.pass_frames_steps.specs.pass_fetch.Fetching.{next_after_all}
+use Rattle.pass_frames_steps.proofs.allocating.Grown.{listed_in}
+use Rattle.pass_frames_steps.proofs.allocating.Steps.{set_length}
 use Rattle.pass_frames_proof.proofs.beginning.Copied.{cell_free, early, new_stays}
 use Rattle.pass_frames_proof.proofs.beginning.Frame.{C, n1}
 use Rattle.pass_frames_proof.proofs.beginning.Given.{Begins}
@@ -19,33 +19,33 @@ use Rattle.pass_frames_proof.proofs.beginning.Loads.{I, M0, N0, W, is, low_stays
 use Rattle.pass_frames_proof.proofs.beginning.Places.{B, N, X, free_apart, held, y0_there}
 use Rattle.pass_frames_proof.proofs.beginning.Rest.{IsOther, c'', more, now, same_other}
 use Rattle.pass_frames_proof.proofs.beginning.Steps.{begun_top}
-use Rattle.pass_frames_proof.proofs.lines.Cells.{contained, other_block}
-use Rattle.pass_frames_proof.proofs.lines.Names.{distance_of}
-use Rattle.pass_frames_proof.proofs.lines.Results.{kept_is_cell}
-use Rattle.pass_frames_proof.proofs.moved.Rest.{rights_on}
-use Rattle.pass_frames_proof.proofs.stepping.May.{own_blocks}
-use Rattle.pass_frames_proof.proofs.stepping.Names.{cell_is_name, named_written, slots_new}
-use Rattle.pass_frames_proof.specs.Beginning.{IsAtBegin}
-use Rattle.pass_frames_proof.specs.Lines.{IsCellOf}
-use Rattle.pass_frames_proof.specs.Places.{Framing, copies, named, plan, written}
-use Rattle.pass_frames_proof.specs.Related.{AreBuiltOf, AreCellsRight, AreWheresRight, Building, IsCell, IsCellName, IsDistanceOf, IsFreeOf, IsKeptValue, instance_in, root_of}
-use Rattle.pass_frames_proof.specs.Stepping.{AreGiven}
-use Rattle.pass_proofs.proofs.fetch.rules.Puts.{fetch_rises}
-use Rattle.pass_renewed_proof.specs.Renewed.{RenewedGiven}
-use Rattle.pass_proofs.specs.run_framed.Framed.{frame_rights}
-use Rattle.pass_proofs.proofs.run_laws.transfer.Sets.{set_elsewhere}
-use Rattle.pass_proofs.specs.run_laws.access.Lines.{Holds}
-use Rattle.pass_proofs.specs.run_laws.memory.Pointers.{Home, IsValue}
-use Rattle.pass_proofs.specs.run_memory.Memory.{Rights}
-use Rattle.pass_proofs.specs.run_memory.declared.block.Byte.{Byte}
-use Rattle.pass_proofs.specs.run_memory.declared.block.MemoryBlock.{MemoryBlock}
-use Rattle.pass_proofs.specs.run_memory.declared.pointer.Value.{Value}
-use Rattle.pass_proofs.specs.run_source.State.{address_in}
-use Rattle.pass_proofs.specs.run_source.declared.state.Activation.{Activation}
-use Rattle.pass_proofs.specs.run_source.declared.state.Instance.{Instance}
-use Rattle.pass_proofs.specs.run_source.declared.state.State.{State}
-use Rattle.pass_proofs.specs.run_step.Values.{Env, pointer_to, value_in, with_result}
-use Rattle.pass_proofs.specs.run_step.declared.world.Slot.{Slot}
+use Rattle.pass_frames_steps.proofs.lines.Cells.{contained, other_block}
+use Rattle.pass_frames_steps.proofs.lines.Names.{distance_of}
+use Rattle.pass_frames_steps.proofs.lines.Results.{kept_is_cell}
+use Rattle.pass_frames_steps.proofs.moved.Rest.{rights_on}
+use Rattle.pass_frames_steps.proofs.stepping.May.{own_blocks}
+use Rattle.pass_frames_steps.proofs.stepping.Names.{cell_is_name, named_written, slots_new}
+use Rattle.pass_frames_steps.specs.Beginning.{IsAtBegin}
+use Rattle.pass_frames_steps.specs.Lines.{IsCellOf}
+use Rattle.pass_frames_steps.specs.Places.{Framing, copies, named, plan, written}
+use Rattle.pass_frames_steps.specs.Related.{AreBuiltOf, AreCellsRight, AreWheresRight, Building, IsCell, IsCellName, IsDistanceOf, IsFreeOf, IsKeptValue, instance_in, root_of}
+use Rattle.pass_frames_steps.specs.Stepping.{AreGiven}
+use Rattle.pass_frames_steps.proofs.pass_proofs.fetch.rules.Puts.{fetch_rises}
+use Rattle.pass_frames_steps.specs.pass_renewed_proof.Renewed.{RenewedGiven}
+use Rattle.pass_frames_steps.specs.run_framed.Framed.{frame_rights}
+use Rattle.pass_frames_steps.proofs.run_laws.transfer.Sets.{set_elsewhere}
+use Rattle.pass_frames_steps.specs.run_laws.access.Lines.{Holds}
+use Rattle.pass_frames_steps.specs.run_laws.memory.Pointers.{Home, IsValue}
+use Rattle.pass_frames_steps.specs.run_memory.Memory.{Rights}
+use Rattle.pass_frames_steps.specs.run_memory.declared.block.Byte.{Byte}
+use Rattle.pass_frames_steps.specs.run_memory.declared.block.MemoryBlock.{MemoryBlock}
+use Rattle.pass_frames_steps.specs.run_memory.declared.pointer.Value.{Value}
+use Rattle.pass_frames_steps.specs.run_source.State.{address_in}
+use Rattle.pass_frames_steps.specs.run_source.declared.state.Activation.{Activation}
+use Rattle.pass_frames_steps.specs.run_source.declared.state.Instance.{Instance}
+use Rattle.pass_frames_steps.specs.run_source.declared.state.State.{State}
+use Rattle.pass_frames_steps.specs.run_step.Values.{Env, pointer_to, value_in, with_result}
+use Rattle.pass_frames_steps.specs.run_step.declared.world.Slot.{Slot}
 
 -- ---- values
 

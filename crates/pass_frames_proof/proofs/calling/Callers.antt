@@ -1,58 +1,58 @@
 -- The caller of a function: its operands are fetched, and then the framed run enters the same function.
 use Rattle.std.proofs.Common.{◌≡◌, ℕ, suc, ◌+◌, ◌-◌, ◌<◌, Bool, true, false, List, ◌∷◌, length, refl, sym, ap, ◌∙◌, subst, arith}
 use Rattle.std.specs.Prelude.{None, Option, Some, if◌then◌else◌}
-use Rattle.pass_proofs.specs.ir_base.declared.outcome.Outcome.{Outcome}
-use Rattle.pass_proofs.specs.ir_model.Names.{function_at}
-use Rattle.pass_proofs.specs.ir_model.declared.instr.Instr.{Instr}
-use Rattle.pass_proofs.specs.ir_model.declared.module.Function.{Function}
-use Rattle.pass_proofs.specs.ir_model.declared.module.Module.{Module}
-use Rattle.pass_proofs.specs.ir_model.declared.operand.Callee.{Callee}
-use Rattle.pass_proofs.specs.ir_paths.declared.point.Point.{Point}
-use Rattle.pass_proofs.specs.pass_cells.Cells.{fetches_of}
+use Rattle.pass_frames_steps.specs.ir_base.declared.outcome.Outcome.{Outcome}
+use Rattle.pass_frames_steps.specs.ir_model.Names.{function_at}
+use Rattle.pass_frames_steps.specs.ir_model.declared.instr.Instr.{Instr}
+use Rattle.pass_frames_steps.specs.ir_model.declared.module.Function.{Function}
+use Rattle.pass_frames_steps.specs.ir_model.declared.module.Module.{Module}
+use Rattle.pass_frames_steps.specs.ir_model.declared.operand.Callee.{Callee}
+use Rattle.pass_frames_steps.specs.ir_paths.declared.point.Point.{Point}
+use Rattle.pass_frames_steps.specs.pass_cells.Cells.{fetches_of}
 use Rattle.pass_frames_proof.proofs.calling.Passed.{passed_on}
-use Rattle.pass_frames_proof.proofs.followed.Assembly.{shown_alike}
-use Rattle.pass_frames_proof.proofs.lined.Lines.{framed_does, no_gift}
+use Rattle.pass_frames_steps.proofs.followed.Assembly.{shown_alike}
+use Rattle.pass_frames_steps.proofs.lined.Lines.{framed_does, no_gift}
 use Rattle.pass_frames_proof.proofs.returning.Behind.{CallStands, call_stands, switching_never}
 use Rattle.pass_frames_proof.proofs.returning.Turned.{placed_at}
-use Rattle.pass_frames_proof.proofs.stepping.Doing.{at_place, code_framed, fetched_is}
-use Rattle.pass_frames_proof.proofs.stepping.Fetch as fetching
-use Rattle.pass_frames_proof.proofs.stepping.Fetch.{named_alike}
-use Rattle.pass_frames_proof.proofs.stepping.Fronted as fronted
-use Rattle.pass_frames_proof.proofs.stepping.Other.{fetched_there, here_is, joined, same_names, shape}
-use Rattle.pass_frames_proof.proofs.stepping.Stands.{cost_is, renewed_does}
-use Rattle.pass_frames_proof.specs.Calling.{IsAtCall, IsAtPlainCall}
-use Rattle.pass_frames_proof.specs.Code.{address_state, load_name, slot_table}
-use Rattle.pass_frames_proof.specs.Followed.{IsOn}
-use Rattle.pass_frames_proof.specs.Framings.{IsFraming}
-use Rattle.pass_frames_proof.specs.Led.{IsLed}
-use Rattle.pass_frames_proof.specs.Lined.{GivesNone, gives_frame, lined}
-use Rattle.pass_frames_proof.specs.Meaning.{action_at, coroutine_cost, entered_cost, other_cost, step_cost}
-use Rattle.pass_frames_proof.specs.Places.{Framing, Placed, framed, is_return, own_place, place, plan}
-use Rattle.pass_frames_proof.specs.Related.{AreBuiltOf, Building, all_slots, behind_place, below_place, is_coroutine, point_of}
-use Rattle.pass_frames_proof.specs.Returning.{IsSwitching}
-use Rattle.pass_frames_proof.specs.Stepping.{AreGiven, IsFunctionCall, IsNotEntering, placed_front, placed_instr, state_in}
-use Rattle.pass_proofs.specs.ir_model.declared.operand.Operand.{Operand}
-use Rattle.pass_proofs.specs.pass_fetch.Fetching.{callee_by, fetch_of, fetched_args, next_by}
-use Rattle.pass_proofs.specs.pass_fetch.Instrs.{with_fetched}
-use Rattle.pass_proofs.specs.pass_fetch.declared.fetch.Fetch.{Fetch}
-use Rattle.pass_renewed_proof.specs.Renewed.{RenewedGiven, renewed_step}
-use Rattle.pass_proofs.specs.run_agreement.Machines.{iterate}
-use Rattle.pass_proofs.specs.run_framed.Framed.{frame_rights, framed_context, framed_step}
-use Rattle.pass_proofs.proofs.run_laws.memory.Itself.{owner_rights_fit}
-use Rattle.pass_proofs.proofs.run_laws.transfer.Over.{step_over}
-use Rattle.pass_proofs.specs.run_laws.changed.Changed.{callee_at}
-use Rattle.pass_proofs.specs.run_laws.embedded.Related.{AreValues, HasBytes, HasNoSlot}
-use Rattle.pass_proofs.specs.run_laws.memory.Pointers.{Home, IsValue}
-use Rattle.pass_proofs.specs.run_laws.transfer.Transfer.{AreJoined, AreOver, AreSameDistances, GoesOver, IsTransferred, args_at, given_at, same_maps}
-use Rattle.run_access_worked.proofs.run_laws_worked.Frames.{frame_rights_fit}
-use Rattle.pass_proofs.specs.run_memory.Memory.{Rights, owner_rights}
-use Rattle.pass_proofs.specs.run_memory.declared.pointer.Value.{Value}
-use Rattle.pass_proofs.specs.run_source.Source.{called, context_of, enter, mode_of}
-use Rattle.pass_proofs.specs.run_source.State.{function_of, work_of}
-use Rattle.pass_proofs.specs.run_source.declared.state.State.{State}
-use Rattle.pass_proofs.specs.run_step.Step.{Action, AtInstr, Context, Enter, Work, action_of, fetch, instr_action}
-use Rattle.pass_proofs.specs.run_step.Values.{Env}
-use Rattle.pass_proofs.specs.run_step.declared.world.World.{World}
+use Rattle.pass_frames_steps.proofs.stepping.Doing.{at_place, code_framed, fetched_is}
+use Rattle.pass_frames_steps.proofs.stepping.Fetch as fetching
+use Rattle.pass_frames_steps.proofs.stepping.Fetch.{named_alike}
+use Rattle.pass_frames_steps.proofs.stepping.Fronted as fronted
+use Rattle.pass_frames_steps.proofs.stepping.Other.{fetched_there, here_is, joined, same_names, shape}
+use Rattle.pass_frames_steps.proofs.stepping.Stands.{cost_is, renewed_does}
+use Rattle.pass_frames_steps.specs.Calling.{IsAtCall, IsAtPlainCall}
+use Rattle.pass_frames_steps.specs.Code.{address_state, load_name, slot_table}
+use Rattle.pass_frames_steps.specs.Followed.{IsOn}
+use Rattle.pass_frames_steps.specs.Framings.{IsFraming}
+use Rattle.pass_frames_steps.specs.Led.{IsLed}
+use Rattle.pass_frames_steps.specs.Lined.{GivesNone, gives_frame, lined}
+use Rattle.pass_frames_steps.specs.Meaning.{action_at, coroutine_cost, entered_cost, other_cost, step_cost}
+use Rattle.pass_frames_steps.specs.Places.{Framing, Placed, framed, is_return, own_place, place, plan}
+use Rattle.pass_frames_steps.specs.Related.{AreBuiltOf, Building, all_slots, behind_place, below_place, is_coroutine, point_of}
+use Rattle.pass_frames_steps.specs.Returning.{IsSwitching}
+use Rattle.pass_frames_steps.specs.Stepping.{AreGiven, IsFunctionCall, IsNotEntering, placed_front, placed_instr, state_in}
+use Rattle.pass_frames_steps.specs.ir_model.declared.operand.Operand.{Operand}
+use Rattle.pass_frames_steps.specs.pass_fetch.Fetching.{callee_by, fetch_of, fetched_args, next_by}
+use Rattle.pass_frames_steps.specs.pass_fetch.Instrs.{with_fetched}
+use Rattle.pass_frames_steps.specs.pass_fetch.declared.fetch.Fetch.{Fetch}
+use Rattle.pass_frames_steps.specs.pass_renewed_proof.Renewed.{RenewedGiven, renewed_step}
+use Rattle.pass_frames_steps.specs.run_agreement.Machines.{iterate}
+use Rattle.pass_frames_steps.specs.run_framed.Framed.{frame_rights, framed_context, framed_step}
+use Rattle.pass_frames_steps.proofs.run_laws.memory.Itself.{owner_rights_fit}
+use Rattle.pass_frames_steps.proofs.run_laws.transfer.Over.{step_over}
+use Rattle.pass_frames_steps.specs.run_laws.changed.Changed.{callee_at}
+use Rattle.pass_frames_steps.specs.run_laws.embedded.Related.{AreValues, HasBytes, HasNoSlot}
+use Rattle.pass_frames_steps.specs.run_laws.memory.Pointers.{Home, IsValue}
+use Rattle.pass_frames_steps.specs.run_laws.transfer.Transfer.{AreJoined, AreOver, AreSameDistances, GoesOver, IsTransferred, args_at, given_at, same_maps}
+use Rattle.pass_frames_steps.proofs.run_access_worked.run_laws_worked.Frames.{frame_rights_fit}
+use Rattle.pass_frames_steps.specs.run_memory.Memory.{Rights, owner_rights}
+use Rattle.pass_frames_steps.specs.run_memory.declared.pointer.Value.{Value}
+use Rattle.pass_frames_steps.specs.run_source.Source.{called, context_of, enter, mode_of}
+use Rattle.pass_frames_steps.specs.run_source.State.{function_of, work_of}
+use Rattle.pass_frames_steps.specs.run_source.declared.state.State.{State}
+use Rattle.pass_frames_steps.specs.run_step.Step.{Action, AtInstr, Context, Enter, Work, action_of, fetch, instr_action}
+use Rattle.pass_frames_steps.specs.run_step.Values.{Env}
+use Rattle.pass_frames_steps.specs.run_step.declared.world.World.{World}
 
 -- so many steps of the framed run, and then one that enters the function; the caller is related as if nothing had been
 -- done

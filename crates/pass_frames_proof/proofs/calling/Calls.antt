@@ -1,29 +1,29 @@
 -- Calls of functions that are no coroutines are followed.
 use Rattle.std.proofs.Common.{◌≡◌, ℕ, ◌+◌, ◌<◌, Bool, true, false, List, length, refl, sym, ap, ◌∙◌, subst, arith}
 use Rattle.std.specs.Prelude.{Option, if◌then◌else◌}
-use Rattle.pass_proofs.specs.ir_model.Names.{function_at}
-use Rattle.pass_proofs.specs.ir_model.declared.instr.Instr.{Instr}
-use Rattle.pass_proofs.specs.ir_model.declared.module.Function.{Function}
-use Rattle.pass_proofs.specs.ir_model.declared.module.Module.{Module}
+use Rattle.pass_frames_steps.specs.ir_model.Names.{function_at}
+use Rattle.pass_frames_steps.specs.ir_model.declared.instr.Instr.{Instr}
+use Rattle.pass_frames_steps.specs.ir_model.declared.module.Function.{Function}
+use Rattle.pass_frames_steps.specs.ir_model.declared.module.Module.{Module}
 use Rattle.pass_frames_proof.proofs.calling.Callers.{Enters, coroutine_enters, other_enters}
 use Rattle.pass_frames_proof.proofs.calling.Push.{pushed, t'}
-use Rattle.pass_frames_proof.proofs.stepping.Called.{entry_standing}
-use Rattle.pass_frames_proof.proofs.stepping.Onward.{EndsUp, onward_followed}
-use Rattle.pass_frames_proof.proofs.stepping.Other.{AreStanding, values_other}
-use Rattle.pass_frames_proof.specs.Calling.{HasBlocks, IsAtCall, IsAtPlainCall}
-use Rattle.pass_frames_proof.specs.Followed.{IsFollowed}
-use Rattle.pass_frames_proof.specs.Costs.{call_cost}
-use Rattle.pass_frames_proof.specs.Related.{AreActivations, AreBuiltOf, Building, all_slots, is_coroutine, place_by, point_of, top_place}
-use Rattle.pass_frames_proof.specs.Returning.{IsAmong}
-use Rattle.pass_frames_proof.specs.Stepping.{AreGiven}
-use Rattle.pass_renewed_proof.specs.Renewed.{RenewedGiven}
-use Rattle.pass_proofs.specs.run_framed.Framed.{frame_rights}
-use Rattle.pass_proofs.specs.run_memory.declared.block.MemoryBlock.{MemoryBlock}
-use Rattle.pass_proofs.specs.run_memory.declared.pointer.Value.{Value}
-use Rattle.pass_proofs.specs.run_source.Source.{called, enter, mode_of}
-use Rattle.pass_proofs.specs.run_source.declared.state.Activation.{Activation}
-use Rattle.pass_proofs.specs.run_source.declared.state.State.{State}
-use Rattle.pass_proofs.specs.run_step.Step.{entry_values}
+use Rattle.pass_frames_steps.proofs.stepping.Called.{entry_standing}
+use Rattle.pass_frames_steps.proofs.stepping.Onward.{EndsUp, onward_followed}
+use Rattle.pass_frames_steps.proofs.stepping.Other.{AreStanding, values_other}
+use Rattle.pass_frames_steps.specs.Calling.{HasBlocks, IsAtCall, IsAtPlainCall}
+use Rattle.pass_frames_steps.specs.Followed.{IsFollowed}
+use Rattle.pass_frames_steps.specs.Costs.{call_cost}
+use Rattle.pass_frames_steps.specs.Related.{AreActivations, AreBuiltOf, Building, all_slots, is_coroutine, place_by, point_of, top_place}
+use Rattle.pass_frames_steps.specs.Returning.{IsAmong}
+use Rattle.pass_frames_steps.specs.Stepping.{AreGiven}
+use Rattle.pass_frames_steps.specs.pass_renewed_proof.Renewed.{RenewedGiven}
+use Rattle.pass_frames_steps.specs.run_framed.Framed.{frame_rights}
+use Rattle.pass_frames_steps.specs.run_memory.declared.block.MemoryBlock.{MemoryBlock}
+use Rattle.pass_frames_steps.specs.run_memory.declared.pointer.Value.{Value}
+use Rattle.pass_frames_steps.specs.run_source.Source.{called, enter, mode_of}
+use Rattle.pass_frames_steps.specs.run_source.declared.state.Activation.{Activation}
+use Rattle.pass_frames_steps.specs.run_source.declared.state.State.{State}
+use Rattle.pass_frames_steps.specs.run_step.Step.{entry_values}
 
 module _ (b : Building) (g : RenewedGiven) (given : AreGiven b g) (s t : State) (func : ℕ) (args : List Value)
     (result : Option ℕ) (enters : Enters b g s t func args result) (plain : is_coroutine b func ≡ false)

@@ -1,21 +1,21 @@
 -- The caller of a function, or of a coroutine that is woken: both runs go on behind the call.
 use Rattle.std.proofs.Common.{◌≡◌, ℕ, ◌+◌, Bool, true, false, List, refl, sym, subst, arith}
 use Rattle.std.specs.Prelude.{Option, ◌&&◌}
-use Rattle.pass_proofs.specs.ir_paths.declared.point.Point.{Point}
+use Rattle.pass_frames_steps.specs.ir_paths.declared.point.Point.{Point}
 use Rattle.pass_frames_proof.proofs.returning.Turned.{activation_turned, ahead_turned, placed_at}
-use Rattle.pass_frames_proof.proofs.stepping.Fetch.{not_returned}
-use Rattle.pass_frames_proof.proofs.stepping.Operands.{asked}
-use Rattle.pass_frames_proof.specs.Places.{Framing, is_return, offsets}
-use Rattle.pass_frames_proof.specs.Related.{AreActivations, AreAhead, AreCoroutines, Building, HasCells, HasValues, IsSlotBy, below_place, instance_in, is_coroutine, point_of}
-use Rattle.pass_frames_proof.specs.Stepping.{IsNotEntering}
-use Rattle.pass_proofs.specs.addresses.rules.Addresses.{lies_in_frame}
-use Rattle.pass_proofs.specs.run_framed.Framed.{frame_rights}
-use Rattle.pass_proofs.specs.run_laws.memory.Pointers.{Home}
-use Rattle.pass_proofs.specs.run_memory.Memory.{Rights}
-use Rattle.pass_proofs.specs.run_memory.declared.block.MemoryBlock.{MemoryBlock}
-use Rattle.pass_proofs.specs.run_source.declared.state.Activation.{Activation}
-use Rattle.pass_proofs.specs.run_source.declared.state.State.{State}
-use Rattle.pass_proofs.specs.run_step.declared.world.Slot.{Slot}
+use Rattle.pass_frames_steps.proofs.stepping.Fetch.{not_returned}
+use Rattle.pass_frames_steps.proofs.stepping.Operands.{asked}
+use Rattle.pass_frames_steps.specs.Places.{Framing, is_return, offsets}
+use Rattle.pass_frames_steps.specs.Related.{AreActivations, AreAhead, AreCoroutines, Building, HasCells, HasValues, IsSlotBy, below_place, instance_in, is_coroutine, point_of}
+use Rattle.pass_frames_steps.specs.Stepping.{IsNotEntering}
+use Rattle.pass_frames_steps.specs.pass_proofs.addresses.rules.Addresses.{lies_in_frame}
+use Rattle.pass_frames_steps.specs.run_framed.Framed.{frame_rights}
+use Rattle.pass_frames_steps.specs.run_laws.memory.Pointers.{Home}
+use Rattle.pass_frames_steps.specs.run_memory.Memory.{Rights}
+use Rattle.pass_frames_steps.specs.run_memory.declared.block.MemoryBlock.{MemoryBlock}
+use Rattle.pass_frames_steps.specs.run_source.declared.state.Activation.{Activation}
+use Rattle.pass_frames_steps.specs.run_source.declared.state.State.{State}
+use Rattle.pass_frames_steps.specs.run_step.declared.world.Slot.{Slot}
 
 -- an activation that has gone on to the next instruction
 abbrev pub passed_on : Activation → Activation

@@ -3,31 +3,31 @@ use Rattle.std.proofs.Common.{◌≡◌, ◌⊎◌, inl, inr, ℕ, ◌+◌, ◌<
 use Rattle.std.proofs.lemmas.Bool.{cases_lt}
 use Rattle.std.specs.List.{Contains}
 use Rattle.std.specs.Prelude.{map, slice_get}
-use Rattle.pass_proofs.specs.flow_solver.Paths.{IsListed}
-use Rattle.pass_proofs.proofs.ir_laws.facts.Lists.{get_within}
-use Rattle.pass_proofs.specs.ir_laws.paths.woven_rules.Pairs.{AreDifferent}
-use Rattle.pass_proofs.specs.ir_model.Ty.{Ty}
+use Rattle.pass_frames_steps.specs.flow_solver.Paths.{IsListed}
+use Rattle.pass_frames_steps.proofs.ir_laws.facts.Lists.{get_within}
+use Rattle.pass_frames_steps.specs.ir_laws.paths.woven_rules.Pairs.{AreDifferent}
+use Rattle.pass_frames_steps.specs.ir_model.Ty.{Ty}
 use Rattle.pass_frames_proof.proofs.calling.Passed.{ahead_passed, caller_passed, passed_on}
 use Rattle.pass_frames_proof.proofs.returning.Turned.{placed_at}
-use Rattle.pass_frames_proof.proofs.stepping.Rest.{LeavesRest, all_ahead_kept, below_kept, got, has_kept, instance_kept, made_kept, more_below, one_below}
-use Rattle.pass_frames_proof.proofs.stepping.Same.{fields_kept, kept, own_frame, rest_left}
-use Rattle.pass_frames_proof.specs.Framings.{IsFraming}
-use Rattle.pass_frames_proof.specs.Places.{is_return}
-use Rattle.pass_frames_proof.specs.Related.{AreActivations, AreAhead, AreBuiltOf, Building, HasValues, IsAhead, IsCellName, IsFreeOf, all_slots, below_place, instance_in, is_coroutine, is_first, returned_from, slots_below, top_place}
-use Rattle.pass_frames_proof.specs.Returning.{IsAmong}
-use Rattle.pass_frames_proof.specs.Stepping.{IsNotEntering}
-use Rattle.pass_proofs.specs.run_framed.Framed.{frame_rights}
-use Rattle.pass_proofs.proofs.run_laws.transfer.Muted.{muted_length}
-use Rattle.pass_proofs.specs.run_laws.access.Lines.{Holds}
-use Rattle.pass_proofs.specs.run_laws.memory.Pointers.{home_of}
-use Rattle.pass_proofs.specs.run_laws.transfer.Muted.{muted}
-use Rattle.pass_proofs.specs.run_laws.transfer.Transfer.{AreOver}
-use Rattle.pass_proofs.specs.run_memory.Memory.{Rights, owner_rights}
-use Rattle.pass_proofs.specs.run_memory.declared.block.Byte.{Byte}
-use Rattle.pass_proofs.specs.run_source.declared.state.Activation.{Activation}
-use Rattle.pass_proofs.specs.run_source.declared.state.State.{State}
-use Rattle.pass_proofs.specs.run_step.declared.world.Slot.{Slot}
-use Rattle.pass_proofs.specs.run_step.declared.world.World.{World}
+use Rattle.pass_frames_steps.proofs.stepping.Rest.{LeavesRest, all_ahead_kept, below_kept, got, has_kept, instance_kept, made_kept, more_below, one_below}
+use Rattle.pass_frames_steps.proofs.stepping.Same.{fields_kept, kept, own_frame, rest_left}
+use Rattle.pass_frames_steps.specs.Framings.{IsFraming}
+use Rattle.pass_frames_steps.specs.Places.{is_return}
+use Rattle.pass_frames_steps.specs.Related.{AreActivations, AreAhead, AreBuiltOf, Building, HasValues, IsAhead, IsCellName, IsFreeOf, all_slots, below_place, instance_in, is_coroutine, is_first, returned_from, slots_below, top_place}
+use Rattle.pass_frames_steps.specs.Returning.{IsAmong}
+use Rattle.pass_frames_steps.specs.Stepping.{IsNotEntering}
+use Rattle.pass_frames_steps.specs.run_framed.Framed.{frame_rights}
+use Rattle.pass_frames_steps.proofs.run_laws.transfer.Muted.{muted_length}
+use Rattle.pass_frames_steps.specs.run_laws.access.Lines.{Holds}
+use Rattle.pass_frames_steps.specs.run_laws.memory.Pointers.{home_of}
+use Rattle.pass_frames_steps.specs.run_laws.transfer.Muted.{muted}
+use Rattle.pass_frames_steps.specs.run_laws.transfer.Transfer.{AreOver}
+use Rattle.pass_frames_steps.specs.run_memory.Memory.{Rights, owner_rights}
+use Rattle.pass_frames_steps.specs.run_memory.declared.block.Byte.{Byte}
+use Rattle.pass_frames_steps.specs.run_source.declared.state.Activation.{Activation}
+use Rattle.pass_frames_steps.specs.run_source.declared.state.State.{State}
+use Rattle.pass_frames_steps.specs.run_step.declared.world.Slot.{Slot}
+use Rattle.pass_frames_steps.specs.run_step.declared.world.World.{World}
 
 -- ---- the target's memory grows
 

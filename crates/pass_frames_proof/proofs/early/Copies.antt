@@ -2,43 +2,43 @@
 use Rattle.std.proofs.Common.{◌≡◌, ◌≢◌, ◌⊎◌, ◌+◌, ◌*◌, ◌<◌, ◌≤◌, ◌^◌, ◌%◌, ◌∷◌, ◌++◌, ◌∙◌, [], List, None, ap, arith, inl, inr, length, refl, subst, sym, ℕ}
 use Rattle.std.specs.List.{Contains}
 use Rattle.std.specs.Prelude.{false}
-use Rattle.pass_proofs.specs.flow_solver.Paths.{IsListed}
-use Rattle.pass_proofs.proofs.ir_laws.facts.Members.{each_joined, each_turns}
-use Rattle.pass_proofs.specs.ir_laws.paths.woven_rules.Pairs.{AreDifferent}
-use Rattle.pass_proofs.specs.ir_model.Ty.{ptr}
-use Rattle.pass_proofs.specs.ir_model.declared.instr.Instr.{Instr}
-use Rattle.pass_proofs.specs.ir_model.declared.operand.Intrinsic.{Intrinsic}
-use Rattle.pass_proofs.specs.ir_model.declared.operand.Operand.{Operand}
-use Rattle.pass_proofs.specs.pass_copies.declared.slot.EarlySlot.{EarlySlot}
-use Rattle.pass_proofs.specs.pass_fetch.Fetching.{address_behind}
-use Rattle.pass_proofs.specs.pass_frames.Framed.{begin_of}
-use Rattle.pass_frames_proof.proofs.distances.Sums.{set_from, value_set}
+use Rattle.pass_frames_steps.specs.flow_solver.Paths.{IsListed}
+use Rattle.pass_frames_steps.proofs.ir_laws.facts.Members.{each_joined, each_turns}
+use Rattle.pass_frames_steps.specs.ir_laws.paths.woven_rules.Pairs.{AreDifferent}
+use Rattle.pass_frames_steps.specs.ir_model.Ty.{ptr}
+use Rattle.pass_frames_steps.specs.ir_model.declared.instr.Instr.{Instr}
+use Rattle.pass_frames_steps.specs.ir_model.declared.operand.Intrinsic.{Intrinsic}
+use Rattle.pass_frames_steps.specs.ir_model.declared.operand.Operand.{Operand}
+use Rattle.pass_frames_steps.specs.pass_copies.declared.slot.EarlySlot.{EarlySlot}
+use Rattle.pass_frames_steps.specs.pass_fetch.Fetching.{address_behind}
+use Rattle.pass_frames_steps.specs.pass_frames.Framed.{begin_of}
+use Rattle.pass_frames_steps.proofs.distances.Sums.{set_from, value_set}
 use Rattle.pass_frames_proof.proofs.from_edges.Puts.{one_of, one_over, one_put, put_code, stored_at, w2 as put_work}
-use Rattle.pass_frames_proof.proofs.led.Steps.{fills_elsewhere, still_world}
-use Rattle.pass_frames_proof.proofs.led.Through.{through_joined, through_turns}
-use Rattle.pass_frames_proof.proofs.lines.Cells.{cell_stays, other_block}
-use Rattle.pass_frames_proof.proofs.lines.Filled.{elsewhere_apart, others_stay, over_fewer, over_joined, over_none, over_sets}
-use Rattle.pass_frames_proof.specs.Early.{AllApart, AllAreCopied, AllMayCopy, AreCopied, IsApartFromAll, IsButCells, IsCopied, IsCopiedSlot, IsFilledThere, MayCopy, MayCopyAll, range_of}
-use Rattle.pass_frames_proof.specs.Entry.{cells_of}
-use Rattle.pass_frames_proof.specs.Led.{RunsThrough}
-use Rattle.pass_frames_proof.specs.Lines.{Fills, HasOwnBlocks, NoneFilled, OneFilled, RunsOver, at_work}
-use Rattle.pass_frames_proof.specs.Places.{Framing}
-use Rattle.pass_frames_proof.specs.Related.{Anything, IsCell}
-use Rattle.pass_proofs.proofs.addresses.numbers.Done.{address_done}
-use Rattle.pass_proofs.proofs.run_laws.access.Done.{copy_done}
-use Rattle.pass_proofs.proofs.run_laws.access.Ranges.{write_held}
-use Rattle.pass_proofs.specs.run_laws.access.Accessed.{Span}
-use Rattle.pass_proofs.specs.run_laws.access.Lines.{AreDisjoint, Holds, IsCopyOf, pointer_at, refilled_at}
-use Rattle.pass_proofs.specs.run_laws.changed.Changed.{Each}
-use Rattle.pass_proofs.specs.run_laws.memory.Standing.{AreByteRights}
-use Rattle.pass_proofs.specs.run_memory.declared.block.Byte.{Byte}
-use Rattle.pass_proofs.specs.run_memory.declared.block.MemoryBlock.{MemoryBlock}
-use Rattle.pass_proofs.specs.run_memory.declared.pointer.Value.{Value}
-use Rattle.pass_proofs.specs.run_source.declared.state.Activation.{Activation}
-use Rattle.pass_proofs.specs.run_step.Step.{Context, Done, Work, instr_action, set_memory, set_value}
-use Rattle.pass_proofs.specs.run_step.Values.{arg_values, value_in}
-use Rattle.pass_proofs.specs.run_step.declared.world.Slot.{Slot}
-use Rattle.pass_proofs.specs.run_step.declared.world.World.{World}
+use Rattle.pass_frames_steps.proofs.led.Steps.{fills_elsewhere, still_world}
+use Rattle.pass_frames_steps.proofs.led.Through.{through_joined, through_turns}
+use Rattle.pass_frames_steps.proofs.lines.Cells.{cell_stays, other_block}
+use Rattle.pass_frames_steps.proofs.lines.Filled.{elsewhere_apart, others_stay, over_fewer, over_joined, over_none, over_sets}
+use Rattle.pass_frames_steps.specs.Early.{AllApart, AllAreCopied, AllMayCopy, AreCopied, IsApartFromAll, IsButCells, IsCopied, IsCopiedSlot, IsFilledThere, MayCopy, MayCopyAll, range_of}
+use Rattle.pass_frames_steps.specs.Entry.{cells_of}
+use Rattle.pass_frames_steps.specs.Led.{RunsThrough}
+use Rattle.pass_frames_steps.specs.Lines.{Fills, HasOwnBlocks, NoneFilled, OneFilled, RunsOver, at_work}
+use Rattle.pass_frames_steps.specs.Places.{Framing}
+use Rattle.pass_frames_steps.specs.Related.{Anything, IsCell}
+use Rattle.pass_frames_steps.proofs.pass_proofs.addresses.numbers.Done.{address_done}
+use Rattle.pass_frames_steps.proofs.run_laws.access.Done.{copy_done}
+use Rattle.pass_frames_steps.proofs.run_laws.access.Ranges.{write_held}
+use Rattle.pass_frames_steps.specs.run_laws.access.Accessed.{Span}
+use Rattle.pass_frames_steps.specs.run_laws.access.Lines.{AreDisjoint, Holds, IsCopyOf, pointer_at, refilled_at}
+use Rattle.pass_frames_steps.specs.run_laws.changed.Changed.{Each}
+use Rattle.pass_frames_steps.specs.run_laws.memory.Standing.{AreByteRights}
+use Rattle.pass_frames_steps.specs.run_memory.declared.block.Byte.{Byte}
+use Rattle.pass_frames_steps.specs.run_memory.declared.block.MemoryBlock.{MemoryBlock}
+use Rattle.pass_frames_steps.specs.run_memory.declared.pointer.Value.{Value}
+use Rattle.pass_frames_steps.specs.run_source.declared.state.Activation.{Activation}
+use Rattle.pass_frames_steps.specs.run_step.Step.{Context, Done, Work, instr_action, set_memory, set_value}
+use Rattle.pass_frames_steps.specs.run_step.Values.{arg_values, value_in}
+use Rattle.pass_frames_steps.specs.run_step.declared.world.Slot.{Slot}
+use Rattle.pass_frames_steps.specs.run_step.declared.world.World.{World}
 use Rattle.pass_frames_proof.proofs.early.CopyCode.{copies_are, copies_code, copy_args, copy_code, copy_from, one_code}
 
 -- ---- one slot is copied

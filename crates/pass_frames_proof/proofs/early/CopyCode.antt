@@ -1,29 +1,29 @@
 -- What stands right behind begin for each slot that is used before it.
 use Rattle.std.proofs.Common.{◌≡◌, ◌+◌, ◌∷◌, ◌++◌, ◌∙◌, [], List, None, Some, ap, arith, refl, ℕ}
 use Rattle.std.specs.Prelude.{false, pos, slice_get}
-use Rattle.pass_proofs.specs.ir_model.Ty.{int, ptr}
-use Rattle.pass_proofs.specs.ir_model.declared.instr.Instr.{Instr}
-use Rattle.pass_proofs.specs.ir_model.declared.operand.Arg.{Arg}
-use Rattle.pass_proofs.specs.ir_model.declared.operand.Callee.{Callee}
-use Rattle.pass_proofs.specs.ir_model.declared.operand.Intrinsic.{Intrinsic}
-use Rattle.pass_proofs.specs.ir_model.declared.operand.Operand.{Operand}
-use Rattle.pass_proofs.specs.pass_addresses.Placing.{lies_outside}
-use Rattle.pass_proofs.specs.pass_copies.BeginCopies.{begin_copies, copy, put}
-use Rattle.pass_proofs.specs.pass_copies.declared.slot.EarlySlot.{EarlySlot}
-use Rattle.pass_proofs.specs.pass_fetch.Fetching.{address_behind, fetch_of, fetches_by, next_by, operand_by}
-use Rattle.pass_proofs.specs.pass_frames.Framed.{begin_of}
-use Rattle.pass_frames_proof.proofs.code.Idle.{only_idle}
+use Rattle.pass_frames_steps.specs.ir_model.Ty.{int, ptr}
+use Rattle.pass_frames_steps.specs.ir_model.declared.instr.Instr.{Instr}
+use Rattle.pass_frames_steps.specs.ir_model.declared.operand.Arg.{Arg}
+use Rattle.pass_frames_steps.specs.ir_model.declared.operand.Callee.{Callee}
+use Rattle.pass_frames_steps.specs.ir_model.declared.operand.Intrinsic.{Intrinsic}
+use Rattle.pass_frames_steps.specs.ir_model.declared.operand.Operand.{Operand}
+use Rattle.pass_frames_steps.specs.pass_addresses.Placing.{lies_outside}
+use Rattle.pass_frames_steps.specs.pass_copies.BeginCopies.{begin_copies, copy, put}
+use Rattle.pass_frames_steps.specs.pass_copies.declared.slot.EarlySlot.{EarlySlot}
+use Rattle.pass_frames_steps.specs.pass_fetch.Fetching.{address_behind, fetch_of, fetches_by, next_by, operand_by}
+use Rattle.pass_frames_steps.specs.pass_frames.Framed.{begin_of}
+use Rattle.pass_frames_steps.proofs.code.Idle.{only_idle}
 use Rattle.pass_frames_proof.proofs.from_edges.Puts.{put_code, put_is}
-use Rattle.pass_frames_proof.proofs.layers.Grown.{both_becomes}
-use Rattle.pass_frames_proof.proofs.layers.Idle.{all_stay}
-use Rattle.pass_frames_proof.proofs.lines.Fillers.{field_fetched}
-use Rattle.pass_frames_proof.specs.Code.{slot_table}
-use Rattle.pass_frames_proof.specs.Early.{IsCopiedSlot, copies_line}
-use Rattle.pass_frames_proof.specs.Layers.{Layer, becomes, grown, only}
-use Rattle.pass_frames_proof.specs.Passes.{fetching_at}
-use Rattle.pass_frames_proof.specs.Places.{Framing, addressing_layer, offsets, unmarked}
-use Rattle.pass_proofs.specs.pass_intrinsics.Lowered.{number_arg, pointer_arg}
-use Rattle.pass_proofs.specs.run_laws.changed.Changed.{Each}
+use Rattle.pass_frames_steps.proofs.layers.Grown.{both_becomes}
+use Rattle.pass_frames_steps.proofs.layers.Idle.{all_stay}
+use Rattle.pass_frames_steps.proofs.lines.Fillers.{field_fetched}
+use Rattle.pass_frames_steps.specs.Code.{slot_table}
+use Rattle.pass_frames_steps.specs.Early.{IsCopiedSlot, copies_line}
+use Rattle.pass_frames_steps.specs.Layers.{Layer, becomes, grown, only}
+use Rattle.pass_frames_steps.specs.Passes.{fetching_at}
+use Rattle.pass_frames_steps.specs.Places.{Framing, addressing_layer, offsets, unmarked}
+use Rattle.pass_frames_steps.specs.pass_intrinsics.Lowered.{number_arg, pointer_arg}
+use Rattle.pass_frames_steps.specs.run_laws.changed.Changed.{Each}
 
 -- ---- the code
 

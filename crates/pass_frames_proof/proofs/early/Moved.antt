@@ -2,15 +2,15 @@
 use Rattle.std.proofs.Common.{◌≡◌, ◌+◌, ◌≤◌, ◌∙◌, List, Some, ap, arith, get_or-set_other, length, refl, set, subst, sym, true}
 use Rattle.std.proofs.lemmas.List.{get_or-set_same, length-set}
 use Rattle.std.specs.Prelude.{slice_get}
-use Rattle.pass_frames_proof.specs.Early.{IsCopiedTo, MayComeThere}
-use Rattle.pass_proofs.proofs.run_laws.memory.Homes.{byte_on, move_extends}
-use Rattle.pass_proofs.proofs.run_laws.transfer.Places.{seated}
-use Rattle.pass_proofs.specs.run_laws.memory.Pointers.{Extends, Home, IsByte, home_of, nowhere}
-use Rattle.pass_proofs.specs.run_laws.memory.Standing.{HasRights, Stands, byte_of}
-use Rattle.pass_proofs.specs.run_laws.transfer.Places.{AreStanding, IsApartFrom, MayBeSeen}
-use Rattle.pass_proofs.specs.run_laws.transfer.Ready.{Place, home_at}
-use Rattle.pass_proofs.specs.run_memory.Memory.{Rights, is_live}
-use Rattle.pass_proofs.specs.run_memory.declared.block.MemoryBlock.{MemoryBlock}
+use Rattle.pass_frames_steps.specs.Early.{IsCopiedTo, MayComeThere}
+use Rattle.pass_frames_steps.proofs.run_laws.memory.Homes.{byte_on, move_extends}
+use Rattle.pass_frames_steps.proofs.run_laws.transfer.Places.{seated}
+use Rattle.pass_frames_steps.specs.run_laws.memory.Pointers.{Extends, Home, IsByte, home_of, nowhere}
+use Rattle.pass_frames_steps.specs.run_laws.memory.Standing.{HasRights, Stands, byte_of}
+use Rattle.pass_frames_steps.specs.run_laws.transfer.Places.{AreStanding, IsApartFrom, MayBeSeen}
+use Rattle.pass_frames_steps.specs.run_laws.transfer.Ready.{Place, home_at}
+use Rattle.pass_frames_steps.specs.run_memory.Memory.{Rights, is_live}
+use Rattle.pass_frames_steps.specs.run_memory.declared.block.MemoryBlock.{MemoryBlock}
 
 module _ (rights target : Rights) (homes : List Home) (m n : List MemoryBlock) (p : Place)
     (h : MayComeThere rights target homes m n p) (st : AreStanding rights target homes m n) where

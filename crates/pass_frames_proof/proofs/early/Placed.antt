@@ -1,39 +1,39 @@
 -- Slots that are used before begin lie in the frame, at the offsets of their places among what is held.
 use Rattle.std.proofs.Common.{◌≡◌, ◌≢◌, ◌+◌, ◌<◌, ◌≤◌, ◌^◌, ◌∙◌, ◌∷◌, ◌++◌, [], Bool, List, None, Option, Some, ap, arith, false, inl, inr, length, refl, replicate, subst, suc, sym, true, zero, ℕ, ⊎_elim}
 use Rattle.std.specs.Prelude.{flat_map, if◌then◌else◌, option_to_list, slice_get, ◌==◌, ◌||◌}
-use Rattle.pass_proofs.specs.flow_solver.Paths.{IsListed}
-use Rattle.pass_proofs.specs.frame_classes.declared.class.SlotClass.{SlotClass}
-use Rattle.pass_proofs.specs.frame_contents.Held.{crossing_values, frame_slots, frame_slots_from, held_blocks, held_instr, held_instrs, held_params, held_phis, is_frame, position_from, slot_held}
-use Rattle.pass_proofs.specs.frame_contents.declared.held.Holding.{Holding}
-use Rattle.pass_proofs.specs.frame_layout.declared.layout.FieldKind.{FieldKind}
-use Rattle.pass_proofs.specs.ir_base.declared.name.Name.{Name}
-use Rattle.pass_proofs.proofs.ir_laws.facts.Truth.{equal_numbers, itself}
-use Rattle.pass_proofs.proofs.ir_laws.paths.begin_order.Framed.{get_listed}
-use Rattle.pass_proofs.proofs.ir_laws.paths.source_rules.Locals.{listed_either, listed_left, listed_right}
-use Rattle.pass_proofs.specs.ir_model.declared.instr.Instr.{Instr}
-use Rattle.pass_proofs.specs.ir_model.declared.module.Block.{Block}
-use Rattle.pass_proofs.specs.ir_model.declared.module.Module.{Module}
-use Rattle.pass_proofs.specs.ir_model.declared.operand.Operand.{Operand}
-use Rattle.pass_proofs.proofs.ir_paths.Search.{or_right}
-use Rattle.pass_proofs.specs.ir_paths.Slots.{allocas_in, allocas_of, has_name, promise_of}
-use Rattle.pass_proofs.specs.pass_copies.Slots.{entry_instrs, slot_names}
-use Rattle.pass_proofs.specs.pass_copies.Uses.{flag_at, used_before}
-use Rattle.pass_proofs.specs.pass_copies.declared.slot.EarlySlot.{EarlySlot}
-use Rattle.pass_proofs.specs.pass_fetch.Fetching.{fetch_of}
-use Rattle.pass_proofs.specs.pass_frames.Tables.{class_flags, is_of, is_slot_kind, offset_at, sizes_by_name}
-use Rattle.pass_frames_proof.proofs.code.Left.{Far, far_named, longer}
-use Rattle.pass_frames_proof.proofs.code.Names.{First, blocks_mark, far_left, never, slot_used}
+use Rattle.pass_frames_steps.specs.flow_solver.Paths.{IsListed}
+use Rattle.pass_frames_steps.specs.frame_classes.declared.class.SlotClass.{SlotClass}
+use Rattle.pass_frames_steps.specs.frame_contents.Held.{crossing_values, frame_slots, frame_slots_from, held_blocks, held_instr, held_instrs, held_params, held_phis, is_frame, position_from, slot_held}
+use Rattle.pass_frames_steps.specs.frame_contents.declared.held.Holding.{Holding}
+use Rattle.pass_frames_steps.specs.frame_layout.declared.layout.FieldKind.{FieldKind}
+use Rattle.pass_frames_steps.specs.ir_base.declared.name.Name.{Name}
+use Rattle.pass_frames_steps.proofs.ir_laws.facts.Truth.{equal_numbers, itself}
+use Rattle.pass_frames_steps.proofs.ir_laws.paths.begin_order.Framed.{get_listed}
+use Rattle.pass_frames_steps.proofs.ir_laws.paths.source_rules.Locals.{listed_either, listed_left, listed_right}
+use Rattle.pass_frames_steps.specs.ir_model.declared.instr.Instr.{Instr}
+use Rattle.pass_frames_steps.specs.ir_model.declared.module.Block.{Block}
+use Rattle.pass_frames_steps.specs.ir_model.declared.module.Module.{Module}
+use Rattle.pass_frames_steps.specs.ir_model.declared.operand.Operand.{Operand}
+use Rattle.pass_frames_steps.proofs.ir_paths.Search.{or_right}
+use Rattle.pass_frames_steps.specs.ir_paths.Slots.{allocas_in, allocas_of, has_name, promise_of}
+use Rattle.pass_frames_steps.specs.pass_copies.Slots.{entry_instrs, slot_names}
+use Rattle.pass_frames_steps.specs.pass_copies.Uses.{flag_at, used_before}
+use Rattle.pass_frames_steps.specs.pass_copies.declared.slot.EarlySlot.{EarlySlot}
+use Rattle.pass_frames_steps.specs.pass_fetch.Fetching.{fetch_of}
+use Rattle.pass_frames_steps.specs.pass_frames.Tables.{class_flags, is_of, is_slot_kind, offset_at, sizes_by_name}
+use Rattle.pass_frames_steps.proofs.code.Left.{Far, far_named, longer}
+use Rattle.pass_frames_steps.proofs.code.Names.{First, blocks_mark, far_left, never, slot_used}
 use Rattle.pass_frames_proof.proofs.from_edges.Front.{listed_contains}
-use Rattle.pass_frames_proof.proofs.offsets.Tables.{slots_told}
-use Rattle.pass_frames_proof.proofs.stepping.Names.{edged_named, named_written, slots_new, where_is_name}
-use Rattle.pass_frames_proof.specs.Code.{slot_table}
-use Rattle.pass_frames_proof.specs.Framings.{IsFraming}
-use Rattle.pass_frames_proof.specs.FromEdges.{IsEarlyInFrame}
-use Rattle.pass_frames_proof.specs.Offsets.{AreHeldOnce}
-use Rattle.pass_frames_proof.specs.Places.{Framing, before_labels, copies, named, offsets, with_copies, written}
-use Rattle.pass_proofs.proofs.frames.begin_order.Framed.{alloca_pointer, pointer_low, slot_alloca}
-use Rattle.pass_proofs.proofs.frames.begin_order.Tables.{IsOfClass, slot_flagged}
-use Rattle.pass_proofs.specs.run_laws.changed.Changed.{Each}
+use Rattle.pass_frames_steps.proofs.offsets.Tables.{slots_told}
+use Rattle.pass_frames_steps.proofs.stepping.Names.{edged_named, named_written, slots_new, where_is_name}
+use Rattle.pass_frames_steps.specs.Code.{slot_table}
+use Rattle.pass_frames_steps.specs.Framings.{IsFraming}
+use Rattle.pass_frames_steps.specs.FromEdges.{IsEarlyInFrame}
+use Rattle.pass_frames_steps.specs.Offsets.{AreHeldOnce}
+use Rattle.pass_frames_steps.specs.Places.{Framing, before_labels, copies, named, offsets, with_copies, written}
+use Rattle.pass_frames_steps.proofs.pass_proofs.frames.begin_order.Framed.{alloca_pointer, pointer_low, slot_alloca}
+use Rattle.pass_frames_steps.proofs.pass_proofs.frames.begin_order.Tables.{IsOfClass, slot_flagged}
+use Rattle.pass_frames_steps.specs.run_laws.changed.Changed.{Each}
 
 -- ---- slots that are held
 

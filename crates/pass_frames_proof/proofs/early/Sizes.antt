@@ -2,21 +2,21 @@
 use Rattle.std.proofs.Common.{◌≡◌, ◌+◌, ◌<◌, ◌∙◌, ◌∷◌, ◌++◌, [], Bool, List, Option, Some, ap, arith, false, inl, inr, length, refl, replicate, subst, suc, sym, true, zero, ℕ}
 use Rattle.std.proofs.lemmas.List.{length-replicate}
 use Rattle.std.specs.Prelude.{if◌then◌else◌, slice_get, slice_set, unwrap_or}
-use Rattle.pass_proofs.specs.flow_solver.Paths.{IsListed}
-use Rattle.pass_proofs.specs.frame_classes.declared.class.SlotClass.{SlotClass}
-use Rattle.pass_proofs.specs.frame_contents.declared.held.Holding.{Holding}
-use Rattle.pass_proofs.proofs.ir_laws.facts.Lists.{set_here, set_length, set_other}
-use Rattle.pass_proofs.specs.ir_model.declared.instr.Instr.{Instr}
-use Rattle.pass_proofs.specs.ir_paths.Slots.{allocas_of}
-use Rattle.pass_proofs.specs.pass_copies.Slots.{early_slot, entry_instrs, slots_from}
-use Rattle.pass_proofs.specs.pass_copies.Uses.{flag_at}
-use Rattle.pass_proofs.specs.pass_copies.declared.slot.EarlySlot.{EarlySlot}
-use Rattle.pass_proofs.specs.pass_frames.Tables.{class_flags, is_of, sizes_by_name, with_sizes, with_slots}
+use Rattle.pass_frames_steps.specs.flow_solver.Paths.{IsListed}
+use Rattle.pass_frames_steps.specs.frame_classes.declared.class.SlotClass.{SlotClass}
+use Rattle.pass_frames_steps.specs.frame_contents.declared.held.Holding.{Holding}
+use Rattle.pass_frames_steps.proofs.ir_laws.facts.Lists.{set_here, set_length, set_other}
+use Rattle.pass_frames_steps.specs.ir_model.declared.instr.Instr.{Instr}
+use Rattle.pass_frames_steps.specs.ir_paths.Slots.{allocas_of}
+use Rattle.pass_frames_steps.specs.pass_copies.Slots.{early_slot, entry_instrs, slots_from}
+use Rattle.pass_frames_steps.specs.pass_copies.Uses.{flag_at}
+use Rattle.pass_frames_steps.specs.pass_copies.declared.slot.EarlySlot.{EarlySlot}
+use Rattle.pass_frames_steps.specs.pass_frames.Tables.{class_flags, is_of, sizes_by_name, with_sizes, with_slots}
 use Rattle.pass_frames_proof.proofs.early.Placed.{each_listed, flagged_slot, used}
-use Rattle.pass_frames_proof.specs.Early.{IsOfField}
-use Rattle.pass_frames_proof.specs.Offsets.{AreHeldOnce}
-use Rattle.pass_frames_proof.specs.Places.{Framing, copies, written}
-use Rattle.pass_proofs.specs.run_laws.changed.Changed.{Each}
+use Rattle.pass_frames_steps.specs.Early.{IsOfField}
+use Rattle.pass_frames_steps.specs.Offsets.{AreHeldOnce}
+use Rattle.pass_frames_steps.specs.Places.{Framing, copies, written}
+use Rattle.pass_frames_steps.specs.run_laws.changed.Changed.{Each}
 
 -- ---- the table of sizes
 

@@ -1,22 +1,22 @@
 -- Accesses before begin alone go by the cells of addresses.
 use Rattle.std.proofs.Common.{◌≡◌, ◌∙◌, [], Bool, List, None, Option, Some, ap, false, refl, true, ℕ}
 use Rattle.std.specs.Prelude.{if◌then◌else◌, ◌&&◌}
-use Rattle.pass_proofs.specs.ir_model.declared.instr.Instr.{Instr}
-use Rattle.pass_proofs.specs.ir_model.declared.operand.Callee.{Callee}
-use Rattle.pass_proofs.specs.ir_model.declared.operand.Intrinsic.{Intrinsic}
-use Rattle.pass_proofs.specs.ir_model.declared.operand.Operand.{Operand}
-use Rattle.pass_proofs.specs.ir_parts.Contents.{callee_operands, instr_operands}
-use Rattle.pass_proofs.specs.pass_cells.Cells.{fetches_of}
-use Rattle.pass_proofs.specs.pass_copies.Uses.{is_access}
-use Rattle.pass_proofs.specs.pass_fetch.Fetching.{callee_by, fetch_of, fetched_args, fetches_of_all, next_after_all}
-use Rattle.pass_proofs.specs.pass_fetch.Instrs.{with_fetched}
-use Rattle.pass_proofs.specs.pass_fetch.declared.fetch.Fetch.{Fetch}
-use Rattle.pass_frames_proof.proofs.code.Idle.{instr_same}
-use Rattle.pass_frames_proof.specs.Code.{is_ahead, load_name, loaded, where_name}
-use Rattle.pass_frames_proof.specs.Places.{Framing, Placed, copies, plan}
-use Rattle.pass_frames_proof.specs.Stepping.{IsUnlocated}
-use Rattle.pass_proofs.proofs.fetch.shape.Fetching.{none_fetched}
-use Rattle.pass_proofs.specs.fetch.rules.Fetches.{AreUnfetched}
+use Rattle.pass_frames_steps.specs.ir_model.declared.instr.Instr.{Instr}
+use Rattle.pass_frames_steps.specs.ir_model.declared.operand.Callee.{Callee}
+use Rattle.pass_frames_steps.specs.ir_model.declared.operand.Intrinsic.{Intrinsic}
+use Rattle.pass_frames_steps.specs.ir_model.declared.operand.Operand.{Operand}
+use Rattle.pass_frames_steps.specs.ir_parts.Contents.{callee_operands, instr_operands}
+use Rattle.pass_frames_steps.specs.pass_cells.Cells.{fetches_of}
+use Rattle.pass_frames_steps.specs.pass_copies.Uses.{is_access}
+use Rattle.pass_frames_steps.specs.pass_fetch.Fetching.{callee_by, fetch_of, fetched_args, fetches_of_all, next_after_all}
+use Rattle.pass_frames_steps.specs.pass_fetch.Instrs.{with_fetched}
+use Rattle.pass_frames_steps.specs.pass_fetch.declared.fetch.Fetch.{Fetch}
+use Rattle.pass_frames_steps.proofs.code.Idle.{instr_same}
+use Rattle.pass_frames_steps.specs.Code.{is_ahead, load_name, loaded, where_name}
+use Rattle.pass_frames_steps.specs.Places.{Framing, Placed, copies, plan}
+use Rattle.pass_frames_steps.specs.Stepping.{IsUnlocated}
+use Rattle.pass_frames_steps.proofs.pass_proofs.fetch.shape.Fetching.{none_fetched}
+use Rattle.pass_frames_steps.specs.pass_proofs.fetch.rules.Fetches.{AreUnfetched}
 
 -- what is fetched makes an access of nothing else
 pub access_same : (t : List (Option Fetch)) (n : ℕ) (i : Instr) → is_access (with_fetched t n i) ≡ is_access i

@@ -1,60 +1,60 @@
 -- coro.end is followed: a resumed activation leads back to its resumer, and a ramp goes on behind it.
-use Rattle.pass_proofs.specs.run_step.Values.{truth_value, with_result}
+use Rattle.pass_frames_steps.specs.run_step.Values.{truth_value, with_result}
 use Rattle.pass_frames_proof.proofs.returning.Results.{result_given}
 use Rattle.std.proofs.Common.{◌≡◌, ◌⊎◌, inl, inr, ⊎_elim, ℕ, suc, ◌+◌, ◌-◌, ◌<◌, ◌≤◌, Bool, true, false, List, [], ◌∷◌, length, refl, sym, ap, ◌∙◌, subst, arith}
 use Rattle.std.specs.Option.{option_map_or}
 use Rattle.std.specs.Prelude.{None, Ok, Option, Some, slice_get, slice_set, option_and_then, option_map, ◌&&◌, ◌==◌, if◌then◌else◌}
-use Rattle.pass_proofs.specs.flow_solver.Paths.{IsListed}
-use Rattle.pass_proofs.proofs.ir_laws.facts.Truth.{is_number}
+use Rattle.pass_frames_steps.specs.flow_solver.Paths.{IsListed}
+use Rattle.pass_frames_steps.proofs.ir_laws.facts.Truth.{is_number}
 use Rattle.pass_frames_proof.proofs.returning.Deaths.{WasThere, dead_there, is_among, kept_there, was_there}
-use Rattle.pass_proofs.specs.run_memory.Memory.{is_killed, killed_block}
-use Rattle.pass_proofs.specs.ir_base.declared.outcome.Outcome.{Outcome}
-use Rattle.pass_proofs.specs.ir_model.Ty.{Ty}
-use Rattle.pass_proofs.specs.ir_model.declared.instr.Instr.{Instr}
-use Rattle.pass_proofs.specs.ir_model.declared.module.Function.{Function}
-use Rattle.pass_proofs.specs.ir_model.declared.operand.Arg.{Arg}
-use Rattle.pass_proofs.specs.ir_model.declared.operand.Intrinsic.{Intrinsic}
-use Rattle.pass_proofs.specs.ir_paths.declared.point.Point.{Point}
-use Rattle.pass_proofs.specs.pass_cells.Cells.{fetches_of}
-use Rattle.pass_proofs.specs.pass_fetch.Fetching.{fetched_args}
+use Rattle.pass_frames_steps.specs.run_memory.Memory.{is_killed, killed_block}
+use Rattle.pass_frames_steps.specs.ir_base.declared.outcome.Outcome.{Outcome}
+use Rattle.pass_frames_steps.specs.ir_model.Ty.{Ty}
+use Rattle.pass_frames_steps.specs.ir_model.declared.instr.Instr.{Instr}
+use Rattle.pass_frames_steps.specs.ir_model.declared.module.Function.{Function}
+use Rattle.pass_frames_steps.specs.ir_model.declared.operand.Arg.{Arg}
+use Rattle.pass_frames_steps.specs.ir_model.declared.operand.Intrinsic.{Intrinsic}
+use Rattle.pass_frames_steps.specs.ir_paths.declared.point.Point.{Point}
+use Rattle.pass_frames_steps.specs.pass_cells.Cells.{fetches_of}
+use Rattle.pass_frames_steps.specs.pass_fetch.Fetching.{fetched_args}
 use Rattle.pass_frames_proof.proofs.ending.Finishing.{finished, over_now}
-use Rattle.pass_frames_proof.proofs.followed.Assembly.{other_instance}
-use Rattle.pass_frames_proof.proofs.lined.Lines.{framed_does}
+use Rattle.pass_frames_steps.proofs.followed.Assembly.{other_instance}
+use Rattle.pass_frames_steps.proofs.lined.Lines.{framed_does}
 use Rattle.pass_frames_proof.proofs.returning.Back.{GoesBack, goes_back, on_top}
 use Rattle.pass_frames_proof.proofs.returning.Behind.{CallStands, call_stands}
 use Rattle.pass_frames_proof.proofs.returning.Owned.{slots_owned}
-use Rattle.pass_frames_proof.proofs.stepping.Doing.{at_place, code_framed, fetched_is}
-use Rattle.pass_frames_proof.proofs.stepping.Fronted as fronted
-use Rattle.pass_frames_proof.proofs.stepping.Landing.{landed}
-use Rattle.pass_frames_proof.proofs.stepping.Onward.{EndsUp, onward_within}
-use Rattle.pass_renewed_proof.proofs.Listing.{set_here, set_other}
-use Rattle.pass_frames_proof.proofs.stepping.Stands.{cost_is, renewed_does}
-use Rattle.pass_frames_proof.specs.Code.{address_state, load_name, slot_table}
-use Rattle.pass_frames_proof.specs.Ending.{GoesOnPast, IsAtEnd, LeadsBack, end_call}
-use Rattle.pass_frames_proof.specs.Followed.{IsFollowed, IsOn}
-use Rattle.pass_frames_proof.specs.Framings.{IsFraming}
-use Rattle.pass_frames_proof.specs.Lined.{lined}
-use Rattle.pass_frames_proof.specs.Meaning.{action_at, behind_cost, coroutine_cost, other_cost, step_cost, behind_at}
-use Rattle.pass_frames_proof.specs.Places.{Framing, Placed, framed, own_place, place, plan}
-use Rattle.pass_frames_proof.specs.Related.{AreBuiltOf, AreInstances, Building, point_of, below_place, behind_place, is_first, top_place}
-use Rattle.pass_frames_proof.specs.Returning.{HasOwnSlots, HasSlotKinds, HasSlotsListed, IsAmong, is_own_kind, IsGivenBehind, behind_state}
-use Rattle.pass_frames_proof.specs.Stepping.{AreGiven, placed_front, state_in}
-use Rattle.pass_renewed_proof.specs.Renewed.{RenewedGiven, renewed_step}
-use Rattle.pass_proofs.specs.run_agreement.Machines.{iterate}
-use Rattle.pass_proofs.specs.run_framed.Framed.{disown_given, framed_context, framed_finish, framed_step, is_stack_block}
-use Rattle.pass_proofs.specs.run_memory.Memory.{disown, same_kind}
-use Rattle.pass_proofs.specs.run_memory.declared.block.Kind.{Kind}
-use Rattle.pass_proofs.specs.run_memory.declared.block.MemoryBlock.{MemoryBlock}
-use Rattle.pass_proofs.specs.run_source.Source.{after_end, change_own, context_of, end_of, finish, slots_of}
-use Rattle.pass_proofs.specs.run_source.State.{function_of, numbered, or_undefined, own_instance, with_memory, work_of, gives}
-use Rattle.pass_proofs.specs.run_source.declared.state.Activation.{Activation}
-use Rattle.pass_proofs.specs.run_source.declared.state.Instance.{Instance}
-use Rattle.pass_proofs.specs.run_source.declared.state.Mode.{Mode}
-use Rattle.pass_proofs.specs.run_source.declared.state.State.{State}
-use Rattle.pass_proofs.specs.run_source.declared.state.Status.{Status}
-use Rattle.pass_proofs.specs.run_step.Step.{AtInstr, Context, Coro, Work, action_of, fetch, without_slots}
-use Rattle.pass_proofs.specs.run_step.declared.world.Slot.{Slot}
-use Rattle.pass_proofs.specs.run_step.declared.world.World.{World}
+use Rattle.pass_frames_steps.proofs.stepping.Doing.{at_place, code_framed, fetched_is}
+use Rattle.pass_frames_steps.proofs.stepping.Fronted as fronted
+use Rattle.pass_frames_steps.proofs.stepping.Landing.{landed}
+use Rattle.pass_frames_steps.proofs.stepping.Onward.{EndsUp, onward_within}
+use Rattle.pass_frames_steps.proofs.pass_renewed_proof.Listing.{set_here, set_other}
+use Rattle.pass_frames_steps.proofs.stepping.Stands.{cost_is, renewed_does}
+use Rattle.pass_frames_steps.specs.Code.{address_state, load_name, slot_table}
+use Rattle.pass_frames_steps.specs.Ending.{GoesOnPast, IsAtEnd, LeadsBack, end_call}
+use Rattle.pass_frames_steps.specs.Followed.{IsFollowed, IsOn}
+use Rattle.pass_frames_steps.specs.Framings.{IsFraming}
+use Rattle.pass_frames_steps.specs.Lined.{lined}
+use Rattle.pass_frames_steps.specs.Meaning.{action_at, behind_cost, coroutine_cost, other_cost, step_cost, behind_at}
+use Rattle.pass_frames_steps.specs.Places.{Framing, Placed, framed, own_place, place, plan}
+use Rattle.pass_frames_steps.specs.Related.{AreBuiltOf, AreInstances, Building, point_of, below_place, behind_place, is_first, top_place}
+use Rattle.pass_frames_steps.specs.Returning.{HasOwnSlots, HasSlotKinds, HasSlotsListed, IsAmong, is_own_kind, IsGivenBehind, behind_state}
+use Rattle.pass_frames_steps.specs.Stepping.{AreGiven, placed_front, state_in}
+use Rattle.pass_frames_steps.specs.pass_renewed_proof.Renewed.{RenewedGiven, renewed_step}
+use Rattle.pass_frames_steps.specs.run_agreement.Machines.{iterate}
+use Rattle.pass_frames_steps.specs.run_framed.Framed.{disown_given, framed_context, framed_finish, framed_step, is_stack_block}
+use Rattle.pass_frames_steps.specs.run_memory.Memory.{disown, same_kind}
+use Rattle.pass_frames_steps.specs.run_memory.declared.block.Kind.{Kind}
+use Rattle.pass_frames_steps.specs.run_memory.declared.block.MemoryBlock.{MemoryBlock}
+use Rattle.pass_frames_steps.specs.run_source.Source.{after_end, change_own, context_of, end_of, finish, slots_of}
+use Rattle.pass_frames_steps.specs.run_source.State.{function_of, numbered, or_undefined, own_instance, with_memory, work_of, gives}
+use Rattle.pass_frames_steps.specs.run_source.declared.state.Activation.{Activation}
+use Rattle.pass_frames_steps.specs.run_source.declared.state.Instance.{Instance}
+use Rattle.pass_frames_steps.specs.run_source.declared.state.Mode.{Mode}
+use Rattle.pass_frames_steps.specs.run_source.declared.state.State.{State}
+use Rattle.pass_frames_steps.specs.run_source.declared.state.Status.{Status}
+use Rattle.pass_frames_steps.specs.run_step.Step.{AtInstr, Context, Coro, Work, action_of, fetch, without_slots}
+use Rattle.pass_frames_steps.specs.run_step.declared.world.Slot.{Slot}
+use Rattle.pass_frames_steps.specs.run_step.declared.world.World.{World}
 
 -- ---- what finishing is
 

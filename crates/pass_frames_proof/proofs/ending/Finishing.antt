@@ -1,31 +1,31 @@
 -- At the end of a coroutine its instance is over in both runs, and its slots die in the first one.
 use Rattle.std.proofs.Common.{◌≡◌, ◌⊎◌, inl, inr, ⊎_elim, ℕ, ◌<◌, true, List, [], ◌∷◌, length, refl, sym, ap, ◌∙◌, subst, arith}
 use Rattle.std.specs.Prelude.{None, Option, Some, option_map, slice_get, slice_set}
-use Rattle.pass_proofs.proofs.ir_laws.facts.Lists.{get_within}
-use Rattle.pass_proofs.specs.ir_model.Ty.{Ty}
-use Rattle.pass_frames_proof.proofs.moved.Instances.{one_related}
+use Rattle.pass_frames_steps.proofs.ir_laws.facts.Lists.{get_within}
+use Rattle.pass_frames_steps.specs.ir_model.Ty.{Ty}
+use Rattle.pass_frames_steps.proofs.moved.Instances.{one_related}
 use Rattle.pass_frames_proof.proofs.returning.Deaths.{fewer, living, slot_among, was_there, without_length}
-use Rattle.pass_frames_proof.proofs.stepping.Rest.{seen_known}
-use Rattle.pass_frames_proof.proofs.stepping.Stored.{muted_is}
-use Rattle.pass_frames_proof.specs.Framings.{IsFraming}
-use Rattle.pass_frames_proof.specs.Places.{Framing}
-use Rattle.pass_frames_proof.specs.Related.{AreAllAhead, AreBuiltOf, AreFreeCells, AreInstances, AreMates, Building, IsAhead, IsFreeOf, is_coroutine, is_slot}
-use Rattle.pass_frames_proof.specs.Returning.{IsAmong}
-use Rattle.pass_proofs.specs.run_framed.Framed.{frame_rights}
-use Rattle.pass_proofs.proofs.run_laws.transfer.Places.{fewer_stand}
-use Rattle.pass_proofs.specs.run_laws.embedded.Making.{whole_home}
-use Rattle.pass_proofs.specs.run_laws.memory.Pointers.{Home, home_of}
-use Rattle.pass_proofs.specs.run_laws.transfer.Muted.{ended_if, muted}
-use Rattle.pass_proofs.specs.run_laws.transfer.Places.{AreStanding}
-use Rattle.pass_proofs.specs.run_laws.transfer.Transfer.{AreOver}
-use Rattle.pass_proofs.specs.run_memory.Memory.{Rights, is_live, owner_rights}
-use Rattle.pass_proofs.specs.run_memory.declared.block.MemoryBlock.{MemoryBlock}
-use Rattle.pass_proofs.specs.run_source.declared.state.Activation.{Activation}
-use Rattle.pass_proofs.specs.run_source.declared.state.Instance.{Instance}
-use Rattle.pass_proofs.specs.run_source.declared.state.State.{State}
-use Rattle.pass_proofs.specs.run_source.declared.state.Status.{Status}
-use Rattle.pass_proofs.specs.run_step.Step.{without_slots}
-use Rattle.pass_proofs.specs.run_step.declared.world.World.{World}
+use Rattle.pass_frames_steps.proofs.stepping.Rest.{seen_known}
+use Rattle.pass_frames_steps.proofs.stepping.Stored.{muted_is}
+use Rattle.pass_frames_steps.specs.Framings.{IsFraming}
+use Rattle.pass_frames_steps.specs.Places.{Framing}
+use Rattle.pass_frames_steps.specs.Related.{AreAllAhead, AreBuiltOf, AreFreeCells, AreInstances, AreMates, Building, IsAhead, IsFreeOf, is_coroutine, is_slot}
+use Rattle.pass_frames_steps.specs.Returning.{IsAmong}
+use Rattle.pass_frames_steps.specs.run_framed.Framed.{frame_rights}
+use Rattle.pass_frames_steps.proofs.run_laws.transfer.Places.{fewer_stand}
+use Rattle.pass_frames_steps.specs.run_laws.embedded.Making.{whole_home}
+use Rattle.pass_frames_steps.specs.run_laws.memory.Pointers.{Home, home_of}
+use Rattle.pass_frames_steps.specs.run_laws.transfer.Muted.{ended_if, muted}
+use Rattle.pass_frames_steps.specs.run_laws.transfer.Places.{AreStanding}
+use Rattle.pass_frames_steps.specs.run_laws.transfer.Transfer.{AreOver}
+use Rattle.pass_frames_steps.specs.run_memory.Memory.{Rights, is_live, owner_rights}
+use Rattle.pass_frames_steps.specs.run_memory.declared.block.MemoryBlock.{MemoryBlock}
+use Rattle.pass_frames_steps.specs.run_source.declared.state.Activation.{Activation}
+use Rattle.pass_frames_steps.specs.run_source.declared.state.Instance.{Instance}
+use Rattle.pass_frames_steps.specs.run_source.declared.state.State.{State}
+use Rattle.pass_frames_steps.specs.run_source.declared.state.Status.{Status}
+use Rattle.pass_frames_steps.specs.run_step.Step.{without_slots}
+use Rattle.pass_frames_steps.specs.run_step.declared.world.World.{World}
 
 -- ---- slots of an instance die in the first run alone: none of them has a block of its own
 

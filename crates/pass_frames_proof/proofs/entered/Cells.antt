@@ -4,30 +4,30 @@ use Rattle.std.proofs.Math.Seq.{take-length}
 use Rattle.std.proofs.lemmas.List.{length-replicate}
 use Rattle.std.specs.List.{Contains}
 use Rattle.std.specs.Prelude.{None, Option, Some, option_and_then, slice_get, if◌then◌else◌, ◌&&◌, ◌==◌}
-use Rattle.pass_proofs.specs.flow_solver.Paths.{IsListed}
-use Rattle.pass_proofs.proofs.ir_laws.facts.Truth.{and_both, and_first, equal_numbers}
-use Rattle.pass_proofs.specs.ir_model.Layout.{size_of}
-use Rattle.pass_proofs.specs.ir_model.Ty.{Ty}
-use Rattle.pass_proofs.specs.ir_model.declared.module.Function.{Function}
-use Rattle.pass_proofs.specs.ir_model.declared.module.Module.{Module}
-use Rattle.pass_proofs.specs.pass_fetch.Fetching.{value_bytes}
-use Rattle.pass_frames_proof.specs.Entered.{IsThere, Made, alloca_block}
-use Rattle.pass_frames_proof.specs.Related.{Anything, IsCell}
-use Rattle.pass_proofs.specs.run_framed.Framed.{FramedGiven, covers, frame_rights, is_open, is_open_byte, judge_of, layout_of, meets_in}
-use Rattle.pass_proofs.specs.run_laws.access.Lines.{Holds}
-use Rattle.pass_proofs.specs.run_laws.memory.Standing.{IsAlignment}
-use Rattle.pass_proofs.specs.run_memory.Memory.{is_live, meets, same_kind}
-use Rattle.pass_proofs.specs.run_memory.declared.block.Byte.{Byte}
-use Rattle.pass_proofs.specs.run_memory.declared.block.Kind.{Kind}
-use Rattle.pass_proofs.specs.run_memory.declared.block.Life.{Life}
-use Rattle.pass_proofs.specs.run_memory.declared.block.MemoryBlock.{MemoryBlock}
-use Rattle.pass_proofs.specs.run_source.Indexes.{last_from, or_else}
-use Rattle.pass_proofs.specs.run_source.State.{numbered}
-use Rattle.pass_proofs.specs.run_source.declared.state.Activation.{Activation}
-use Rattle.pass_proofs.specs.run_source.declared.state.Instance.{Instance}
-use Rattle.pass_proofs.specs.run_step.Step.{alloca_kind, has_markers}
-use Rattle.pass_proofs.specs.run_step.Values.{Env, value_in}
-use Rattle.pass_proofs.specs.run_step.declared.world.Slot.{Slot}
+use Rattle.pass_frames_steps.specs.flow_solver.Paths.{IsListed}
+use Rattle.pass_frames_steps.proofs.ir_laws.facts.Truth.{and_both, and_first, equal_numbers}
+use Rattle.pass_frames_steps.specs.ir_model.Layout.{size_of}
+use Rattle.pass_frames_steps.specs.ir_model.Ty.{Ty}
+use Rattle.pass_frames_steps.specs.ir_model.declared.module.Function.{Function}
+use Rattle.pass_frames_steps.specs.ir_model.declared.module.Module.{Module}
+use Rattle.pass_frames_steps.specs.pass_fetch.Fetching.{value_bytes}
+use Rattle.pass_frames_steps.specs.Entered.{IsThere, Made, alloca_block}
+use Rattle.pass_frames_steps.specs.Related.{Anything, IsCell}
+use Rattle.pass_frames_steps.specs.run_framed.Framed.{FramedGiven, covers, frame_rights, is_open, is_open_byte, judge_of, layout_of, meets_in}
+use Rattle.pass_frames_steps.specs.run_laws.access.Lines.{Holds}
+use Rattle.pass_frames_steps.specs.run_laws.memory.Standing.{IsAlignment}
+use Rattle.pass_frames_steps.specs.run_memory.Memory.{is_live, meets, same_kind}
+use Rattle.pass_frames_steps.specs.run_memory.declared.block.Byte.{Byte}
+use Rattle.pass_frames_steps.specs.run_memory.declared.block.Kind.{Kind}
+use Rattle.pass_frames_steps.specs.run_memory.declared.block.Life.{Life}
+use Rattle.pass_frames_steps.specs.run_memory.declared.block.MemoryBlock.{MemoryBlock}
+use Rattle.pass_frames_steps.specs.run_source.Indexes.{last_from, or_else}
+use Rattle.pass_frames_steps.specs.run_source.State.{numbered}
+use Rattle.pass_frames_steps.specs.run_source.declared.state.Activation.{Activation}
+use Rattle.pass_frames_steps.specs.run_source.declared.state.Instance.{Instance}
+use Rattle.pass_frames_steps.specs.run_step.Step.{alloca_kind, has_markers}
+use Rattle.pass_frames_steps.specs.run_step.Values.{Env, value_in}
+use Rattle.pass_frames_steps.specs.run_step.declared.world.Slot.{Slot}
 
 le_true : (a b : ℕ) → a ≤ b → nat_le a b ≡ true
 le_true a b le = grind arith

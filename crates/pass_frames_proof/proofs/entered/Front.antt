@@ -2,34 +2,34 @@
 use Rattle.std.proofs.Common.{◌≡◌, ◌≢◌, inl, inr, ℕ, zero, suc, ◌<◌, ◌≤◌, List, [], ◌∷◌, ◌++◌, length, refl, sym, ap, ◌∙◌, subst, arith}
 use Rattle.std.specs.List.{Contains}
 use Rattle.std.specs.Prelude.{None, slice_index_or}
-use Rattle.pass_proofs.specs.flow_solver.Paths.{IsListed}
-use Rattle.pass_proofs.proofs.ir_laws.facts.Members.{each_joined, each_turns}
-use Rattle.pass_proofs.specs.ir_laws.paths.woven_rules.Pairs.{AreDifferent}
-use Rattle.pass_proofs.specs.ir_model.Ty.{Ty, int, ptr}
-use Rattle.pass_proofs.specs.pass_cells.Written.{stored_params}
-use Rattle.pass_proofs.specs.pass_copies.declared.slot.EarlySlot.{EarlySlot}
-use Rattle.pass_frames_proof.proofs.entry.Params.{params_stored}
-use Rattle.pass_frames_proof.proofs.entry.Puts.{puts_done}
-use Rattle.pass_frames_proof.proofs.lines.Cells.{cell_has, cell_stays, other_block}
-use Rattle.pass_frames_proof.proofs.lines.Filled.{over_joined}
-use Rattle.pass_frames_proof.proofs.lines.Names.{distance_of}
-use Rattle.pass_frames_proof.proofs.lines.Results.{kept_is_cell}
-use Rattle.pass_frames_proof.proofs.stepping.Names.{named_written, slots_new}
-use Rattle.pass_frames_proof.specs.Entered.{IsEntryName, IsEntryStored, temporary_of}
-use Rattle.pass_frames_proof.specs.Entry.{ArePut, MayPut, cells_of, puts_of}
-use Rattle.pass_frames_proof.specs.Framings.{IsFraming}
-use Rattle.pass_frames_proof.specs.Lines.{HasOwnBlocks, IsCellOf, at_work}
-use Rattle.pass_frames_proof.specs.Places.{Framing, copies, edged, named, plan, written}
-use Rattle.pass_frames_proof.specs.Related.{Anything, AreCellsThere, AreWheresRight, IsCell, IsWhere}
-use Rattle.pass_frames_proof.specs.Stores.{AreNamesStored, IsNameGiven, given_params}
-use Rattle.pass_proofs.specs.run_laws.access.Accessed.{Span}
-use Rattle.pass_proofs.specs.run_laws.changed.Changed.{Each}
-use Rattle.pass_proofs.specs.run_laws.memory.Pointers.{Home, IsValue}
-use Rattle.pass_proofs.specs.run_laws.memory.Standing.{AreByteRights}
-use Rattle.pass_proofs.specs.run_memory.declared.pointer.Value.{Value}
-use Rattle.pass_proofs.specs.run_source.declared.state.Activation.{Activation}
-use Rattle.pass_proofs.specs.run_step.Step.{Context, Work, entry_values}
-use Rattle.pass_proofs.specs.run_step.Values.{Env, value_in}
+use Rattle.pass_frames_steps.specs.flow_solver.Paths.{IsListed}
+use Rattle.pass_frames_steps.proofs.ir_laws.facts.Members.{each_joined, each_turns}
+use Rattle.pass_frames_steps.specs.ir_laws.paths.woven_rules.Pairs.{AreDifferent}
+use Rattle.pass_frames_steps.specs.ir_model.Ty.{Ty, int, ptr}
+use Rattle.pass_frames_steps.specs.pass_cells.Written.{stored_params}
+use Rattle.pass_frames_steps.specs.pass_copies.declared.slot.EarlySlot.{EarlySlot}
+use Rattle.pass_frames_steps.proofs.entry.Params.{params_stored}
+use Rattle.pass_frames_steps.proofs.entry.Puts.{puts_done}
+use Rattle.pass_frames_steps.proofs.lines.Cells.{cell_has, cell_stays, other_block}
+use Rattle.pass_frames_steps.proofs.lines.Filled.{over_joined}
+use Rattle.pass_frames_steps.proofs.lines.Names.{distance_of}
+use Rattle.pass_frames_steps.proofs.lines.Results.{kept_is_cell}
+use Rattle.pass_frames_steps.proofs.stepping.Names.{named_written, slots_new}
+use Rattle.pass_frames_steps.specs.Entered.{IsEntryName, IsEntryStored, temporary_of}
+use Rattle.pass_frames_steps.specs.Entry.{ArePut, MayPut, cells_of, puts_of}
+use Rattle.pass_frames_steps.specs.Framings.{IsFraming}
+use Rattle.pass_frames_steps.specs.Lines.{HasOwnBlocks, IsCellOf, at_work}
+use Rattle.pass_frames_steps.specs.Places.{Framing, copies, edged, named, plan, written}
+use Rattle.pass_frames_steps.specs.Related.{Anything, AreCellsThere, AreWheresRight, IsCell, IsWhere}
+use Rattle.pass_frames_steps.specs.Stores.{AreNamesStored, IsNameGiven, given_params}
+use Rattle.pass_frames_steps.specs.run_laws.access.Accessed.{Span}
+use Rattle.pass_frames_steps.specs.run_laws.changed.Changed.{Each}
+use Rattle.pass_frames_steps.specs.run_laws.memory.Pointers.{Home, IsValue}
+use Rattle.pass_frames_steps.specs.run_laws.memory.Standing.{AreByteRights}
+use Rattle.pass_frames_steps.specs.run_memory.declared.pointer.Value.{Value}
+use Rattle.pass_frames_steps.specs.run_source.declared.state.Activation.{Activation}
+use Rattle.pass_frames_steps.specs.run_step.Step.{Context, Work, entry_values}
+use Rattle.pass_frames_steps.specs.run_step.Values.{Env, value_in}
 
 each_at : (P : EarlySlot → Type 0) (ss : List EarlySlot) → Each P ss → (s : EarlySlot) (k : ℕ) → k < length ss
     → slice_index_or ss k s ≡ s → P s

@@ -1,19 +1,19 @@
 -- Stores into new blocks leave all others, and nothing is seen.
 use Rattle.std.proofs.Common.{◌≡◌, ℕ, ◌<◌, List, [], ◌∷◌, sym, ap, ◌∙◌, subst, arith}
-use Rattle.pass_proofs.specs.ir_model.declared.instr.Instr.{Instr}
-use Rattle.pass_proofs.specs.ir_model.declared.operand.Operand.{Operand}
+use Rattle.pass_frames_steps.specs.ir_model.declared.instr.Instr.{Instr}
+use Rattle.pass_frames_steps.specs.ir_model.declared.operand.Operand.{Operand}
 use Rattle.pass_frames_proof.proofs.jumping.Fronts.{ChangesMemory, store_changes}
-use Rattle.pass_frames_proof.specs.Entered.{IsNewStore, IsOnEntry}
-use Rattle.pass_frames_proof.specs.Led.{RunsThrough}
-use Rattle.pass_proofs.proofs.run_laws.access.Blocks.{others_left}
-use Rattle.pass_proofs.specs.run_laws.access.Accessed.{accessed, led_into}
-use Rattle.pass_proofs.specs.run_laws.access.Changed.{ChangesOnly, IsNoneOf, LeavesOthers}
-use Rattle.pass_proofs.specs.run_laws.access.Lines.{Runs}
-use Rattle.pass_proofs.specs.run_laws.changed.Changed.{Each}
-use Rattle.pass_proofs.specs.run_memory.declared.pointer.Value.{Value}
-use Rattle.pass_proofs.specs.run_step.Step.{AtInstr, Context, Done, Work, instr_action}
-use Rattle.pass_proofs.specs.run_step.Values.{Env, address, value_in}
-use Rattle.pass_proofs.specs.run_step.declared.world.World.{World}
+use Rattle.pass_frames_steps.specs.Entered.{IsNewStore, IsOnEntry}
+use Rattle.pass_frames_steps.specs.Led.{RunsThrough}
+use Rattle.pass_frames_steps.proofs.run_laws.access.Blocks.{others_left}
+use Rattle.pass_frames_steps.specs.run_laws.access.Accessed.{accessed, led_into}
+use Rattle.pass_frames_steps.specs.run_laws.access.Changed.{ChangesOnly, IsNoneOf, LeavesOthers}
+use Rattle.pass_frames_steps.specs.run_laws.access.Lines.{Runs}
+use Rattle.pass_frames_steps.specs.run_laws.changed.Changed.{Each}
+use Rattle.pass_frames_steps.specs.run_memory.declared.pointer.Value.{Value}
+use Rattle.pass_frames_steps.specs.run_step.Step.{AtInstr, Context, Done, Work, instr_action}
+use Rattle.pass_frames_steps.specs.run_step.Values.{Env, address, value_in}
+use Rattle.pass_frames_steps.specs.run_step.declared.world.World.{World}
 
 module _ (d : Context) (env : Env) (w : World) (base : ℕ) where
   one_on : (u v : Work) (j : Instr) → IsNewStore env base j → IsOnEntry env w base u → instr_action d u j ≡ Done v

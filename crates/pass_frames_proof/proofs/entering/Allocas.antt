@@ -1,28 +1,28 @@
 -- The framed run makes allocas in the mode of a resumed activation that enters a label.
 use Rattle.std.proofs.Common.{◌≡◌, ◌+◌, ◌≤◌, ◌==◌, ◌∷◌, ◌++◌, ◌∙◌, [], if◌then◌else◌, Bool, List, None, Option, Some, ap, arith, drop, false, length, refl, subst, suc, sym, take, true, zero, ℕ}
 use Rattle.std.specs.Prelude.{option_map, slice_get}
-use Rattle.pass_proofs.specs.ir_base.declared.cause.Cause.{Cause}
-use Rattle.pass_proofs.specs.ir_model.Layout.{size_of}
-use Rattle.pass_proofs.specs.ir_model.Ty.{Ty}
-use Rattle.pass_proofs.specs.ir_model.declared.instr.Instr.{Instr}
-use Rattle.pass_proofs.specs.ir_model.declared.module.Block.{Block}
-use Rattle.pass_proofs.specs.ir_model.declared.module.Function.{Function}
-use Rattle.pass_frames_proof.proofs.lined.Lines.{framed_does}
-use Rattle.pass_frames_proof.specs.Entering.{IsGoodAlloca, IsMaking, behind_alloca, behind_allocas, entered, made_block}
-use Rattle.pass_proofs.specs.run_agreement.Machines.{iterate}
-use Rattle.pass_proofs.specs.run_framed.Framed.{FramedGiven, alloca_from, alloca_in, alloca_of, at_point, enter_after, framed_context, framed_slot, framed_step, with_mode}
-use Rattle.pass_proofs.specs.run_laws.access.Lines.{StandAt}
-use Rattle.pass_proofs.specs.run_laws.changed.Changed.{Each}
-use Rattle.pass_proofs.specs.run_laws.memory.Standing.{blank_block}
-use Rattle.pass_proofs.specs.run_memory.Memory.{end, ended, with_block}
-use Rattle.pass_proofs.specs.run_memory.declared.block.Life.{Life}
-use Rattle.pass_proofs.specs.run_memory.declared.block.MemoryBlock.{MemoryBlock}
-use Rattle.pass_proofs.specs.run_source.State.{function_of, settled, work_of}
-use Rattle.pass_proofs.specs.run_source.declared.state.Mode.{Mode}
-use Rattle.pass_proofs.specs.run_source.declared.state.State.{State}
-use Rattle.pass_proofs.specs.run_step.Step.{AtInstr, NewSlot, Stuck, Work, alloca, alloca_kind, fetch, fetch_in, fetch_or, has_markers, instr_action, is_alignment}
-use Rattle.pass_proofs.specs.run_step.Values.{pointer_to, with_value}
-use Rattle.pass_proofs.specs.run_step.declared.world.Slot.{Slot}
+use Rattle.pass_frames_steps.specs.ir_base.declared.cause.Cause.{Cause}
+use Rattle.pass_frames_steps.specs.ir_model.Layout.{size_of}
+use Rattle.pass_frames_steps.specs.ir_model.Ty.{Ty}
+use Rattle.pass_frames_steps.specs.ir_model.declared.instr.Instr.{Instr}
+use Rattle.pass_frames_steps.specs.ir_model.declared.module.Block.{Block}
+use Rattle.pass_frames_steps.specs.ir_model.declared.module.Function.{Function}
+use Rattle.pass_frames_steps.proofs.lined.Lines.{framed_does}
+use Rattle.pass_frames_steps.specs.Entering.{IsGoodAlloca, IsMaking, behind_alloca, behind_allocas, entered, made_block}
+use Rattle.pass_frames_steps.specs.run_agreement.Machines.{iterate}
+use Rattle.pass_frames_steps.specs.run_framed.Framed.{FramedGiven, alloca_from, alloca_in, alloca_of, at_point, enter_after, framed_context, framed_slot, framed_step, with_mode}
+use Rattle.pass_frames_steps.specs.run_laws.access.Lines.{StandAt}
+use Rattle.pass_frames_steps.specs.run_laws.changed.Changed.{Each}
+use Rattle.pass_frames_steps.specs.run_laws.memory.Standing.{blank_block}
+use Rattle.pass_frames_steps.specs.run_memory.Memory.{end, ended, with_block}
+use Rattle.pass_frames_steps.specs.run_memory.declared.block.Life.{Life}
+use Rattle.pass_frames_steps.specs.run_memory.declared.block.MemoryBlock.{MemoryBlock}
+use Rattle.pass_frames_steps.specs.run_source.State.{function_of, settled, work_of}
+use Rattle.pass_frames_steps.specs.run_source.declared.state.Mode.{Mode}
+use Rattle.pass_frames_steps.specs.run_source.declared.state.State.{State}
+use Rattle.pass_frames_steps.specs.run_step.Step.{AtInstr, NewSlot, Stuck, Work, alloca, alloca_kind, fetch, fetch_in, fetch_or, has_markers, instr_action, is_alignment}
+use Rattle.pass_frames_steps.specs.run_step.Values.{pointer_to, with_value}
+use Rattle.pass_frames_steps.specs.run_step.declared.world.Slot.{Slot}
 
 -- ---- the first alloca from a position on
 

@@ -2,26 +2,26 @@
 use Rattle.std.proofs.Common.{◌≡◌, ◌⊎◌, ◌+◌, ◌<◌, ◌≤◌, ◌∷◌, ◌++◌, ◌∙◌, [], if◌then◌else◌, List, Some, ap, append-nil, append_assoc, arith, inl, inr, length, length-append, map, refl, subst, suc, sym, zero, ℕ, ⊎_elim}
 use Rattle.std.specs.List.{Contains}
 use Rattle.std.specs.Prelude.{slice_get}
-use Rattle.pass_proofs.specs.flow_solver.Paths.{IsListed}
-use Rattle.pass_proofs.specs.ir_laws.paths.woven_rules.Pairs.{AreDifferent}
-use Rattle.pass_proofs.specs.ir_model.Layout.{size_of}
-use Rattle.pass_proofs.specs.ir_model.Ty.{Ty}
-use Rattle.pass_proofs.specs.ir_model.declared.instr.Instr.{Instr}
-use Rattle.pass_proofs.specs.ir_model.declared.module.Function.{Function}
-use Rattle.pass_proofs.specs.ir_paths.Slots.{allocas_in}
-use Rattle.pass_frames_proof.proofs.distances.Sums.{value_set}
-use Rattle.pass_frames_proof.specs.Entering.{IsGoodAlloca, behind_alloca, behind_allocas, made_blocks}
-use Rattle.pass_proofs.specs.run_framed.Framed.{FramedGiven}
-use Rattle.pass_proofs.proofs.run_laws.transfer.Sets.{set_elsewhere, set_length}
-use Rattle.pass_proofs.specs.run_laws.changed.Changed.{Each}
-use Rattle.pass_proofs.specs.run_laws.memory.Standing.{blank_block}
-use Rattle.pass_proofs.specs.run_memory.declared.block.Life.{Life}
-use Rattle.pass_proofs.specs.run_memory.declared.block.MemoryBlock.{MemoryBlock}
-use Rattle.pass_proofs.specs.run_source.State.{function_of, work_of}
-use Rattle.pass_proofs.specs.run_source.declared.state.State.{State}
-use Rattle.pass_proofs.specs.run_step.Step.{alloca_kind, has_markers}
-use Rattle.pass_proofs.specs.run_step.Values.{pointer_to, value_in}
-use Rattle.pass_proofs.specs.run_step.declared.world.Slot.{Slot}
+use Rattle.pass_frames_steps.specs.flow_solver.Paths.{IsListed}
+use Rattle.pass_frames_steps.specs.ir_laws.paths.woven_rules.Pairs.{AreDifferent}
+use Rattle.pass_frames_steps.specs.ir_model.Layout.{size_of}
+use Rattle.pass_frames_steps.specs.ir_model.Ty.{Ty}
+use Rattle.pass_frames_steps.specs.ir_model.declared.instr.Instr.{Instr}
+use Rattle.pass_frames_steps.specs.ir_model.declared.module.Function.{Function}
+use Rattle.pass_frames_steps.specs.ir_paths.Slots.{allocas_in}
+use Rattle.pass_frames_steps.proofs.distances.Sums.{value_set}
+use Rattle.pass_frames_steps.specs.Entering.{IsGoodAlloca, behind_alloca, behind_allocas, made_blocks}
+use Rattle.pass_frames_steps.specs.run_framed.Framed.{FramedGiven}
+use Rattle.pass_frames_steps.proofs.run_laws.transfer.Sets.{set_elsewhere, set_length}
+use Rattle.pass_frames_steps.specs.run_laws.changed.Changed.{Each}
+use Rattle.pass_frames_steps.specs.run_laws.memory.Standing.{blank_block}
+use Rattle.pass_frames_steps.specs.run_memory.declared.block.Life.{Life}
+use Rattle.pass_frames_steps.specs.run_memory.declared.block.MemoryBlock.{MemoryBlock}
+use Rattle.pass_frames_steps.specs.run_source.State.{function_of, work_of}
+use Rattle.pass_frames_steps.specs.run_source.declared.state.State.{State}
+use Rattle.pass_frames_steps.specs.run_step.Step.{alloca_kind, has_markers}
+use Rattle.pass_frames_steps.specs.run_step.Values.{pointer_to, value_in}
+use Rattle.pass_frames_steps.specs.run_step.declared.world.Slot.{Slot}
 
 alloca_form : (i : Instr) → IsGoodAlloca i
     → (name : ℕ) × (ty : Ty) × (align : ℕ) × (i ≡ Instr.Alloca name ty align)

@@ -3,32 +3,32 @@ use Rattle.std.proofs.Common.{◌≡◌, ◌≢◌, ◌+◌, ◌<◌, ◌≤◌,
 use Rattle.std.proofs.lemmas.Bool.{le-leb}
 use Rattle.std.proofs.lemmas.List.{length-replicate}
 use Rattle.std.specs.Prelude.{slice_get}
-use Rattle.pass_proofs.specs.flow_solver.Paths.{IsListed}
-use Rattle.pass_proofs.specs.ir_laws.paths.woven_rules.Pairs.{AreDifferent}
-use Rattle.pass_proofs.specs.ir_model.Layout.{size_of}
-use Rattle.pass_proofs.specs.ir_model.Ty.{Ty}
-use Rattle.pass_proofs.specs.ir_model.declared.instr.Instr.{Instr}
-use Rattle.pass_proofs.specs.ir_model.declared.module.Function.{Function}
-use Rattle.pass_proofs.specs.ir_paths.Slots.{allocas_in}
-use Rattle.pass_proofs.specs.pass_fetch.Fetching.{value_bytes}
+use Rattle.pass_frames_steps.specs.flow_solver.Paths.{IsListed}
+use Rattle.pass_frames_steps.specs.ir_laws.paths.woven_rules.Pairs.{AreDifferent}
+use Rattle.pass_frames_steps.specs.ir_model.Layout.{size_of}
+use Rattle.pass_frames_steps.specs.ir_model.Ty.{Ty}
+use Rattle.pass_frames_steps.specs.ir_model.declared.instr.Instr.{Instr}
+use Rattle.pass_frames_steps.specs.ir_model.declared.module.Function.{Function}
+use Rattle.pass_frames_steps.specs.ir_paths.Slots.{allocas_in}
+use Rattle.pass_frames_steps.specs.pass_fetch.Fetching.{value_bytes}
 use Rattle.pass_frames_proof.proofs.entering.Behind.{are_behind}
-use Rattle.pass_frames_proof.proofs.layers.Standing.{take_whole}
-use Rattle.pass_frames_proof.specs.Entering.{IsGoodAlloca, behind_allocas}
-use Rattle.pass_frames_proof.specs.Related.{Anything, IsCell}
-use Rattle.pass_proofs.specs.run_framed.Framed.{FramedGiven, frame_rights, is_open, is_open_byte, meets_in}
-use Rattle.pass_proofs.specs.run_laws.access.Lines.{Holds}
-use Rattle.pass_proofs.specs.run_laws.changed.Changed.{Each}
-use Rattle.pass_proofs.specs.run_laws.memory.Standing.{IsAlignment, blank_block}
-use Rattle.run_access_worked.proofs.run_laws_worked.Frames.{no_judge}
-use Rattle.pass_proofs.specs.run_memory.Memory.{same_kind}
-use Rattle.pass_proofs.specs.run_memory.declared.block.Byte.{Byte}
-use Rattle.pass_proofs.specs.run_memory.declared.block.Kind.{Kind}
-use Rattle.pass_proofs.specs.run_memory.declared.block.Life.{Life}
-use Rattle.pass_proofs.specs.run_memory.declared.block.MemoryBlock.{MemoryBlock}
-use Rattle.pass_proofs.specs.run_source.State.{function_of}
-use Rattle.pass_proofs.specs.run_source.declared.state.Instance.{Instance}
-use Rattle.pass_proofs.specs.run_source.declared.state.State.{State}
-use Rattle.pass_proofs.specs.run_step.Step.{alloca_kind, has_markers}
+use Rattle.pass_frames_steps.proofs.layers.Standing.{take_whole}
+use Rattle.pass_frames_steps.specs.Entering.{IsGoodAlloca, behind_allocas}
+use Rattle.pass_frames_steps.specs.Related.{Anything, IsCell}
+use Rattle.pass_frames_steps.specs.run_framed.Framed.{FramedGiven, frame_rights, is_open, is_open_byte, meets_in}
+use Rattle.pass_frames_steps.specs.run_laws.access.Lines.{Holds}
+use Rattle.pass_frames_steps.specs.run_laws.changed.Changed.{Each}
+use Rattle.pass_frames_steps.specs.run_laws.memory.Standing.{IsAlignment, blank_block}
+use Rattle.pass_frames_steps.proofs.run_access_worked.run_laws_worked.Frames.{no_judge}
+use Rattle.pass_frames_steps.specs.run_memory.Memory.{same_kind}
+use Rattle.pass_frames_steps.specs.run_memory.declared.block.Byte.{Byte}
+use Rattle.pass_frames_steps.specs.run_memory.declared.block.Kind.{Kind}
+use Rattle.pass_frames_steps.specs.run_memory.declared.block.Life.{Life}
+use Rattle.pass_frames_steps.specs.run_memory.declared.block.MemoryBlock.{MemoryBlock}
+use Rattle.pass_frames_steps.specs.run_source.State.{function_of}
+use Rattle.pass_frames_steps.specs.run_source.declared.state.Instance.{Instance}
+use Rattle.pass_frames_steps.specs.run_source.declared.state.State.{State}
+use Rattle.pass_frames_steps.specs.run_step.Step.{alloca_kind, has_markers}
 
 each_there : {A : Type 0} (P : A → Type 0) (xs : List A) → ((i : ℕ) (x : A) → slice_get xs i ≡ Some x → P x)
     → Each P xs

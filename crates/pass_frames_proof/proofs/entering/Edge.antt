@@ -1,22 +1,22 @@
 -- The block on a resume or destroy edge has its label in the framed form, too, and no phis there.
 use Rattle.std.proofs.Common.{◌≡◌, ◌∷◌, ◌∙◌, [], List, Option, Some, ap, length, suc, sym, zero, ℕ}
 use Rattle.std.specs.Prelude.{slice_get, unwrap_or}
-use Rattle.pass_proofs.specs.ir_model.Names.{position_of}
-use Rattle.pass_proofs.specs.ir_model.declared.instr.Instr.{Instr}
-use Rattle.pass_proofs.specs.ir_model.declared.module.Block.{Block}
-use Rattle.pass_proofs.specs.pass_cells.Cells.{fetches_of}
-use Rattle.pass_proofs.specs.pass_fetch.Blocks.{fetched_block, fetched_blocks, fetched_phis, next_after_block, next_after_phis}
-use Rattle.pass_proofs.specs.pass_fetch.declared.fetch.Fetch.{Fetch}
+use Rattle.pass_frames_steps.specs.ir_model.Names.{position_of}
+use Rattle.pass_frames_steps.specs.ir_model.declared.instr.Instr.{Instr}
+use Rattle.pass_frames_steps.specs.ir_model.declared.module.Block.{Block}
+use Rattle.pass_frames_steps.specs.pass_cells.Cells.{fetches_of}
+use Rattle.pass_frames_steps.specs.pass_fetch.Blocks.{fetched_block, fetched_blocks, fetched_phis, next_after_block, next_after_phis}
+use Rattle.pass_frames_steps.specs.pass_fetch.declared.fetch.Fetch.{Fetch}
 use Rattle.pass_frames_proof.proofs.jumping.Labels.{position_same}
 use Rattle.pass_frames_proof.proofs.jumping.Placed.{phis_placed}
-use Rattle.pass_frames_proof.specs.Code.{slot_table}
-use Rattle.pass_frames_proof.specs.Jumps.{PhisInPlace}
-use Rattle.pass_frames_proof.specs.Passes.{block_at}
-use Rattle.pass_frames_proof.specs.Places.{Framing, edged, framed, named, plan, unmarked}
-use Rattle.pass_frames_proof.specs.Related.{Building}
-use Rattle.pass_frames_proof.specs.Waking.{HasEdgeBlock}
-use Rattle.pass_proofs.proofs.run_laws.memory.Written.{same_some}
-use Rattle.pass_proofs.specs.run_step.Step.{phis_of}
+use Rattle.pass_frames_steps.specs.Code.{slot_table}
+use Rattle.pass_frames_steps.specs.Jumps.{PhisInPlace}
+use Rattle.pass_frames_steps.specs.Passes.{block_at}
+use Rattle.pass_frames_steps.specs.Places.{Framing, edged, framed, named, plan, unmarked}
+use Rattle.pass_frames_steps.specs.Related.{Building}
+use Rattle.pass_frames_steps.specs.Waking.{HasEdgeBlock}
+use Rattle.pass_frames_steps.proofs.run_laws.memory.Written.{same_some}
+use Rattle.pass_frames_steps.specs.run_step.Step.{phis_of}
 
 -- no phi comes by fetches
 none_fetched : (t : List (Option Fetch)) (ends : List (List Instr)) (m n : ℕ) (bs : List Block) (k : ℕ) (b d : Block)

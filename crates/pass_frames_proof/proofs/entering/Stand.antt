@@ -2,22 +2,22 @@
 use Rattle.std.proofs.Common.{◌≡◌, ◌+◌, ◌≤◌, ◌∷◌, ◌++◌, ◌∙◌, [], if◌then◌else◌, Bool, List, None, Option, Some, ap, append-nil, append_assoc, arith, drop, false, length, refl, suc, sym, take, true, zero, ℕ}
 use Rattle.std.proofs.lemmas.List.Elements.{filter-append}
 use Rattle.std.specs.Prelude.{filter, option_map, slice_get, unwrap_or}
-use Rattle.pass_proofs.specs.ir_model.declared.instr.Instr.{Instr}
-use Rattle.pass_proofs.specs.ir_model.declared.module.Block.{Block}
-use Rattle.pass_frames_proof.proofs.code.Framed.{entry_made}
-use Rattle.pass_frames_proof.proofs.code.Passes.{only_made}
-use Rattle.pass_frames_proof.proofs.layers.Grown.{both_woven, grown_append}
-use Rattle.pass_frames_proof.proofs.layers.Standing.{part_stands}
-use Rattle.pass_frames_proof.proofs.stepping.Codes.{block_there, led_passed}
-use Rattle.pass_frames_proof.specs.Costs.{allocas_before}
-use Rattle.pass_frames_proof.specs.Entering.{AreAllocasBetween, allocas_up_to, front_allocas}
-use Rattle.pass_frames_proof.specs.Layers.{IsMadeBy, Layer, becomes, both, grown, only, passed, up_to, woven}
-use Rattle.pass_frames_proof.specs.Passes.{block_at, no_block}
-use Rattle.pass_frames_proof.specs.Places.{Framing, Placed, edged, entry_layer, framed, instrs_at, placed_layer}
-use Rattle.pass_proofs.specs.pass_front.Front.{is_alloca, is_no_alloca}
-use Rattle.pass_proofs.specs.run_framed.Framed.{alloca_from, alloca_in, alloca_of}
-use Rattle.pass_proofs.specs.run_laws.access.Lines.{StandAt}
-use Rattle.pass_proofs.specs.run_laws.changed.Changed.{Each}
+use Rattle.pass_frames_steps.specs.ir_model.declared.instr.Instr.{Instr}
+use Rattle.pass_frames_steps.specs.ir_model.declared.module.Block.{Block}
+use Rattle.pass_frames_steps.proofs.code.Framed.{entry_made}
+use Rattle.pass_frames_steps.proofs.code.Passes.{only_made}
+use Rattle.pass_frames_steps.proofs.layers.Grown.{both_woven, grown_append}
+use Rattle.pass_frames_steps.proofs.layers.Standing.{part_stands}
+use Rattle.pass_frames_steps.proofs.stepping.Codes.{block_there, led_passed}
+use Rattle.pass_frames_steps.specs.Costs.{allocas_before}
+use Rattle.pass_frames_steps.specs.Entering.{AreAllocasBetween, allocas_up_to, front_allocas}
+use Rattle.pass_frames_steps.specs.Layers.{IsMadeBy, Layer, becomes, both, grown, only, passed, up_to, woven}
+use Rattle.pass_frames_steps.specs.Passes.{block_at, no_block}
+use Rattle.pass_frames_steps.specs.Places.{Framing, Placed, edged, entry_layer, framed, instrs_at, placed_layer}
+use Rattle.pass_frames_steps.specs.pass_front.Front.{is_alloca, is_no_alloca}
+use Rattle.pass_frames_steps.specs.run_framed.Framed.{alloca_from, alloca_in, alloca_of}
+use Rattle.pass_frames_steps.specs.run_laws.access.Lines.{StandAt}
+use Rattle.pass_frames_steps.specs.run_laws.changed.Changed.{Each}
 
 abbrev W : Framing → List Instr
 W x = woven (placed_layer x 0) (instrs_at x 0)

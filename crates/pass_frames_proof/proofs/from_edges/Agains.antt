@@ -1,48 +1,48 @@
 -- What loads values again fills cells alone, and sets no names but new ones.
 use Rattle.std.proofs.Common.{◌≡◌, ◌⊎◌, ◌+◌, ◌*◌, ◌<◌, ◌≤◌, ◌∷◌, ◌++◌, ◌∙◌, [], List, None, Option, Some, ap, arith, inl, inr, length, refl, subst, sym, ℕ, ⊎_elim}
 use Rattle.std.specs.Prelude.{slice_get}
-use Rattle.pass_proofs.specs.flow_solver.Paths.{IsListed}
-use Rattle.pass_proofs.proofs.ir_laws.facts.Members.{each_joined}
-use Rattle.pass_proofs.specs.ir_model.Ty.{Ty, ptr}
-use Rattle.pass_proofs.specs.ir_model.declared.instr.Instr.{Instr}
-use Rattle.pass_proofs.specs.ir_model.declared.operand.Arg.{Arg}
-use Rattle.pass_proofs.specs.ir_model.declared.operand.Operand.{Operand}
-use Rattle.pass_proofs.specs.ir_parts.Contents.{result_of}
-use Rattle.pass_proofs.specs.pass_cells.Kept.{entry, value_types}
-use Rattle.pass_proofs.specs.pass_cells.Links.{bases_of, cell_name, field_name, slots_of}
-use Rattle.pass_proofs.specs.pass_cells.Moves.{address_again, again_one, again_values}
-use Rattle.pass_proofs.specs.pass_cells.Plan.{kept_value, type_at}
-use Rattle.pass_proofs.specs.pass_cells.declared.plan.KeptValue.{KeptValue}
-use Rattle.pass_proofs.specs.pass_fetch.Fetching.{address_behind, value_bytes}
-use Rattle.pass_proofs.specs.pass_frames.Framed.{begin_of}
-use Rattle.pass_frames_proof.proofs.agains.Lines.{A, again_code, behind_load, root_unfetched}
-use Rattle.pass_frames_proof.proofs.agains.One.{loaded_there, slot_address}
-use Rattle.pass_frames_proof.proofs.agains.Values.{kept_root}
-use Rattle.pass_frames_proof.proofs.code.Left.{Far, far_named}
-use Rattle.pass_frames_proof.proofs.code.Names.{Count, F, First, Kept, keeping, local}
+use Rattle.pass_frames_steps.specs.flow_solver.Paths.{IsListed}
+use Rattle.pass_frames_steps.proofs.ir_laws.facts.Members.{each_joined}
+use Rattle.pass_frames_steps.specs.ir_model.Ty.{Ty, ptr}
+use Rattle.pass_frames_steps.specs.ir_model.declared.instr.Instr.{Instr}
+use Rattle.pass_frames_steps.specs.ir_model.declared.operand.Arg.{Arg}
+use Rattle.pass_frames_steps.specs.ir_model.declared.operand.Operand.{Operand}
+use Rattle.pass_frames_steps.specs.ir_parts.Contents.{result_of}
+use Rattle.pass_frames_steps.specs.pass_cells.Kept.{entry, value_types}
+use Rattle.pass_frames_steps.specs.pass_cells.Links.{bases_of, cell_name, field_name, slots_of}
+use Rattle.pass_frames_steps.specs.pass_cells.Moves.{address_again, again_one, again_values}
+use Rattle.pass_frames_steps.specs.pass_cells.Plan.{kept_value, type_at}
+use Rattle.pass_frames_steps.specs.pass_cells.declared.plan.KeptValue.{KeptValue}
+use Rattle.pass_frames_steps.specs.pass_fetch.Fetching.{address_behind, value_bytes}
+use Rattle.pass_frames_steps.specs.pass_frames.Framed.{begin_of}
+use Rattle.pass_frames_steps.proofs.agains.Lines.{A, again_code, behind_load, root_unfetched}
+use Rattle.pass_frames_steps.proofs.agains.One.{loaded_there, slot_address}
+use Rattle.pass_frames_steps.proofs.agains.Values.{kept_root}
+use Rattle.pass_frames_steps.proofs.code.Left.{Far, far_named}
+use Rattle.pass_frames_steps.proofs.code.Names.{Count, F, First, Kept, keeping, local}
 use Rattle.pass_frames_proof.proofs.jumping.Fronts.{store_changes}
-use Rattle.pass_frames_proof.proofs.layers.Grown.{grown_append}
-use Rattle.pass_frames_proof.proofs.led.Steps.{still_value}
-use Rattle.pass_frames_proof.proofs.lines.Fillers.{filler_left}
-use Rattle.pass_frames_proof.proofs.lines.Names.{distance_of}
-use Rattle.pass_frames_proof.proofs.lines.Results.{kept_is_cell}
-use Rattle.pass_frames_proof.specs.Code.{addressed}
-use Rattle.pass_frames_proof.specs.Framings.{IsFraming}
-use Rattle.pass_frames_proof.specs.FromEdges.{IsCellMove, agains_line}
-use Rattle.pass_frames_proof.specs.Layers.{grown}
-use Rattle.pass_frames_proof.specs.Led.{IsNotSet, IsStill}
-use Rattle.pass_frames_proof.specs.Lines.{IsCellOf, at_work}
-use Rattle.pass_frames_proof.specs.Places.{Framing, edged, named, offsets, plan}
-use Rattle.pass_frames_proof.specs.Related.{Anything, AreCellsThere, IsCell, IsKeptValue}
-use Rattle.pass_proofs.proofs.cells.rules.Plans.{kept_of}
-use Rattle.pass_proofs.specs.run_laws.access.Lines.{Runs}
-use Rattle.pass_proofs.specs.run_laws.changed.Changed.{Each}
-use Rattle.pass_proofs.specs.run_memory.Memory.{Rights}
-use Rattle.pass_proofs.specs.run_memory.declared.block.MemoryBlock.{MemoryBlock}
-use Rattle.pass_proofs.specs.run_source.declared.state.Activation.{Activation}
-use Rattle.pass_proofs.specs.run_step.Step.{Context, Done, Work, instr_action}
-use Rattle.pass_proofs.specs.run_step.Values.{Env, value_in}
-use Rattle.pass_frames_proof.proofs.stepping.Names.{cell_is_name}
+use Rattle.pass_frames_steps.proofs.layers.Grown.{grown_append}
+use Rattle.pass_frames_steps.proofs.led.Steps.{still_value}
+use Rattle.pass_frames_steps.proofs.lines.Fillers.{filler_left}
+use Rattle.pass_frames_steps.proofs.lines.Names.{distance_of}
+use Rattle.pass_frames_steps.proofs.lines.Results.{kept_is_cell}
+use Rattle.pass_frames_steps.specs.Code.{addressed}
+use Rattle.pass_frames_steps.specs.Framings.{IsFraming}
+use Rattle.pass_frames_steps.specs.FromEdges.{IsCellMove, agains_line}
+use Rattle.pass_frames_steps.specs.Layers.{grown}
+use Rattle.pass_frames_steps.specs.Led.{IsNotSet, IsStill}
+use Rattle.pass_frames_steps.specs.Lines.{IsCellOf, at_work}
+use Rattle.pass_frames_steps.specs.Places.{Framing, edged, named, offsets, plan}
+use Rattle.pass_frames_steps.specs.Related.{Anything, AreCellsThere, IsCell, IsKeptValue}
+use Rattle.pass_frames_steps.proofs.pass_proofs.cells.rules.Plans.{kept_of}
+use Rattle.pass_frames_steps.specs.run_laws.access.Lines.{Runs}
+use Rattle.pass_frames_steps.specs.run_laws.changed.Changed.{Each}
+use Rattle.pass_frames_steps.specs.run_memory.Memory.{Rights}
+use Rattle.pass_frames_steps.specs.run_memory.declared.block.MemoryBlock.{MemoryBlock}
+use Rattle.pass_frames_steps.specs.run_source.declared.state.Activation.{Activation}
+use Rattle.pass_frames_steps.specs.run_step.Step.{Context, Done, Work, instr_action}
+use Rattle.pass_frames_steps.specs.run_step.Values.{Env, value_in}
+use Rattle.pass_frames_steps.proofs.stepping.Names.{cell_is_name}
 
 -- ---- the cell from which a field is filled, and into which it is loaded
 

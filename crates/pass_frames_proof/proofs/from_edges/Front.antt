@@ -2,81 +2,81 @@
 use Rattle.std.proofs.Common.{◌≡◌, ◌≢◌, ◌⊎◌, ◌+◌, ◌*◌, ◌<◌, ◌≤◌, ◌^◌, ◌%◌, ◌==◌, ◌∷◌, ◌++◌, ◌∙◌, [], if◌then◌else◌, Bool, List, None, Option, Some, ap, append-nil, arith, false, inl, inr, length, refl, subst, suc, sym, true, ℕ, ⊎_elim}
 use Rattle.std.specs.List.{Contains}
 use Rattle.std.specs.Prelude.{slice_get}
-use Rattle.pass_proofs.specs.flow_solver.Paths.{IsListed}
-use Rattle.pass_proofs.specs.ir_base.declared.outcome.Outcome.{Outcome}
-use Rattle.pass_proofs.proofs.ir_laws.facts.Members.{each_turns}
-use Rattle.pass_proofs.proofs.ir_laws.facts.Truth.{equal_numbers}
-use Rattle.pass_proofs.specs.ir_model.Ty.{Ty, int, ptr}
-use Rattle.pass_proofs.specs.ir_model.declared.instr.Instr.{Instr}
-use Rattle.pass_proofs.specs.ir_model.declared.operand.Operand.{Operand}
-use Rattle.pass_proofs.specs.pass_cells.Kept.{entry, value_types}
-use Rattle.pass_proofs.specs.pass_cells.Links.{bases_of, slots_of}
-use Rattle.pass_proofs.specs.pass_cells.Moves.{again_values}
-use Rattle.pass_proofs.specs.pass_cells.Written.{row_at, stored_phis}
-use Rattle.pass_proofs.specs.pass_cells.declared.plan.KeptValue.{KeptValue}
-use Rattle.pass_proofs.specs.pass_copies.BeginCopies.{puts}
-use Rattle.pass_proofs.specs.pass_copies.declared.slot.EarlySlot.{EarlySlot}
-use Rattle.pass_proofs.specs.pass_fetch.Fetching.{value_bytes}
-use Rattle.pass_proofs.specs.pass_frames.Framed.{begin_of}
-use Rattle.pass_proofs.specs.pass_frames.Tables.{offset_at}
-use Rattle.pass_frames_proof.proofs.agains.Rows.{loaded_again}
-use Rattle.pass_frames_proof.proofs.code.Names.{Count, F, First, Kept, keeping, local}
-use Rattle.pass_frames_proof.proofs.followed.Assembly.{other_instance}
+use Rattle.pass_frames_steps.specs.flow_solver.Paths.{IsListed}
+use Rattle.pass_frames_steps.specs.ir_base.declared.outcome.Outcome.{Outcome}
+use Rattle.pass_frames_steps.proofs.ir_laws.facts.Members.{each_turns}
+use Rattle.pass_frames_steps.proofs.ir_laws.facts.Truth.{equal_numbers}
+use Rattle.pass_frames_steps.specs.ir_model.Ty.{Ty, int, ptr}
+use Rattle.pass_frames_steps.specs.ir_model.declared.instr.Instr.{Instr}
+use Rattle.pass_frames_steps.specs.ir_model.declared.operand.Operand.{Operand}
+use Rattle.pass_frames_steps.specs.pass_cells.Kept.{entry, value_types}
+use Rattle.pass_frames_steps.specs.pass_cells.Links.{bases_of, slots_of}
+use Rattle.pass_frames_steps.specs.pass_cells.Moves.{again_values}
+use Rattle.pass_frames_steps.specs.pass_cells.Written.{row_at, stored_phis}
+use Rattle.pass_frames_steps.specs.pass_cells.declared.plan.KeptValue.{KeptValue}
+use Rattle.pass_frames_steps.specs.pass_copies.BeginCopies.{puts}
+use Rattle.pass_frames_steps.specs.pass_copies.declared.slot.EarlySlot.{EarlySlot}
+use Rattle.pass_frames_steps.specs.pass_fetch.Fetching.{value_bytes}
+use Rattle.pass_frames_steps.specs.pass_frames.Framed.{begin_of}
+use Rattle.pass_frames_steps.specs.pass_frames.Tables.{offset_at}
+use Rattle.pass_frames_steps.proofs.agains.Rows.{loaded_again}
+use Rattle.pass_frames_steps.proofs.code.Names.{Count, F, First, Kept, keeping, local}
+use Rattle.pass_frames_steps.proofs.followed.Assembly.{other_instance}
 use Rattle.pass_frames_proof.proofs.from_edges.Agains.{quiet_value, row_quiet}
 use Rattle.pass_frames_proof.proofs.from_edges.Puts.{ArePlaced, ArePutThere, puts_are, puts_code, puts_run}
 use Rattle.pass_frames_proof.proofs.from_edges.Through.{cells_through}
-use Rattle.pass_frames_proof.proofs.layers.Grown.{grown_append}
-use Rattle.pass_frames_proof.proofs.led.Steps.{fills_elsewhere}
-use Rattle.pass_frames_proof.proofs.led.Through.{through_joined}
-use Rattle.pass_frames_proof.proofs.lines.Cells.{cell_has, cell_stays, contained, other_block}
-use Rattle.pass_frames_proof.proofs.lines.Filled.{elsewhere_apart, others_stay, worlds_stand}
-use Rattle.pass_frames_proof.proofs.lines.Names.{distance_of}
-use Rattle.pass_frames_proof.proofs.lines.Results.{kept_is_cell}
-use Rattle.pass_frames_proof.proofs.lines.Rows.{crossing_listed, field_placed}
-use Rattle.pass_frames_proof.proofs.saving.Left.{not_free}
-use Rattle.pass_frames_proof.proofs.stepping.May.{coroutine_values, own_blocks}
-use Rattle.pass_frames_proof.proofs.stepping.Names.{cell_is_name, named_written, slots_new, where_is_name, edged_named}
-use Rattle.pass_frames_proof.proofs.stepping.Operands.{asked}
-use Rattle.pass_frames_proof.specs.Agains.{LoadsValues, MayLoadAgain}
-use Rattle.pass_frames_proof.specs.Code.{addressed, front_code, front_moves}
-use Rattle.pass_frames_proof.specs.Entry.{cells_of}
-use Rattle.pass_frames_proof.specs.Framings.{IsFraming}
-use Rattle.pass_frames_proof.specs.FromEdges.{IsAtReturn, IsCellMove, IsEarlyInFrame, IsFrontDone, IsOnCells, address_name, again_name, agains_line, slots_line}
-use Rattle.pass_frames_proof.specs.Layers.{grown}
-use Rattle.pass_frames_proof.specs.Led.{IsNotSet, RunsThrough}
-use Rattle.pass_frames_proof.specs.Lines.{AreAway, AreElsewhere, HasOwnBlocks, IsCellOf, at_work}
-use Rattle.pass_frames_proof.specs.Passes.{block_at}
-use Rattle.pass_frames_proof.specs.Places.{Framing, addressing_layer, copies, edged, named, plan, written}
-use Rattle.pass_frames_proof.specs.Related.{Anything, AreBuiltOf, AreCellsThere, AreCoroutines, AreFieldsRight, AreGone, AreInstances, AreMade, AreWheresRight, AreWheresThere, Building, HasCells, HasFields, IsCell, IsCellName, IsFreeOf, IsKeptAs, IsKeptValue, IsWhere, instance_in, is_coroutine, returned_from}
-use Rattle.pass_frames_proof.specs.Saves.{HoldsField}
-use Rattle.pass_frames_proof.specs.Stepping.{AreGiven, IsNotEntering}
-use Rattle.pass_proofs.proofs.cells.rules.Plans.{kept_as, kept_at}
-use Rattle.pass_renewed_proof.specs.Renewed.{RenewedGiven}
-use Rattle.pass_proofs.specs.run_framed.Framed.{frame_rights, framed_context}
-use Rattle.pass_proofs.proofs.run_laws.memory.Itself.{owner_rights_fit}
-use Rattle.pass_proofs.specs.run_laws.access.Accessed.{Span}
-use Rattle.pass_proofs.specs.run_laws.access.Lines.{pointer_at}
-use Rattle.pass_proofs.specs.run_laws.changed.Changed.{Each}
-use Rattle.pass_proofs.specs.run_laws.memory.Pointers.{Home, IsValue}
-use Rattle.pass_proofs.specs.run_laws.memory.Standing.{AreByteRights, IsAway}
-use Rattle.pass_proofs.specs.run_laws.transfer.Muted.{muted}
-use Rattle.pass_proofs.specs.run_laws.transfer.Transfer.{AreOver, muted_world}
-use Rattle.run_access_worked.proofs.run_laws_worked.Frames.{frame_rights_fit}
-use Rattle.pass_proofs.specs.run_memory.Memory.{Rights, is_live, owner_rights}
-use Rattle.pass_proofs.specs.run_memory.Pointers.{moved, offset_of}
-use Rattle.pass_proofs.specs.run_memory.declared.block.MemoryBlock.{MemoryBlock}
-use Rattle.pass_proofs.specs.run_memory.declared.pointer.Pointer.{Pointer}
-use Rattle.pass_proofs.specs.run_memory.declared.pointer.Value.{Value}
-use Rattle.pass_proofs.specs.run_source.State.{work_of}
-use Rattle.pass_proofs.specs.run_source.declared.state.Instance.{Instance}
-use Rattle.pass_proofs.specs.run_source.declared.state.Mode.{Mode}
-use Rattle.pass_proofs.specs.run_source.declared.state.State.{State}
-use Rattle.pass_proofs.specs.run_step.Step.{Context, Work}
-use Rattle.pass_proofs.specs.run_step.Values.{value_in}
-use Rattle.pass_proofs.specs.run_step.declared.world.Slot.{Slot}
-use Rattle.pass_proofs.specs.run_step.declared.world.World.{World}
-use Rattle.pass_proofs.specs.pass_cells.Written.{entry_front as cells_front}
-use Rattle.pass_proofs.specs.pass_copies.BeginCopies.{entry_front as copies_front}
+use Rattle.pass_frames_steps.proofs.layers.Grown.{grown_append}
+use Rattle.pass_frames_steps.proofs.led.Steps.{fills_elsewhere}
+use Rattle.pass_frames_steps.proofs.led.Through.{through_joined}
+use Rattle.pass_frames_steps.proofs.lines.Cells.{cell_has, cell_stays, contained, other_block}
+use Rattle.pass_frames_steps.proofs.lines.Filled.{elsewhere_apart, others_stay, worlds_stand}
+use Rattle.pass_frames_steps.proofs.lines.Names.{distance_of}
+use Rattle.pass_frames_steps.proofs.lines.Results.{kept_is_cell}
+use Rattle.pass_frames_steps.proofs.lines.Rows.{crossing_listed, field_placed}
+use Rattle.pass_frames_steps.proofs.saving.Left.{not_free}
+use Rattle.pass_frames_steps.proofs.stepping.May.{coroutine_values, own_blocks}
+use Rattle.pass_frames_steps.proofs.stepping.Names.{cell_is_name, named_written, slots_new, where_is_name, edged_named}
+use Rattle.pass_frames_steps.proofs.stepping.Operands.{asked}
+use Rattle.pass_frames_steps.specs.Agains.{LoadsValues, MayLoadAgain}
+use Rattle.pass_frames_steps.specs.Code.{addressed, front_code, front_moves}
+use Rattle.pass_frames_steps.specs.Entry.{cells_of}
+use Rattle.pass_frames_steps.specs.Framings.{IsFraming}
+use Rattle.pass_frames_steps.specs.FromEdges.{IsAtReturn, IsCellMove, IsEarlyInFrame, IsFrontDone, IsOnCells, address_name, again_name, agains_line, slots_line}
+use Rattle.pass_frames_steps.specs.Layers.{grown}
+use Rattle.pass_frames_steps.specs.Led.{IsNotSet, RunsThrough}
+use Rattle.pass_frames_steps.specs.Lines.{AreAway, AreElsewhere, HasOwnBlocks, IsCellOf, at_work}
+use Rattle.pass_frames_steps.specs.Passes.{block_at}
+use Rattle.pass_frames_steps.specs.Places.{Framing, addressing_layer, copies, edged, named, plan, written}
+use Rattle.pass_frames_steps.specs.Related.{Anything, AreBuiltOf, AreCellsThere, AreCoroutines, AreFieldsRight, AreGone, AreInstances, AreMade, AreWheresRight, AreWheresThere, Building, HasCells, HasFields, IsCell, IsCellName, IsFreeOf, IsKeptAs, IsKeptValue, IsWhere, instance_in, is_coroutine, returned_from}
+use Rattle.pass_frames_steps.specs.Saves.{HoldsField}
+use Rattle.pass_frames_steps.specs.Stepping.{AreGiven, IsNotEntering}
+use Rattle.pass_frames_steps.proofs.pass_proofs.cells.rules.Plans.{kept_as, kept_at}
+use Rattle.pass_frames_steps.specs.pass_renewed_proof.Renewed.{RenewedGiven}
+use Rattle.pass_frames_steps.specs.run_framed.Framed.{frame_rights, framed_context}
+use Rattle.pass_frames_steps.proofs.run_laws.memory.Itself.{owner_rights_fit}
+use Rattle.pass_frames_steps.specs.run_laws.access.Accessed.{Span}
+use Rattle.pass_frames_steps.specs.run_laws.access.Lines.{pointer_at}
+use Rattle.pass_frames_steps.specs.run_laws.changed.Changed.{Each}
+use Rattle.pass_frames_steps.specs.run_laws.memory.Pointers.{Home, IsValue}
+use Rattle.pass_frames_steps.specs.run_laws.memory.Standing.{AreByteRights, IsAway}
+use Rattle.pass_frames_steps.specs.run_laws.transfer.Muted.{muted}
+use Rattle.pass_frames_steps.specs.run_laws.transfer.Transfer.{AreOver, muted_world}
+use Rattle.pass_frames_steps.proofs.run_access_worked.run_laws_worked.Frames.{frame_rights_fit}
+use Rattle.pass_frames_steps.specs.run_memory.Memory.{Rights, is_live, owner_rights}
+use Rattle.pass_frames_steps.specs.run_memory.Pointers.{moved, offset_of}
+use Rattle.pass_frames_steps.specs.run_memory.declared.block.MemoryBlock.{MemoryBlock}
+use Rattle.pass_frames_steps.specs.run_memory.declared.pointer.Pointer.{Pointer}
+use Rattle.pass_frames_steps.specs.run_memory.declared.pointer.Value.{Value}
+use Rattle.pass_frames_steps.specs.run_source.State.{work_of}
+use Rattle.pass_frames_steps.specs.run_source.declared.state.Instance.{Instance}
+use Rattle.pass_frames_steps.specs.run_source.declared.state.Mode.{Mode}
+use Rattle.pass_frames_steps.specs.run_source.declared.state.State.{State}
+use Rattle.pass_frames_steps.specs.run_step.Step.{Context, Work}
+use Rattle.pass_frames_steps.specs.run_step.Values.{value_in}
+use Rattle.pass_frames_steps.specs.run_step.declared.world.Slot.{Slot}
+use Rattle.pass_frames_steps.specs.run_step.declared.world.World.{World}
+use Rattle.pass_frames_steps.specs.pass_cells.Written.{entry_front as cells_front}
+use Rattle.pass_frames_steps.specs.pass_copies.BeginCopies.{entry_front as copies_front}
 
 -- ---- lists
 

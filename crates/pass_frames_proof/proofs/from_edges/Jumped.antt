@@ -3,80 +3,80 @@ use Rattle.std.proofs.Common.{◌≡◌, ◌⊎◌, ◌+◌, ◌-◌, ◌<◌, �
 use Rattle.std.proofs.lemmas.Bool.{cases_lt}
 use Rattle.std.specs.List.{Contains}
 use Rattle.std.specs.Prelude.{filter, slice_get}
-use Rattle.pass_proofs.specs.flow_solver.Paths.{IsListed}
-use Rattle.pass_proofs.specs.ir_base.declared.cause.Cause.{Cause}
-use Rattle.pass_proofs.specs.ir_base.declared.outcome.Outcome.{Outcome}
-use Rattle.pass_proofs.specs.ir_model.Names.{function_at, position_of}
-use Rattle.pass_proofs.specs.ir_model.Ty.{ptr}
-use Rattle.pass_proofs.specs.ir_model.declared.instr.Instr.{Instr}
-use Rattle.pass_proofs.specs.ir_model.declared.instr.Terminator.{Terminator}
-use Rattle.pass_proofs.specs.ir_model.declared.module.Block.{Block}
-use Rattle.pass_proofs.specs.ir_model.declared.module.Function.{Function}
-use Rattle.pass_proofs.specs.ir_paths.Paths.{entry_point}
-use Rattle.pass_proofs.specs.ir_paths.Windows.{leaves}
-use Rattle.pass_proofs.specs.ir_paths.declared.point.Point.{Point}
-use Rattle.pass_proofs.specs.ir_paths.declared.point.Window.{Window}
-use Rattle.pass_proofs.specs.pass_cells.Kept.{entry}
-use Rattle.pass_proofs.specs.pass_cells.Written.{row_at, stored_phis}
-use Rattle.pass_proofs.specs.pass_copies.declared.slot.EarlySlot.{EarlySlot}
-use Rattle.pass_proofs.specs.pass_fetch.Fetching.{value_bytes}
-use Rattle.pass_frames_proof.proofs.followed.Assembly.{events_same, other_instance}
+use Rattle.pass_frames_steps.specs.flow_solver.Paths.{IsListed}
+use Rattle.pass_frames_steps.specs.ir_base.declared.cause.Cause.{Cause}
+use Rattle.pass_frames_steps.specs.ir_base.declared.outcome.Outcome.{Outcome}
+use Rattle.pass_frames_steps.specs.ir_model.Names.{function_at, position_of}
+use Rattle.pass_frames_steps.specs.ir_model.Ty.{ptr}
+use Rattle.pass_frames_steps.specs.ir_model.declared.instr.Instr.{Instr}
+use Rattle.pass_frames_steps.specs.ir_model.declared.instr.Terminator.{Terminator}
+use Rattle.pass_frames_steps.specs.ir_model.declared.module.Block.{Block}
+use Rattle.pass_frames_steps.specs.ir_model.declared.module.Function.{Function}
+use Rattle.pass_frames_steps.specs.ir_paths.Paths.{entry_point}
+use Rattle.pass_frames_steps.specs.ir_paths.Windows.{leaves}
+use Rattle.pass_frames_steps.specs.ir_paths.declared.point.Point.{Point}
+use Rattle.pass_frames_steps.specs.ir_paths.declared.point.Window.{Window}
+use Rattle.pass_frames_steps.specs.pass_cells.Kept.{entry}
+use Rattle.pass_frames_steps.specs.pass_cells.Written.{row_at, stored_phis}
+use Rattle.pass_frames_steps.specs.pass_copies.declared.slot.EarlySlot.{EarlySlot}
+use Rattle.pass_frames_steps.specs.pass_fetch.Fetching.{value_bytes}
+use Rattle.pass_frames_steps.proofs.followed.Assembly.{events_same, other_instance}
 use Rattle.pass_frames_proof.proofs.from_edges.Front.{front_done, front_is_line}
 use Rattle.pass_frames_proof.proofs.from_edges.Places.{ReturnsInPlace, return_there, line_gives}
 use Rattle.pass_frames_proof.proofs.jumping.Ends.{ends_led_by}
 use Rattle.pass_frames_proof.proofs.jumping.Fronts.{front_led_by}
 use Rattle.pass_frames_proof.proofs.jumping.Pairs.{AreAllSet, all_set}
 use Rattle.pass_frames_proof.proofs.jumping.Places.{front_there}
-use Rattle.pass_frames_proof.proofs.lined.Lines.{each_between, framed_does, line_leads}
-use Rattle.pass_frames_proof.proofs.lines.Cells.{other_block}
-use Rattle.pass_frames_proof.proofs.stepping.After.{cells_turned, past_value, wheres_there, wheres_turned}
-use Rattle.pass_frames_proof.proofs.stepping.May.{coroutine_values, not_returned, own_blocks}
-use Rattle.pass_frames_proof.proofs.stepping.Names.{cell_is_name, named_written, slots_new, edged_named}
-use Rattle.pass_frames_proof.proofs.stepping.Operands.{asked}
-use Rattle.pass_frames_proof.proofs.stepping.Rest.{LeavesRest, below_apart, instance_kept, own_slots, rest_related, stood_apart}
-use Rattle.pass_frames_proof.proofs.stepping.Same.{rest_left}
-use Rattle.pass_frames_proof.proofs.stepping.Stands.{cost_is, made_of, renewed_does, top_is, values_of}
-use Rattle.pass_frames_proof.proofs.suspending.Given.{edged_framed}
-use Rattle.pass_frames_proof.specs.Code.{end_code, end_term, front_code, last_state}
-use Rattle.pass_frames_proof.specs.Costs.{jump_cost, whole}
-use Rattle.pass_frames_proof.specs.Edges.{AreCellsFit, EndsLed, FrontsInPlace, FrontsLed, IsOnFront, PhisGiven, block_to, entered_phis, entered_work}
-use Rattle.pass_frames_proof.specs.Followed.{IsFollowed, IsOn}
-use Rattle.pass_frames_proof.specs.Framings.{IsFraming}
-use Rattle.pass_frames_proof.specs.FromEdges.{IsAtReturn, IsFrontDone, IsNoOwnCell, IsOnCells, IsOutOfEdge, address_name, again_name}
-use Rattle.pass_frames_proof.specs.Jumps.{MayJumpBy}
-use Rattle.pass_frames_proof.specs.Led.{SparesBlocks}
+use Rattle.pass_frames_steps.proofs.lined.Lines.{each_between, framed_does, line_leads}
+use Rattle.pass_frames_steps.proofs.lines.Cells.{other_block}
+use Rattle.pass_frames_steps.proofs.stepping.After.{cells_turned, past_value, wheres_there, wheres_turned}
+use Rattle.pass_frames_steps.proofs.stepping.May.{coroutine_values, not_returned, own_blocks}
+use Rattle.pass_frames_steps.proofs.stepping.Names.{cell_is_name, named_written, slots_new, edged_named}
+use Rattle.pass_frames_steps.proofs.stepping.Operands.{asked}
+use Rattle.pass_frames_steps.proofs.stepping.Rest.{LeavesRest, below_apart, instance_kept, own_slots, rest_related, stood_apart}
+use Rattle.pass_frames_steps.proofs.stepping.Same.{rest_left}
+use Rattle.pass_frames_steps.proofs.stepping.Stands.{cost_is, made_of, renewed_does, top_is, values_of}
+use Rattle.pass_frames_steps.proofs.suspending.Given.{edged_framed}
+use Rattle.pass_frames_steps.specs.Code.{end_code, end_term, front_code, last_state}
+use Rattle.pass_frames_steps.specs.Costs.{jump_cost, whole}
+use Rattle.pass_frames_steps.specs.Edges.{AreCellsFit, EndsLed, FrontsInPlace, FrontsLed, IsOnFront, PhisGiven, block_to, entered_phis, entered_work}
+use Rattle.pass_frames_steps.specs.Followed.{IsFollowed, IsOn}
+use Rattle.pass_frames_steps.specs.Framings.{IsFraming}
+use Rattle.pass_frames_steps.specs.FromEdges.{IsAtReturn, IsFrontDone, IsNoOwnCell, IsOnCells, IsOutOfEdge, address_name, again_name}
+use Rattle.pass_frames_steps.specs.Jumps.{MayJumpBy}
+use Rattle.pass_frames_steps.specs.Led.{SparesBlocks}
 use Rattle.pass_frames_proof.proofs.leaving.Branches.{none_left}
-use Rattle.pass_frames_proof.specs.Leaving.{further}
-use Rattle.pass_frames_proof.specs.Lined.{GivesNone, lined}
-use Rattle.pass_frames_proof.specs.Lines.{at_work}
-use Rattle.pass_frames_proof.specs.Meaning.{action_at, coroutine_cost, other_cost, step_cost}
-use Rattle.pass_frames_proof.specs.Passes.{block_at}
-use Rattle.pass_frames_proof.specs.Places.{Framing, copies, edged, framed, instrs_at, named, offsets, place, plan, written, place_by, fetched}
-use Rattle.pass_frames_proof.specs.Related.{AreActivations, AreBuiltOf, AreCellsRight, AreCoroutines, AreNamed, AreWheresRight, Building, HasCells, IsCellName, IsFreeOf, instance_in, is_coroutine, point_of, slots_below, top_place}
-use Rattle.pass_frames_proof.specs.Stepping.{AreGiven}
-use Rattle.pass_proofs.specs.addresses.rules.Addresses.{lies_in_frame}
-use Rattle.pass_renewed_proof.specs.Renewed.{RenewedGiven, renewed_step}
-use Rattle.pass_proofs.proofs.run_agreement.Runs.{iterate-add}
-use Rattle.pass_proofs.specs.run_agreement.Machines.{IsFine, iterate}
-use Rattle.pass_proofs.specs.run_framed.Framed.{frame_rights, framed_context, framed_step}
-use Rattle.pass_proofs.specs.run_laws.access.Lines.{Holds, StandAt}
-use Rattle.pass_proofs.specs.run_laws.changed.Changed.{Each}
-use Rattle.pass_proofs.specs.run_laws.memory.Pointers.{IsValue, home_of}
-use Rattle.pass_proofs.specs.run_memory.Memory.{Rights}
-use Rattle.pass_proofs.specs.run_memory.declared.block.Byte.{Byte}
-use Rattle.pass_proofs.specs.run_memory.declared.pointer.Value.{Value}
-use Rattle.pass_proofs.specs.run_source.Source.{branch_leaving, context_of, enter_block, go_to, left_windows}
-use Rattle.pass_proofs.specs.run_source.State.{function_of, or_undefined, own_facts, work_of}
-use Rattle.pass_proofs.specs.run_source.declared.state.Activation.{Activation}
-use Rattle.pass_proofs.specs.run_source.declared.state.Instance.{Instance}
-use Rattle.pass_proofs.specs.run_source.declared.state.State.{State}
-use Rattle.pass_proofs.specs.run_source_tables.Given.{Given}
-use Rattle.pass_proofs.specs.run_step.Step.{AtTerm, Context, Fetched, GoTo, Work, action_of, fetch, fetch_in, fetch_or, label_of, phi_values, phis_of, values_in, with_all}
-use Rattle.pass_proofs.specs.run_step.Values.{Env, value_in}
-use Rattle.pass_proofs.specs.run_step.declared.world.Slot.{Slot}
-use Rattle.pass_proofs.specs.run_step.declared.world.World.{World}
-use Rattle.pass_frames_proof.proofs.stepping.After.{right_there as cells_there}
-use Rattle.pass_proofs.specs.run_source.State.{point_of as state_point}
+use Rattle.pass_frames_steps.specs.Leaving.{further}
+use Rattle.pass_frames_steps.specs.Lined.{GivesNone, lined}
+use Rattle.pass_frames_steps.specs.Lines.{at_work}
+use Rattle.pass_frames_steps.specs.Meaning.{action_at, coroutine_cost, other_cost, step_cost}
+use Rattle.pass_frames_steps.specs.Passes.{block_at}
+use Rattle.pass_frames_steps.specs.Places.{Framing, copies, edged, framed, instrs_at, named, offsets, place, plan, written, place_by, fetched}
+use Rattle.pass_frames_steps.specs.Related.{AreActivations, AreBuiltOf, AreCellsRight, AreCoroutines, AreNamed, AreWheresRight, Building, HasCells, IsCellName, IsFreeOf, instance_in, is_coroutine, point_of, slots_below, top_place}
+use Rattle.pass_frames_steps.specs.Stepping.{AreGiven}
+use Rattle.pass_frames_steps.specs.pass_proofs.addresses.rules.Addresses.{lies_in_frame}
+use Rattle.pass_frames_steps.specs.pass_renewed_proof.Renewed.{RenewedGiven, renewed_step}
+use Rattle.pass_frames_steps.proofs.run_agreement.Runs.{iterate-add}
+use Rattle.pass_frames_steps.specs.run_agreement.Machines.{IsFine, iterate}
+use Rattle.pass_frames_steps.specs.run_framed.Framed.{frame_rights, framed_context, framed_step}
+use Rattle.pass_frames_steps.specs.run_laws.access.Lines.{Holds, StandAt}
+use Rattle.pass_frames_steps.specs.run_laws.changed.Changed.{Each}
+use Rattle.pass_frames_steps.specs.run_laws.memory.Pointers.{IsValue, home_of}
+use Rattle.pass_frames_steps.specs.run_memory.Memory.{Rights}
+use Rattle.pass_frames_steps.specs.run_memory.declared.block.Byte.{Byte}
+use Rattle.pass_frames_steps.specs.run_memory.declared.pointer.Value.{Value}
+use Rattle.pass_frames_steps.specs.run_source.Source.{branch_leaving, context_of, enter_block, go_to, left_windows}
+use Rattle.pass_frames_steps.specs.run_source.State.{function_of, or_undefined, own_facts, work_of}
+use Rattle.pass_frames_steps.specs.run_source.declared.state.Activation.{Activation}
+use Rattle.pass_frames_steps.specs.run_source.declared.state.Instance.{Instance}
+use Rattle.pass_frames_steps.specs.run_source.declared.state.State.{State}
+use Rattle.pass_frames_steps.specs.run_source_tables.Given.{Given}
+use Rattle.pass_frames_steps.specs.run_step.Step.{AtTerm, Context, Fetched, GoTo, Work, action_of, fetch, fetch_in, fetch_or, label_of, phi_values, phis_of, values_in, with_all}
+use Rattle.pass_frames_steps.specs.run_step.Values.{Env, value_in}
+use Rattle.pass_frames_steps.specs.run_step.declared.world.Slot.{Slot}
+use Rattle.pass_frames_steps.specs.run_step.declared.world.World.{World}
+use Rattle.pass_frames_steps.proofs.stepping.After.{right_there as cells_there}
+use Rattle.pass_frames_steps.specs.run_source.State.{point_of as state_point}
 
 goes_by : (g : Given) (s : State) (label : ℕ)
     → filter (leaves (state_point s) (entry_point (function_of g s) label)) (own_facts g s).windows ≡ []

@@ -1,31 +1,31 @@
 -- What stands in a block on a resume or destroy edge: its front, its end, and the jump.
 use Rattle.std.proofs.Common.{◌≡◌, ◌≢◌, ◌+◌, ◌∷◌, ◌++◌, ◌∙◌, [], List, Option, Some, ap, length, subst, sym, ℕ, None}
 use Rattle.std.specs.Prelude.{slice_get}
-use Rattle.pass_proofs.proofs.ir_laws.facts.Members.{each_joined, each_turns}
-use Rattle.pass_proofs.specs.ir_model.declared.instr.Instr.{Instr}
-use Rattle.pass_proofs.specs.ir_model.declared.instr.Terminator.{Terminator}
-use Rattle.pass_proofs.specs.ir_model.declared.module.Module.{Module}
-use Rattle.pass_proofs.specs.pass_cells.Moves.{address_again, again_one, again_values}
-use Rattle.pass_proofs.specs.pass_cells.declared.plan.KeptValue.{KeptValue}
-use Rattle.pass_proofs.specs.pass_copies.BeginCopies.{puts}
-use Rattle.pass_proofs.specs.pass_copies.declared.slot.EarlySlot.{EarlySlot}
-use Rattle.pass_frames_proof.proofs.code.Ends.{back_is, front_is, last_far, term_is}
-use Rattle.pass_frames_proof.proofs.code.Framed.{others_made}
-use Rattle.pass_frames_proof.proofs.code.Left.{IsMove}
+use Rattle.pass_frames_steps.proofs.ir_laws.facts.Members.{each_joined, each_turns}
+use Rattle.pass_frames_steps.specs.ir_model.declared.instr.Instr.{Instr}
+use Rattle.pass_frames_steps.specs.ir_model.declared.instr.Terminator.{Terminator}
+use Rattle.pass_frames_steps.specs.ir_model.declared.module.Module.{Module}
+use Rattle.pass_frames_steps.specs.pass_cells.Moves.{address_again, again_one, again_values}
+use Rattle.pass_frames_steps.specs.pass_cells.declared.plan.KeptValue.{KeptValue}
+use Rattle.pass_frames_steps.specs.pass_copies.BeginCopies.{puts}
+use Rattle.pass_frames_steps.specs.pass_copies.declared.slot.EarlySlot.{EarlySlot}
+use Rattle.pass_frames_steps.proofs.code.Ends.{back_is, front_is, last_far, term_is}
+use Rattle.pass_frames_steps.proofs.code.Framed.{others_made}
+use Rattle.pass_frames_steps.proofs.code.Left.{IsMove}
 use Rattle.pass_frames_proof.proofs.jumping.Places.{made_front, made_stand, made_term, made_whole}
-use Rattle.pass_frames_proof.proofs.layers.Standing.{first_place}
-use Rattle.pass_frames_proof.proofs.saving.Becoming.{easy_move, addressed_moves}
-use Rattle.pass_frames_proof.specs.Code.{end_code, end_term, front_code, last_state}
-use Rattle.pass_frames_proof.specs.Costs.{whole}
-use Rattle.pass_frames_proof.specs.Framings.{IsFraming}
-use Rattle.pass_frames_proof.specs.FromEdges.{agains_line, slots_line}
-use Rattle.pass_frames_proof.specs.Layers.{Layer, place_in}
-use Rattle.pass_frames_proof.specs.Lined.{GivesNone}
-use Rattle.pass_frames_proof.specs.Passes.{IsBlockMade, block_at}
-use Rattle.pass_frames_proof.specs.Places.{Framing, Placed, edged, framed, instrs_at, placed_layer, plan}
-use Rattle.pass_proofs.specs.run_laws.access.Lines.{StandAt}
-use Rattle.pass_proofs.specs.run_laws.changed.Changed.{Each}
-use Rattle.pass_proofs.specs.run_step.Step.{AtTerm, fetch}
+use Rattle.pass_frames_steps.proofs.layers.Standing.{first_place}
+use Rattle.pass_frames_steps.proofs.saving.Becoming.{easy_move, addressed_moves}
+use Rattle.pass_frames_steps.specs.Code.{end_code, end_term, front_code, last_state}
+use Rattle.pass_frames_steps.specs.Costs.{whole}
+use Rattle.pass_frames_steps.specs.Framings.{IsFraming}
+use Rattle.pass_frames_steps.specs.FromEdges.{agains_line, slots_line}
+use Rattle.pass_frames_steps.specs.Layers.{Layer, place_in}
+use Rattle.pass_frames_steps.specs.Lined.{GivesNone}
+use Rattle.pass_frames_steps.specs.Passes.{IsBlockMade, block_at}
+use Rattle.pass_frames_steps.specs.Places.{Framing, Placed, edged, framed, instrs_at, placed_layer, plan}
+use Rattle.pass_frames_steps.specs.run_laws.access.Lines.{StandAt}
+use Rattle.pass_frames_steps.specs.run_laws.changed.Changed.{Each}
+use Rattle.pass_frames_steps.specs.run_step.Step.{AtTerm, fetch}
 
 pub record ReturnsInPlace (x : Framing) (k : ℕ) : Type 0 where
   pub front : StandAt (framed x) k 0 (front_code x k)

@@ -2,42 +2,42 @@
 use Rattle.std.proofs.Common.{◌≡◌, ◌≢◌, ◌+◌, ◌<◌, ◌≤◌, ◌∷◌, ◌++◌, ◌∙◌, [], List, None, Some, ap, arith, inl, inr, length, refl, subst, sym, ℕ}
 use Rattle.std.specs.List.{Contains}
 use Rattle.std.specs.Prelude.{slice_get}
-use Rattle.pass_proofs.specs.flow_solver.Paths.{IsListed}
-use Rattle.pass_proofs.proofs.ir_laws.facts.Members.{each_joined, each_turns}
-use Rattle.pass_proofs.specs.ir_laws.paths.woven_rules.Pairs.{AreDifferent}
-use Rattle.pass_proofs.specs.ir_model.Ty.{ptr}
-use Rattle.pass_proofs.specs.ir_model.declared.instr.Instr.{Instr}
-use Rattle.pass_proofs.specs.ir_model.declared.operand.Operand.{Operand}
-use Rattle.pass_proofs.specs.pass_addresses.Placing.{lies_outside}
-use Rattle.pass_proofs.specs.pass_copies.BeginCopies.{put, puts}
-use Rattle.pass_proofs.specs.pass_copies.declared.slot.EarlySlot.{EarlySlot}
-use Rattle.pass_proofs.specs.pass_fetch.Fetching.{address_behind, fetch_of, fetches_by, next_by, operand_by}
-use Rattle.pass_proofs.specs.pass_frames.Framed.{begin_of}
-use Rattle.pass_frames_proof.proofs.code.Idle.{only_idle}
-use Rattle.pass_frames_proof.proofs.distances.Sums.{set_from, value_set}
-use Rattle.pass_frames_proof.proofs.layers.Grown.{both_becomes}
-use Rattle.pass_frames_proof.proofs.layers.Idle.{all_stay}
-use Rattle.pass_frames_proof.proofs.lines.Cells.{AreOf, cell_has, cell_on, cell_stays, cell_stores, inside_of, kept_type, other_block}
-use Rattle.pass_frames_proof.proofs.lines.Filled.{over_fewer, over_joined, over_none, over_sets}
-use Rattle.pass_frames_proof.proofs.lines.Fillers.{field_fetched}
-use Rattle.pass_frames_proof.specs.Code.{addressed, slot_table}
-use Rattle.pass_frames_proof.specs.Entry.{cells_of}
-use Rattle.pass_frames_proof.specs.FromEdges.{IsEarlyInFrame}
-use Rattle.pass_frames_proof.specs.Layers.{Layer, becomes, grown, only, passed}
-use Rattle.pass_frames_proof.specs.Lines.{HasOwnBlocks, RunsOver, StoresCell, at_work}
-use Rattle.pass_frames_proof.specs.Passes.{fetching_at}
-use Rattle.pass_frames_proof.specs.Places.{Framing, addressing_layer, offsets, unmarked}
-use Rattle.pass_frames_proof.specs.Related.{Anything, IsCell}
-use Rattle.pass_proofs.proofs.addresses.numbers.Done.{address_done}
-use Rattle.pass_proofs.specs.run_laws.access.Accessed.{Span}
-use Rattle.pass_proofs.specs.run_laws.access.Lines.{pointer_at}
-use Rattle.pass_proofs.specs.run_laws.changed.Changed.{Each}
-use Rattle.pass_proofs.specs.run_laws.memory.Standing.{AreByteRights}
-use Rattle.pass_proofs.specs.run_memory.declared.pointer.Access.{Access}
-use Rattle.pass_proofs.specs.run_memory.declared.pointer.Value.{Value}
-use Rattle.pass_proofs.specs.run_source.declared.state.Activation.{Activation}
-use Rattle.pass_proofs.specs.run_step.Step.{Context, Work, set_value}
-use Rattle.pass_proofs.specs.run_step.Values.{stored, value_in}
+use Rattle.pass_frames_steps.specs.flow_solver.Paths.{IsListed}
+use Rattle.pass_frames_steps.proofs.ir_laws.facts.Members.{each_joined, each_turns}
+use Rattle.pass_frames_steps.specs.ir_laws.paths.woven_rules.Pairs.{AreDifferent}
+use Rattle.pass_frames_steps.specs.ir_model.Ty.{ptr}
+use Rattle.pass_frames_steps.specs.ir_model.declared.instr.Instr.{Instr}
+use Rattle.pass_frames_steps.specs.ir_model.declared.operand.Operand.{Operand}
+use Rattle.pass_frames_steps.specs.pass_addresses.Placing.{lies_outside}
+use Rattle.pass_frames_steps.specs.pass_copies.BeginCopies.{put, puts}
+use Rattle.pass_frames_steps.specs.pass_copies.declared.slot.EarlySlot.{EarlySlot}
+use Rattle.pass_frames_steps.specs.pass_fetch.Fetching.{address_behind, fetch_of, fetches_by, next_by, operand_by}
+use Rattle.pass_frames_steps.specs.pass_frames.Framed.{begin_of}
+use Rattle.pass_frames_steps.proofs.code.Idle.{only_idle}
+use Rattle.pass_frames_steps.proofs.distances.Sums.{set_from, value_set}
+use Rattle.pass_frames_steps.proofs.layers.Grown.{both_becomes}
+use Rattle.pass_frames_steps.proofs.layers.Idle.{all_stay}
+use Rattle.pass_frames_steps.proofs.lines.Cells.{AreOf, cell_has, cell_on, cell_stays, cell_stores, inside_of, kept_type, other_block}
+use Rattle.pass_frames_steps.proofs.lines.Filled.{over_fewer, over_joined, over_none, over_sets}
+use Rattle.pass_frames_steps.proofs.lines.Fillers.{field_fetched}
+use Rattle.pass_frames_steps.specs.Code.{addressed, slot_table}
+use Rattle.pass_frames_steps.specs.Entry.{cells_of}
+use Rattle.pass_frames_steps.specs.FromEdges.{IsEarlyInFrame}
+use Rattle.pass_frames_steps.specs.Layers.{Layer, becomes, grown, only, passed}
+use Rattle.pass_frames_steps.specs.Lines.{HasOwnBlocks, RunsOver, StoresCell, at_work}
+use Rattle.pass_frames_steps.specs.Passes.{fetching_at}
+use Rattle.pass_frames_steps.specs.Places.{Framing, addressing_layer, offsets, unmarked}
+use Rattle.pass_frames_steps.specs.Related.{Anything, IsCell}
+use Rattle.pass_frames_steps.proofs.pass_proofs.addresses.numbers.Done.{address_done}
+use Rattle.pass_frames_steps.specs.run_laws.access.Accessed.{Span}
+use Rattle.pass_frames_steps.specs.run_laws.access.Lines.{pointer_at}
+use Rattle.pass_frames_steps.specs.run_laws.changed.Changed.{Each}
+use Rattle.pass_frames_steps.specs.run_laws.memory.Standing.{AreByteRights}
+use Rattle.pass_frames_steps.specs.run_memory.declared.pointer.Access.{Access}
+use Rattle.pass_frames_steps.specs.run_memory.declared.pointer.Value.{Value}
+use Rattle.pass_frames_steps.specs.run_source.declared.state.Activation.{Activation}
+use Rattle.pass_frames_steps.specs.run_step.Step.{Context, Work, set_value}
+use Rattle.pass_frames_steps.specs.run_step.Values.{stored, value_in}
 
 module _ (x : Framing) (k : ℕ) where
   abbrev A : Layer (ℕ × Unit {0})

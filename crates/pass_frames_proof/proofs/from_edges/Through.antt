@@ -1,24 +1,24 @@
 -- A line that fills cells of an activation alone: so it is at each of its instructions.
 use Rattle.std.proofs.Common.{◌≡◌, ◌<◌, ◌≤◌, ◌∷◌, ◌∙◌, [], List, ap, arith, inl, inr, subst, sym, ℕ}
 use Rattle.std.specs.Prelude.{slice_get}
-use Rattle.pass_proofs.specs.ir_model.declared.instr.Instr.{Instr}
-use Rattle.pass_proofs.specs.ir_model.declared.operand.Operand.{Operand}
+use Rattle.pass_frames_steps.specs.ir_model.declared.instr.Instr.{Instr}
+use Rattle.pass_frames_steps.specs.ir_model.declared.operand.Operand.{Operand}
 use Rattle.pass_frames_proof.proofs.jumping.Fronts.{ChangesMemory, store_changes}
-use Rattle.pass_frames_proof.proofs.led.Steps.{still_value, still_world}
-use Rattle.pass_frames_proof.specs.FromEdges.{IsCellMove, IsNoOwnCell, IsOnCells, IsStillFrom, IsStoreInto}
-use Rattle.pass_frames_proof.specs.Led.{RunsThrough}
-use Rattle.pass_frames_proof.specs.Places.{Framing}
-use Rattle.pass_proofs.proofs.run_laws.access.Blocks.{others_left}
-use Rattle.pass_proofs.specs.run_laws.access.Accessed.{accessed, led_into}
-use Rattle.pass_proofs.specs.run_laws.access.Changed.{ChangesOnly, IsNoneOf, LeavesOthers}
-use Rattle.pass_proofs.specs.run_laws.access.Lines.{Runs}
-use Rattle.pass_proofs.specs.run_laws.changed.Changed.{Each}
-use Rattle.pass_proofs.specs.run_memory.declared.pointer.Value.{Value}
-use Rattle.pass_proofs.specs.run_source.State.{work_of}
-use Rattle.pass_proofs.specs.run_source.declared.state.State.{State}
-use Rattle.pass_proofs.specs.run_step.Step.{AtInstr, Context, Done, Work, instr_action}
-use Rattle.pass_proofs.specs.run_step.Values.{Env, address, value_in}
-use Rattle.pass_proofs.specs.run_step.declared.world.World.{World}
+use Rattle.pass_frames_steps.proofs.led.Steps.{still_value, still_world}
+use Rattle.pass_frames_steps.specs.FromEdges.{IsCellMove, IsNoOwnCell, IsOnCells, IsStillFrom, IsStoreInto}
+use Rattle.pass_frames_steps.specs.Led.{RunsThrough}
+use Rattle.pass_frames_steps.specs.Places.{Framing}
+use Rattle.pass_frames_steps.proofs.run_laws.access.Blocks.{others_left}
+use Rattle.pass_frames_steps.specs.run_laws.access.Accessed.{accessed, led_into}
+use Rattle.pass_frames_steps.specs.run_laws.access.Changed.{ChangesOnly, IsNoneOf, LeavesOthers}
+use Rattle.pass_frames_steps.specs.run_laws.access.Lines.{Runs}
+use Rattle.pass_frames_steps.specs.run_laws.changed.Changed.{Each}
+use Rattle.pass_frames_steps.specs.run_memory.declared.pointer.Value.{Value}
+use Rattle.pass_frames_steps.specs.run_source.State.{work_of}
+use Rattle.pass_frames_steps.specs.run_source.declared.state.State.{State}
+use Rattle.pass_frames_steps.specs.run_step.Step.{AtInstr, Context, Done, Work, instr_action}
+use Rattle.pass_frames_steps.specs.run_step.Values.{Env, address, value_in}
+use Rattle.pass_frames_steps.specs.run_step.declared.world.World.{World}
 
 module _ (x : Framing) (t : State) (d : Context) (n : ℕ) (start : Work) where
   abbrev Move : Instr → Type 0

@@ -1,50 +1,50 @@
 -- The end of a block is executed where a coroutine jumps from it.
 use Rattle.std.proofs.Common.{◌≡◌, ℕ, List, [], ◌∷◌, ◌++◌, length, refl, sym, subst, arith}
 use Rattle.std.specs.Prelude.{None, Option, Some, codes, replicate, slice_get}
-use Rattle.pass_proofs.proofs.ir_laws.facts.Members.{each_joined}
-use Rattle.pass_proofs.specs.ir_model.Ty.{Ty}
-use Rattle.pass_proofs.specs.ir_model.declared.instr.Instr.{Instr}
-use Rattle.pass_proofs.specs.ir_model.declared.instr.Phi.{Phi}
-use Rattle.pass_proofs.specs.ir_model.declared.instr.Terminator.{Terminator}
-use Rattle.pass_proofs.specs.ir_model.declared.module.Function.{Function}
-use Rattle.pass_proofs.specs.ir_model.declared.module.Module.{Module}
-use Rattle.pass_proofs.specs.ir_model.declared.operand.Operand.{Operand}
-use Rattle.pass_proofs.specs.pass_cells.Cells.{fetches_of}
-use Rattle.pass_proofs.specs.pass_fetch.Blocks.{end_at}
-use Rattle.pass_proofs.specs.pass_fetch.Fetching.{fetch_into, fetch_of, fetches_of_all}
-use Rattle.pass_proofs.specs.pass_fetch.Instrs.{term_operands}
-use Rattle.pass_proofs.specs.pass_fetch.declared.fetch.Fetch.{Fetch}
-use Rattle.pass_frames_proof.proofs.code.Left.{Far, all_by, blocks_by, far_named}
-use Rattle.pass_frames_proof.proofs.code.Names.{far_left}
-use Rattle.pass_frames_proof.proofs.distances.Sums.{value_stays}
-use Rattle.pass_frames_proof.proofs.led.Steps.{still_others, still_through}
-use Rattle.pass_frames_proof.proofs.phis.Rows.{ends as ends_run}
-use Rattle.pass_frames_proof.proofs.phis.Twice.{pairs_twice, phis_get_twice}
-use Rattle.pass_frames_proof.specs.Code.{address_state, end_code, end_loads, end_term, last_state, load_name, slot_table}
-use Rattle.pass_frames_proof.specs.Distances.{IsBelow, SetsFrom}
-use Rattle.pass_frames_proof.specs.Edges.{AreEndsLed, ArePairs, EndsLed, IsAtJump, block_to, entered_phis}
-use Rattle.pass_frames_proof.specs.Ends.{IsPhiTwice, end_line, phis_twice}
-use Rattle.pass_frames_proof.specs.Framings.{IsFraming}
-use Rattle.pass_frames_proof.specs.Jumps.{EndsAt, MayJump, MayJumpBy, label_at}
-use Rattle.pass_frames_proof.specs.Led.{IsStill, twice_by}
-use Rattle.pass_frames_proof.specs.Fetched.{seen_by}
-use Rattle.pass_frames_proof.specs.Lined.{GivesNone}
-use Rattle.pass_frames_proof.specs.Passes.{block_at, phi_ends}
-use Rattle.pass_frames_proof.specs.Places.{Framing, edged, framed, named, plan, unmarked}
-use Rattle.pass_frames_proof.specs.Related.{AreBuiltOf, Building}
-use Rattle.pass_frames_proof.specs.Stepping.{AreGiven}
-use Rattle.pass_proofs.proofs.fetch.shape.Fetching.{no_rows}
-use Rattle.pass_renewed_proof.specs.Renewed.{RenewedGiven}
-use Rattle.pass_proofs.specs.run_framed.Framed.{framed_context}
-use Rattle.pass_proofs.specs.run_laws.access.Lines.{Runs}
-use Rattle.pass_proofs.specs.run_laws.changed.Changed.{Each}
-use Rattle.pass_proofs.specs.run_laws.memory.Pointers.{Home, IsValue}
-use Rattle.pass_proofs.specs.run_memory.declared.pointer.Value.{Value}
-use Rattle.pass_proofs.specs.run_source.Source.{context_of}
-use Rattle.pass_proofs.specs.run_source.State.{work_of}
-use Rattle.pass_proofs.specs.run_source.declared.state.State.{State}
-use Rattle.pass_proofs.specs.run_step.Step.{Context, Work, incoming_from, label_of, phi_values, phis_of}
-use Rattle.pass_proofs.specs.run_step.Values.{operand_value}
+use Rattle.pass_frames_steps.proofs.ir_laws.facts.Members.{each_joined}
+use Rattle.pass_frames_steps.specs.ir_model.Ty.{Ty}
+use Rattle.pass_frames_steps.specs.ir_model.declared.instr.Instr.{Instr}
+use Rattle.pass_frames_steps.specs.ir_model.declared.instr.Phi.{Phi}
+use Rattle.pass_frames_steps.specs.ir_model.declared.instr.Terminator.{Terminator}
+use Rattle.pass_frames_steps.specs.ir_model.declared.module.Function.{Function}
+use Rattle.pass_frames_steps.specs.ir_model.declared.module.Module.{Module}
+use Rattle.pass_frames_steps.specs.ir_model.declared.operand.Operand.{Operand}
+use Rattle.pass_frames_steps.specs.pass_cells.Cells.{fetches_of}
+use Rattle.pass_frames_steps.specs.pass_fetch.Blocks.{end_at}
+use Rattle.pass_frames_steps.specs.pass_fetch.Fetching.{fetch_into, fetch_of, fetches_of_all}
+use Rattle.pass_frames_steps.specs.pass_fetch.Instrs.{term_operands}
+use Rattle.pass_frames_steps.specs.pass_fetch.declared.fetch.Fetch.{Fetch}
+use Rattle.pass_frames_steps.proofs.code.Left.{Far, all_by, blocks_by, far_named}
+use Rattle.pass_frames_steps.proofs.code.Names.{far_left}
+use Rattle.pass_frames_steps.proofs.distances.Sums.{value_stays}
+use Rattle.pass_frames_steps.proofs.led.Steps.{still_others, still_through}
+use Rattle.pass_frames_steps.proofs.phis.Rows.{ends as ends_run}
+use Rattle.pass_frames_steps.proofs.phis.Twice.{pairs_twice, phis_get_twice}
+use Rattle.pass_frames_steps.specs.Code.{address_state, end_code, end_loads, end_term, last_state, load_name, slot_table}
+use Rattle.pass_frames_steps.specs.Distances.{IsBelow, SetsFrom}
+use Rattle.pass_frames_steps.specs.Edges.{AreEndsLed, ArePairs, EndsLed, IsAtJump, block_to, entered_phis}
+use Rattle.pass_frames_steps.specs.Ends.{IsPhiTwice, end_line, phis_twice}
+use Rattle.pass_frames_steps.specs.Framings.{IsFraming}
+use Rattle.pass_frames_steps.specs.Jumps.{EndsAt, MayJump, MayJumpBy, label_at}
+use Rattle.pass_frames_steps.specs.Led.{IsStill, twice_by}
+use Rattle.pass_frames_steps.specs.Fetched.{seen_by}
+use Rattle.pass_frames_steps.specs.Lined.{GivesNone}
+use Rattle.pass_frames_steps.specs.Passes.{block_at, phi_ends}
+use Rattle.pass_frames_steps.specs.Places.{Framing, edged, framed, named, plan, unmarked}
+use Rattle.pass_frames_steps.specs.Related.{AreBuiltOf, Building}
+use Rattle.pass_frames_steps.specs.Stepping.{AreGiven}
+use Rattle.pass_frames_steps.proofs.pass_proofs.fetch.shape.Fetching.{no_rows}
+use Rattle.pass_frames_steps.specs.pass_renewed_proof.Renewed.{RenewedGiven}
+use Rattle.pass_frames_steps.specs.run_framed.Framed.{framed_context}
+use Rattle.pass_frames_steps.specs.run_laws.access.Lines.{Runs}
+use Rattle.pass_frames_steps.specs.run_laws.changed.Changed.{Each}
+use Rattle.pass_frames_steps.specs.run_laws.memory.Pointers.{Home, IsValue}
+use Rattle.pass_frames_steps.specs.run_memory.declared.pointer.Value.{Value}
+use Rattle.pass_frames_steps.specs.run_source.Source.{context_of}
+use Rattle.pass_frames_steps.specs.run_source.State.{work_of}
+use Rattle.pass_frames_steps.specs.run_source.declared.state.State.{State}
+use Rattle.pass_frames_steps.specs.run_step.Step.{Context, Work, incoming_from, label_of, phi_values, phis_of}
+use Rattle.pass_frames_steps.specs.run_step.Values.{operand_value}
 
 -- ---- what stands at the end is fetched
 

@@ -2,61 +2,61 @@
 use Rattle.std.proofs.Common.{◌≡◌, inr, ℕ, Bool, true, false, List, [], ◌∷◌, length, refl, sym, ap, ◌∙◌, subst, arith}
 use Rattle.std.specs.List.{Contains}
 use Rattle.std.specs.Prelude.{Err, None, Ok, Option, Result, Some, slice_get, if◌then◌else◌}
-use Rattle.pass_proofs.specs.ir_base.declared.cause.Cause.{Cause}
-use Rattle.pass_proofs.proofs.ir_laws.facts.Members.{each_joined, each_turns}
-use Rattle.pass_proofs.specs.ir_model.Ty.{int, ptr}
-use Rattle.pass_proofs.specs.ir_model.declared.instr.Instr.{Instr}
-use Rattle.pass_proofs.specs.ir_model.declared.instr.Phi.{Phi}
-use Rattle.pass_proofs.specs.ir_model.declared.instr.Terminator.{Terminator}
-use Rattle.pass_proofs.specs.ir_model.declared.module.Module.{Module}
-use Rattle.pass_proofs.specs.ir_model.declared.operand.Arg.{Arg}
-use Rattle.pass_proofs.specs.ir_model.declared.operand.Operand.{Operand}
-use Rattle.pass_proofs.specs.pass_cells.Kept.{entry}
-use Rattle.pass_proofs.specs.pass_cells.Moves.{store_to}
-use Rattle.pass_proofs.specs.pass_cells.Written.{stored, stored_at, stored_one, stored_phis}
-use Rattle.pass_proofs.specs.pass_cells.declared.plan.KeptValue.{KeptValue}
-use Rattle.pass_proofs.specs.pass_fetch.Fetching.{value_bytes}
+use Rattle.pass_frames_steps.specs.ir_base.declared.cause.Cause.{Cause}
+use Rattle.pass_frames_steps.proofs.ir_laws.facts.Members.{each_joined, each_turns}
+use Rattle.pass_frames_steps.specs.ir_model.Ty.{int, ptr}
+use Rattle.pass_frames_steps.specs.ir_model.declared.instr.Instr.{Instr}
+use Rattle.pass_frames_steps.specs.ir_model.declared.instr.Phi.{Phi}
+use Rattle.pass_frames_steps.specs.ir_model.declared.instr.Terminator.{Terminator}
+use Rattle.pass_frames_steps.specs.ir_model.declared.module.Module.{Module}
+use Rattle.pass_frames_steps.specs.ir_model.declared.operand.Arg.{Arg}
+use Rattle.pass_frames_steps.specs.ir_model.declared.operand.Operand.{Operand}
+use Rattle.pass_frames_steps.specs.pass_cells.Kept.{entry}
+use Rattle.pass_frames_steps.specs.pass_cells.Moves.{store_to}
+use Rattle.pass_frames_steps.specs.pass_cells.Written.{stored, stored_at, stored_one, stored_phis}
+use Rattle.pass_frames_steps.specs.pass_cells.declared.plan.KeptValue.{KeptValue}
+use Rattle.pass_frames_steps.specs.pass_fetch.Fetching.{value_bytes}
 use Rattle.pass_frames_proof.proofs.jumping.Before.{cells_before, enough, free_before}
 use Rattle.pass_frames_proof.proofs.jumping.Pairs.{AreAllSet, all_set}
-use Rattle.pass_frames_proof.proofs.led.Steps.{fills_elsewhere}
-use Rattle.pass_frames_proof.proofs.lines.Filled.{worlds_stand}
-use Rattle.pass_frames_proof.proofs.lines.Names.{distance_of}
-use Rattle.pass_frames_proof.proofs.lines.Results.{kept_is_cell}
-use Rattle.pass_frames_proof.proofs.phis.Stored.{phis_stored}
-use Rattle.pass_frames_proof.proofs.stepping.After.{cell_turned}
-use Rattle.pass_frames_proof.proofs.stepping.May.{own_blocks}
-use Rattle.pass_frames_proof.proofs.stepping.Names.{cell_is_name}
-use Rattle.pass_frames_proof.specs.Edges.{AreCellsFit, AreEndsLed, AreFrontsLed, ArePhisGiven, EndsLed, FrontsLed, IsAtJump, IsOnFront, PhisGiven, block_to, entered_phis, entered_work}
-use Rattle.pass_frames_proof.specs.Framings.{IsFraming}
-use Rattle.pass_frames_proof.specs.Led.{IsNoCell, RunsThrough}
-use Rattle.pass_frames_proof.specs.Lined.{GivesNone}
-use Rattle.pass_frames_proof.specs.Lines.{AreAway, IsCellOf, at_work}
-use Rattle.pass_frames_proof.specs.Passes.{block_at}
-use Rattle.pass_frames_proof.specs.Phis.{given_phis}
-use Rattle.pass_frames_proof.specs.Places.{Framing, edged, fetched, framed, plan}
-use Rattle.pass_frames_proof.specs.Related.{AreBuiltOf, AreCellsRight, Building, IsCell, IsDistanceOf, IsKeptValue}
-use Rattle.pass_frames_proof.specs.Stepping.{AreGiven}
-use Rattle.pass_frames_proof.specs.Stores.{AreNamesStored}
-use Rattle.pass_renewed_proof.specs.Renewed.{RenewedGiven}
-use Rattle.pass_proofs.specs.run_framed.Framed.{frame_rights, framed_context}
-use Rattle.pass_proofs.proofs.run_laws.access.Blocks.{others_left}
-use Rattle.pass_proofs.proofs.run_laws.memory.Itself.{owner_rights_fit}
-use Rattle.pass_proofs.specs.run_laws.access.Accessed.{Span, accessed, led_into}
-use Rattle.pass_proofs.specs.run_laws.access.Changed.{ChangesOnly, IsNoneOf, LeavesOthers}
-use Rattle.pass_proofs.specs.run_laws.access.Lines.{Runs}
-use Rattle.pass_proofs.specs.run_laws.changed.Changed.{Each}
-use Rattle.pass_proofs.specs.run_laws.memory.Pointers.{Home, IsValue}
-use Rattle.pass_proofs.specs.run_laws.memory.Standing.{IsAway}
-use Rattle.pass_proofs.specs.run_laws.transfer.Muted.{muted}
-use Rattle.pass_proofs.specs.run_laws.transfer.Transfer.{AreOver, muted_world}
-use Rattle.run_access_worked.proofs.run_laws_worked.Frames.{frame_rights_fit}
-use Rattle.pass_proofs.specs.run_memory.Memory.{Rights, is_live, owner_rights, store}
-use Rattle.pass_proofs.specs.run_memory.declared.block.MemoryBlock.{MemoryBlock}
-use Rattle.pass_proofs.specs.run_memory.declared.pointer.Value.{Value}
-use Rattle.pass_proofs.specs.run_source.declared.state.State.{State}
-use Rattle.pass_proofs.specs.run_step.Step.{AtInstr, Context, Done, Stuck, Work, done, instr_action, is_alignment, label_of, phi_values, phis_of, set_memory, value_at, with_all}
-use Rattle.pass_proofs.specs.run_step.Values.{Env, access_of, address, arg_value, pointer_to, stored as stored_value, value_in}
-use Rattle.pass_proofs.specs.run_step.declared.world.World.{World}
+use Rattle.pass_frames_steps.proofs.led.Steps.{fills_elsewhere}
+use Rattle.pass_frames_steps.proofs.lines.Filled.{worlds_stand}
+use Rattle.pass_frames_steps.proofs.lines.Names.{distance_of}
+use Rattle.pass_frames_steps.proofs.lines.Results.{kept_is_cell}
+use Rattle.pass_frames_steps.proofs.phis.Stored.{phis_stored}
+use Rattle.pass_frames_steps.proofs.stepping.After.{cell_turned}
+use Rattle.pass_frames_steps.proofs.stepping.May.{own_blocks}
+use Rattle.pass_frames_steps.proofs.stepping.Names.{cell_is_name}
+use Rattle.pass_frames_steps.specs.Edges.{AreCellsFit, AreEndsLed, AreFrontsLed, ArePhisGiven, EndsLed, FrontsLed, IsAtJump, IsOnFront, PhisGiven, block_to, entered_phis, entered_work}
+use Rattle.pass_frames_steps.specs.Framings.{IsFraming}
+use Rattle.pass_frames_steps.specs.Led.{IsNoCell, RunsThrough}
+use Rattle.pass_frames_steps.specs.Lined.{GivesNone}
+use Rattle.pass_frames_steps.specs.Lines.{AreAway, IsCellOf, at_work}
+use Rattle.pass_frames_steps.specs.Passes.{block_at}
+use Rattle.pass_frames_steps.specs.Phis.{given_phis}
+use Rattle.pass_frames_steps.specs.Places.{Framing, edged, fetched, framed, plan}
+use Rattle.pass_frames_steps.specs.Related.{AreBuiltOf, AreCellsRight, Building, IsCell, IsDistanceOf, IsKeptValue}
+use Rattle.pass_frames_steps.specs.Stepping.{AreGiven}
+use Rattle.pass_frames_steps.specs.Stores.{AreNamesStored}
+use Rattle.pass_frames_steps.specs.pass_renewed_proof.Renewed.{RenewedGiven}
+use Rattle.pass_frames_steps.specs.run_framed.Framed.{frame_rights, framed_context}
+use Rattle.pass_frames_steps.proofs.run_laws.access.Blocks.{others_left}
+use Rattle.pass_frames_steps.proofs.run_laws.memory.Itself.{owner_rights_fit}
+use Rattle.pass_frames_steps.specs.run_laws.access.Accessed.{Span, accessed, led_into}
+use Rattle.pass_frames_steps.specs.run_laws.access.Changed.{ChangesOnly, IsNoneOf, LeavesOthers}
+use Rattle.pass_frames_steps.specs.run_laws.access.Lines.{Runs}
+use Rattle.pass_frames_steps.specs.run_laws.changed.Changed.{Each}
+use Rattle.pass_frames_steps.specs.run_laws.memory.Pointers.{Home, IsValue}
+use Rattle.pass_frames_steps.specs.run_laws.memory.Standing.{IsAway}
+use Rattle.pass_frames_steps.specs.run_laws.transfer.Muted.{muted}
+use Rattle.pass_frames_steps.specs.run_laws.transfer.Transfer.{AreOver, muted_world}
+use Rattle.pass_frames_steps.proofs.run_access_worked.run_laws_worked.Frames.{frame_rights_fit}
+use Rattle.pass_frames_steps.specs.run_memory.Memory.{Rights, is_live, owner_rights, store}
+use Rattle.pass_frames_steps.specs.run_memory.declared.block.MemoryBlock.{MemoryBlock}
+use Rattle.pass_frames_steps.specs.run_memory.declared.pointer.Value.{Value}
+use Rattle.pass_frames_steps.specs.run_source.declared.state.State.{State}
+use Rattle.pass_frames_steps.specs.run_step.Step.{AtInstr, Context, Done, Stuck, Work, done, instr_action, is_alignment, label_of, phi_values, phis_of, set_memory, value_at, with_all}
+use Rattle.pass_frames_steps.specs.run_step.Values.{Env, access_of, address, arg_value, pointer_to, stored as stored_value, value_in}
+use Rattle.pass_frames_steps.specs.run_step.declared.world.World.{World}
 
 -- ---- a store changes memory alone
 

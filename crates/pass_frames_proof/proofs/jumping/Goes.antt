@@ -1,45 +1,45 @@
 -- A terminator whose operands are fetched twice goes to the same label.
 use Rattle.std.proofs.Common.{◌≡◌, ℕ, ◌≤◌, List, [], ◌∷◌, length, refl, sym, ap, ◌∙◌, subst, arith}
 use Rattle.std.specs.Prelude.{None, Option, Some}
-use Rattle.pass_proofs.specs.ir_model.Ty.{Ty}
-use Rattle.pass_proofs.specs.ir_model.declared.instr.Case.{Case}
-use Rattle.pass_proofs.specs.ir_model.declared.instr.Terminator.{Terminator}
-use Rattle.pass_proofs.specs.ir_model.declared.operand.Operand.{Operand}
-use Rattle.pass_proofs.specs.pass_cells.Cells.{fetches_of}
-use Rattle.pass_proofs.specs.pass_fetch.Fetching.{fetch_of, fetched_arg, fetched_operand, next_after, next_after_all, next_by, operand_by}
-use Rattle.pass_proofs.specs.pass_fetch.Instrs.{fetched_term, term_operands}
-use Rattle.pass_proofs.specs.pass_fetch.declared.fetch.Fetch.{Fetch}
-use Rattle.pass_frames_proof.proofs.code.Left.{Far, far_named}
-use Rattle.pass_frames_proof.proofs.code.Names.{far_left}
-use Rattle.pass_frames_proof.proofs.distances.Sums.{value_stays}
-use Rattle.pass_frames_proof.proofs.led.Front.{stands}
-use Rattle.pass_frames_proof.specs.Code.{address_state, end_term, last_state, load_name, slot_table}
-use Rattle.pass_frames_proof.specs.Distances.{IsBelow, SetsFrom}
-use Rattle.pass_frames_proof.specs.Edges.{IsAtJump}
-use Rattle.pass_frames_proof.specs.Fetched.{AreSeenAs, IsSeenAs, seen_by, seen_of}
-use Rattle.pass_frames_proof.specs.Framings.{IsFraming}
-use Rattle.pass_frames_proof.specs.Jumps.{EndsAt, MayGo}
-use Rattle.pass_frames_proof.specs.Led.{IsTwiceFor, seen_twice, twice_by}
-use Rattle.pass_frames_proof.specs.Passes.{block_at}
-use Rattle.pass_frames_proof.specs.Places.{Framing, edged, named, plan, unmarked}
-use Rattle.pass_frames_proof.specs.Related.{AreBuiltOf, Building}
-use Rattle.pass_frames_proof.specs.Stepping.{AreGiven}
-use Rattle.pass_renewed_proof.specs.Renewed.{RenewedGiven}
-use Rattle.pass_proofs.specs.run_framed.Framed.{frame_rights, framed_context}
-use Rattle.pass_proofs.proofs.run_laws.memory.Itself.{owner_rights_fit}
-use Rattle.pass_proofs.proofs.run_laws.transfer.Over.{step_over}
-use Rattle.pass_proofs.specs.run_laws.changed.Changed.{Each}
-use Rattle.pass_proofs.specs.run_laws.memory.Pointers.{Home, IsValue}
-use Rattle.pass_proofs.specs.run_laws.transfer.Shapes.{Branch, CaseStays, Empty, Jump, Pair, Pairwise, Switch, TermStays}
-use Rattle.pass_proofs.specs.run_laws.transfer.Transfer.{AreJoined, AreOver, GoesOver, IsTransferred, StandsFor, looks_at, same_maps}
-use Rattle.run_access_worked.proofs.run_laws_worked.Frames.{frame_rights_fit}
-use Rattle.pass_proofs.specs.run_memory.Memory.{owner_rights}
-use Rattle.pass_proofs.specs.run_memory.declared.pointer.Value.{Value}
-use Rattle.pass_proofs.specs.run_source.Source.{context_of}
-use Rattle.pass_proofs.specs.run_source.State.{work_of}
-use Rattle.pass_proofs.specs.run_source.declared.state.State.{State}
-use Rattle.pass_proofs.specs.run_step.Step.{Action, AtTerm, Context, GoTo, Work, term_action, value_at}
-use Rattle.pass_proofs.specs.run_step.declared.world.World.{World}
+use Rattle.pass_frames_steps.specs.ir_model.Ty.{Ty}
+use Rattle.pass_frames_steps.specs.ir_model.declared.instr.Case.{Case}
+use Rattle.pass_frames_steps.specs.ir_model.declared.instr.Terminator.{Terminator}
+use Rattle.pass_frames_steps.specs.ir_model.declared.operand.Operand.{Operand}
+use Rattle.pass_frames_steps.specs.pass_cells.Cells.{fetches_of}
+use Rattle.pass_frames_steps.specs.pass_fetch.Fetching.{fetch_of, fetched_arg, fetched_operand, next_after, next_after_all, next_by, operand_by}
+use Rattle.pass_frames_steps.specs.pass_fetch.Instrs.{fetched_term, term_operands}
+use Rattle.pass_frames_steps.specs.pass_fetch.declared.fetch.Fetch.{Fetch}
+use Rattle.pass_frames_steps.proofs.code.Left.{Far, far_named}
+use Rattle.pass_frames_steps.proofs.code.Names.{far_left}
+use Rattle.pass_frames_steps.proofs.distances.Sums.{value_stays}
+use Rattle.pass_frames_steps.proofs.led.Front.{stands}
+use Rattle.pass_frames_steps.specs.Code.{address_state, end_term, last_state, load_name, slot_table}
+use Rattle.pass_frames_steps.specs.Distances.{IsBelow, SetsFrom}
+use Rattle.pass_frames_steps.specs.Edges.{IsAtJump}
+use Rattle.pass_frames_steps.specs.Fetched.{AreSeenAs, IsSeenAs, seen_by, seen_of}
+use Rattle.pass_frames_steps.specs.Framings.{IsFraming}
+use Rattle.pass_frames_steps.specs.Jumps.{EndsAt, MayGo}
+use Rattle.pass_frames_steps.specs.Led.{IsTwiceFor, seen_twice, twice_by}
+use Rattle.pass_frames_steps.specs.Passes.{block_at}
+use Rattle.pass_frames_steps.specs.Places.{Framing, edged, named, plan, unmarked}
+use Rattle.pass_frames_steps.specs.Related.{AreBuiltOf, Building}
+use Rattle.pass_frames_steps.specs.Stepping.{AreGiven}
+use Rattle.pass_frames_steps.specs.pass_renewed_proof.Renewed.{RenewedGiven}
+use Rattle.pass_frames_steps.specs.run_framed.Framed.{frame_rights, framed_context}
+use Rattle.pass_frames_steps.proofs.run_laws.memory.Itself.{owner_rights_fit}
+use Rattle.pass_frames_steps.proofs.run_laws.transfer.Over.{step_over}
+use Rattle.pass_frames_steps.specs.run_laws.changed.Changed.{Each}
+use Rattle.pass_frames_steps.specs.run_laws.memory.Pointers.{Home, IsValue}
+use Rattle.pass_frames_steps.specs.run_laws.transfer.Shapes.{Branch, CaseStays, Empty, Jump, Pair, Pairwise, Switch, TermStays}
+use Rattle.pass_frames_steps.specs.run_laws.transfer.Transfer.{AreJoined, AreOver, GoesOver, IsTransferred, StandsFor, looks_at, same_maps}
+use Rattle.pass_frames_steps.proofs.run_access_worked.run_laws_worked.Frames.{frame_rights_fit}
+use Rattle.pass_frames_steps.specs.run_memory.Memory.{owner_rights}
+use Rattle.pass_frames_steps.specs.run_memory.declared.pointer.Value.{Value}
+use Rattle.pass_frames_steps.specs.run_source.Source.{context_of}
+use Rattle.pass_frames_steps.specs.run_source.State.{work_of}
+use Rattle.pass_frames_steps.specs.run_source.declared.state.State.{State}
+use Rattle.pass_frames_steps.specs.run_step.Step.{Action, AtTerm, Context, GoTo, Work, term_action, value_at}
+use Rattle.pass_frames_steps.specs.run_step.declared.world.World.{World}
 
 cases_itself : (cases : List Case) → Pairwise (CaseStays (λ n. n)) cases cases
 cases_itself [] = Empty

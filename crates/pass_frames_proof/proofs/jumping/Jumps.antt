@@ -1,39 +1,39 @@
 -- A jump of a coroutine is followed.
 use Rattle.std.proofs.Common.{◌≡◌, ℕ, ◌+◌, ◌-◌, ◌<◌, Bool, List, length, refl, sym, ap, ◌∙◌, subst, arith}
 use Rattle.std.specs.Prelude.{Ok, slice_get, if◌then◌else◌}
-use Rattle.pass_proofs.specs.ir_base.declared.outcome.Outcome.{Outcome}
-use Rattle.pass_proofs.specs.ir_model.Names.{function_at, position_of}
-use Rattle.pass_proofs.specs.ir_model.declared.instr.Instr.{Instr}
-use Rattle.pass_proofs.specs.ir_model.declared.instr.Terminator.{Terminator}
-use Rattle.pass_proofs.specs.ir_model.declared.module.Function.{Function}
-use Rattle.pass_proofs.specs.ir_paths.declared.point.Point.{Point}
+use Rattle.pass_frames_steps.specs.ir_base.declared.outcome.Outcome.{Outcome}
+use Rattle.pass_frames_steps.specs.ir_model.Names.{function_at, position_of}
+use Rattle.pass_frames_steps.specs.ir_model.declared.instr.Instr.{Instr}
+use Rattle.pass_frames_steps.specs.ir_model.declared.instr.Terminator.{Terminator}
+use Rattle.pass_frames_steps.specs.ir_model.declared.module.Function.{Function}
+use Rattle.pass_frames_steps.specs.ir_paths.declared.point.Point.{Point}
 use Rattle.pass_frames_proof.proofs.jumping.Landed.{a', c', landed}
-use Rattle.pass_frames_proof.proofs.lined.Lines.{each_between, framed_does, line_leads}
-use Rattle.pass_frames_proof.proofs.stepping.Shown.{still_shown}
-use Rattle.pass_frames_proof.proofs.stepping.Stands.{cost_is, renewed_does, top_is}
-use Rattle.pass_frames_proof.specs.Costs.{jump_cost}
-use Rattle.pass_frames_proof.specs.Edges.{AreEndsLed, AreFrontsLed, EndsInPlace, FrontsInPlace, IsAtJump, IsOnFront, block_to, entered_work}
-use Rattle.pass_frames_proof.specs.Followed.{IsFollowed, IsOn}
-use Rattle.pass_frames_proof.specs.Lined.{lined}
-use Rattle.pass_frames_proof.specs.Meaning.{action_at, coroutine_cost, other_cost, step_cost}
-use Rattle.pass_frames_proof.specs.Places.{Framing, edged, framed, instrs_at, place}
-use Rattle.pass_frames_proof.specs.Related.{AreBuiltOf, Building, point_of}
-use Rattle.pass_frames_proof.specs.Stepping.{AreGiven}
-use Rattle.pass_renewed_proof.specs.Renewed.{RenewedGiven, renewed_step}
-use Rattle.pass_proofs.specs.run_agreement.Machines.{iterate}
-use Rattle.pass_proofs.specs.run_framed.Framed.{framed_context, framed_step}
-use Rattle.pass_proofs.specs.run_laws.access.Lines.{StandAt}
-use Rattle.pass_proofs.specs.run_source.Source.{context_of, enter_block, go_to}
-use Rattle.pass_proofs.specs.run_source.State.{function_of, or_undefined, work_of}
-use Rattle.pass_proofs.specs.run_source.declared.state.State.{State}
-use Rattle.pass_proofs.specs.run_step.Step.{AtTerm, Context, GoTo, Work, action_of, fetch, label_of, values_in}
+use Rattle.pass_frames_steps.proofs.lined.Lines.{each_between, framed_does, line_leads}
+use Rattle.pass_frames_steps.proofs.stepping.Shown.{still_shown}
+use Rattle.pass_frames_steps.proofs.stepping.Stands.{cost_is, renewed_does, top_is}
+use Rattle.pass_frames_steps.specs.Costs.{jump_cost}
+use Rattle.pass_frames_steps.specs.Edges.{AreEndsLed, AreFrontsLed, EndsInPlace, FrontsInPlace, IsAtJump, IsOnFront, block_to, entered_work}
+use Rattle.pass_frames_steps.specs.Followed.{IsFollowed, IsOn}
+use Rattle.pass_frames_steps.specs.Lined.{lined}
+use Rattle.pass_frames_steps.specs.Meaning.{action_at, coroutine_cost, other_cost, step_cost}
+use Rattle.pass_frames_steps.specs.Places.{Framing, edged, framed, instrs_at, place}
+use Rattle.pass_frames_steps.specs.Related.{AreBuiltOf, Building, point_of}
+use Rattle.pass_frames_steps.specs.Stepping.{AreGiven}
+use Rattle.pass_frames_steps.specs.pass_renewed_proof.Renewed.{RenewedGiven, renewed_step}
+use Rattle.pass_frames_steps.specs.run_agreement.Machines.{iterate}
+use Rattle.pass_frames_steps.specs.run_framed.Framed.{framed_context, framed_step}
+use Rattle.pass_frames_steps.specs.run_laws.access.Lines.{StandAt}
+use Rattle.pass_frames_steps.specs.run_source.Source.{context_of, enter_block, go_to}
+use Rattle.pass_frames_steps.specs.run_source.State.{function_of, or_undefined, work_of}
+use Rattle.pass_frames_steps.specs.run_source.declared.state.State.{State}
+use Rattle.pass_frames_steps.specs.run_step.Step.{AtTerm, Context, GoTo, Work, action_of, fetch, label_of, values_in}
 use Rattle.pass_frames_proof.proofs.leaving.Branches.{Branches, branches, changed_by}
 use Rattle.pass_frames_proof.proofs.leaving.Left.{left_by}
-use Rattle.pass_frames_proof.proofs.stepping.Landing.{spared_shown}
-use Rattle.pass_frames_proof.proofs.stepping.Onward.{EndsUp, onward_followed}
-use Rattle.pass_frames_proof.specs.Leaving.{IsBranch, further}
-use Rattle.pass_frames_proof.specs.Led.{RunsThrough}
-use Rattle.pass_proofs.specs.run_memory.Memory.{Rights}
+use Rattle.pass_frames_steps.proofs.stepping.Landing.{spared_shown}
+use Rattle.pass_frames_steps.proofs.stepping.Onward.{EndsUp, onward_followed}
+use Rattle.pass_frames_steps.specs.Leaving.{IsBranch, further}
+use Rattle.pass_frames_steps.specs.Led.{RunsThrough}
+use Rattle.pass_frames_steps.specs.run_memory.Memory.{Rights}
 
 module _ (b : Building) (g : RenewedGiven) (given : AreGiven b g) (s t : State) (r : AreBuiltOf b s t)
     (e other : Terminator) (label : ℕ) (line front : List Instr) (h : IsAtJump b g s e label)

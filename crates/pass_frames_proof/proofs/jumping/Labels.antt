@@ -1,11 +1,11 @@
 -- Labels of blocks stay, and so does the position of the block with a label.
 use Rattle.std.proofs.Common.{◌≡◌, ℕ, zero, suc, Bool, true, false, List, [], ◌∷◌, length, refl, sym, ap, ◌∙◌}
 use Rattle.std.specs.Prelude.{None, Option, Some, if◌then◌else◌, option_map, slice_get, unwrap_or, ◌==◌}
-use Rattle.pass_proofs.specs.ir_model.Names.{block_labelled, first_where, position_of}
-use Rattle.pass_proofs.specs.ir_model.declared.module.Block.{Block}
-use Rattle.pass_frames_proof.proofs.code.Framed.{entry_made, others_made}
-use Rattle.pass_frames_proof.specs.Places.{Framing, edged, framed}
-use Rattle.pass_proofs.specs.run_step.Step.{label_of}
+use Rattle.pass_frames_steps.specs.ir_model.Names.{block_labelled, first_where, position_of}
+use Rattle.pass_frames_steps.specs.ir_model.declared.module.Block.{Block}
+use Rattle.pass_frames_steps.proofs.code.Framed.{entry_made, others_made}
+use Rattle.pass_frames_steps.specs.Places.{Framing, edged, framed}
+use Rattle.pass_frames_steps.specs.run_step.Step.{label_of}
 
 abbrev IsSame : Framing → ℕ → Block → Type 0
 IsSame x k b = (c : Block) × (slice_get (framed x).blocks k ≡ Some c) × (c.label ≡ b.label)

@@ -3,44 +3,44 @@ use Rattle.std.proofs.Common.{◌≡◌, ◌⊎◌, inl, inr, ℕ, ◌<◌, ◌�
 use Rattle.std.proofs.lemmas.Bool.{cases_lt}
 use Rattle.std.specs.List.{Contains}
 use Rattle.std.specs.Prelude.{None, Option, map, slice_get}
-use Rattle.pass_proofs.specs.flow_solver.Paths.{IsListed}
-use Rattle.pass_proofs.specs.ir_model.Ty.{ptr}
-use Rattle.pass_proofs.specs.ir_model.declared.instr.Instr.{Instr}
-use Rattle.pass_proofs.specs.ir_model.declared.instr.Terminator.{Terminator}
-use Rattle.pass_proofs.specs.pass_cells.Kept.{entry}
-use Rattle.pass_proofs.specs.pass_copies.declared.slot.EarlySlot.{EarlySlot}
-use Rattle.pass_proofs.specs.pass_fetch.Fetching.{value_bytes}
-use Rattle.pass_frames_proof.proofs.followed.Assembly.{events_same, other_instance}
+use Rattle.pass_frames_steps.specs.flow_solver.Paths.{IsListed}
+use Rattle.pass_frames_steps.specs.ir_model.Ty.{ptr}
+use Rattle.pass_frames_steps.specs.ir_model.declared.instr.Instr.{Instr}
+use Rattle.pass_frames_steps.specs.ir_model.declared.instr.Terminator.{Terminator}
+use Rattle.pass_frames_steps.specs.pass_cells.Kept.{entry}
+use Rattle.pass_frames_steps.specs.pass_copies.declared.slot.EarlySlot.{EarlySlot}
+use Rattle.pass_frames_steps.specs.pass_fetch.Fetching.{value_bytes}
+use Rattle.pass_frames_steps.proofs.followed.Assembly.{events_same, other_instance}
 use Rattle.pass_frames_proof.proofs.jumping.Before.{all_before, cells_before, far, free_before, old_names}
 use Rattle.pass_frames_proof.proofs.jumping.Pairs.{AreAllSet}
-use Rattle.pass_frames_proof.proofs.lines.Cells.{other_block}
-use Rattle.pass_frames_proof.proofs.stepping.After.{cells_turned, past_value, right_there, wheres_there, wheres_turned}
-use Rattle.pass_frames_proof.proofs.stepping.May.{not_returned, own_blocks}
-use Rattle.pass_frames_proof.proofs.stepping.Names.{cell_is_name, named_written, slots_new}
-use Rattle.pass_frames_proof.proofs.stepping.Operands.{asked}
-use Rattle.pass_frames_proof.proofs.stepping.Rest.{LeavesRest, below_apart, instance_kept, own_slots, rest_related, stood_apart}
-use Rattle.pass_frames_proof.proofs.stepping.Same.{kept, rest_left}
-use Rattle.pass_frames_proof.proofs.stepping.Stands.{made_of, top_is, values_of}
-use Rattle.pass_frames_proof.specs.Edges.{AreEndsLed, AreFrontsLed, FrontsInPlace, IsAtJump, block_to, entered_phis, entered_work}
-use Rattle.pass_frames_proof.specs.Followed.{IsOn}
-use Rattle.pass_frames_proof.specs.Framings.{IsFraming}
-use Rattle.pass_frames_proof.specs.Led.{SparesBlocks}
-use Rattle.pass_frames_proof.specs.Lines.{IsCellOf, at_work}
-use Rattle.pass_frames_proof.specs.Places.{Framing, copies, edged, named, offsets, plan, written}
-use Rattle.pass_frames_proof.specs.Related.{AreActivations, AreBuiltOf, AreCellsRight, AreCoroutines, AreNamed, AreWheresRight, Building, HasCells, IsCellName, IsFreeOf, instance_in, is_coroutine, point_of, slots_below, top_place}
-use Rattle.pass_frames_proof.specs.Stepping.{AreGiven}
-use Rattle.pass_proofs.specs.addresses.rules.Addresses.{lies_in_frame}
-use Rattle.pass_renewed_proof.specs.Renewed.{RenewedGiven}
-use Rattle.pass_proofs.specs.run_framed.Framed.{frame_rights}
-use Rattle.pass_proofs.specs.run_laws.memory.Pointers.{IsValue, home_of}
-use Rattle.pass_proofs.specs.run_memory.Memory.{Rights}
-use Rattle.pass_proofs.specs.run_memory.declared.pointer.Value.{Value}
-use Rattle.pass_proofs.specs.run_source.declared.state.Activation.{Activation}
-use Rattle.pass_proofs.specs.run_source.declared.state.State.{State}
-use Rattle.pass_proofs.specs.run_step.Step.{Work, with_all}
-use Rattle.pass_proofs.specs.run_step.Values.{Env, value_in}
-use Rattle.pass_proofs.specs.run_step.declared.world.Slot.{Slot}
-use Rattle.pass_proofs.specs.run_step.declared.world.World.{World}
+use Rattle.pass_frames_steps.proofs.lines.Cells.{other_block}
+use Rattle.pass_frames_steps.proofs.stepping.After.{cells_turned, past_value, right_there, wheres_there, wheres_turned}
+use Rattle.pass_frames_steps.proofs.stepping.May.{not_returned, own_blocks}
+use Rattle.pass_frames_steps.proofs.stepping.Names.{cell_is_name, named_written, slots_new}
+use Rattle.pass_frames_steps.proofs.stepping.Operands.{asked}
+use Rattle.pass_frames_steps.proofs.stepping.Rest.{LeavesRest, below_apart, instance_kept, own_slots, rest_related, stood_apart}
+use Rattle.pass_frames_steps.proofs.stepping.Same.{kept, rest_left}
+use Rattle.pass_frames_steps.proofs.stepping.Stands.{made_of, top_is, values_of}
+use Rattle.pass_frames_steps.specs.Edges.{AreEndsLed, AreFrontsLed, FrontsInPlace, IsAtJump, block_to, entered_phis, entered_work}
+use Rattle.pass_frames_steps.specs.Followed.{IsOn}
+use Rattle.pass_frames_steps.specs.Framings.{IsFraming}
+use Rattle.pass_frames_steps.specs.Led.{SparesBlocks}
+use Rattle.pass_frames_steps.specs.Lines.{IsCellOf, at_work}
+use Rattle.pass_frames_steps.specs.Places.{Framing, copies, edged, named, offsets, plan, written}
+use Rattle.pass_frames_steps.specs.Related.{AreActivations, AreBuiltOf, AreCellsRight, AreCoroutines, AreNamed, AreWheresRight, Building, HasCells, IsCellName, IsFreeOf, instance_in, is_coroutine, point_of, slots_below, top_place}
+use Rattle.pass_frames_steps.specs.Stepping.{AreGiven}
+use Rattle.pass_frames_steps.specs.pass_proofs.addresses.rules.Addresses.{lies_in_frame}
+use Rattle.pass_frames_steps.specs.pass_renewed_proof.Renewed.{RenewedGiven}
+use Rattle.pass_frames_steps.specs.run_framed.Framed.{frame_rights}
+use Rattle.pass_frames_steps.specs.run_laws.memory.Pointers.{IsValue, home_of}
+use Rattle.pass_frames_steps.specs.run_memory.Memory.{Rights}
+use Rattle.pass_frames_steps.specs.run_memory.declared.pointer.Value.{Value}
+use Rattle.pass_frames_steps.specs.run_source.declared.state.Activation.{Activation}
+use Rattle.pass_frames_steps.specs.run_source.declared.state.State.{State}
+use Rattle.pass_frames_steps.specs.run_step.Step.{Work, with_all}
+use Rattle.pass_frames_steps.specs.run_step.Values.{Env, value_in}
+use Rattle.pass_frames_steps.specs.run_step.declared.world.Slot.{Slot}
+use Rattle.pass_frames_steps.specs.run_step.declared.world.World.{World}
 
 module _ (b : Building) (g : RenewedGiven) (given : AreGiven b g) (s t : State) (r : AreBuiltOf b s t)
     (e other : Terminator) (label : ℕ) (line front : List Instr) (h : IsAtJump b g s e label)

@@ -1,14 +1,14 @@
 -- Names that get values which stand for each other, one by one.
 use Rattle.std.proofs.Common.{◌≡◌, ◌⊎◌, inl, inr, ⊎_elim, ℕ, ◌<◌, ◌≤◌, List, [], ◌∷◌, length, refl, sym, ap, ◌∙◌, subst, arith}
 use Rattle.std.specs.Prelude.{Some}
-use Rattle.pass_proofs.proofs.ir_laws.facts.Truth.{is_number}
-use Rattle.pass_frames_proof.specs.Edges.{ArePairs}
-use Rattle.pass_proofs.proofs.run_laws.transfer.Sets.{sets_name}
-use Rattle.pass_proofs.specs.run_laws.memory.Pointers.{Home, IsValue}
-use Rattle.pass_proofs.specs.run_laws.transfer.Transfer.{AreSet}
-use Rattle.pass_proofs.specs.run_memory.declared.pointer.Value.{Value}
-use Rattle.pass_proofs.specs.run_step.Step.{with_all}
-use Rattle.pass_proofs.specs.run_step.Values.{Env, value_in, with_value}
+use Rattle.pass_frames_steps.proofs.ir_laws.facts.Truth.{is_number}
+use Rattle.pass_frames_steps.specs.Edges.{ArePairs}
+use Rattle.pass_frames_steps.proofs.run_laws.transfer.Sets.{sets_name}
+use Rattle.pass_frames_steps.specs.run_laws.memory.Pointers.{Home, IsValue}
+use Rattle.pass_frames_steps.specs.run_laws.transfer.Transfer.{AreSet}
+use Rattle.pass_frames_steps.specs.run_memory.declared.pointer.Value.{Value}
+use Rattle.pass_frames_steps.specs.run_step.Step.{with_all}
+use Rattle.pass_frames_steps.specs.run_step.Values.{Env, value_in, with_value}
 
 -- what they leave, and what stands behind them
 pub record AreAllSet (homes : List Home) (bound : ℕ) (env other env' other' : Env) : Type 0 where

@@ -1,23 +1,23 @@
 -- Phis, labels and terminators of a block before, between and behind the passes that fetch.
 use Rattle.std.proofs.Common.{◌≡◌, ℕ, List, sym, ap, ◌∙◌}
 use Rattle.std.specs.Prelude.{Option, Some, codes, slice_get, unwrap_or, ◌≢◌}
-use Rattle.pass_proofs.specs.ir_model.declared.instr.Instr.{Instr}
-use Rattle.pass_proofs.specs.ir_model.declared.module.Block.{Block}
-use Rattle.pass_proofs.specs.pass_fetch.Instrs.{fetched_term}
-use Rattle.pass_frames_proof.proofs.layers.Grown.{both_passed}
-use Rattle.pass_proofs.specs.pass_cells.Cells.{fetched_function, fetches_of, named_function}
-use Rattle.pass_proofs.specs.ir_model.declared.module.Function.{Function}
-use Rattle.pass_proofs.specs.pass_cells.declared.plan.Plan.{Plan}
-use Rattle.pass_proofs.specs.pass_fetch.Blocks.{with_fetches}
-use Rattle.pass_frames_proof.proofs.code.Framed.{others_made}
-use Rattle.pass_frames_proof.proofs.code.Passes.{fetches_made}
-use Rattle.pass_frames_proof.proofs.phis.Framed.{behind, unmarked_there}
-use Rattle.pass_frames_proof.specs.Code.{last_state, load_name, slot_table}
-use Rattle.pass_frames_proof.specs.Jumps.{PhisInPlace}
-use Rattle.pass_frames_proof.specs.Layers.{IsMadeBy, passed}
-use Rattle.pass_frames_proof.specs.Passes.{block_at, fetching_at, no_block, unmarked_at}
-use Rattle.pass_frames_proof.specs.Places.{Celled, Copied, Framing, Placed, Unmarked, addressing_layer, celled_layer, copied_layer, copying_layer, instrs_at, loading_layer, marked, unmarked_layer, writing_layer, edged, framed, named, placed_layer, plan, unmarked}
-use Rattle.pass_proofs.specs.run_step.Step.{phis_of}
+use Rattle.pass_frames_steps.specs.ir_model.declared.instr.Instr.{Instr}
+use Rattle.pass_frames_steps.specs.ir_model.declared.module.Block.{Block}
+use Rattle.pass_frames_steps.specs.pass_fetch.Instrs.{fetched_term}
+use Rattle.pass_frames_steps.proofs.layers.Grown.{both_passed}
+use Rattle.pass_frames_steps.specs.pass_cells.Cells.{fetched_function, fetches_of, named_function}
+use Rattle.pass_frames_steps.specs.ir_model.declared.module.Function.{Function}
+use Rattle.pass_frames_steps.specs.pass_cells.declared.plan.Plan.{Plan}
+use Rattle.pass_frames_steps.specs.pass_fetch.Blocks.{with_fetches}
+use Rattle.pass_frames_steps.proofs.code.Framed.{others_made}
+use Rattle.pass_frames_steps.proofs.code.Passes.{fetches_made}
+use Rattle.pass_frames_steps.proofs.phis.Framed.{behind, unmarked_there}
+use Rattle.pass_frames_steps.specs.Code.{last_state, load_name, slot_table}
+use Rattle.pass_frames_steps.specs.Jumps.{PhisInPlace}
+use Rattle.pass_frames_steps.specs.Layers.{IsMadeBy, passed}
+use Rattle.pass_frames_steps.specs.Passes.{block_at, fetching_at, no_block, unmarked_at}
+use Rattle.pass_frames_steps.specs.Places.{Celled, Copied, Framing, Placed, Unmarked, addressing_layer, celled_layer, copied_layer, copying_layer, instrs_at, loading_layer, marked, unmarked_layer, writing_layer, edged, framed, named, placed_layer, plan, unmarked}
+use Rattle.pass_frames_steps.specs.run_step.Step.{phis_of}
 
 fetched_is : (p : Plan) (f : Function) (k : ℕ) (b : Block)
     → slice_get (with_fetches (named_function p f) (fetches_of p) (codes "$c.use.")).blocks k ≡ Some b

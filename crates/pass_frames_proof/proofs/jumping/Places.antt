@@ -2,39 +2,39 @@
 use Rattle.std.proofs.Common.{◌≡◌, ℕ, ◌+◌, Bool, true, false, List, [], length, refl, sym, ap, ◌∙◌, subst, arith}
 use Rattle.std.proofs.lemmas.List.{append-nil, length-append}
 use Rattle.std.specs.Prelude.{Option, Some, filter, replicate, slice_get, unwrap_or, ◌==◌, ◌≢◌}
-use Rattle.pass_proofs.proofs.ir_laws.facts.Members.{each_joined}
-use Rattle.pass_proofs.proofs.ir_laws.facts.Truth.{equal_numbers}
-use Rattle.pass_proofs.specs.ir_model.declared.instr.Instr.{Instr}
-use Rattle.pass_proofs.specs.ir_model.declared.instr.Terminator.{Terminator}
-use Rattle.pass_proofs.specs.ir_model.declared.module.Block.{Block}
-use Rattle.pass_proofs.specs.ir_model.declared.module.Function.{Function}
-use Rattle.pass_proofs.specs.pass_cells.Cells.{fetches_of}
-use Rattle.pass_proofs.specs.pass_cells.Written.{stored_phis}
-use Rattle.pass_proofs.specs.pass_fetch.Blocks.{end_at}
-use Rattle.pass_proofs.specs.pass_fetch.Fetching.{fetch_into, fetches_of_all}
-use Rattle.pass_proofs.specs.pass_fetch.Instrs.{term_operands}
-use Rattle.pass_proofs.specs.pass_fetch.declared.fetch.Fetch.{Fetch}
-use Rattle.pass_frames_proof.proofs.code.Ends.{back_is, front_is, last_far, term_is}
-use Rattle.pass_frames_proof.proofs.code.Framed.{entry_made, others_made}
-use Rattle.pass_frames_proof.proofs.code.Left.{all_by, blocks_by}
-use Rattle.pass_proofs.proofs.fetch.shape.Fetching.{no_rows}
-use Rattle.pass_frames_proof.proofs.layers.Grown.{both_passed}
-use Rattle.pass_frames_proof.proofs.layers.Idle.{all_stay}
-use Rattle.pass_frames_proof.proofs.layers.Standing.{back_stands, end_woven, first_place, front_stands, term_stands}
-use Rattle.pass_frames_proof.proofs.phis.Fronts.{stores_alone}
-use Rattle.pass_frames_proof.proofs.stepping.Codes.{led_passed, stay_all}
-use Rattle.pass_frames_proof.specs.Code.{address_state, end_addresses, end_code, end_loads, end_term, last_state, load_name, slot_table}
-use Rattle.pass_frames_proof.specs.Costs.{whole}
-use Rattle.pass_frames_proof.specs.Edges.{EndsInPlace, FrontsInPlace}
-use Rattle.pass_frames_proof.specs.Framings.{IsFraming}
-use Rattle.pass_frames_proof.specs.Layers.{IsMadeBy, Layer, both, grown, only, passed, place_in, up_to, woven}
-use Rattle.pass_frames_proof.specs.Passes.{IsBlockMade, allocas_led, block_at, no_block, phi_ends}
-use Rattle.pass_frames_proof.specs.Phis.{IsOrdinaryBlock}
-use Rattle.pass_frames_proof.specs.Places.{Framing, Placed, edged, entry_layer, fetched, framed, instrs_at, is_return, named, place_by, placed_layer, plan, unmarked}
-use Rattle.pass_proofs.specs.pass_front.Front.{is_alloca, is_no_alloca}
-use Rattle.pass_proofs.specs.run_laws.access.Lines.{StandAt}
-use Rattle.pass_proofs.specs.run_laws.changed.Changed.{Each}
-use Rattle.pass_proofs.specs.run_step.Step.{AtTerm, fetch}
+use Rattle.pass_frames_steps.proofs.ir_laws.facts.Members.{each_joined}
+use Rattle.pass_frames_steps.proofs.ir_laws.facts.Truth.{equal_numbers}
+use Rattle.pass_frames_steps.specs.ir_model.declared.instr.Instr.{Instr}
+use Rattle.pass_frames_steps.specs.ir_model.declared.instr.Terminator.{Terminator}
+use Rattle.pass_frames_steps.specs.ir_model.declared.module.Block.{Block}
+use Rattle.pass_frames_steps.specs.ir_model.declared.module.Function.{Function}
+use Rattle.pass_frames_steps.specs.pass_cells.Cells.{fetches_of}
+use Rattle.pass_frames_steps.specs.pass_cells.Written.{stored_phis}
+use Rattle.pass_frames_steps.specs.pass_fetch.Blocks.{end_at}
+use Rattle.pass_frames_steps.specs.pass_fetch.Fetching.{fetch_into, fetches_of_all}
+use Rattle.pass_frames_steps.specs.pass_fetch.Instrs.{term_operands}
+use Rattle.pass_frames_steps.specs.pass_fetch.declared.fetch.Fetch.{Fetch}
+use Rattle.pass_frames_steps.proofs.code.Ends.{back_is, front_is, last_far, term_is}
+use Rattle.pass_frames_steps.proofs.code.Framed.{entry_made, others_made}
+use Rattle.pass_frames_steps.proofs.code.Left.{all_by, blocks_by}
+use Rattle.pass_frames_steps.proofs.pass_proofs.fetch.shape.Fetching.{no_rows}
+use Rattle.pass_frames_steps.proofs.layers.Grown.{both_passed}
+use Rattle.pass_frames_steps.proofs.layers.Idle.{all_stay}
+use Rattle.pass_frames_steps.proofs.layers.Standing.{back_stands, end_woven, first_place, front_stands, term_stands}
+use Rattle.pass_frames_steps.proofs.phis.Fronts.{stores_alone}
+use Rattle.pass_frames_steps.proofs.stepping.Codes.{led_passed, stay_all}
+use Rattle.pass_frames_steps.specs.Code.{address_state, end_addresses, end_code, end_loads, end_term, last_state, load_name, slot_table}
+use Rattle.pass_frames_steps.specs.Costs.{whole}
+use Rattle.pass_frames_steps.specs.Edges.{EndsInPlace, FrontsInPlace}
+use Rattle.pass_frames_steps.specs.Framings.{IsFraming}
+use Rattle.pass_frames_steps.specs.Layers.{IsMadeBy, Layer, both, grown, only, passed, place_in, up_to, woven}
+use Rattle.pass_frames_steps.specs.Passes.{IsBlockMade, allocas_led, block_at, no_block, phi_ends}
+use Rattle.pass_frames_steps.specs.Phis.{IsOrdinaryBlock}
+use Rattle.pass_frames_steps.specs.Places.{Framing, Placed, edged, entry_layer, fetched, framed, instrs_at, is_return, named, place_by, placed_layer, plan, unmarked}
+use Rattle.pass_frames_steps.specs.pass_front.Front.{is_alloca, is_no_alloca}
+use Rattle.pass_frames_steps.specs.run_laws.access.Lines.{StandAt}
+use Rattle.pass_frames_steps.specs.run_laws.changed.Changed.{Each}
+use Rattle.pass_frames_steps.specs.run_step.Step.{AtTerm, fetch}
 
 not_zero : (k : ℕ) → k ≢ 0 → (k == 0) ≡ false
 not_zero k n = on (k == 0) refl

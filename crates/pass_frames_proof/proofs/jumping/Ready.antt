@@ -1,19 +1,19 @@
 -- What a jump asks of the code of the framed form comes of the passes.
 use Rattle.std.proofs.Common.{◌≡◌, ℕ, ap}
 use Rattle.std.specs.Prelude.{Some, slice_get}
-use Rattle.pass_proofs.specs.ir_model.declared.instr.Terminator.{Terminator}
+use Rattle.pass_frames_steps.specs.ir_model.declared.instr.Terminator.{Terminator}
 use Rattle.pass_frames_proof.proofs.jumping.Goes.{goes_there}
 use Rattle.pass_frames_proof.proofs.jumping.Labels.{label_there, position_same}
 use Rattle.pass_frames_proof.proofs.jumping.Placed.{between_label, phis_placed}
-use Rattle.pass_frames_proof.specs.Edges.{IsAtJump, block_to}
-use Rattle.pass_frames_proof.specs.Jumps.{CanJump, MayJump}
-use Rattle.pass_frames_proof.specs.Passes.{block_at}
-use Rattle.pass_frames_proof.specs.Places.{edged}
-use Rattle.pass_frames_proof.specs.Related.{AreBuiltOf, Building}
-use Rattle.pass_frames_proof.specs.Stepping.{AreGiven}
-use Rattle.pass_renewed_proof.specs.Renewed.{RenewedGiven}
-use Rattle.pass_proofs.specs.run_source.declared.state.State.{State}
-use Rattle.pass_proofs.specs.run_step.Step.{label_of}
+use Rattle.pass_frames_steps.specs.Edges.{IsAtJump, block_to}
+use Rattle.pass_frames_steps.specs.Jumps.{CanJump, MayJump}
+use Rattle.pass_frames_steps.specs.Passes.{block_at}
+use Rattle.pass_frames_steps.specs.Places.{edged}
+use Rattle.pass_frames_steps.specs.Related.{AreBuiltOf, Building}
+use Rattle.pass_frames_steps.specs.Stepping.{AreGiven}
+use Rattle.pass_frames_steps.specs.pass_renewed_proof.Renewed.{RenewedGiven}
+use Rattle.pass_frames_steps.specs.run_source.declared.state.State.{State}
+use Rattle.pass_frames_steps.specs.run_step.Step.{label_of}
 
 pub may_jump : (b : Building) (g : RenewedGiven) → AreGiven b g → (s t : State) (r : AreBuiltOf b s t) (e : Terminator)
     (label : ℕ) → IsAtJump b g s e label

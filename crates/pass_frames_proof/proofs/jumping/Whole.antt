@@ -1,24 +1,24 @@
 -- A jump to an ordinary block is followed: over the end of its block, and the stores of phis in front of the next one.
 use Rattle.std.proofs.Common.{◌≡◌, length, ℕ}
 use Rattle.std.specs.Prelude.{Some, slice_get}
-use Rattle.pass_proofs.specs.ir_model.declared.instr.Terminator.{Terminator}
-use Rattle.pass_proofs.specs.pass_cells.Written.{stored_phis}
+use Rattle.pass_frames_steps.specs.ir_model.declared.instr.Terminator.{Terminator}
+use Rattle.pass_frames_steps.specs.pass_cells.Written.{stored_phis}
 use Rattle.pass_frames_proof.proofs.jumping.Ends.{ends_led}
 use Rattle.pass_frames_proof.proofs.jumping.Fronts.{front_led}
 use Rattle.pass_frames_proof.proofs.jumping.Jumps.{jump_followed}
 use Rattle.pass_frames_proof.proofs.jumping.Places.{ends_there, front_there}
-use Rattle.pass_frames_proof.specs.Code.{end_code, end_term, last_state}
-use Rattle.pass_frames_proof.specs.Edges.{AreEndsLed, ArePhisGiven, IsAtJump, block_to}
-use Rattle.pass_frames_proof.specs.Followed.{IsFollowed}
-use Rattle.pass_frames_proof.specs.Jumps.{MayJump}
-use Rattle.pass_frames_proof.specs.Leaving.{IsBranch, further}
-use Rattle.pass_frames_proof.specs.Passes.{block_at}
-use Rattle.pass_frames_proof.specs.Phis.{IsOrdinaryBlock}
-use Rattle.pass_frames_proof.specs.Places.{edged, fetched, plan}
-use Rattle.pass_frames_proof.specs.Related.{AreBuiltOf, Building}
-use Rattle.pass_frames_proof.specs.Stepping.{AreGiven}
-use Rattle.pass_renewed_proof.specs.Renewed.{RenewedGiven}
-use Rattle.pass_proofs.specs.run_source.declared.state.State.{State}
+use Rattle.pass_frames_steps.specs.Code.{end_code, end_term, last_state}
+use Rattle.pass_frames_steps.specs.Edges.{AreEndsLed, ArePhisGiven, IsAtJump, block_to}
+use Rattle.pass_frames_steps.specs.Followed.{IsFollowed}
+use Rattle.pass_frames_steps.specs.Jumps.{MayJump}
+use Rattle.pass_frames_steps.specs.Leaving.{IsBranch, further}
+use Rattle.pass_frames_steps.specs.Passes.{block_at}
+use Rattle.pass_frames_steps.specs.Phis.{IsOrdinaryBlock}
+use Rattle.pass_frames_steps.specs.Places.{edged, fetched, plan}
+use Rattle.pass_frames_steps.specs.Related.{AreBuiltOf, Building}
+use Rattle.pass_frames_steps.specs.Stepping.{AreGiven}
+use Rattle.pass_frames_steps.specs.pass_renewed_proof.Renewed.{RenewedGiven}
+use Rattle.pass_frames_steps.specs.run_source.declared.state.State.{State}
 
 pub whole_jump_followed : (b : Building) (g : RenewedGiven) → AreGiven b g → (s t : State) (r : AreBuiltOf b s t)
     (e : Terminator) (label : ℕ) → IsAtJump b g s e label

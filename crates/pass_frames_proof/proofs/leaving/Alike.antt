@@ -1,29 +1,29 @@
 -- Windows that a branch leaves in both runs are one to one.
 use Rattle.std.proofs.Common.{◌≡◌, ◌+◌, ◌==◌, ◌∷◌, ◌∙◌, [], if◌then◌else◌, Bool, List, ap, arith, false, inl, inr, length, refl, subst, sym, true, ℕ, ⊎_elim}
 use Rattle.std.specs.Prelude.{filter}
-use Rattle.pass_proofs.specs.flow_solver.Paths.{IsListed}
-use Rattle.pass_proofs.specs.ir_model.Names.{function_at}
-use Rattle.pass_proofs.specs.ir_paths.Paths.{entry_point}
-use Rattle.pass_proofs.specs.ir_paths.Windows.{leaves}
-use Rattle.pass_proofs.specs.ir_paths.declared.point.Point.{Point}
-use Rattle.pass_proofs.specs.ir_paths.declared.point.Window.{Window}
+use Rattle.pass_frames_steps.specs.flow_solver.Paths.{IsListed}
+use Rattle.pass_frames_steps.specs.ir_model.Names.{function_at}
+use Rattle.pass_frames_steps.specs.ir_paths.Paths.{entry_point}
+use Rattle.pass_frames_steps.specs.ir_paths.Windows.{leaves}
+use Rattle.pass_frames_steps.specs.ir_paths.declared.point.Point.{Point}
+use Rattle.pass_frames_steps.specs.ir_paths.declared.point.Window.{Window}
 use Rattle.pass_frames_proof.proofs.from_edges.Places.{return_there}
 use Rattle.pass_frames_proof.proofs.jumping.Places.{ends_there}
 use Rattle.pass_frames_proof.proofs.leaving.Branches.{none_left}
-use Rattle.pass_frames_proof.proofs.stepping.Stands.{top_is}
-use Rattle.pass_frames_proof.specs.Code.{end_code, front_code, last_state}
-use Rattle.pass_frames_proof.specs.FromEdges.{IsAtReturn}
-use Rattle.pass_frames_proof.specs.Leaving.{AreWindowsPlaced, IsAtBranch, IsBranch, IsWindowPlaced, further}
-use Rattle.pass_frames_proof.specs.Places.{Framing, edged, framed, instrs_at, is_return, own_place, place, place_by}
-use Rattle.pass_frames_proof.specs.Passes.{block_at}
-use Rattle.pass_frames_proof.specs.Related.{AreBuiltOf, Building, point_of}
-use Rattle.pass_frames_proof.specs.Stepping.{AreGiven}
-use Rattle.pass_renewed_proof.specs.Renewed.{RenewedGiven}
-use Rattle.pass_proofs.specs.run_laws.changed.Changed.{Each}
-use Rattle.pass_proofs.specs.run_source.Source.{left_windows}
-use Rattle.pass_proofs.specs.run_source.State.{function_of, own_facts, point_of as state_point}
-use Rattle.pass_proofs.specs.run_source.declared.state.State.{State}
-use Rattle.pass_proofs.specs.run_source_tables.Given.{facts_at}
+use Rattle.pass_frames_steps.proofs.stepping.Stands.{top_is}
+use Rattle.pass_frames_steps.specs.Code.{end_code, front_code, last_state}
+use Rattle.pass_frames_steps.specs.FromEdges.{IsAtReturn}
+use Rattle.pass_frames_steps.specs.Leaving.{AreWindowsPlaced, IsAtBranch, IsBranch, IsWindowPlaced, further}
+use Rattle.pass_frames_steps.specs.Places.{Framing, edged, framed, instrs_at, is_return, own_place, place, place_by}
+use Rattle.pass_frames_steps.specs.Passes.{block_at}
+use Rattle.pass_frames_steps.specs.Related.{AreBuiltOf, Building, point_of}
+use Rattle.pass_frames_steps.specs.Stepping.{AreGiven}
+use Rattle.pass_frames_steps.specs.pass_renewed_proof.Renewed.{RenewedGiven}
+use Rattle.pass_frames_steps.specs.run_laws.changed.Changed.{Each}
+use Rattle.pass_frames_steps.specs.run_source.Source.{left_windows}
+use Rattle.pass_frames_steps.specs.run_source.State.{function_of, own_facts, point_of as state_point}
+use Rattle.pass_frames_steps.specs.run_source.declared.state.State.{State}
+use Rattle.pass_frames_steps.specs.run_source_tables.Given.{facts_at}
 
 -- ---- lists of windows
 

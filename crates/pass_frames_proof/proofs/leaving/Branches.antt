@@ -3,38 +3,38 @@ use Rattle.std.proofs.Common.{◌≡◌, ◌&&◌, ◌==◌, ◌∷◌, ◌∙�
 use Rattle.std.proofs.lemmas.Bool.{and_parts}
 use Rattle.std.specs.List.{list_all}
 use Rattle.std.specs.Prelude.{option_and_then, option_map, slice_get, slice_set}
-use Rattle.pass_proofs.specs.flow_solver.Paths.{IsListed}
-use Rattle.pass_proofs.specs.ir_base.declared.cause.Cause.{Cause}
-use Rattle.pass_proofs.proofs.ir_laws.paths.counted.PartFacts.{all_listed}
-use Rattle.pass_proofs.proofs.ir_paths.Search.{same_point-itself, same_point-same}
-use Rattle.pass_proofs.specs.ir_paths.Paths.{same_point}
-use Rattle.pass_proofs.specs.ir_paths.declared.point.Point.{Point}
-use Rattle.pass_proofs.specs.ir_paths.declared.point.Window.{Window}
-use Rattle.pass_frames_proof.proofs.asking.Found.{own_found}
+use Rattle.pass_frames_steps.specs.flow_solver.Paths.{IsListed}
+use Rattle.pass_frames_steps.specs.ir_base.declared.cause.Cause.{Cause}
+use Rattle.pass_frames_steps.proofs.ir_laws.paths.counted.PartFacts.{all_listed}
+use Rattle.pass_frames_steps.proofs.ir_paths.Search.{same_point-itself, same_point-same}
+use Rattle.pass_frames_steps.specs.ir_paths.Paths.{same_point}
+use Rattle.pass_frames_steps.specs.ir_paths.declared.point.Point.{Point}
+use Rattle.pass_frames_steps.specs.ir_paths.declared.point.Window.{Window}
+use Rattle.pass_frames_steps.proofs.asking.Found.{own_found}
 use Rattle.pass_frames_proof.proofs.leaving.Left.{left_by, related_left}
-use Rattle.pass_frames_proof.proofs.moved.Instances.{one_related, set_same}
-use Rattle.pass_frames_proof.specs.Asking.{AreFound, IsFoundBeside}
-use Rattle.pass_frames_proof.specs.Framings.{IsFraming}
-use Rattle.pass_frames_proof.specs.Leaving.{IsBranch, LeavesWindows, StaysInside}
-use Rattle.pass_frames_proof.specs.Places.{own_place}
-use Rattle.pass_frames_proof.specs.Related.{AreBelow, AreBuiltOf, AreInstances, Building, IsStatus, is_coroutine, moved_save, own_place_of}
-use Rattle.pass_renewed_proof.specs.Renewed.{RenewedGiven}
-use Rattle.run_access_worked.proofs.Ended.{rights_same}
-use Rattle.pass_proofs.specs.run_framed.Framed.{frame_rights}
-use Rattle.pass_proofs.proofs.run_laws.memory.Written.{same_some}
-use Rattle.pass_proofs.specs.run_laws.changed.Changed.{Each}
-use Rattle.pass_proofs.specs.run_laws.memory.Pointers.{Home}
-use Rattle.pass_proofs.specs.run_source.Source.{branch_leaving, enter_block, go_to, is_save, leave, left_windows, may_leave}
-use Rattle.pass_proofs.specs.run_source.State.{is_suspended, numbered, own_instance, with_left, with_status}
-use Rattle.pass_proofs.specs.run_source.declared.state.Activation.{Activation}
-use Rattle.pass_proofs.specs.run_source.declared.state.Instance.{Instance}
-use Rattle.pass_proofs.specs.run_source.declared.state.Saved.{Saved}
-use Rattle.pass_proofs.specs.run_source.declared.state.State.{State}
-use Rattle.pass_proofs.specs.run_source.declared.state.Status.{Status}
-use Rattle.pass_proofs.specs.run_source_tables.Given.{Given}
-use Rattle.pass_proofs.specs.run_step.Results.{and_then, found, ok_if}
-use Rattle.pass_proofs.specs.run_step.Values.{Env}
-use Rattle.pass_proofs.specs.run_step.declared.world.World.{World}
+use Rattle.pass_frames_steps.proofs.moved.Instances.{one_related, set_same}
+use Rattle.pass_frames_steps.specs.Asking.{AreFound, IsFoundBeside}
+use Rattle.pass_frames_steps.specs.Framings.{IsFraming}
+use Rattle.pass_frames_steps.specs.Leaving.{IsBranch, LeavesWindows, StaysInside}
+use Rattle.pass_frames_steps.specs.Places.{own_place}
+use Rattle.pass_frames_steps.specs.Related.{AreBelow, AreBuiltOf, AreInstances, Building, IsStatus, is_coroutine, moved_save, own_place_of}
+use Rattle.pass_frames_steps.specs.pass_renewed_proof.Renewed.{RenewedGiven}
+use Rattle.pass_frames_steps.proofs.run_access_worked.Ended.{rights_same}
+use Rattle.pass_frames_steps.specs.run_framed.Framed.{frame_rights}
+use Rattle.pass_frames_steps.proofs.run_laws.memory.Written.{same_some}
+use Rattle.pass_frames_steps.specs.run_laws.changed.Changed.{Each}
+use Rattle.pass_frames_steps.specs.run_laws.memory.Pointers.{Home}
+use Rattle.pass_frames_steps.specs.run_source.Source.{branch_leaving, enter_block, go_to, is_save, leave, left_windows, may_leave}
+use Rattle.pass_frames_steps.specs.run_source.State.{is_suspended, numbered, own_instance, with_left, with_status}
+use Rattle.pass_frames_steps.specs.run_source.declared.state.Activation.{Activation}
+use Rattle.pass_frames_steps.specs.run_source.declared.state.Instance.{Instance}
+use Rattle.pass_frames_steps.specs.run_source.declared.state.Saved.{Saved}
+use Rattle.pass_frames_steps.specs.run_source.declared.state.State.{State}
+use Rattle.pass_frames_steps.specs.run_source.declared.state.Status.{Status}
+use Rattle.pass_frames_steps.specs.run_source_tables.Given.{Given}
+use Rattle.pass_frames_steps.specs.run_step.Results.{and_then, found, ok_if}
+use Rattle.pass_frames_steps.specs.run_step.Values.{Env}
+use Rattle.pass_frames_steps.specs.run_step.declared.world.World.{World}
 
 -- a state in which some instances are others, and the activation on top has left or not
 abbrev pub changed_by : State → List Instance → Bool → State

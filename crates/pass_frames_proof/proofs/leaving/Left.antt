@@ -1,20 +1,20 @@
 -- The activation on top has left or goes on again in both runs: the relation holds still.
 use Rattle.std.proofs.Common.{◌≡◌, ◌&&◌, ◌∙◌, if◌then◌else◌, Bool, List, None, Option, Some, false, refl, subst, sym, true, ℕ}
-use Rattle.pass_proofs.specs.ir_model.Ty.{Ty}
+use Rattle.pass_frames_steps.specs.ir_model.Ty.{Ty}
 use Rattle.pass_frames_proof.proofs.returning.Turned.{has_turned, made_turned}
 use Rattle.pass_frames_proof.proofs.waking.Restated.{activation_same, below_same, instance_same}
-use Rattle.pass_frames_proof.specs.Places.{Framing, offsets}
-use Rattle.pass_frames_proof.specs.Related.{AreActivations, AreAhead, AreBuiltOf, AreCoroutines, Building, HasCells, HasValues, IsAhead, IsAsked, IsSlotBy, instance_in, is_coroutine, place_by, point_of, returned_from, top_place}
-use Rattle.pass_proofs.specs.addresses.rules.Addresses.{lies_in_frame}
-use Rattle.pass_proofs.specs.run_framed.Framed.{frame_rights}
-use Rattle.pass_proofs.specs.run_laws.memory.Pointers.{Home}
-use Rattle.pass_proofs.specs.run_memory.Memory.{Rights}
-use Rattle.pass_proofs.specs.run_memory.declared.block.MemoryBlock.{MemoryBlock}
-use Rattle.pass_proofs.specs.run_source.declared.state.Activation.{Activation}
-use Rattle.pass_proofs.specs.run_source.declared.state.Instance.{Instance}
-use Rattle.pass_proofs.specs.run_source.declared.state.Mode.{Mode}
-use Rattle.pass_proofs.specs.run_source.declared.state.State.{State}
-use Rattle.pass_proofs.specs.run_step.declared.world.Slot.{Slot}
+use Rattle.pass_frames_steps.specs.Places.{Framing, offsets}
+use Rattle.pass_frames_steps.specs.Related.{AreActivations, AreAhead, AreBuiltOf, AreCoroutines, Building, HasCells, HasValues, IsAhead, IsAsked, IsSlotBy, instance_in, is_coroutine, place_by, point_of, returned_from, top_place}
+use Rattle.pass_frames_steps.specs.pass_proofs.addresses.rules.Addresses.{lies_in_frame}
+use Rattle.pass_frames_steps.specs.run_framed.Framed.{frame_rights}
+use Rattle.pass_frames_steps.specs.run_laws.memory.Pointers.{Home}
+use Rattle.pass_frames_steps.specs.run_memory.Memory.{Rights}
+use Rattle.pass_frames_steps.specs.run_memory.declared.block.MemoryBlock.{MemoryBlock}
+use Rattle.pass_frames_steps.specs.run_source.declared.state.Activation.{Activation}
+use Rattle.pass_frames_steps.specs.run_source.declared.state.Instance.{Instance}
+use Rattle.pass_frames_steps.specs.run_source.declared.state.Mode.{Mode}
+use Rattle.pass_frames_steps.specs.run_source.declared.state.State.{State}
+use Rattle.pass_frames_steps.specs.run_step.declared.world.Slot.{Slot}
 
 abbrev pub left_by : Bool → Activation → Activation
 left_by f a = record a { has_left = f }

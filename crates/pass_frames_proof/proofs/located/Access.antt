@@ -1,27 +1,27 @@
 -- A load, a store or a memcpy is done in the target too, where its operands lead to where the source's do.
 use Rattle.std.proofs.Common.{◌≡◌, ◌∷◌, [], Bool, List, None, Option, Some, suc, true, zero, ℕ}
-use Rattle.pass_proofs.specs.ir_model.Ty.{Ty, ptr}
-use Rattle.pass_proofs.specs.ir_model.declared.instr.Instr.{Instr}
-use Rattle.pass_proofs.specs.ir_model.declared.operand.Arg.{Arg}
-use Rattle.pass_proofs.specs.ir_model.declared.operand.Callee.{Callee}
-use Rattle.pass_proofs.specs.ir_model.declared.operand.Intrinsic.{Intrinsic}
-use Rattle.pass_proofs.specs.ir_model.declared.operand.Operand.{Operand}
-use Rattle.pass_proofs.specs.ir_parts.Contents.{arg_operands, instr_operands}
-use Rattle.pass_proofs.specs.pass_copies.Uses.{is_access}
-use Rattle.pass_proofs.specs.pass_fetch.Fetching.{fetch_of, fetched_args, fetched_operand, next_after}
-use Rattle.pass_proofs.specs.pass_fetch.Instrs.{with_fetched}
-use Rattle.pass_proofs.specs.pass_fetch.declared.fetch.Fetch.{Fetch}
-use Rattle.pass_frames_proof.proofs.copying.Over.{memcpy_of}
+use Rattle.pass_frames_steps.specs.ir_model.Ty.{Ty, ptr}
+use Rattle.pass_frames_steps.specs.ir_model.declared.instr.Instr.{Instr}
+use Rattle.pass_frames_steps.specs.ir_model.declared.operand.Arg.{Arg}
+use Rattle.pass_frames_steps.specs.ir_model.declared.operand.Callee.{Callee}
+use Rattle.pass_frames_steps.specs.ir_model.declared.operand.Intrinsic.{Intrinsic}
+use Rattle.pass_frames_steps.specs.ir_model.declared.operand.Operand.{Operand}
+use Rattle.pass_frames_steps.specs.ir_parts.Contents.{arg_operands, instr_operands}
+use Rattle.pass_frames_steps.specs.pass_copies.Uses.{is_access}
+use Rattle.pass_frames_steps.specs.pass_fetch.Fetching.{fetch_of, fetched_args, fetched_operand, next_after}
+use Rattle.pass_frames_steps.specs.pass_fetch.Instrs.{with_fetched}
+use Rattle.pass_frames_steps.specs.pass_fetch.declared.fetch.Fetch.{Fetch}
+use Rattle.pass_frames_steps.proofs.copying.Over.{memcpy_of}
 use Rattle.pass_frames_proof.proofs.located.Does.{DoesToo, copy_too, load_too, store_too}
 use Rattle.pass_frames_proof.proofs.located.Thrice.{AreThrice, third}
-use Rattle.pass_frames_proof.specs.Here.{IsLined}
-use Rattle.pass_frames_proof.specs.Located.{GivesPlainly, IsAddress}
-use Rattle.pass_proofs.specs.run_laws.embedded.Related.{HasBytes}
-use Rattle.pass_proofs.specs.run_laws.memory.Pointers.{Home, IsValue}
-use Rattle.pass_proofs.specs.run_laws.memory.Standing.{AreByteRights}
-use Rattle.pass_proofs.specs.run_laws.transfer.Transfer.{AreOver}
-use Rattle.pass_proofs.specs.run_step.Step.{AtInstr, Context, Done, Work, instr_action, value_at}
-use Rattle.pass_proofs.specs.run_step.Values.{arg_values, nth}
+use Rattle.pass_frames_steps.specs.Here.{IsLined}
+use Rattle.pass_frames_steps.specs.Located.{GivesPlainly, IsAddress}
+use Rattle.pass_frames_steps.specs.run_laws.embedded.Related.{HasBytes}
+use Rattle.pass_frames_steps.specs.run_laws.memory.Pointers.{Home, IsValue}
+use Rattle.pass_frames_steps.specs.run_laws.memory.Standing.{AreByteRights}
+use Rattle.pass_frames_steps.specs.run_laws.transfer.Transfer.{AreOver}
+use Rattle.pass_frames_steps.specs.run_step.Step.{AtInstr, Context, Done, Work, instr_action, value_at}
+use Rattle.pass_frames_steps.specs.run_step.Values.{arg_values, nth}
 
 -- an access stands on a line of its own
 pub access_lined : (i : Instr) → is_access i ≡ true → IsLined i

@@ -4,25 +4,25 @@ use Rattle.std.proofs.Common.{Option, Result, Ok, Err, refl, sym, ap, ◌∙◌,
 use Rattle.std.proofs.Common.{if◌then◌else◌, nat_le}
 use Rattle.std.specs.Prelude.{slice_get, nat_lt, ◌==◌, ◌&&◌}
 use Rattle.std.proofs.lemmas.Bool.{and_left, and_right, cases_eq, cases_lt, eq-eqb, le-ltb, lt-ltb, ltb-true, ne_eqb}
-use Rattle.pass_proofs.specs.ir_base.declared.cause.Cause.{Cause}
+use Rattle.pass_frames_steps.specs.ir_base.declared.cause.Cause.{Cause}
 use Rattle.pass_frames_proof.proofs.located.Free.{keeps_all, written_free}
 use Rattle.pass_frames_proof.proofs.located.Moved.{found_there, range_moved}
-use Rattle.pass_frames_proof.specs.Located.{IsMoved}
-use Rattle.pass_proofs.proofs.run_laws.memory.Copies.{eq_moved}
-use Rattle.pass_proofs.proofs.run_laws.memory.Loads.{bytes_kept, moved_spot}
-use Rattle.pass_proofs.proofs.run_laws.memory.Stores.{both_write}
-use Rattle.pass_proofs.proofs.run_memory.Found.{Found, found}
-use Rattle.pass_proofs.proofs.run_memory.Kept.{length-bytes_at}
-use Rattle.pass_proofs.specs.run_laws.access.Changed.{KeepsFree}
-use Rattle.pass_proofs.specs.run_laws.memory.Pointers.{Home, home_of}
-use Rattle.pass_proofs.specs.run_laws.memory.Standing.{AreByteRights, Embeds, IsOpen}
-use Rattle.pass_proofs.specs.run_memory.Memory.{Rights, both, bytes_at, copied, copy, is_constant, on_ok, overlaps}
-use Rattle.pass_proofs.specs.run_memory.Memory.{range, rank, same_kind, write}
-use Rattle.pass_proofs.specs.run_memory.Whole.{IsWithin}
-use Rattle.pass_proofs.specs.run_memory.declared.block.Kind.{Kind}
-use Rattle.pass_proofs.specs.run_memory.declared.block.MemoryBlock.{MemoryBlock}
-use Rattle.pass_proofs.specs.run_memory.declared.pointer.Spot.{Spot}
-use Rattle.pass_proofs.specs.run_memory.declared.pointer.Value.{Value}
+use Rattle.pass_frames_steps.specs.Located.{IsMoved}
+use Rattle.pass_frames_steps.proofs.run_laws.memory.Copies.{eq_moved}
+use Rattle.pass_frames_steps.proofs.run_laws.memory.Loads.{bytes_kept, moved_spot}
+use Rattle.pass_frames_steps.proofs.run_laws.memory.Stores.{both_write}
+use Rattle.pass_frames_steps.proofs.pass_proofs.run_memory.Found.{Found, found}
+use Rattle.pass_frames_steps.proofs.pass_proofs.run_memory.Kept.{length-bytes_at}
+use Rattle.pass_frames_steps.specs.run_laws.access.Changed.{KeepsFree}
+use Rattle.pass_frames_steps.specs.run_laws.memory.Pointers.{Home, home_of}
+use Rattle.pass_frames_steps.specs.run_laws.memory.Standing.{AreByteRights, Embeds, IsOpen}
+use Rattle.pass_frames_steps.specs.run_memory.Memory.{Rights, both, bytes_at, copied, copy, is_constant, on_ok, overlaps}
+use Rattle.pass_frames_steps.specs.run_memory.Memory.{range, rank, same_kind, write}
+use Rattle.pass_frames_steps.specs.run_memory.Whole.{IsWithin}
+use Rattle.pass_frames_steps.specs.run_memory.declared.block.Kind.{Kind}
+use Rattle.pass_frames_steps.specs.run_memory.declared.block.MemoryBlock.{MemoryBlock}
+use Rattle.pass_frames_steps.specs.run_memory.declared.pointer.Spot.{Spot}
+use Rattle.pass_frames_steps.specs.run_memory.declared.pointer.Value.{Value}
 
 -- ---- ranges that overlap
 

@@ -1,39 +1,39 @@
 -- An access that is done in the source is done in the target too, by addresses that are moved to where blocks stand.
 use Rattle.std.proofs.Common.{◌≡◌, ◌<◌, ◌∙◌, Bool, Err, List, None, Ok, Option, Result, ap, false, if◌then◌else◌}
 use Rattle.std.proofs.Common.{refl, subst, sym, true, ℕ}
-use Rattle.pass_proofs.specs.ir_base.declared.cause.Cause.{Cause}
-use Rattle.pass_proofs.specs.ir_model.Ty.{Ty, ptr}
-use Rattle.pass_proofs.specs.ir_model.declared.instr.Instr.{Instr}
-use Rattle.pass_proofs.specs.ir_model.declared.operand.Arg.{Arg}
-use Rattle.pass_proofs.specs.ir_model.declared.operand.Callee.{Callee}
-use Rattle.pass_proofs.specs.ir_model.declared.operand.Intrinsic.{Intrinsic}
-use Rattle.pass_proofs.specs.ir_model.declared.operand.Operand.{Operand}
-use Rattle.pass_proofs.specs.ir_parts.Contents.{result_of}
-use Rattle.pass_frames_proof.proofs.copying.Over.{IsMemcpy}
+use Rattle.pass_frames_steps.specs.ir_base.declared.cause.Cause.{Cause}
+use Rattle.pass_frames_steps.specs.ir_model.Ty.{Ty, ptr}
+use Rattle.pass_frames_steps.specs.ir_model.declared.instr.Instr.{Instr}
+use Rattle.pass_frames_steps.specs.ir_model.declared.operand.Arg.{Arg}
+use Rattle.pass_frames_steps.specs.ir_model.declared.operand.Callee.{Callee}
+use Rattle.pass_frames_steps.specs.ir_model.declared.operand.Intrinsic.{Intrinsic}
+use Rattle.pass_frames_steps.specs.ir_model.declared.operand.Operand.{Operand}
+use Rattle.pass_frames_steps.specs.ir_parts.Contents.{result_of}
+use Rattle.pass_frames_steps.proofs.copying.Over.{IsMemcpy}
 use Rattle.pass_frames_proof.proofs.located.Copied.{copy_moved}
 use Rattle.pass_frames_proof.proofs.located.Free.{keeps_all}
 use Rattle.pass_frames_proof.proofs.located.Moved.{load_moved}
 use Rattle.pass_frames_proof.proofs.located.Stored.{store_moved}
-use Rattle.pass_frames_proof.specs.Located.{IsAddress, IsMoved}
-use Rattle.pass_proofs.proofs.run_laws.embedded.Memories.{bounds_kept, copy_refills, nulls_kept, same_refills}
-use Rattle.pass_proofs.proofs.run_laws.embedded.Memories.{store_refills}
-use Rattle.pass_proofs.proofs.run_laws.embedded.Values.{alignment_is, stored_kept}
-use Rattle.pass_proofs.proofs.run_laws.transfer.Muted.{copy_muted, load_muted, muted_result, shown_address}
-use Rattle.pass_proofs.proofs.run_laws.transfer.Muted.{store_muted}
-use Rattle.pass_proofs.specs.run_laws.access.Changed.{KeepsFree}
-use Rattle.pass_proofs.specs.run_laws.embedded.Refilled.{AreRefilled}
-use Rattle.pass_proofs.specs.run_laws.memory.Pointers.{Home, IsValue}
-use Rattle.pass_proofs.specs.run_laws.memory.Standing.{AreByteRights, Embeds}
-use Rattle.pass_proofs.specs.run_laws.transfer.Muted.{muted}
-use Rattle.pass_proofs.specs.run_laws.transfer.Transfer.{AreOver}
-use Rattle.pass_proofs.specs.run_memory.Memory.{access_bytes, copy, load, store}
-use Rattle.pass_proofs.specs.run_memory.declared.block.MemoryBlock.{MemoryBlock}
-use Rattle.pass_proofs.specs.run_memory.declared.pointer.Access.{Access}
-use Rattle.pass_proofs.specs.run_memory.declared.pointer.Value.{Value}
-use Rattle.pass_proofs.specs.run_step.Step.{Context, Done, Stuck, Work, copied_bytes, done, instr_action}
-use Rattle.pass_proofs.specs.run_step.Step.{is_alignment, set_memory, set_value, value_at, with_length}
-use Rattle.pass_proofs.specs.run_step.Values.{access_of, address, arg_value, arg_values, nth, operand_value, stored}
-use Rattle.pass_proofs.specs.run_step.Values.{with_result}
+use Rattle.pass_frames_steps.specs.Located.{IsAddress, IsMoved}
+use Rattle.pass_frames_steps.proofs.run_laws.embedded.Memories.{bounds_kept, copy_refills, nulls_kept, same_refills}
+use Rattle.pass_frames_steps.proofs.run_laws.embedded.Memories.{store_refills}
+use Rattle.pass_frames_steps.proofs.run_laws.embedded.Values.{alignment_is, stored_kept}
+use Rattle.pass_frames_steps.proofs.run_laws.transfer.Muted.{copy_muted, load_muted, muted_result, shown_address}
+use Rattle.pass_frames_steps.proofs.run_laws.transfer.Muted.{store_muted}
+use Rattle.pass_frames_steps.specs.run_laws.access.Changed.{KeepsFree}
+use Rattle.pass_frames_steps.specs.run_laws.embedded.Refilled.{AreRefilled}
+use Rattle.pass_frames_steps.specs.run_laws.memory.Pointers.{Home, IsValue}
+use Rattle.pass_frames_steps.specs.run_laws.memory.Standing.{AreByteRights, Embeds}
+use Rattle.pass_frames_steps.specs.run_laws.transfer.Muted.{muted}
+use Rattle.pass_frames_steps.specs.run_laws.transfer.Transfer.{AreOver}
+use Rattle.pass_frames_steps.specs.run_memory.Memory.{access_bytes, copy, load, store}
+use Rattle.pass_frames_steps.specs.run_memory.declared.block.MemoryBlock.{MemoryBlock}
+use Rattle.pass_frames_steps.specs.run_memory.declared.pointer.Access.{Access}
+use Rattle.pass_frames_steps.specs.run_memory.declared.pointer.Value.{Value}
+use Rattle.pass_frames_steps.specs.run_step.Step.{Context, Done, Stuck, Work, copied_bytes, done, instr_action}
+use Rattle.pass_frames_steps.specs.run_step.Step.{is_alignment, set_memory, set_value, value_at, with_length}
+use Rattle.pass_frames_steps.specs.run_step.Values.{access_of, address, arg_value, arg_values, nth, operand_value, stored}
+use Rattle.pass_frames_steps.specs.run_step.Values.{with_result}
 
 -- Both give a value to the result, if there is one, and change bytes alone; what is free in the target stays.
 pub record DoesToo (c d : Context) (homes : List Home) (hides : ℕ → Bool) (w S v : Work) (i j : Instr) : Type 0 where

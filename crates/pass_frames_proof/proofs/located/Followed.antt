@@ -1,29 +1,29 @@
 -- An access before begin of a slot that is used there is followed: it goes by the address in the slot's cell.
 use Rattle.std.proofs.Common.{◌≡◌, ◌+◌, ◌<◌, ◌≤◌, ◌∷◌, ◌++◌, ◌∙◌, [], List, None, Option, Some, ap, arith, inl, inr}
 use Rattle.std.proofs.Common.{length, refl, subst, sym, true, ℕ}
-use Rattle.pass_proofs.proofs.ir_laws.facts.Members.{each_joined}
-use Rattle.pass_proofs.specs.ir_model.Ty.{Ty}
-use Rattle.pass_proofs.specs.ir_model.declared.instr.Instr.{Instr}
-use Rattle.pass_proofs.specs.ir_model.declared.operand.Callee.{Callee}
-use Rattle.pass_proofs.specs.ir_model.declared.operand.Intrinsic.{Intrinsic}
-use Rattle.pass_proofs.specs.ir_model.declared.operand.Operand.{Operand}
-use Rattle.pass_proofs.specs.ir_parts.Contents.{instr_operands, result_of}
-use Rattle.pass_proofs.specs.pass_cells.Cells.{fetches_of}
-use Rattle.pass_proofs.specs.pass_cells.Kept.{entry}
-use Rattle.pass_proofs.specs.pass_cells.Written.{stored_result}
-use Rattle.pass_proofs.specs.pass_cells.declared.plan.KeptValue.{KeptValue}
-use Rattle.pass_proofs.specs.pass_copies.Uses.{is_access}
-use Rattle.pass_proofs.specs.pass_fetch.Fetching.{fetched_operand, fetches_of_all, next_after, next_after_all}
-use Rattle.pass_proofs.specs.pass_fetch.declared.fetch.Fetch.{Fetch}
-use Rattle.pass_frames_proof.proofs.code.Instrs.{instr_code}
-use Rattle.pass_frames_proof.proofs.code.Left.{parts_left}
-use Rattle.pass_frames_proof.proofs.copying.Refilled.{refilled_homes, refilled_related}
+use Rattle.pass_frames_steps.proofs.ir_laws.facts.Members.{each_joined}
+use Rattle.pass_frames_steps.specs.ir_model.Ty.{Ty}
+use Rattle.pass_frames_steps.specs.ir_model.declared.instr.Instr.{Instr}
+use Rattle.pass_frames_steps.specs.ir_model.declared.operand.Callee.{Callee}
+use Rattle.pass_frames_steps.specs.ir_model.declared.operand.Intrinsic.{Intrinsic}
+use Rattle.pass_frames_steps.specs.ir_model.declared.operand.Operand.{Operand}
+use Rattle.pass_frames_steps.specs.ir_parts.Contents.{instr_operands, result_of}
+use Rattle.pass_frames_steps.specs.pass_cells.Cells.{fetches_of}
+use Rattle.pass_frames_steps.specs.pass_cells.Kept.{entry}
+use Rattle.pass_frames_steps.specs.pass_cells.Written.{stored_result}
+use Rattle.pass_frames_steps.specs.pass_cells.declared.plan.KeptValue.{KeptValue}
+use Rattle.pass_frames_steps.specs.pass_copies.Uses.{is_access}
+use Rattle.pass_frames_steps.specs.pass_fetch.Fetching.{fetched_operand, fetches_of_all, next_after, next_after_all}
+use Rattle.pass_frames_steps.specs.pass_fetch.declared.fetch.Fetch.{Fetch}
+use Rattle.pass_frames_steps.proofs.code.Instrs.{instr_code}
+use Rattle.pass_frames_steps.proofs.code.Left.{parts_left}
+use Rattle.pass_frames_steps.proofs.copying.Refilled.{refilled_homes, refilled_related}
 use Rattle.pass_frames_proof.proofs.early.Unlocated.{access_same}
-use Rattle.pass_frames_proof.proofs.fronted.Giving.{front_followed}
-use Rattle.pass_frames_proof.proofs.fronted.State.{cost_going, fetched_going, stand_going}
-use Rattle.pass_frames_proof.proofs.here.Giving.{stand_right}
-use Rattle.pass_frames_proof.proofs.here.Line.{never_idle}
-use Rattle.pass_frames_proof.proofs.lined.Lines.{framed_does}
+use Rattle.pass_frames_steps.proofs.fronted.Giving.{front_followed}
+use Rattle.pass_frames_steps.proofs.fronted.State.{cost_going, fetched_going, stand_going}
+use Rattle.pass_frames_steps.proofs.here.Giving.{stand_right}
+use Rattle.pass_frames_steps.proofs.here.Line.{never_idle}
+use Rattle.pass_frames_steps.proofs.lined.Lines.{framed_does}
 use Rattle.pass_frames_proof.proofs.located.Access.{IsLedTo, StoresOther, access_does, access_lined}
 use Rattle.pass_frames_proof.proofs.located.Does.{DoesToo}
 use Rattle.pass_frames_proof.proofs.located.Line.{front_still, line_gives, line_is, line_no_alloca}
@@ -31,44 +31,44 @@ use Rattle.pass_frames_proof.proofs.located.Seen.{IsSeenAt}
 use Rattle.pass_frames_proof.proofs.located.State.{led, seen_all, wide}
 use Rattle.pass_frames_proof.proofs.located.Thrice.{AreThrice, third, thrice}
 use Rattle.pass_frames_proof.proofs.located.Wheres.{where_value}
-use Rattle.pass_frames_proof.proofs.stepping.After.{not_set}
-use Rattle.pass_frames_proof.proofs.stepping.Codes.{code_stands}
-use Rattle.pass_frames_proof.proofs.stepping.May.{not_returned}
-use Rattle.pass_frames_proof.proofs.stepping.Operands.{slot_address}
-use Rattle.pass_frames_proof.proofs.stepping.Stands.{renewed_does}
-use Rattle.pass_frames_proof.specs.Code.{address_state, load_name, loaded, slot_table, where_name}
-use Rattle.pass_frames_proof.specs.Followed.{IsFollowed}
-use Rattle.pass_frames_proof.specs.Framings.{IsFraming}
-use Rattle.pass_frames_proof.specs.Fronted.{IsFronted, IsGoing}
-use Rattle.pass_frames_proof.specs.Layers.{becomes}
-use Rattle.pass_frames_proof.specs.Led.{IsNotSet}
-use Rattle.pass_frames_proof.specs.Lined.{GivesNone, lined}
-use Rattle.pass_frames_proof.specs.Lines.{IsStorable}
-use Rattle.pass_frames_proof.specs.Loaded.{loaded_value}
-use Rattle.pass_frames_proof.specs.Located.{IsAddress, IsAtAccess, StoresNone, addressed_instr, located_front}
-use Rattle.pass_frames_proof.specs.Located.{located_instr, located_line, where_table}
-use Rattle.pass_frames_proof.specs.Meaning.{step_cost}
-use Rattle.pass_frames_proof.specs.Places.{Framing, Placed, named, placed_layer, plan, written}
-use Rattle.pass_frames_proof.specs.Related.{AreBuiltOf, Building, IsKeptValue, instance_in}
-use Rattle.pass_frames_proof.specs.Stepping.{AreFieldsSpared, AreGiven, StandsInPlace, state_in}
-use Rattle.pass_frames_proof.specs.Temporaries.{HasLedSlots}
-use Rattle.pass_renewed_proof.specs.Renewed.{RenewedGiven, renewed_step}
-use Rattle.pass_proofs.proofs.fetch.rules.Puts.{fetch_rises}
-use Rattle.pass_proofs.specs.run_framed.Framed.{FramedGiven, framed_context, framed_step, given_call}
-use Rattle.pass_proofs.proofs.run_laws.memory.Itself.{owner_rights_fit}
-use Rattle.pass_proofs.specs.run_laws.access.Changed.{KeepsFree}
-use Rattle.pass_proofs.specs.run_laws.changed.Changed.{Each}
-use Rattle.pass_proofs.specs.run_laws.memory.Pointers.{Home, IsValue}
-use Rattle.pass_proofs.specs.run_laws.transfer.Muted.{muted}
-use Rattle.pass_proofs.specs.run_laws.transfer.Transfer.{AreOver}
-use Rattle.run_access_worked.proofs.run_laws_worked.Frames.{frame_rights_fit}
-use Rattle.pass_proofs.specs.run_memory.Memory.{owner_rights}
-use Rattle.pass_proofs.specs.run_source.Source.{context_of}
-use Rattle.pass_proofs.specs.run_source.State.{function_of, gives, settled, work_of}
-use Rattle.pass_proofs.specs.run_source.declared.state.State.{State}
-use Rattle.pass_proofs.specs.run_step.Step.{AtInstr, Context, Done, Work, fetch, value_at}
-use Rattle.pass_proofs.specs.run_step.Values.{Env, value_in, with_result}
-use Rattle.pass_proofs.specs.run_step.declared.world.World.{World}
+use Rattle.pass_frames_steps.proofs.stepping.After.{not_set}
+use Rattle.pass_frames_steps.proofs.stepping.Codes.{code_stands}
+use Rattle.pass_frames_steps.proofs.stepping.May.{not_returned}
+use Rattle.pass_frames_steps.proofs.stepping.Operands.{slot_address}
+use Rattle.pass_frames_steps.proofs.stepping.Stands.{renewed_does}
+use Rattle.pass_frames_steps.specs.Code.{address_state, load_name, loaded, slot_table, where_name}
+use Rattle.pass_frames_steps.specs.Followed.{IsFollowed}
+use Rattle.pass_frames_steps.specs.Framings.{IsFraming}
+use Rattle.pass_frames_steps.specs.Fronted.{IsFronted, IsGoing}
+use Rattle.pass_frames_steps.specs.Layers.{becomes}
+use Rattle.pass_frames_steps.specs.Led.{IsNotSet}
+use Rattle.pass_frames_steps.specs.Lined.{GivesNone, lined}
+use Rattle.pass_frames_steps.specs.Lines.{IsStorable}
+use Rattle.pass_frames_steps.specs.Loaded.{loaded_value}
+use Rattle.pass_frames_steps.specs.Located.{IsAddress, IsAtAccess, StoresNone, addressed_instr, located_front}
+use Rattle.pass_frames_steps.specs.Located.{located_instr, located_line, where_table}
+use Rattle.pass_frames_steps.specs.Meaning.{step_cost}
+use Rattle.pass_frames_steps.specs.Places.{Framing, Placed, named, placed_layer, plan, written}
+use Rattle.pass_frames_steps.specs.Related.{AreBuiltOf, Building, IsKeptValue, instance_in}
+use Rattle.pass_frames_steps.specs.Stepping.{AreFieldsSpared, AreGiven, StandsInPlace, state_in}
+use Rattle.pass_frames_steps.specs.Temporaries.{HasLedSlots}
+use Rattle.pass_frames_steps.specs.pass_renewed_proof.Renewed.{RenewedGiven, renewed_step}
+use Rattle.pass_frames_steps.proofs.pass_proofs.fetch.rules.Puts.{fetch_rises}
+use Rattle.pass_frames_steps.specs.run_framed.Framed.{FramedGiven, framed_context, framed_step, given_call}
+use Rattle.pass_frames_steps.proofs.run_laws.memory.Itself.{owner_rights_fit}
+use Rattle.pass_frames_steps.specs.run_laws.access.Changed.{KeepsFree}
+use Rattle.pass_frames_steps.specs.run_laws.changed.Changed.{Each}
+use Rattle.pass_frames_steps.specs.run_laws.memory.Pointers.{Home, IsValue}
+use Rattle.pass_frames_steps.specs.run_laws.transfer.Muted.{muted}
+use Rattle.pass_frames_steps.specs.run_laws.transfer.Transfer.{AreOver}
+use Rattle.pass_frames_steps.proofs.run_access_worked.run_laws_worked.Frames.{frame_rights_fit}
+use Rattle.pass_frames_steps.specs.run_memory.Memory.{owner_rights}
+use Rattle.pass_frames_steps.specs.run_source.Source.{context_of}
+use Rattle.pass_frames_steps.specs.run_source.State.{function_of, gives, settled, work_of}
+use Rattle.pass_frames_steps.specs.run_source.declared.state.State.{State}
+use Rattle.pass_frames_steps.specs.run_step.Step.{AtInstr, Context, Done, Work, fetch, value_at}
+use Rattle.pass_frames_steps.specs.run_step.Values.{Env, value_in, with_result}
+use Rattle.pass_frames_steps.specs.run_step.declared.world.World.{World}
 
 -- an access calls no ramp
 not_given : (f : FramedGiven) (t : State) (j : Instr) → is_access j ≡ true → given_call f t (AtInstr j) ≡ None

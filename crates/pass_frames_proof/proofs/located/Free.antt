@@ -4,20 +4,20 @@ use Rattle.std.proofs.Common.{sym, ap, ◌∙◌, subst, ⊎_elim, inl, inr, ari
 use Rattle.std.specs.Prelude.{slice_get}
 use Rattle.std.proofs.lemmas.Bool.{cases_eq, cases_lt}
 use Rattle.pass_frames_proof.proofs.located.Moved.{found_there}
-use Rattle.pass_proofs.proofs.run_laws.memory.Loads.{moved_spot}
-use Rattle.pass_proofs.proofs.run_laws.memory.Written.{changed_elsewhere, changed_here, written_before}
-use Rattle.pass_proofs.proofs.run_laws.memory.Written.{written_behind}
-use Rattle.pass_proofs.proofs.run_memory.Found.{Found}
-use Rattle.pass_proofs.proofs.run_memory.Kept.{length-written}
-use Rattle.pass_proofs.specs.run_laws.access.Changed.{IsFree, KeepsFree, byte_in}
-use Rattle.pass_proofs.specs.run_laws.embedded.Refilled.{IsRefilled}
-use Rattle.pass_proofs.specs.run_laws.memory.Pointers.{Home, home_of}
-use Rattle.pass_proofs.specs.run_laws.memory.Standing.{AreByteRights, Embeds, IsOpen, Stands}
-use Rattle.pass_proofs.specs.run_memory.Memory.{Rights, bytes_in, with_bytes, write, written}
-use Rattle.pass_proofs.specs.run_memory.declared.block.Byte.{Byte}
-use Rattle.pass_proofs.specs.run_memory.declared.block.MemoryBlock.{MemoryBlock}
-use Rattle.pass_proofs.specs.run_memory.declared.pointer.Value.{Value}
-use Rattle.pass_proofs.specs.run_memory.declared.pointer.Spot.{Spot}
+use Rattle.pass_frames_steps.proofs.run_laws.memory.Loads.{moved_spot}
+use Rattle.pass_frames_steps.proofs.run_laws.memory.Written.{changed_elsewhere, changed_here, written_before}
+use Rattle.pass_frames_steps.proofs.run_laws.memory.Written.{written_behind}
+use Rattle.pass_frames_steps.proofs.pass_proofs.run_memory.Found.{Found}
+use Rattle.pass_frames_steps.proofs.pass_proofs.run_memory.Kept.{length-written}
+use Rattle.pass_frames_steps.specs.run_laws.access.Changed.{IsFree, KeepsFree, byte_in}
+use Rattle.pass_frames_steps.specs.run_laws.embedded.Refilled.{IsRefilled}
+use Rattle.pass_frames_steps.specs.run_laws.memory.Pointers.{Home, home_of}
+use Rattle.pass_frames_steps.specs.run_laws.memory.Standing.{AreByteRights, Embeds, IsOpen, Stands}
+use Rattle.pass_frames_steps.specs.run_memory.Memory.{Rights, bytes_in, with_bytes, write, written}
+use Rattle.pass_frames_steps.specs.run_memory.declared.block.Byte.{Byte}
+use Rattle.pass_frames_steps.specs.run_memory.declared.block.MemoryBlock.{MemoryBlock}
+use Rattle.pass_frames_steps.specs.run_memory.declared.pointer.Value.{Value}
+use Rattle.pass_frames_steps.specs.run_memory.declared.pointer.Spot.{Spot}
 
 refilled_itself : (o : Option MemoryBlock) → IsRefilled o o
 refilled_itself None = tt

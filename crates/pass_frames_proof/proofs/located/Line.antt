@@ -3,39 +3,39 @@
 use Rattle.std.proofs.Common.{◌≡◌, ◌∷◌, ◌++◌, ◌∙◌, [], Bool, List, None, Some, ap, append-nil, append_assoc, false}
 use Rattle.std.proofs.Common.{refl, sym, true, ℕ}
 use Rattle.std.specs.Prelude.{if◌then◌else◌, ◌&&◌}
-use Rattle.pass_proofs.proofs.ir_laws.facts.Members.{each_joined, each_turns}
-use Rattle.pass_proofs.specs.ir_model.declared.instr.Instr.{Instr}
-use Rattle.pass_proofs.specs.ir_model.declared.module.Module.{Module}
-use Rattle.pass_proofs.specs.ir_parts.Contents.{instr_operands, result_of}
-use Rattle.pass_proofs.specs.pass_addresses.Placing.{lies_outside, stays, without_promise_of}
-use Rattle.pass_proofs.specs.pass_cells.Cells.{fetches_of}
-use Rattle.pass_proofs.specs.pass_cells.Kept.{entry}
-use Rattle.pass_proofs.specs.pass_cells.Moves.{after_saved, saved_values}
-use Rattle.pass_proofs.specs.pass_cells.Written.{save_row, stored_result}
-use Rattle.pass_proofs.specs.pass_copies.Uses.{is_access}
-use Rattle.pass_proofs.specs.pass_fetch.Fetching.{fetches_of_all}
-use Rattle.pass_proofs.specs.pass_fetch.Instrs.{with_fetched}
-use Rattle.pass_frames_proof.proofs.code.Idle.{each_idle, only_idle}
+use Rattle.pass_frames_steps.proofs.ir_laws.facts.Members.{each_joined, each_turns}
+use Rattle.pass_frames_steps.specs.ir_model.declared.instr.Instr.{Instr}
+use Rattle.pass_frames_steps.specs.ir_model.declared.module.Module.{Module}
+use Rattle.pass_frames_steps.specs.ir_parts.Contents.{instr_operands, result_of}
+use Rattle.pass_frames_steps.specs.pass_addresses.Placing.{lies_outside, stays, without_promise_of}
+use Rattle.pass_frames_steps.specs.pass_cells.Cells.{fetches_of}
+use Rattle.pass_frames_steps.specs.pass_cells.Kept.{entry}
+use Rattle.pass_frames_steps.specs.pass_cells.Moves.{after_saved, saved_values}
+use Rattle.pass_frames_steps.specs.pass_cells.Written.{save_row, stored_result}
+use Rattle.pass_frames_steps.specs.pass_copies.Uses.{is_access}
+use Rattle.pass_frames_steps.specs.pass_fetch.Fetching.{fetches_of_all}
+use Rattle.pass_frames_steps.specs.pass_fetch.Instrs.{with_fetched}
+use Rattle.pass_frames_steps.proofs.code.Idle.{each_idle, only_idle}
 use Rattle.pass_frames_proof.proofs.early.Unlocated.{access_same}
-use Rattle.pass_frames_proof.proofs.here.Line.{IsLeft, gives_fetched, left, lined_fetched, still_gives}
-use Rattle.pass_frames_proof.proofs.here.Line.{still_no_alloca, stored_gives, stored_no_alloca, unmeasured}
-use Rattle.pass_frames_proof.proofs.layers.Grown.{both_becomes, grown_one}
-use Rattle.pass_frames_proof.proofs.layers.Idle.{all_stay, both_idle}
-use Rattle.pass_frames_proof.proofs.led.Front.{all_still}
-use Rattle.pass_frames_proof.specs.Code.{address_state, addressed, code_of, is_ahead, load_name, loaded, loads}
-use Rattle.pass_frames_proof.specs.Code.{located, past_addressed, saved, slot_table, stores, unmarked_one, where_name}
-use Rattle.pass_frames_proof.specs.Code.{wheres, write_name}
-use Rattle.pass_frames_proof.specs.Here.{IsLined}
-use Rattle.pass_frames_proof.specs.Layers.{IsIdle, Layer, each, only}
-use Rattle.pass_frames_proof.specs.Led.{IsStill}
-use Rattle.pass_frames_proof.specs.Lined.{GivesNone}
-use Rattle.pass_frames_proof.specs.Located.{addressed_instr, located_front, located_instr, located_line, where_table}
-use Rattle.pass_frames_proof.specs.Passes.{fetching_at, unmarked_at}
-use Rattle.pass_frames_proof.specs.Places.{Framing, Placed, marked, offsets, plan, unmarked}
-use Rattle.pass_frames_proof.specs.Places.{addressing_layer}
-use Rattle.pass_proofs.specs.pass_front.Front.{is_no_alloca}
-use Rattle.pass_proofs.proofs.fetch.rules.Times.{with_result}
-use Rattle.pass_proofs.specs.run_laws.changed.Changed.{Each}
+use Rattle.pass_frames_steps.proofs.here.Line.{IsLeft, gives_fetched, left, lined_fetched, still_gives}
+use Rattle.pass_frames_steps.proofs.here.Line.{still_no_alloca, stored_gives, stored_no_alloca, unmeasured}
+use Rattle.pass_frames_steps.proofs.layers.Grown.{both_becomes, grown_one}
+use Rattle.pass_frames_steps.proofs.layers.Idle.{all_stay, both_idle}
+use Rattle.pass_frames_steps.proofs.led.Front.{all_still}
+use Rattle.pass_frames_steps.specs.Code.{address_state, addressed, code_of, is_ahead, load_name, loaded, loads}
+use Rattle.pass_frames_steps.specs.Code.{located, past_addressed, saved, slot_table, stores, unmarked_one, where_name}
+use Rattle.pass_frames_steps.specs.Code.{wheres, write_name}
+use Rattle.pass_frames_steps.specs.Here.{IsLined}
+use Rattle.pass_frames_steps.specs.Layers.{IsIdle, Layer, each, only}
+use Rattle.pass_frames_steps.specs.Led.{IsStill}
+use Rattle.pass_frames_steps.specs.Lined.{GivesNone}
+use Rattle.pass_frames_steps.specs.Located.{addressed_instr, located_front, located_instr, located_line, where_table}
+use Rattle.pass_frames_steps.specs.Passes.{fetching_at, unmarked_at}
+use Rattle.pass_frames_steps.specs.Places.{Framing, Placed, marked, offsets, plan, unmarked}
+use Rattle.pass_frames_steps.specs.Places.{addressing_layer}
+use Rattle.pass_frames_steps.specs.pass_front.Front.{is_no_alloca}
+use Rattle.pass_frames_steps.proofs.pass_proofs.fetch.rules.Times.{with_result}
+use Rattle.pass_frames_steps.specs.run_laws.changed.Changed.{Each}
 
 -- both flags are set
 both_set : {A : Type 0} (p q : Bool) (y z : A) → p ≡ true → q ≡ true → (if p && q then y else z) ≡ y

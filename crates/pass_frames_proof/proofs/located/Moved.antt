@@ -1,19 +1,19 @@
 -- Loads by addresses that are moved to where blocks stand, also if no pointer into these may be about.
 use Rattle.std.proofs.Common.{◌≡◌, ℕ, ◌+◌, ◌%◌, ◌^◌, ◌<◌, List, Result, Ok, Err, refl, ap, ◌∙◌, subst, arith}
-use Rattle.pass_proofs.specs.ir_base.declared.cause.Cause.{Cause}
-use Rattle.pass_frames_proof.specs.Located.{IsMoved}
-use Rattle.pass_proofs.proofs.run_laws.memory.Loads.{bytes_kept, moved_bits, moved_spot, range_ok}
-use Rattle.pass_proofs.proofs.run_laws.memory.Matching.{decode_kept}
-use Rattle.pass_proofs.proofs.run_memory.Found.{Found, found}
-use Rattle.pass_proofs.specs.run_laws.memory.Kept.{IsLoaded}
-use Rattle.pass_proofs.specs.run_laws.memory.Pointers.{Home, IsValue, home_of}
-use Rattle.pass_proofs.specs.run_laws.memory.Standing.{AreByteRights, Embeds, IsAlignment, Stands}
-use Rattle.pass_proofs.specs.run_memory.Memory.{Rights, access_bytes, bytes_at, decode, load, on_ok, range}
-use Rattle.pass_proofs.specs.run_memory.declared.block.MemoryBlock.{MemoryBlock}
-use Rattle.pass_proofs.specs.run_memory.declared.pointer.Access.{Access}
-use Rattle.pass_proofs.specs.run_memory.declared.pointer.Pointer.{Pointer}
-use Rattle.pass_proofs.specs.run_memory.declared.pointer.Spot.{Spot}
-use Rattle.pass_proofs.specs.run_memory.declared.pointer.Value.{Value}
+use Rattle.pass_frames_steps.specs.ir_base.declared.cause.Cause.{Cause}
+use Rattle.pass_frames_steps.specs.Located.{IsMoved}
+use Rattle.pass_frames_steps.proofs.run_laws.memory.Loads.{bytes_kept, moved_bits, moved_spot, range_ok}
+use Rattle.pass_frames_steps.proofs.run_laws.memory.Matching.{decode_kept}
+use Rattle.pass_frames_steps.proofs.pass_proofs.run_memory.Found.{Found, found}
+use Rattle.pass_frames_steps.specs.run_laws.memory.Kept.{IsLoaded}
+use Rattle.pass_frames_steps.specs.run_laws.memory.Pointers.{Home, IsValue, home_of}
+use Rattle.pass_frames_steps.specs.run_laws.memory.Standing.{AreByteRights, Embeds, IsAlignment, Stands}
+use Rattle.pass_frames_steps.specs.run_memory.Memory.{Rights, access_bytes, bytes_at, decode, load, on_ok, range}
+use Rattle.pass_frames_steps.specs.run_memory.declared.block.MemoryBlock.{MemoryBlock}
+use Rattle.pass_frames_steps.specs.run_memory.declared.pointer.Access.{Access}
+use Rattle.pass_frames_steps.specs.run_memory.declared.pointer.Pointer.{Pointer}
+use Rattle.pass_frames_steps.specs.run_memory.declared.pointer.Spot.{Spot}
+use Rattle.pass_frames_steps.specs.run_memory.declared.pointer.Value.{Value}
 
 -- what may be about is moved
 pub value_moved : (homes : List Home) (v w : Value) → IsValue homes v w → IsMoved homes v w

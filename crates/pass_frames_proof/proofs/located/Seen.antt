@@ -3,54 +3,54 @@ use Rattle.std.proofs.Common.{◌≡◌, ◌+◌, ◌≤◌, ◌∙◌, List, No
 use Rattle.std.proofs.Common.{ℕ, ⊎_elim}
 use Rattle.std.specs.List.{Contains}
 use Rattle.std.specs.Prelude.{option_map, slice_get, ◌&&◌, Bool}
-use Rattle.pass_proofs.specs.frame_contents.Held.{position_of}
-use Rattle.pass_proofs.specs.ir_model.Ty.{Ty}
-use Rattle.pass_proofs.specs.ir_model.declared.instr.Instr.{Instr}
-use Rattle.pass_proofs.specs.ir_model.declared.operand.Operand.{Operand}
-use Rattle.pass_proofs.specs.pass_cells.Cells.{fetches_of}
-use Rattle.pass_proofs.specs.pass_cells.Kept.{entry, joined}
-use Rattle.pass_proofs.specs.pass_copies.declared.slot.EarlySlot.{EarlySlot}
-use Rattle.pass_proofs.specs.pass_fetch.Fetching.{fetch_of}
-use Rattle.pass_proofs.specs.pass_fetch.declared.fetch.Fetch.{Fetch}
-use Rattle.pass_proofs.specs.pass_frames.Framed.{begin_of}
-use Rattle.pass_frames_proof.proofs.code.Left.{fetch_found}
-use Rattle.pass_frames_proof.proofs.code.Names.{kept_left}
-use Rattle.pass_frames_proof.proofs.followed.Assembly.{other_instance}
+use Rattle.pass_frames_steps.specs.frame_contents.Held.{position_of}
+use Rattle.pass_frames_steps.specs.ir_model.Ty.{Ty}
+use Rattle.pass_frames_steps.specs.ir_model.declared.instr.Instr.{Instr}
+use Rattle.pass_frames_steps.specs.ir_model.declared.operand.Operand.{Operand}
+use Rattle.pass_frames_steps.specs.pass_cells.Cells.{fetches_of}
+use Rattle.pass_frames_steps.specs.pass_cells.Kept.{entry, joined}
+use Rattle.pass_frames_steps.specs.pass_copies.declared.slot.EarlySlot.{EarlySlot}
+use Rattle.pass_frames_steps.specs.pass_fetch.Fetching.{fetch_of}
+use Rattle.pass_frames_steps.specs.pass_fetch.declared.fetch.Fetch.{Fetch}
+use Rattle.pass_frames_steps.specs.pass_frames.Framed.{begin_of}
+use Rattle.pass_frames_steps.proofs.code.Left.{fetch_found}
+use Rattle.pass_frames_steps.proofs.code.Names.{kept_left}
+use Rattle.pass_frames_steps.proofs.followed.Assembly.{other_instance}
 use Rattle.pass_frames_proof.proofs.located.Moved.{value_moved}
 use Rattle.pass_frames_proof.proofs.located.Thrice.{thrice, thrice_by}
 use Rattle.pass_frames_proof.proofs.located.Wheres.{early_found, slot_there, where_has, where_value}
-use Rattle.pass_frames_proof.proofs.ordinary.Stores.{stands_shown}
-use Rattle.pass_frames_proof.proofs.stepping.Operands.{seen_one, slot_address, slot_fetch}
-use Rattle.pass_frames_proof.specs.Code.{load_name, slot_table}
-use Rattle.pass_frames_proof.specs.Fetched.{seen_by}
-use Rattle.pass_frames_proof.specs.Framings.{IsFraming}
-use Rattle.pass_frames_proof.specs.Led.{seen_twice, twice_by}
-use Rattle.pass_frames_proof.specs.Lines.{at_work}
-use Rattle.pass_frames_proof.specs.Loaded.{loaded_value}
-use Rattle.pass_frames_proof.specs.Located.{IsAddress, IsAtAccess, IsEarlyOperand, IsMoved, where_table}
-use Rattle.pass_frames_proof.specs.Places.{Framing, copies, edged, offsets, plan}
-use Rattle.pass_frames_proof.specs.Reached.{address_by, address_in_frame}
-use Rattle.pass_frames_proof.specs.Related.{AreBuiltOf, AreCellsRight, AreInstances, AreNamed, AreWheresRight}
-use Rattle.pass_frames_proof.specs.Related.{Building, IsSlotBy, IsUnplacedSlot, IsWhere, instance_in, is_coroutine}
-use Rattle.pass_frames_proof.specs.Stepping.{IsPlacedOperand, IsSlotOf, state_in}
-use Rattle.pass_frames_proof.specs.Temporaries.{HasLedSlots}
-use Rattle.pass_renewed_proof.specs.Renewed.{RenewedGiven}
-use Rattle.pass_proofs.specs.addresses.rules.Addresses.{lies_in_frame}
-use Rattle.pass_proofs.specs.pass_addresses.Placing.{is_none}
-use Rattle.pass_proofs.specs.run_framed.Framed.{frame_rights, framed_context}
-use Rattle.pass_proofs.specs.run_laws.access.Lines.{pointer_at}
-use Rattle.pass_proofs.specs.run_laws.memory.Pointers.{Home, IsValue, home_of}
-use Rattle.pass_proofs.specs.run_laws.transfer.Muted.{IsShown}
-use Rattle.pass_proofs.specs.run_memory.Pointers.{moved, offset_of}
-use Rattle.pass_proofs.specs.run_memory.declared.pointer.Pointer.{Pointer}
-use Rattle.pass_proofs.specs.run_memory.declared.pointer.Value.{Value}
-use Rattle.pass_proofs.specs.run_source.Source.{context_of}
-use Rattle.pass_proofs.specs.run_source.State.{work_of}
-use Rattle.pass_proofs.specs.run_source.declared.state.Instance.{Instance}
-use Rattle.pass_proofs.specs.run_source.declared.state.State.{State}
-use Rattle.pass_proofs.specs.run_step.Step.{Context, Work}
-use Rattle.pass_proofs.specs.run_step.Values.{operand_value, pointer_to, value_in}
-use Rattle.pass_proofs.specs.run_step.declared.world.Slot.{Slot}
+use Rattle.pass_frames_steps.proofs.ordinary.Stores.{stands_shown}
+use Rattle.pass_frames_steps.proofs.stepping.Operands.{seen_one, slot_address, slot_fetch}
+use Rattle.pass_frames_steps.specs.Code.{load_name, slot_table}
+use Rattle.pass_frames_steps.specs.Fetched.{seen_by}
+use Rattle.pass_frames_steps.specs.Framings.{IsFraming}
+use Rattle.pass_frames_steps.specs.Led.{seen_twice, twice_by}
+use Rattle.pass_frames_steps.specs.Lines.{at_work}
+use Rattle.pass_frames_steps.specs.Loaded.{loaded_value}
+use Rattle.pass_frames_steps.specs.Located.{IsAddress, IsAtAccess, IsEarlyOperand, IsMoved, where_table}
+use Rattle.pass_frames_steps.specs.Places.{Framing, copies, edged, offsets, plan}
+use Rattle.pass_frames_steps.specs.Reached.{address_by, address_in_frame}
+use Rattle.pass_frames_steps.specs.Related.{AreBuiltOf, AreCellsRight, AreInstances, AreNamed, AreWheresRight}
+use Rattle.pass_frames_steps.specs.Related.{Building, IsSlotBy, IsUnplacedSlot, IsWhere, instance_in, is_coroutine}
+use Rattle.pass_frames_steps.specs.Stepping.{IsPlacedOperand, IsSlotOf, state_in}
+use Rattle.pass_frames_steps.specs.Temporaries.{HasLedSlots}
+use Rattle.pass_frames_steps.specs.pass_renewed_proof.Renewed.{RenewedGiven}
+use Rattle.pass_frames_steps.specs.pass_proofs.addresses.rules.Addresses.{lies_in_frame}
+use Rattle.pass_frames_steps.specs.pass_addresses.Placing.{is_none}
+use Rattle.pass_frames_steps.specs.run_framed.Framed.{frame_rights, framed_context}
+use Rattle.pass_frames_steps.specs.run_laws.access.Lines.{pointer_at}
+use Rattle.pass_frames_steps.specs.run_laws.memory.Pointers.{Home, IsValue, home_of}
+use Rattle.pass_frames_steps.specs.run_laws.transfer.Muted.{IsShown}
+use Rattle.pass_frames_steps.specs.run_memory.Pointers.{moved, offset_of}
+use Rattle.pass_frames_steps.specs.run_memory.declared.pointer.Pointer.{Pointer}
+use Rattle.pass_frames_steps.specs.run_memory.declared.pointer.Value.{Value}
+use Rattle.pass_frames_steps.specs.run_source.Source.{context_of}
+use Rattle.pass_frames_steps.specs.run_source.State.{work_of}
+use Rattle.pass_frames_steps.specs.run_source.declared.state.Instance.{Instance}
+use Rattle.pass_frames_steps.specs.run_source.declared.state.State.{State}
+use Rattle.pass_frames_steps.specs.run_step.Step.{Context, Work}
+use Rattle.pass_frames_steps.specs.run_step.Values.{operand_value, pointer_to, value_in}
+use Rattle.pass_frames_steps.specs.run_step.declared.world.Slot.{Slot}
 use Rattle.std.specs.Prelude.{not, unwrap_or}
 
 -- what has an offset lies in the frame

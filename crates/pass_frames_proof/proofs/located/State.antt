@@ -1,50 +1,50 @@
 -- An access before begin in related states: its operands are fetched, and each leads to where the source's does.
 use Rattle.std.proofs.Common.{◌≡◌, ◌*◌, ◌+◌, ◌<◌, ◌≤◌, ◌∙◌, List, None, Option, Some, ap, arith, length, subst, sym}
 use Rattle.std.proofs.Common.{ℕ}
-use Rattle.pass_proofs.proofs.ir_laws.facts.Members.{each_all, each_turns}
-use Rattle.pass_proofs.specs.ir_model.Names.{declaration_named, function_named}
-use Rattle.pass_proofs.specs.ir_model.Ty.{Ty}
-use Rattle.pass_proofs.specs.ir_model.declared.instr.Instr.{Instr}
-use Rattle.pass_proofs.specs.ir_model.declared.module.Module.{Module}
-use Rattle.pass_proofs.specs.ir_model.declared.operand.Operand.{Operand}
-use Rattle.pass_proofs.specs.ir_parts.Contents.{instr_operands}
-use Rattle.pass_proofs.specs.pass_cells.Cells.{fetches_of}
-use Rattle.pass_proofs.specs.pass_fetch.Fetching.{fetch_of, fetches_of_all, next_after_all}
-use Rattle.pass_proofs.specs.pass_fetch.declared.fetch.Fetch.{Fetch}
-use Rattle.pass_frames_proof.proofs.code.Left.{Far, far_named}
-use Rattle.pass_frames_proof.proofs.code.Names.{Count, First, far_left}
-use Rattle.pass_frames_proof.proofs.distances.Sums.{more_below}
-use Rattle.pass_frames_proof.proofs.lines.Loads.{can_load}
+use Rattle.pass_frames_steps.proofs.ir_laws.facts.Members.{each_all, each_turns}
+use Rattle.pass_frames_steps.specs.ir_model.Names.{declaration_named, function_named}
+use Rattle.pass_frames_steps.specs.ir_model.Ty.{Ty}
+use Rattle.pass_frames_steps.specs.ir_model.declared.instr.Instr.{Instr}
+use Rattle.pass_frames_steps.specs.ir_model.declared.module.Module.{Module}
+use Rattle.pass_frames_steps.specs.ir_model.declared.operand.Operand.{Operand}
+use Rattle.pass_frames_steps.specs.ir_parts.Contents.{instr_operands}
+use Rattle.pass_frames_steps.specs.pass_cells.Cells.{fetches_of}
+use Rattle.pass_frames_steps.specs.pass_fetch.Fetching.{fetch_of, fetches_of_all, next_after_all}
+use Rattle.pass_frames_steps.specs.pass_fetch.declared.fetch.Fetch.{Fetch}
+use Rattle.pass_frames_steps.proofs.code.Left.{Far, far_named}
+use Rattle.pass_frames_steps.proofs.code.Names.{Count, First, far_left}
+use Rattle.pass_frames_steps.proofs.distances.Sums.{more_below}
+use Rattle.pass_frames_steps.proofs.lines.Loads.{can_load}
 use Rattle.pass_frames_proof.proofs.located.Seen.{AreRight, IsSeenAt, early_seen, other_seen}
 use Rattle.pass_frames_proof.proofs.located.Thrice.{CanLast, CanThen, IsLedThrice, led_thrice}
 use Rattle.pass_frames_proof.proofs.located.Wheres.{can_where, where_value}
-use Rattle.pass_frames_proof.proofs.stepping.Fetch.{coroutine_values, not_returned}
-use Rattle.pass_frames_proof.proofs.stepping.Names.{edged_named}
-use Rattle.pass_frames_proof.proofs.stepping.Operands.{AreSameNames, can_more, other_stands, slot_address}
-use Rattle.pass_frames_proof.specs.Code.{address_state, load_name, loaded, slot_table, where_name}
-use Rattle.pass_frames_proof.specs.Distances.{IsBelow}
-use Rattle.pass_frames_proof.specs.Fetched.{CanFetch}
-use Rattle.pass_frames_proof.specs.Framings.{IsFraming}
-use Rattle.pass_frames_proof.specs.Lines.{at_work}
-use Rattle.pass_frames_proof.specs.Loaded.{loaded_value}
-use Rattle.pass_frames_proof.specs.Located.{Early, IsAtAccess, IsLocatedOperand, Other, addressed_instr, where_table}
-use Rattle.pass_frames_proof.specs.Places.{Framing, Placed, edged, framed, named, plan}
-use Rattle.pass_frames_proof.specs.Related.{AreBuiltOf, AreCellsRight, AreCoroutines, AreWheresRight, Building}
-use Rattle.pass_frames_proof.specs.Related.{HasCells, instance_in, is_coroutine}
-use Rattle.pass_frames_proof.specs.Stepping.{AreGiven, state_in}
-use Rattle.pass_frames_proof.specs.Temporaries.{HasLedSlots}
-use Rattle.pass_renewed_proof.specs.Renewed.{RenewedGiven}
-use Rattle.pass_proofs.proofs.fetch.rules.Puts.{fetch_rises}
-use Rattle.pass_proofs.specs.run_framed.Framed.{frame_rights, framed_context}
-use Rattle.pass_proofs.specs.run_laws.changed.Changed.{Each}
-use Rattle.pass_proofs.specs.run_laws.memory.Pointers.{IsValue}
-use Rattle.pass_proofs.specs.run_memory.Memory.{Rights}
-use Rattle.pass_proofs.specs.run_memory.declared.pointer.Value.{Value}
-use Rattle.pass_proofs.specs.run_source.Source.{context_of}
-use Rattle.pass_proofs.specs.run_source.State.{work_of}
-use Rattle.pass_proofs.specs.run_source.declared.state.State.{State}
-use Rattle.pass_proofs.specs.run_step.Step.{Context, Work}
-use Rattle.pass_proofs.specs.run_step.Values.{operand_value}
+use Rattle.pass_frames_steps.proofs.stepping.Fetch.{coroutine_values, not_returned}
+use Rattle.pass_frames_steps.proofs.stepping.Names.{edged_named}
+use Rattle.pass_frames_steps.proofs.stepping.Operands.{AreSameNames, can_more, other_stands, slot_address}
+use Rattle.pass_frames_steps.specs.Code.{address_state, load_name, loaded, slot_table, where_name}
+use Rattle.pass_frames_steps.specs.Distances.{IsBelow}
+use Rattle.pass_frames_steps.specs.Fetched.{CanFetch}
+use Rattle.pass_frames_steps.specs.Framings.{IsFraming}
+use Rattle.pass_frames_steps.specs.Lines.{at_work}
+use Rattle.pass_frames_steps.specs.Loaded.{loaded_value}
+use Rattle.pass_frames_steps.specs.Located.{Early, IsAtAccess, IsLocatedOperand, Other, addressed_instr, where_table}
+use Rattle.pass_frames_steps.specs.Places.{Framing, Placed, edged, framed, named, plan}
+use Rattle.pass_frames_steps.specs.Related.{AreBuiltOf, AreCellsRight, AreCoroutines, AreWheresRight, Building}
+use Rattle.pass_frames_steps.specs.Related.{HasCells, instance_in, is_coroutine}
+use Rattle.pass_frames_steps.specs.Stepping.{AreGiven, state_in}
+use Rattle.pass_frames_steps.specs.Temporaries.{HasLedSlots}
+use Rattle.pass_frames_steps.specs.pass_renewed_proof.Renewed.{RenewedGiven}
+use Rattle.pass_frames_steps.proofs.pass_proofs.fetch.rules.Puts.{fetch_rises}
+use Rattle.pass_frames_steps.specs.run_framed.Framed.{frame_rights, framed_context}
+use Rattle.pass_frames_steps.specs.run_laws.changed.Changed.{Each}
+use Rattle.pass_frames_steps.specs.run_laws.memory.Pointers.{IsValue}
+use Rattle.pass_frames_steps.specs.run_memory.Memory.{Rights}
+use Rattle.pass_frames_steps.specs.run_memory.declared.pointer.Value.{Value}
+use Rattle.pass_frames_steps.specs.run_source.Source.{context_of}
+use Rattle.pass_frames_steps.specs.run_source.State.{work_of}
+use Rattle.pass_frames_steps.specs.run_source.declared.state.State.{State}
+use Rattle.pass_frames_steps.specs.run_step.Step.{Context, Work}
+use Rattle.pass_frames_steps.specs.run_step.Values.{operand_value}
 
 module _ (b : Building) (g : RenewedGiven) (given : AreGiven b g) (s t : State) (r : AreBuiltOf b s t)
     (ledger : HasLedSlots t) (i : Instr) (v : Work) (h : IsAtAccess b g s i v) where

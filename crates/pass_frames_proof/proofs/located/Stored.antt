@@ -2,25 +2,25 @@
 use Rattle.std.proofs.Common.{◌≡◌, ℕ, ◌<◌, Bool, true, false, List, length, Result, Ok, Err, refl, sym, ap, ◌∙◌}
 use Rattle.std.proofs.Common.{subst, arith, if◌then◌else◌}
 use Rattle.std.specs.Prelude.{slice_get}
-use Rattle.pass_proofs.specs.ir_base.declared.cause.Cause.{Cause}
+use Rattle.pass_frames_steps.specs.ir_base.declared.cause.Cause.{Cause}
 use Rattle.pass_frames_proof.proofs.located.Free.{written_free}
 use Rattle.pass_frames_proof.proofs.located.Moved.{found_there, range_moved}
-use Rattle.pass_frames_proof.specs.Located.{IsMoved}
-use Rattle.pass_proofs.proofs.run_laws.memory.Loads.{moved_spot}
-use Rattle.pass_proofs.proofs.run_laws.memory.Matching.{encode_kept}
-use Rattle.pass_proofs.proofs.run_laws.memory.Stores.{both_write}
-use Rattle.pass_proofs.proofs.run_memory.Digits.{length-encode}
-use Rattle.pass_proofs.proofs.run_memory.Found.{found}
-use Rattle.pass_proofs.specs.run_laws.access.Changed.{KeepsFree}
-use Rattle.pass_proofs.specs.run_laws.memory.Pointers.{Home, IsValue}
-use Rattle.pass_proofs.specs.run_laws.memory.Standing.{AreByteRights, Embeds, IsAlignment}
-use Rattle.pass_proofs.specs.run_memory.Memory.{Rights, access_bytes, encode, is_constant, on_ok, range, same_kind}
-use Rattle.pass_proofs.specs.run_memory.Memory.{store, unless_constant, write}
-use Rattle.pass_proofs.specs.run_memory.declared.block.Kind.{Kind}
-use Rattle.pass_proofs.specs.run_memory.declared.block.MemoryBlock.{MemoryBlock}
-use Rattle.pass_proofs.specs.run_memory.declared.pointer.Access.{Access}
-use Rattle.pass_proofs.specs.run_memory.declared.pointer.Spot.{Spot}
-use Rattle.pass_proofs.specs.run_memory.declared.pointer.Value.{Value}
+use Rattle.pass_frames_steps.specs.Located.{IsMoved}
+use Rattle.pass_frames_steps.proofs.run_laws.memory.Loads.{moved_spot}
+use Rattle.pass_frames_steps.proofs.run_laws.memory.Matching.{encode_kept}
+use Rattle.pass_frames_steps.proofs.run_laws.memory.Stores.{both_write}
+use Rattle.pass_frames_steps.proofs.pass_proofs.run_memory.Digits.{length-encode}
+use Rattle.pass_frames_steps.proofs.pass_proofs.run_memory.Found.{found}
+use Rattle.pass_frames_steps.specs.run_laws.access.Changed.{KeepsFree}
+use Rattle.pass_frames_steps.specs.run_laws.memory.Pointers.{Home, IsValue}
+use Rattle.pass_frames_steps.specs.run_laws.memory.Standing.{AreByteRights, Embeds, IsAlignment}
+use Rattle.pass_frames_steps.specs.run_memory.Memory.{Rights, access_bytes, encode, is_constant, on_ok, range, same_kind}
+use Rattle.pass_frames_steps.specs.run_memory.Memory.{store, unless_constant, write}
+use Rattle.pass_frames_steps.specs.run_memory.declared.block.Kind.{Kind}
+use Rattle.pass_frames_steps.specs.run_memory.declared.block.MemoryBlock.{MemoryBlock}
+use Rattle.pass_frames_steps.specs.run_memory.declared.pointer.Access.{Access}
+use Rattle.pass_frames_steps.specs.run_memory.declared.pointer.Spot.{Spot}
+use Rattle.pass_frames_steps.specs.run_memory.declared.pointer.Value.{Value}
 
 -- a store in the target gives a memory in which the source stands, and leaves what is free
 pub record IsStoredToo (rights target : Rights) (homes : List Home) (m n k : List MemoryBlock) (p v : Value)

@@ -1,28 +1,28 @@
 -- Operands are fetched by one table, those that it doesn't fetch by a second, and those that are left by a third.
 use Rattle.std.proofs.Common.{◌≡◌, ◌≤◌, ◌∷◌, ◌++◌, ◌∙◌, [], List, None, Option, Some, ap, arith, length, refl, subst}
 use Rattle.std.proofs.Common.{sym, ℕ}
-use Rattle.pass_proofs.proofs.ir_laws.facts.Members.{each_joined}
-use Rattle.pass_proofs.specs.ir_model.Ty.{Ty}
-use Rattle.pass_proofs.specs.ir_model.declared.instr.Instr.{Instr}
-use Rattle.pass_proofs.specs.ir_model.declared.operand.Operand.{Operand}
-use Rattle.pass_proofs.specs.ir_parts.Contents.{instr_operands}
-use Rattle.pass_proofs.specs.pass_fetch.Fetching.{fetch_of, fetched_operand, fetches_of_all, next_after}
-use Rattle.pass_proofs.specs.pass_fetch.Fetching.{next_after_all, operand_by}
-use Rattle.pass_proofs.specs.pass_fetch.Instrs.{with_fetched}
-use Rattle.pass_proofs.specs.pass_fetch.declared.fetch.Fetch.{Fetch}
-use Rattle.pass_frames_proof.proofs.distances.Sums.{sets_on, value_stays}
-use Rattle.pass_frames_proof.proofs.fetched.Runs.{fetched}
-use Rattle.pass_frames_proof.proofs.led.Front.{all_low, all_still, can_later}
-use Rattle.pass_frames_proof.proofs.led.Twice.{operands_fetched}
-use Rattle.pass_frames_proof.specs.Distances.{IsBelow, SetsFrom}
-use Rattle.pass_frames_proof.specs.Fetched.{AreFetched, AreSeenAs, CanFetch, IsSeenAs, given_of, seen_by, seen_of}
-use Rattle.pass_frames_proof.specs.Led.{IsStill, fetched_all}
-use Rattle.pass_proofs.proofs.fetch.rules.Puts.{fetch_rises}
-use Rattle.pass_proofs.proofs.run_laws.access.Lines.{runs_append}
-use Rattle.pass_proofs.specs.run_laws.access.Lines.{Runs}
-use Rattle.pass_proofs.specs.run_laws.changed.Changed.{Each}
-use Rattle.pass_proofs.specs.run_memory.declared.pointer.Value.{Value}
-use Rattle.pass_proofs.specs.run_step.Step.{Context, Work, value_at}
+use Rattle.pass_frames_steps.proofs.ir_laws.facts.Members.{each_joined}
+use Rattle.pass_frames_steps.specs.ir_model.Ty.{Ty}
+use Rattle.pass_frames_steps.specs.ir_model.declared.instr.Instr.{Instr}
+use Rattle.pass_frames_steps.specs.ir_model.declared.operand.Operand.{Operand}
+use Rattle.pass_frames_steps.specs.ir_parts.Contents.{instr_operands}
+use Rattle.pass_frames_steps.specs.pass_fetch.Fetching.{fetch_of, fetched_operand, fetches_of_all, next_after}
+use Rattle.pass_frames_steps.specs.pass_fetch.Fetching.{next_after_all, operand_by}
+use Rattle.pass_frames_steps.specs.pass_fetch.Instrs.{with_fetched}
+use Rattle.pass_frames_steps.specs.pass_fetch.declared.fetch.Fetch.{Fetch}
+use Rattle.pass_frames_steps.proofs.distances.Sums.{sets_on, value_stays}
+use Rattle.pass_frames_steps.proofs.fetched.Runs.{fetched}
+use Rattle.pass_frames_steps.proofs.led.Front.{all_low, all_still, can_later}
+use Rattle.pass_frames_steps.proofs.led.Twice.{operands_fetched}
+use Rattle.pass_frames_steps.specs.Distances.{IsBelow, SetsFrom}
+use Rattle.pass_frames_steps.specs.Fetched.{AreFetched, AreSeenAs, CanFetch, IsSeenAs, given_of, seen_by, seen_of}
+use Rattle.pass_frames_steps.specs.Led.{IsStill, fetched_all}
+use Rattle.pass_frames_steps.proofs.pass_proofs.fetch.rules.Puts.{fetch_rises}
+use Rattle.pass_frames_steps.proofs.run_laws.access.Lines.{runs_append}
+use Rattle.pass_frames_steps.specs.run_laws.access.Lines.{Runs}
+use Rattle.pass_frames_steps.specs.run_laws.changed.Changed.{Each}
+use Rattle.pass_frames_steps.specs.run_memory.declared.pointer.Value.{Value}
+use Rattle.pass_frames_steps.specs.run_step.Step.{Context, Work, value_at}
 
 -- ---- what is seen of an operand
 

@@ -1,38 +1,38 @@
 -- Loads from the cells of the addresses of slots that are used before begin give these addresses.
 use Rattle.std.proofs.Common.{◌≡◌, ◌<◌, ◌≤◌, ◌∙◌, List, None, Option, Some, ap, arith, inr, refl, subst, sym, ℕ}
 use Rattle.std.specs.List.{Contains}
-use Rattle.pass_proofs.specs.ir_model.Ty.{ptr}
-use Rattle.pass_proofs.specs.ir_model.declared.operand.Operand.{Operand}
-use Rattle.pass_proofs.specs.pass_copies.Slots.{early_slots}
-use Rattle.pass_proofs.specs.pass_copies.Uses.{used_before}
-use Rattle.pass_proofs.specs.pass_copies.declared.slot.EarlySlot.{EarlySlot}
-use Rattle.pass_proofs.specs.frame_classes.declared.class.SlotClass.{SlotClass}
-use Rattle.pass_proofs.specs.pass_fetch.Fetching.{fetch_of, fetches_of_all, next_after_all, value_bytes}
-use Rattle.pass_proofs.specs.pass_fetch.declared.fetch.Fetch.{Fetch}
-use Rattle.pass_proofs.specs.pass_frames.Tables.{class_flags, sizes_by_name}
+use Rattle.pass_frames_steps.specs.ir_model.Ty.{ptr}
+use Rattle.pass_frames_steps.specs.ir_model.declared.operand.Operand.{Operand}
+use Rattle.pass_frames_steps.specs.pass_copies.Slots.{early_slots}
+use Rattle.pass_frames_steps.specs.pass_copies.Uses.{used_before}
+use Rattle.pass_frames_steps.specs.pass_copies.declared.slot.EarlySlot.{EarlySlot}
+use Rattle.pass_frames_steps.specs.frame_classes.declared.class.SlotClass.{SlotClass}
+use Rattle.pass_frames_steps.specs.pass_fetch.Fetching.{fetch_of, fetches_of_all, next_after_all, value_bytes}
+use Rattle.pass_frames_steps.specs.pass_fetch.declared.fetch.Fetch.{Fetch}
+use Rattle.pass_frames_steps.specs.pass_frames.Tables.{class_flags, sizes_by_name}
 use Rattle.pass_frames_proof.proofs.from_edges.Front.{listed_contains}
-use Rattle.pass_frames_proof.proofs.led.Front.{all_still}
-use Rattle.pass_frames_proof.proofs.led.Steps.{still_others}
-use Rattle.pass_frames_proof.proofs.stepping.After.{not_set}
-use Rattle.pass_frames_proof.specs.Distances.{SetsFrom}
-use Rattle.pass_frames_proof.specs.Fetched.{CanFetch, IsGiven}
-use Rattle.pass_frames_proof.specs.Lines.{at_work}
-use Rattle.pass_frames_proof.specs.Loaded.{or_poison}
-use Rattle.pass_frames_proof.specs.Located.{where_table}
-use Rattle.pass_frames_proof.specs.Places.{Framing, before_labels, copies, written}
-use Rattle.pass_frames_proof.specs.Related.{AreWheresRight, IsCell, IsWhere}
-use Rattle.pass_proofs.proofs.copies.rules.Slots.{IsCellOf, cell_found}
-use Rattle.pass_proofs.proofs.run_laws.access.Ranges.{load_held}
-use Rattle.pass_proofs.proofs.run_laws.embedded.Values.{alignment_is}
-use Rattle.pass_proofs.specs.fetch.rules.Fetches.{base_of}
-use Rattle.pass_proofs.specs.run_laws.access.Lines.{Holds, Runs}
-use Rattle.pass_proofs.specs.run_memory.Memory.{decode, load}
-use Rattle.pass_proofs.specs.run_memory.declared.pointer.Value.{Value}
-use Rattle.pass_proofs.specs.run_source.declared.state.Activation.{Activation}
-use Rattle.pass_proofs.specs.run_source.declared.state.Instance.{Instance}
-use Rattle.pass_proofs.specs.run_step.Step.{Context, Work}
-use Rattle.pass_proofs.specs.run_step.Values.{access_of, address, value_in}
-use Rattle.pass_proofs.specs.run_step.declared.world.World.{World}
+use Rattle.pass_frames_steps.proofs.led.Front.{all_still}
+use Rattle.pass_frames_steps.proofs.led.Steps.{still_others}
+use Rattle.pass_frames_steps.proofs.stepping.After.{not_set}
+use Rattle.pass_frames_steps.specs.Distances.{SetsFrom}
+use Rattle.pass_frames_steps.specs.Fetched.{CanFetch, IsGiven}
+use Rattle.pass_frames_steps.specs.Lines.{at_work}
+use Rattle.pass_frames_steps.specs.Loaded.{or_poison}
+use Rattle.pass_frames_steps.specs.Located.{where_table}
+use Rattle.pass_frames_steps.specs.Places.{Framing, before_labels, copies, written}
+use Rattle.pass_frames_steps.specs.Related.{AreWheresRight, IsCell, IsWhere}
+use Rattle.pass_frames_steps.proofs.pass_proofs.copies.rules.Slots.{IsCellOf, cell_found}
+use Rattle.pass_frames_steps.proofs.run_laws.access.Ranges.{load_held}
+use Rattle.pass_frames_steps.proofs.run_laws.embedded.Values.{alignment_is}
+use Rattle.pass_frames_steps.specs.pass_proofs.fetch.rules.Fetches.{base_of}
+use Rattle.pass_frames_steps.specs.run_laws.access.Lines.{Holds, Runs}
+use Rattle.pass_frames_steps.specs.run_memory.Memory.{decode, load}
+use Rattle.pass_frames_steps.specs.run_memory.declared.pointer.Value.{Value}
+use Rattle.pass_frames_steps.specs.run_source.declared.state.Activation.{Activation}
+use Rattle.pass_frames_steps.specs.run_source.declared.state.Instance.{Instance}
+use Rattle.pass_frames_steps.specs.run_step.Step.{Context, Work}
+use Rattle.pass_frames_steps.specs.run_step.Values.{access_of, address, value_in}
+use Rattle.pass_frames_steps.specs.run_step.declared.world.World.{World}
 
 -- what a load from the cell of an address gives
 abbrev pub where_load : Context → Work → Option Fetch → Value

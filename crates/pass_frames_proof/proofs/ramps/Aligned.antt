@@ -1,25 +1,25 @@
 -- The rules of a framed form say that the allocas in front of its entry have alignments that there are (Y4).
 use Rattle.std.proofs.Common.{◌≡◌, ◌+◌, ◌∷◌, [], Bool, List, Some, arith, false, refl, subst, suc, true, ℕ}
 use Rattle.std.specs.Prelude.{filter, if◌then◌else◌, slice_get, ◌==◌, ◌||◌}
-use Rattle.pass_proofs.proofs.ir_laws.facts.Members.{at_each}
-use Rattle.pass_proofs.proofs.ir_laws.facts.Truth.{and_second, holds}
-use Rattle.pass_proofs.proofs.ir_laws.paths.renamed.Uses.{stands_in}
-use Rattle.pass_proofs.specs.ir_model.Layout.{size_of}
-use Rattle.pass_proofs.specs.ir_model.Ty.{Ty}
-use Rattle.pass_proofs.specs.ir_model.declared.instr.Instr.{Instr}
-use Rattle.pass_proofs.specs.ir_model.declared.module.Function.{Function}
-use Rattle.pass_proofs.specs.ir_model.declared.module.Module.{Module}
-use Rattle.pass_proofs.specs.ir_paths.Windows.{instr_at}
-use Rattle.pass_proofs.specs.ir_paths.declared.point.Point.{Point}
-use Rattle.pass_frames_proof.specs.Entered.{IsAlloca}
-use Rattle.pass_proofs.specs.pass_front.Front.{is_alloca}
-use Rattle.pass_proofs.proofs.rule_laws.rules.counted.PartFacts.{block_passes}
-use Rattle.pass_proofs.specs.rule_laws.rules.function_rules.Kept.{KeepsFunctionRules}
-use Rattle.pass_proofs.specs.rule_locals.Extents.{breaks_extents, is_aligned, is_sized}
-use Rattle.pass_proofs.specs.rule_locals.Instrs.{on_instr}
-use Rattle.pass_proofs.specs.rule_names.declared.stage.Stage.{Stage}
-use Rattle.pass_proofs.specs.run_laws.changed.Changed.{Each}
-use Rattle.pass_proofs.specs.run_step.Step.{is_alignment}
+use Rattle.pass_frames_steps.proofs.ir_laws.facts.Members.{at_each}
+use Rattle.pass_frames_steps.proofs.ir_laws.facts.Truth.{and_second, holds}
+use Rattle.pass_frames_steps.proofs.ir_laws.paths.renamed.Uses.{stands_in}
+use Rattle.pass_frames_steps.specs.ir_model.Layout.{size_of}
+use Rattle.pass_frames_steps.specs.ir_model.Ty.{Ty}
+use Rattle.pass_frames_steps.specs.ir_model.declared.instr.Instr.{Instr}
+use Rattle.pass_frames_steps.specs.ir_model.declared.module.Function.{Function}
+use Rattle.pass_frames_steps.specs.ir_model.declared.module.Module.{Module}
+use Rattle.pass_frames_steps.specs.ir_paths.Windows.{instr_at}
+use Rattle.pass_frames_steps.specs.ir_paths.declared.point.Point.{Point}
+use Rattle.pass_frames_steps.specs.Entered.{IsAlloca}
+use Rattle.pass_frames_steps.specs.pass_front.Front.{is_alloca}
+use Rattle.pass_frames_steps.proofs.rule_laws.rules.counted.PartFacts.{block_passes}
+use Rattle.pass_frames_steps.specs.rule_laws.rules.function_rules.Kept.{KeepsFunctionRules}
+use Rattle.pass_frames_steps.specs.rule_locals.Extents.{breaks_extents, is_aligned, is_sized}
+use Rattle.pass_frames_steps.specs.rule_locals.Instrs.{on_instr}
+use Rattle.pass_frames_steps.specs.rule_names.declared.stage.Stage.{Stage}
+use Rattle.pass_frames_steps.specs.run_laws.changed.Changed.{Each}
+use Rattle.pass_frames_steps.specs.run_step.Step.{is_alignment}
 
 bracketed : (a b c d e : Bool) → (a || (b || (c || (d || e)))) ≡ true → (a || b || c || d || e) ≡ true
 bracketed true b c d e h = refl

@@ -3,55 +3,55 @@ use Rattle.std.proofs.Common.{◌≡◌, ◌+◌, ◌<◌, ◌≤◌, ◌++◌, 
 use Rattle.std.proofs.lemmas.Bool.{cases_eq}
 use Rattle.std.specs.List.{Contains}
 use Rattle.std.specs.Prelude.{if◌then◌else◌, option_map, option_to_list, slice_get, unwrap_or, ◌&&◌}
-use Rattle.pass_proofs.specs.flow_solver.Paths.{IsListed}
-use Rattle.pass_proofs.proofs.ir_laws.paths.source_rules.Locals.{listed_left, listed_right}
-use Rattle.pass_proofs.specs.ir_laws.paths.woven_rules.Pairs.{AreDifferent}
-use Rattle.pass_proofs.specs.ir_model.Ty.{Ty, int, ptr}
-use Rattle.pass_proofs.specs.ir_model.declared.instr.Instr.{Instr}
-use Rattle.pass_proofs.specs.ir_model.declared.module.Block.{Block}
-use Rattle.pass_proofs.specs.pass_addresses.Placing.{is_none as is_absent, lies_outside}
-use Rattle.pass_proofs.specs.pass_cells.Kept.{entry, joined, value_types}
-use Rattle.pass_proofs.specs.pass_cells.Links.{bases_of, cell_name, distance_name, field_name, link_name, marks_of, slots_of}
-use Rattle.pass_proofs.specs.pass_cells.Moves.{cell_alloca}
-use Rattle.pass_proofs.specs.pass_cells.Plan.{kept_value, type_at}
-use Rattle.pass_proofs.specs.pass_cells.Written.{distance_allocas, entry_front as cells_front, kept_allocas, link_allocas, stored_params}
-use Rattle.pass_proofs.specs.pass_cells.declared.plan.KeptValue.{KeptValue}
-use Rattle.pass_proofs.specs.pass_copies.BeginCopies.{entry_front as copies_front, slot_allocas}
-use Rattle.pass_proofs.specs.pass_copies.Slots.{entry_instrs}
-use Rattle.pass_proofs.specs.pass_copies.Uses.{used_before}
-use Rattle.pass_proofs.specs.pass_copies.declared.slot.EarlySlot.{EarlySlot}
-use Rattle.pass_proofs.specs.pass_fetch.Blocks.{end_at}
-use Rattle.pass_proofs.specs.pass_fetch.Fetching.{value_bytes}
-use Rattle.pass_proofs.specs.pass_fetch.declared.fetch.Fetch.{Fetch}
-use Rattle.pass_proofs.specs.pass_frames.Framed.{begin_of}
-use Rattle.pass_proofs.specs.pass_frames.Tables.{class_flags, sizes_by_name}
-use Rattle.pass_proofs.specs.frame_classes.declared.class.SlotClass.{SlotClass}
+use Rattle.pass_frames_steps.specs.flow_solver.Paths.{IsListed}
+use Rattle.pass_frames_steps.proofs.ir_laws.paths.source_rules.Locals.{listed_left, listed_right}
+use Rattle.pass_frames_steps.specs.ir_laws.paths.woven_rules.Pairs.{AreDifferent}
+use Rattle.pass_frames_steps.specs.ir_model.Ty.{Ty, int, ptr}
+use Rattle.pass_frames_steps.specs.ir_model.declared.instr.Instr.{Instr}
+use Rattle.pass_frames_steps.specs.ir_model.declared.module.Block.{Block}
+use Rattle.pass_frames_steps.specs.pass_addresses.Placing.{is_none as is_absent, lies_outside}
+use Rattle.pass_frames_steps.specs.pass_cells.Kept.{entry, joined, value_types}
+use Rattle.pass_frames_steps.specs.pass_cells.Links.{bases_of, cell_name, distance_name, field_name, link_name, marks_of, slots_of}
+use Rattle.pass_frames_steps.specs.pass_cells.Moves.{cell_alloca}
+use Rattle.pass_frames_steps.specs.pass_cells.Plan.{kept_value, type_at}
+use Rattle.pass_frames_steps.specs.pass_cells.Written.{distance_allocas, entry_front as cells_front, kept_allocas, link_allocas, stored_params}
+use Rattle.pass_frames_steps.specs.pass_cells.declared.plan.KeptValue.{KeptValue}
+use Rattle.pass_frames_steps.specs.pass_copies.BeginCopies.{entry_front as copies_front, slot_allocas}
+use Rattle.pass_frames_steps.specs.pass_copies.Slots.{entry_instrs}
+use Rattle.pass_frames_steps.specs.pass_copies.Uses.{used_before}
+use Rattle.pass_frames_steps.specs.pass_copies.declared.slot.EarlySlot.{EarlySlot}
+use Rattle.pass_frames_steps.specs.pass_fetch.Blocks.{end_at}
+use Rattle.pass_frames_steps.specs.pass_fetch.Fetching.{value_bytes}
+use Rattle.pass_frames_steps.specs.pass_fetch.declared.fetch.Fetch.{Fetch}
+use Rattle.pass_frames_steps.specs.pass_frames.Framed.{begin_of}
+use Rattle.pass_frames_steps.specs.pass_frames.Tables.{class_flags, sizes_by_name}
+use Rattle.pass_frames_steps.specs.frame_classes.declared.class.SlotClass.{SlotClass}
 use Rattle.pass_frames_proof.proofs.beginning.Places.{filter_in}
-use Rattle.pass_frames_proof.proofs.code.Ends.{front_is}
-use Rattle.pass_frames_proof.proofs.code.Instrs.{instr_code}
-use Rattle.pass_frames_proof.proofs.code.Left.{Far, far_named, parts_left}
-use Rattle.pass_frames_proof.proofs.code.Names.{Count, First, IsLeft, Kept, cell_left, count_is, distance_left, far_left, keeping, local}
-use Rattle.pass_frames_proof.proofs.layers.Standing.{split_woven}
-use Rattle.pass_frames_proof.proofs.lines.Cells.{contained}
+use Rattle.pass_frames_steps.proofs.code.Ends.{front_is}
+use Rattle.pass_frames_steps.proofs.code.Instrs.{instr_code}
+use Rattle.pass_frames_steps.proofs.code.Left.{Far, far_named, parts_left}
+use Rattle.pass_frames_steps.proofs.code.Names.{Count, First, IsLeft, Kept, cell_left, count_is, distance_left, far_left, keeping, local}
+use Rattle.pass_frames_steps.proofs.layers.Standing.{split_woven}
+use Rattle.pass_frames_steps.proofs.lines.Cells.{contained}
 use Rattle.pass_frames_proof.proofs.ramps.Front.{moves_are}
-use Rattle.pass_frames_proof.proofs.stepping.After.{has_root}
-use Rattle.pass_frames_proof.proofs.stepping.Names.{named_written, slots_new}
-use Rattle.pass_frames_proof.proofs.stepping.Operands.{slot_fetch}
-use Rattle.pass_frames_proof.specs.Code.{address_state, addressed, code_of, copied_there, front_moves, is_ahead, loads, located, past_addressed, saved, slot_table, stores, unmarked_one, wheres}
-use Rattle.pass_frames_proof.specs.Entered.{temporary_of}
-use Rattle.pass_frames_proof.specs.Entering.{front_allocas}
-use Rattle.pass_frames_proof.specs.Entry.{cells_of, puts_of}
-use Rattle.pass_frames_proof.specs.Framings.{IsFraming}
-use Rattle.pass_frames_proof.specs.Layers.{becomes, both, grown, only, passed, state_at, up_to, woven}
-use Rattle.pass_frames_proof.specs.Passes.{block_at, fetched_first, fetching, phi_ends}
-use Rattle.pass_frames_proof.specs.Places.{Framing, Placed, addressing_layer, before_labels, copies, edged, instrs_at, named, offsets, placed_layer, plan, unmarked, written}
-use Rattle.pass_frames_proof.specs.Ramps.{HasAllocasInFront, IsPlainEntry}
-use Rattle.pass_frames_proof.specs.Related.{IsKeptValue}
-use Rattle.pass_proofs.specs.pass_front.Front.{is_alloca}
-use Rattle.pass_proofs.proofs.cells.rules.Links.{IsDistanceCell, OfLink, OfValue, distance_there}
-use Rattle.pass_proofs.proofs.cells.rules.Plans.{kept_at}
-use Rattle.pass_proofs.proofs.copies.rules.Slots.{AreNumbered, numbered}
-use Rattle.pass_proofs.specs.addresses.rules.Addresses.{lies_in_frame}
+use Rattle.pass_frames_steps.proofs.stepping.After.{has_root}
+use Rattle.pass_frames_steps.proofs.stepping.Names.{named_written, slots_new}
+use Rattle.pass_frames_steps.proofs.stepping.Operands.{slot_fetch}
+use Rattle.pass_frames_steps.specs.Code.{address_state, addressed, code_of, copied_there, front_moves, is_ahead, loads, located, past_addressed, saved, slot_table, stores, unmarked_one, wheres}
+use Rattle.pass_frames_steps.specs.Entered.{temporary_of}
+use Rattle.pass_frames_steps.specs.Entering.{front_allocas}
+use Rattle.pass_frames_steps.specs.Entry.{cells_of, puts_of}
+use Rattle.pass_frames_steps.specs.Framings.{IsFraming}
+use Rattle.pass_frames_steps.specs.Layers.{becomes, both, grown, only, passed, state_at, up_to, woven}
+use Rattle.pass_frames_steps.specs.Passes.{block_at, fetched_first, fetching, phi_ends}
+use Rattle.pass_frames_steps.specs.Places.{Framing, Placed, addressing_layer, before_labels, copies, edged, instrs_at, named, offsets, placed_layer, plan, unmarked, written}
+use Rattle.pass_frames_steps.specs.Ramps.{HasAllocasInFront, IsPlainEntry}
+use Rattle.pass_frames_steps.specs.Related.{IsKeptValue}
+use Rattle.pass_frames_steps.specs.pass_front.Front.{is_alloca}
+use Rattle.pass_frames_steps.proofs.pass_proofs.cells.rules.Links.{IsDistanceCell, OfLink, OfValue, distance_there}
+use Rattle.pass_frames_steps.proofs.pass_proofs.cells.rules.Plans.{kept_at}
+use Rattle.pass_frames_steps.proofs.pass_proofs.copies.rules.Slots.{AreNumbered, numbered}
+use Rattle.pass_frames_steps.specs.pass_proofs.addresses.rules.Addresses.{lies_in_frame}
 
 -- ---- lists of allocas
 

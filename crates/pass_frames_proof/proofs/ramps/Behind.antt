@@ -3,52 +3,52 @@ use Rattle.std.proofs.Common.{◌≡◌, ◌<◌, ◌∙◌, ◌∷◌, [], List
 use Rattle.std.proofs.lemmas.List.{length-replicate}
 use Rattle.std.specs.List.{Contains}
 use Rattle.std.specs.Prelude.{if◌then◌else◌, slice_get}
-use Rattle.pass_proofs.specs.flow_solver.Paths.{IsListed}
-use Rattle.pass_proofs.proofs.ir_laws.facts.Members.{each_joined, each_turns}
-use Rattle.pass_proofs.specs.ir_laws.paths.woven_rules.Pairs.{AreDifferent}
-use Rattle.pass_proofs.specs.ir_model.Layout.{size_of}
-use Rattle.pass_proofs.specs.ir_model.Ty.{Ty, int, ptr}
-use Rattle.pass_proofs.specs.ir_model.declared.instr.Instr.{Instr}
-use Rattle.pass_proofs.specs.ir_model.declared.module.Function.{Function}
-use Rattle.pass_proofs.specs.ir_model.declared.module.Module.{Module}
-use Rattle.pass_proofs.specs.ir_model.declared.module.Param.{Param}
-use Rattle.pass_proofs.specs.ir_model.declared.operand.Operand.{Operand}
-use Rattle.pass_proofs.specs.pass_cells.Cells.{fetched_function}
-use Rattle.pass_proofs.specs.pass_cells.Kept.{entry}
-use Rattle.pass_proofs.specs.pass_cells.Written.{stored, stored_at, stored_one, stored_params}
-use Rattle.pass_proofs.specs.pass_cells.declared.plan.KeptValue.{KeptValue}
-use Rattle.pass_proofs.specs.pass_copies.declared.slot.EarlySlot.{EarlySlot}
-use Rattle.pass_proofs.specs.pass_fetch.Fetching.{value_bytes}
-use Rattle.pass_proofs.specs.pass_intrinsics.Lowered.{pointer_arg}
-use Rattle.pass_frames_proof.proofs.code.Framed.{framed_is}
-use Rattle.pass_frames_proof.proofs.code.Names.{has_cells}
+use Rattle.pass_frames_steps.specs.flow_solver.Paths.{IsListed}
+use Rattle.pass_frames_steps.proofs.ir_laws.facts.Members.{each_joined, each_turns}
+use Rattle.pass_frames_steps.specs.ir_laws.paths.woven_rules.Pairs.{AreDifferent}
+use Rattle.pass_frames_steps.specs.ir_model.Layout.{size_of}
+use Rattle.pass_frames_steps.specs.ir_model.Ty.{Ty, int, ptr}
+use Rattle.pass_frames_steps.specs.ir_model.declared.instr.Instr.{Instr}
+use Rattle.pass_frames_steps.specs.ir_model.declared.module.Function.{Function}
+use Rattle.pass_frames_steps.specs.ir_model.declared.module.Module.{Module}
+use Rattle.pass_frames_steps.specs.ir_model.declared.module.Param.{Param}
+use Rattle.pass_frames_steps.specs.ir_model.declared.operand.Operand.{Operand}
+use Rattle.pass_frames_steps.specs.pass_cells.Cells.{fetched_function}
+use Rattle.pass_frames_steps.specs.pass_cells.Kept.{entry}
+use Rattle.pass_frames_steps.specs.pass_cells.Written.{stored, stored_at, stored_one, stored_params}
+use Rattle.pass_frames_steps.specs.pass_cells.declared.plan.KeptValue.{KeptValue}
+use Rattle.pass_frames_steps.specs.pass_copies.declared.slot.EarlySlot.{EarlySlot}
+use Rattle.pass_frames_steps.specs.pass_fetch.Fetching.{value_bytes}
+use Rattle.pass_frames_steps.specs.pass_intrinsics.Lowered.{pointer_arg}
+use Rattle.pass_frames_steps.proofs.code.Framed.{framed_is}
+use Rattle.pass_frames_steps.proofs.code.Names.{has_cells}
 use Rattle.pass_frames_proof.proofs.entered.Allocas.{each_there}
 use Rattle.pass_frames_proof.proofs.entered.Cells.{cell_made}
 use Rattle.pass_frames_proof.proofs.from_edges.Front.{listed_contains}
-use Rattle.pass_frames_proof.proofs.lines.Cells.{contained}
-use Rattle.pass_frames_proof.proofs.lines.Names.{distance_of}
-use Rattle.pass_frames_proof.proofs.lines.Results.{kept_is_cell}
-use Rattle.pass_frames_proof.specs.Entered.{IsAlloca, IsEntryName, IsNewStore, IsThere, Made, alloca_block, made_all, names_in, temporary_of}
-use Rattle.pass_frames_proof.specs.Entering.{front_allocas}
-use Rattle.pass_frames_proof.specs.Entry.{MayPut, cells_of, puts_of}
-use Rattle.pass_frames_proof.specs.Framings.{IsFraming}
-use Rattle.pass_frames_proof.specs.Places.{Framing, copies, edged, framed, plan}
-use Rattle.pass_frames_proof.specs.Ramps.{HasAllocasInFront, entry_stores}
-use Rattle.pass_frames_proof.specs.Related.{Anything, AreCellsThere, Building, IsCell, IsKeptValue}
-use Rattle.pass_frames_proof.specs.Saving.{HasLowAllocas}
-use Rattle.pass_proofs.proofs.rule_laws.rules.counted.Types.{is_cell_type, width_cases}
-use Rattle.pass_proofs.specs.run_framed.Framed.{frame_rights}
-use Rattle.pass_proofs.specs.run_laws.changed.Changed.{Each}
-use Rattle.pass_proofs.specs.run_memory.Pointers.{offset_of}
-use Rattle.pass_proofs.specs.run_memory.declared.block.Byte.{Byte}
-use Rattle.pass_proofs.specs.run_memory.declared.block.Kind.{Kind}
-use Rattle.pass_proofs.specs.run_memory.declared.block.Life.{Life}
-use Rattle.pass_proofs.specs.run_memory.declared.block.MemoryBlock.{MemoryBlock}
-use Rattle.pass_proofs.specs.run_memory.declared.pointer.Pointer.{Pointer}
-use Rattle.pass_proofs.specs.run_source.declared.state.Activation.{Activation}
-use Rattle.pass_proofs.specs.run_source.declared.state.Instance.{Instance}
-use Rattle.pass_proofs.specs.run_step.Step.{has_markers}
-use Rattle.pass_proofs.specs.run_step.Values.{Env, value_in}
+use Rattle.pass_frames_steps.proofs.lines.Cells.{contained}
+use Rattle.pass_frames_steps.proofs.lines.Names.{distance_of}
+use Rattle.pass_frames_steps.proofs.lines.Results.{kept_is_cell}
+use Rattle.pass_frames_steps.specs.Entered.{IsAlloca, IsEntryName, IsNewStore, IsThere, Made, alloca_block, made_all, names_in, temporary_of}
+use Rattle.pass_frames_steps.specs.Entering.{front_allocas}
+use Rattle.pass_frames_steps.specs.Entry.{MayPut, cells_of, puts_of}
+use Rattle.pass_frames_steps.specs.Framings.{IsFraming}
+use Rattle.pass_frames_steps.specs.Places.{Framing, copies, edged, framed, plan}
+use Rattle.pass_frames_steps.specs.Ramps.{HasAllocasInFront, entry_stores}
+use Rattle.pass_frames_steps.specs.Related.{Anything, AreCellsThere, Building, IsCell, IsKeptValue}
+use Rattle.pass_frames_steps.specs.Saving.{HasLowAllocas}
+use Rattle.pass_frames_steps.proofs.rule_laws.rules.counted.Types.{is_cell_type, width_cases}
+use Rattle.pass_frames_steps.specs.run_framed.Framed.{frame_rights}
+use Rattle.pass_frames_steps.specs.run_laws.changed.Changed.{Each}
+use Rattle.pass_frames_steps.specs.run_memory.Pointers.{offset_of}
+use Rattle.pass_frames_steps.specs.run_memory.declared.block.Byte.{Byte}
+use Rattle.pass_frames_steps.specs.run_memory.declared.block.Kind.{Kind}
+use Rattle.pass_frames_steps.specs.run_memory.declared.block.Life.{Life}
+use Rattle.pass_frames_steps.specs.run_memory.declared.block.MemoryBlock.{MemoryBlock}
+use Rattle.pass_frames_steps.specs.run_memory.declared.pointer.Pointer.{Pointer}
+use Rattle.pass_frames_steps.specs.run_source.declared.state.Activation.{Activation}
+use Rattle.pass_frames_steps.specs.run_source.declared.state.Instance.{Instance}
+use Rattle.pass_frames_steps.specs.run_step.Step.{has_markers}
+use Rattle.pass_frames_steps.specs.run_step.Values.{Env, value_in}
 
 -- ---- the framed form is a coroutine, with the parameters that it had
 

@@ -3,19 +3,19 @@ use Rattle.std.proofs.Common.{◌≡◌, ◌⊎◌, ◌+◌, ◌-◌, ◌<◌, �
 use Rattle.std.proofs.lemmas.Bool.{cases_lt}
 use Rattle.std.specs.List.{Contains}
 use Rattle.std.specs.Prelude.{if◌then◌else◌, map, slice_get}
-use Rattle.pass_proofs.specs.flow_solver.Paths.{IsListed}
-use Rattle.pass_proofs.specs.ir_base.declared.outcome.Outcome.{Outcome}
-use Rattle.pass_proofs.proofs.ir_laws.facts.Lists.{get_within}
-use Rattle.pass_proofs.proofs.ir_laws.facts.Members.{each_turns}
-use Rattle.pass_proofs.specs.ir_laws.paths.woven_rules.Pairs.{AreDifferent}
-use Rattle.pass_proofs.specs.ir_model.Layout.{size_of}
-use Rattle.pass_proofs.specs.ir_model.Names.{function_at}
-use Rattle.pass_proofs.specs.ir_model.Ty.{Ty, ptr}
-use Rattle.pass_proofs.specs.ir_model.declared.instr.Instr.{Instr}
-use Rattle.pass_proofs.specs.ir_model.declared.module.Function.{Function}
-use Rattle.pass_proofs.specs.ir_model.declared.module.Module.{Module}
-use Rattle.pass_proofs.specs.ir_model.declared.module.Param.{Param}
-use Rattle.pass_proofs.specs.pass_fetch.Fetching.{value_bytes}
+use Rattle.pass_frames_steps.specs.flow_solver.Paths.{IsListed}
+use Rattle.pass_frames_steps.specs.ir_base.declared.outcome.Outcome.{Outcome}
+use Rattle.pass_frames_steps.proofs.ir_laws.facts.Lists.{get_within}
+use Rattle.pass_frames_steps.proofs.ir_laws.facts.Members.{each_turns}
+use Rattle.pass_frames_steps.specs.ir_laws.paths.woven_rules.Pairs.{AreDifferent}
+use Rattle.pass_frames_steps.specs.ir_model.Layout.{size_of}
+use Rattle.pass_frames_steps.specs.ir_model.Names.{function_at}
+use Rattle.pass_frames_steps.specs.ir_model.Ty.{Ty, ptr}
+use Rattle.pass_frames_steps.specs.ir_model.declared.instr.Instr.{Instr}
+use Rattle.pass_frames_steps.specs.ir_model.declared.module.Function.{Function}
+use Rattle.pass_frames_steps.specs.ir_model.declared.module.Module.{Module}
+use Rattle.pass_frames_steps.specs.ir_model.declared.module.Param.{Param}
+use Rattle.pass_frames_steps.specs.pass_fetch.Fetching.{value_bytes}
 use Rattle.pass_frames_proof.proofs.calling.Callers.{Enters, coroutine_enters, other_enters}
 use Rattle.pass_frames_proof.proofs.calling.Passed.{passed_on}
 use Rattle.pass_frames_proof.proofs.calling.Push.{pushed, t'}
@@ -23,9 +23,9 @@ use Rattle.pass_frames_proof.proofs.entered.Allocas.{all_grow, all_made, slots_d
 use Rattle.pass_frames_proof.proofs.entered.Front.{entry_stored}
 use Rattle.pass_frames_proof.proofs.entered.Ways.{stores_pass}
 use Rattle.pass_frames_proof.proofs.from_edges.Front.{listed_contains}
-use Rattle.pass_frames_proof.proofs.led.Steps.{fills_elsewhere}
-use Rattle.pass_frames_proof.proofs.lined.Lines.{each_between, line_leads}
-use Rattle.pass_frames_proof.proofs.lines.Cells.{contained, other_block}
+use Rattle.pass_frames_steps.proofs.led.Steps.{fills_elsewhere}
+use Rattle.pass_frames_steps.proofs.lined.Lines.{each_between, line_leads}
+use Rattle.pass_frames_steps.proofs.lines.Cells.{contained, other_block}
 use Rattle.pass_frames_proof.proofs.ramps.Allocas.{allocas_in_front}
 use Rattle.pass_frames_proof.proofs.ramps.Behind.{AreEntryAllocas, all_may_put, block_ahead, bytes_ahead, cells_there, framed_coroutine, framed_params, stores_new, there as alloca_there}
 use Rattle.pass_frames_proof.proofs.ramps.Entry.{IsBareEntry, bare_entry}
@@ -37,52 +37,52 @@ use Rattle.pass_frames_proof.proofs.ramps.Rules.{entry_allocas}
 use Rattle.pass_frames_proof.proofs.ramps.Values.{entry_below, names_given, none_long, params_given, params_long, stand_on, unset_poison}
 use Rattle.pass_frames_proof.proofs.returning.Behind.{stand_before, stand_behind}
 use Rattle.pass_frames_proof.proofs.returning.Turned.{placed_at}
-use Rattle.pass_frames_proof.proofs.stepping.After.{cells_turned, right_there, wheres_there, wheres_turned}
-use Rattle.pass_frames_proof.proofs.stepping.Fetch.{not_returned, own_blocks}
-use Rattle.pass_frames_proof.proofs.stepping.Onward.{EndsUp, onward_followed}
-use Rattle.pass_frames_proof.proofs.stepping.Rest.{got}
-use Rattle.pass_frames_proof.proofs.stepping.Stands.{made_of, top_is, values_of}
-use Rattle.pass_frames_proof.proofs.suspending.Given.{edged_framed}
+use Rattle.pass_frames_steps.proofs.stepping.After.{cells_turned, right_there, wheres_there, wheres_turned}
+use Rattle.pass_frames_steps.proofs.stepping.Fetch.{not_returned, own_blocks}
+use Rattle.pass_frames_steps.proofs.stepping.Onward.{EndsUp, onward_followed}
+use Rattle.pass_frames_steps.proofs.stepping.Rest.{got}
+use Rattle.pass_frames_steps.proofs.stepping.Stands.{made_of, top_is, values_of}
+use Rattle.pass_frames_steps.proofs.suspending.Given.{edged_framed}
 use Rattle.pass_frames_proof.proofs.waking.Grown.{seen_there}
-use Rattle.pass_frames_proof.proofs.moved.Rest.{same_place}
-use Rattle.pass_frames_proof.specs.Calling.{HasBlocks, IsAtCall, IsAtPlainCall}
-use Rattle.pass_frames_proof.specs.Costs.{call_cost}
-use Rattle.pass_frames_proof.specs.Entered.{IsAlloca, IsEntryName, IsEntryStored, IsNewStore, IsOnEntry, IsThere, Made, made_all, made_state}
-use Rattle.pass_frames_proof.specs.Entering.{front_allocas}
-use Rattle.pass_frames_proof.specs.Followed.{IsFollowed, IsOn}
-use Rattle.pass_frames_proof.specs.Framings.{IsFraming}
-use Rattle.pass_frames_proof.specs.Led.{RunsThrough}
-use Rattle.pass_frames_proof.specs.Lined.{GivesNone, gives_frame, lined}
-use Rattle.pass_frames_proof.specs.Lines.{HasOwnBlocks}
-use Rattle.pass_frames_proof.specs.Places.{Framing, edged, framed, place}
-use Rattle.pass_frames_proof.specs.Ramps.{HasAllocasInFront, HasEntryFront, IsRamp, entry_stores}
-use Rattle.pass_frames_proof.specs.Related.{AreActivations, AreAhead, AreBuiltOf, AreCellsRight, AreCoroutines, AreWheresRight, Building, HasCells, IsAhead, IsBuiltBy, IsCellName, IsFreeOf, all_slots, below_place, instance_in, is_coroutine, point_of, top_place}
-use Rattle.pass_frames_proof.specs.Returning.{IsAmong}
-use Rattle.pass_frames_proof.specs.Stepping.{AreGiven}
-use Rattle.pass_frames_proof.specs.Stores.{IsNameGiven, given_params}
-use Rattle.pass_renewed_proof.specs.Renewed.{RenewedGiven, renewed_step}
-use Rattle.pass_proofs.proofs.run_agreement.Runs.{iterate-add}
-use Rattle.pass_proofs.specs.run_agreement.Machines.{iterate}
-use Rattle.pass_proofs.specs.run_framed.Framed.{frame_rights, framed_context, framed_step}
-use Rattle.pass_proofs.specs.run_laws.access.Accessed.{Span}
-use Rattle.pass_proofs.specs.run_laws.access.Lines.{StandAt}
-use Rattle.pass_proofs.specs.run_laws.changed.Changed.{Each}
-use Rattle.pass_proofs.specs.run_laws.memory.Pointers.{Home, IsValue, home_of}
-use Rattle.run_access_worked.proofs.run_laws_worked.Frames.{frame_rights_fit}
-use Rattle.pass_proofs.specs.run_memory.Memory.{Rights}
-use Rattle.pass_proofs.specs.run_memory.declared.block.Byte.{Byte}
-use Rattle.pass_proofs.specs.run_memory.declared.block.MemoryBlock.{MemoryBlock}
-use Rattle.pass_proofs.specs.run_memory.declared.pointer.Value.{Value}
-use Rattle.pass_proofs.specs.run_source.Source.{mode_of}
-use Rattle.pass_proofs.specs.run_source.State.{function_of, work_of}
-use Rattle.pass_proofs.specs.run_source.declared.state.Activation.{Activation}
-use Rattle.pass_proofs.specs.run_source.declared.state.Instance.{Instance}
-use Rattle.pass_proofs.specs.run_source.declared.state.Mode.{Mode}
-use Rattle.pass_proofs.specs.run_source.declared.state.State.{State}
-use Rattle.pass_proofs.specs.run_step.Step.{Context, Work, entry_values, with_params}
-use Rattle.pass_proofs.specs.run_step.Values.{Env, value_in}
-use Rattle.pass_proofs.specs.run_step.declared.world.Slot.{Slot}
-use Rattle.pass_proofs.specs.run_step.declared.world.World.{World}
+use Rattle.pass_frames_steps.proofs.moved.Rest.{same_place}
+use Rattle.pass_frames_steps.specs.Calling.{HasBlocks, IsAtCall, IsAtPlainCall}
+use Rattle.pass_frames_steps.specs.Costs.{call_cost}
+use Rattle.pass_frames_steps.specs.Entered.{IsAlloca, IsEntryName, IsEntryStored, IsNewStore, IsOnEntry, IsThere, Made, made_all, made_state}
+use Rattle.pass_frames_steps.specs.Entering.{front_allocas}
+use Rattle.pass_frames_steps.specs.Followed.{IsFollowed, IsOn}
+use Rattle.pass_frames_steps.specs.Framings.{IsFraming}
+use Rattle.pass_frames_steps.specs.Led.{RunsThrough}
+use Rattle.pass_frames_steps.specs.Lined.{GivesNone, gives_frame, lined}
+use Rattle.pass_frames_steps.specs.Lines.{HasOwnBlocks}
+use Rattle.pass_frames_steps.specs.Places.{Framing, edged, framed, place}
+use Rattle.pass_frames_steps.specs.Ramps.{HasAllocasInFront, HasEntryFront, IsRamp, entry_stores}
+use Rattle.pass_frames_steps.specs.Related.{AreActivations, AreAhead, AreBuiltOf, AreCellsRight, AreCoroutines, AreWheresRight, Building, HasCells, IsAhead, IsBuiltBy, IsCellName, IsFreeOf, all_slots, below_place, instance_in, is_coroutine, point_of, top_place}
+use Rattle.pass_frames_steps.specs.Returning.{IsAmong}
+use Rattle.pass_frames_steps.specs.Stepping.{AreGiven}
+use Rattle.pass_frames_steps.specs.Stores.{IsNameGiven, given_params}
+use Rattle.pass_frames_steps.specs.pass_renewed_proof.Renewed.{RenewedGiven, renewed_step}
+use Rattle.pass_frames_steps.proofs.run_agreement.Runs.{iterate-add}
+use Rattle.pass_frames_steps.specs.run_agreement.Machines.{iterate}
+use Rattle.pass_frames_steps.specs.run_framed.Framed.{frame_rights, framed_context, framed_step}
+use Rattle.pass_frames_steps.specs.run_laws.access.Accessed.{Span}
+use Rattle.pass_frames_steps.specs.run_laws.access.Lines.{StandAt}
+use Rattle.pass_frames_steps.specs.run_laws.changed.Changed.{Each}
+use Rattle.pass_frames_steps.specs.run_laws.memory.Pointers.{Home, IsValue, home_of}
+use Rattle.pass_frames_steps.proofs.run_access_worked.run_laws_worked.Frames.{frame_rights_fit}
+use Rattle.pass_frames_steps.specs.run_memory.Memory.{Rights}
+use Rattle.pass_frames_steps.specs.run_memory.declared.block.Byte.{Byte}
+use Rattle.pass_frames_steps.specs.run_memory.declared.block.MemoryBlock.{MemoryBlock}
+use Rattle.pass_frames_steps.specs.run_memory.declared.pointer.Value.{Value}
+use Rattle.pass_frames_steps.specs.run_source.Source.{mode_of}
+use Rattle.pass_frames_steps.specs.run_source.State.{function_of, work_of}
+use Rattle.pass_frames_steps.specs.run_source.declared.state.Activation.{Activation}
+use Rattle.pass_frames_steps.specs.run_source.declared.state.Instance.{Instance}
+use Rattle.pass_frames_steps.specs.run_source.declared.state.Mode.{Mode}
+use Rattle.pass_frames_steps.specs.run_source.declared.state.State.{State}
+use Rattle.pass_frames_steps.specs.run_step.Step.{Context, Work, entry_values, with_params}
+use Rattle.pass_frames_steps.specs.run_step.Values.{Env, value_in}
+use Rattle.pass_frames_steps.specs.run_step.declared.world.Slot.{Slot}
+use Rattle.pass_frames_steps.specs.run_step.declared.world.World.{World}
 
 module _ (b : Building) (g : RenewedGiven) (given : AreGiven b g) (s t : State) (func : ℕ) (args : List Value)
     (result : Option ℕ) (enters : Enters b g s t func args result) (runs : s.outcome ≡ Outcome.Running)

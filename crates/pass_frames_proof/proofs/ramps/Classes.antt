@@ -1,23 +1,23 @@
 -- A slot of a ramp lies in no frame, and its name is one of the coroutine's.
 use Rattle.std.proofs.Common.{◌≡◌, ◌+◌, ◌<◌, ◌≤◌, ◌∙◌, Bool, None, Option, Some, ap, arith, false, length, refl, replicate, sym, true, ℕ, ⊎_elim}
 use Rattle.std.specs.Prelude.{slice_get}
-use Rattle.pass_proofs.specs.frame_classes.declared.class.SlotClass.{SlotClass}
-use Rattle.pass_proofs.specs.ir_paths.Slots.{allocas_of}
-use Rattle.pass_proofs.specs.ir_model.declared.operand.Operand.{Operand}
-use Rattle.pass_proofs.specs.pass_addresses.Placing.{slot_fetches}
-use Rattle.pass_proofs.specs.pass_copies.Uses.{flag_at}
-use Rattle.pass_proofs.specs.pass_fetch.Fetching.{fetch_of}
-use Rattle.pass_proofs.specs.pass_frames.Framed.{begin_of}
-use Rattle.pass_proofs.specs.pass_frames.Tables.{is_of}
-use Rattle.pass_frames_proof.proofs.code.Names.{Count, First}
-use Rattle.pass_frames_proof.specs.Framings.{IsFraming}
-use Rattle.pass_frames_proof.specs.Places.{Framing, marked, offsets, with_copies}
-use Rattle.pass_proofs.proofs.addresses.rules.Placed.{outside_unfetched}
-use Rattle.pass_proofs.proofs.copies.begin_order.Marks.{none_flagged}
-use Rattle.pass_proofs.proofs.frames.begin_order.Framed.{alloca_pointer, frame_alone, in_either, old_slot, pointer_low, slot_alloca}
-use Rattle.pass_proofs.proofs.frames.begin_order.Tables.{IsOfClass, slot_flagged}
-use Rattle.pass_proofs.specs.addresses.rules.Addresses.{lies_in_frame}
-use Rattle.pass_proofs.specs.frames.begin_order.Fields.{IsField}
+use Rattle.pass_frames_steps.specs.frame_classes.declared.class.SlotClass.{SlotClass}
+use Rattle.pass_frames_steps.specs.ir_paths.Slots.{allocas_of}
+use Rattle.pass_frames_steps.specs.ir_model.declared.operand.Operand.{Operand}
+use Rattle.pass_frames_steps.specs.pass_addresses.Placing.{slot_fetches}
+use Rattle.pass_frames_steps.specs.pass_copies.Uses.{flag_at}
+use Rattle.pass_frames_steps.specs.pass_fetch.Fetching.{fetch_of}
+use Rattle.pass_frames_steps.specs.pass_frames.Framed.{begin_of}
+use Rattle.pass_frames_steps.specs.pass_frames.Tables.{is_of}
+use Rattle.pass_frames_steps.proofs.code.Names.{Count, First}
+use Rattle.pass_frames_steps.specs.Framings.{IsFraming}
+use Rattle.pass_frames_steps.specs.Places.{Framing, marked, offsets, with_copies}
+use Rattle.pass_frames_steps.proofs.pass_proofs.addresses.rules.Placed.{outside_unfetched}
+use Rattle.pass_frames_steps.proofs.pass_proofs.copies.begin_order.Marks.{none_flagged}
+use Rattle.pass_frames_steps.proofs.pass_proofs.frames.begin_order.Framed.{alloca_pointer, frame_alone, in_either, old_slot, pointer_low, slot_alloca}
+use Rattle.pass_frames_steps.proofs.pass_proofs.frames.begin_order.Tables.{IsOfClass, slot_flagged}
+use Rattle.pass_frames_steps.specs.pass_proofs.addresses.rules.Addresses.{lies_in_frame}
+use Rattle.pass_frames_steps.specs.pass_proofs.frames.begin_order.Fields.{IsField}
 
 ramp_alone : (o : Option SlotClass) → is_of SlotClass.Ramp o ≡ true → o ≡ Some SlotClass.Ramp
 ramp_alone None e = absurd (cc)

@@ -1,32 +1,32 @@
 -- No resume or destroy edge leads to the entry of a coroutine whose frame may be built, and no pass gives it phis.
 use Rattle.std.proofs.Common.{◌≡◌, ◌∙◌, [], Bool, None, Some, ap, false, refl, subst, true, ℕ, ⊎_elim, length}
 use Rattle.std.specs.Prelude.{Option, slice_get, unwrap_or}
-use Rattle.pass_proofs.specs.flow_solver.Paths.{IsListed}
-use Rattle.pass_proofs.specs.ir_model.Names.{position_of}
-use Rattle.pass_proofs.specs.ir_model.declared.module.Block.{Block}
-use Rattle.pass_proofs.specs.ir_model.declared.module.Function.{Function}
-use Rattle.pass_proofs.specs.ir_model.declared.module.Module.{Module}
-use Rattle.pass_proofs.specs.pass_cells.Cells.{fetched_function, fetches_of}
-use Rattle.pass_proofs.specs.pass_cells.Kept.{entry}
-use Rattle.pass_proofs.specs.pass_copies.Slots.{resumed_at}
-use Rattle.pass_proofs.specs.pass_copies.Uses.{flag_at}
-use Rattle.pass_proofs.specs.pass_fetch.Blocks.{fetched_block, fetched_phis, next_after_phis_by}
-use Rattle.pass_proofs.specs.pass_frames.Framed.{celled}
-use Rattle.pass_frames_proof.proofs.code.Names.{local}
-use Rattle.pass_frames_proof.proofs.code.Passes.{cells_made, fetched_there}
+use Rattle.pass_frames_steps.specs.flow_solver.Paths.{IsListed}
+use Rattle.pass_frames_steps.specs.ir_model.Names.{position_of}
+use Rattle.pass_frames_steps.specs.ir_model.declared.module.Block.{Block}
+use Rattle.pass_frames_steps.specs.ir_model.declared.module.Function.{Function}
+use Rattle.pass_frames_steps.specs.ir_model.declared.module.Module.{Module}
+use Rattle.pass_frames_steps.specs.pass_cells.Cells.{fetched_function, fetches_of}
+use Rattle.pass_frames_steps.specs.pass_cells.Kept.{entry}
+use Rattle.pass_frames_steps.specs.pass_copies.Slots.{resumed_at}
+use Rattle.pass_frames_steps.specs.pass_copies.Uses.{flag_at}
+use Rattle.pass_frames_steps.specs.pass_fetch.Blocks.{fetched_block, fetched_phis, next_after_phis_by}
+use Rattle.pass_frames_steps.specs.pass_frames.Framed.{celled}
+use Rattle.pass_frames_steps.proofs.code.Names.{local}
+use Rattle.pass_frames_steps.proofs.code.Passes.{cells_made, fetched_there}
 use Rattle.pass_frames_proof.proofs.ramps.Plain.{entry_phis, entry_there}
-use Rattle.pass_frames_proof.specs.Framings.{IsFraming}
-use Rattle.pass_frames_proof.specs.Passes.{block_at, no_block, phi_ends}
-use Rattle.pass_frames_proof.specs.Places.{Framing, copies, edged, fetched, is_return, named, plan, with_copies, written}
-use Rattle.pass_frames_proof.specs.Ramps.{IsPlainEntry}
-use Rattle.pass_proofs.specs.pass_intrinsics.Shapes.{suspends_of}
-use Rattle.pass_proofs.specs.pass_intrinsics.declared.shape.SuspendPoint.{SuspendPoint}
-use Rattle.pass_proofs.proofs.cells.rules.Labels.{entry_unreturned}
-use Rattle.pass_proofs.proofs.copies.begin_order.Early.{leads_again}
-use Rattle.pass_proofs.proofs.frames.begin_order.Framed.{celled_away, celled_keeps}
-use Rattle.pass_proofs.proofs.rule_laws.rules.source_rules.Locals.{own_label}
-use Rattle.pass_proofs.specs.rule_laws.frames.counted.Asked.{IsAwayFromEntry}
-use Rattle.pass_proofs.specs.rule_laws.rules.function_rules.Kept.{KeepsFunctionRules}
+use Rattle.pass_frames_steps.specs.Framings.{IsFraming}
+use Rattle.pass_frames_steps.specs.Passes.{block_at, no_block, phi_ends}
+use Rattle.pass_frames_steps.specs.Places.{Framing, copies, edged, fetched, is_return, named, plan, with_copies, written}
+use Rattle.pass_frames_steps.specs.Ramps.{IsPlainEntry}
+use Rattle.pass_frames_steps.specs.pass_intrinsics.Shapes.{suspends_of}
+use Rattle.pass_frames_steps.specs.pass_intrinsics.declared.shape.SuspendPoint.{SuspendPoint}
+use Rattle.pass_frames_steps.proofs.pass_proofs.cells.rules.Labels.{entry_unreturned}
+use Rattle.pass_frames_steps.proofs.pass_proofs.copies.begin_order.Early.{leads_again}
+use Rattle.pass_frames_steps.proofs.pass_proofs.frames.begin_order.Framed.{celled_away, celled_keeps}
+use Rattle.pass_frames_steps.proofs.rule_laws.rules.source_rules.Locals.{own_label}
+use Rattle.pass_frames_steps.specs.rule_laws.frames.counted.Asked.{IsAwayFromEntry}
+use Rattle.pass_frames_steps.specs.rule_laws.rules.function_rules.Kept.{KeepsFunctionRules}
 
 -- what is told of an entry by the passes
 pub record IsBareEntry (x : Framing) : Type 0 where

@@ -2,44 +2,44 @@
 use Rattle.std.proofs.Common.{◌≡◌, ◌≤◌, ◌++◌, ◌∙◌, ◌∷◌, [], Bool, List, None, Some, ap, append-nil, arith, false, inl, inr, length, refl, subst, true, ℕ}
 use Rattle.std.specs.List.{Contains}
 use Rattle.std.specs.Prelude.{Option, option_to_list, if◌then◌else◌}
-use Rattle.pass_proofs.specs.flow_solver.Paths.{IsListed}
-use Rattle.pass_proofs.proofs.ir_laws.facts.Members.{each_joined, each_turns}
-use Rattle.pass_proofs.specs.ir_model.Ty.{Ty}
-use Rattle.pass_proofs.specs.ir_model.declared.instr.Instr.{Instr}
-use Rattle.pass_proofs.specs.ir_model.declared.module.Block.{Block}
-use Rattle.pass_proofs.specs.ir_model.declared.module.Param.{Param}
-use Rattle.pass_proofs.specs.pass_addresses.Placing.{lies_outside}
-use Rattle.pass_proofs.specs.pass_cells.Moves.{again_values}
-use Rattle.pass_proofs.specs.pass_cells.Written.{after_blocks as after_written, entry_front as cells_front, kept_allocas, link_allocas, row_at, stored, stored_params, stored_phis}
-use Rattle.pass_proofs.specs.pass_cells.declared.plan.KeptValue.{KeptValue}
-use Rattle.pass_proofs.specs.pass_copies.BeginCopies.{entry_front as copies_front, puts, slot_allocas}
-use Rattle.pass_proofs.specs.pass_copies.declared.slot.EarlySlot.{EarlySlot}
-use Rattle.pass_proofs.specs.pass_fetch.Blocks.{end_at}
-use Rattle.pass_proofs.specs.pass_fetch.declared.fetch.Fetch.{Fetch}
-use Rattle.pass_frames_proof.proofs.code.Ends.{front_is, kept_each, links_each, slots_each}
-use Rattle.pass_frames_proof.proofs.code.Framed.{entry_made}
-use Rattle.pass_frames_proof.proofs.code.Left.{Far, IsCalm, IsMove, calm_addressed, far_named, stored_calm}
-use Rattle.pass_frames_proof.proofs.code.Names.{far_left}
+use Rattle.pass_frames_steps.specs.flow_solver.Paths.{IsListed}
+use Rattle.pass_frames_steps.proofs.ir_laws.facts.Members.{each_joined, each_turns}
+use Rattle.pass_frames_steps.specs.ir_model.Ty.{Ty}
+use Rattle.pass_frames_steps.specs.ir_model.declared.instr.Instr.{Instr}
+use Rattle.pass_frames_steps.specs.ir_model.declared.module.Block.{Block}
+use Rattle.pass_frames_steps.specs.ir_model.declared.module.Param.{Param}
+use Rattle.pass_frames_steps.specs.pass_addresses.Placing.{lies_outside}
+use Rattle.pass_frames_steps.specs.pass_cells.Moves.{again_values}
+use Rattle.pass_frames_steps.specs.pass_cells.Written.{after_blocks as after_written, entry_front as cells_front, kept_allocas, link_allocas, row_at, stored, stored_params, stored_phis}
+use Rattle.pass_frames_steps.specs.pass_cells.declared.plan.KeptValue.{KeptValue}
+use Rattle.pass_frames_steps.specs.pass_copies.BeginCopies.{entry_front as copies_front, puts, slot_allocas}
+use Rattle.pass_frames_steps.specs.pass_copies.declared.slot.EarlySlot.{EarlySlot}
+use Rattle.pass_frames_steps.specs.pass_fetch.Blocks.{end_at}
+use Rattle.pass_frames_steps.specs.pass_fetch.declared.fetch.Fetch.{Fetch}
+use Rattle.pass_frames_steps.proofs.code.Ends.{front_is, kept_each, links_each, slots_each}
+use Rattle.pass_frames_steps.proofs.code.Framed.{entry_made}
+use Rattle.pass_frames_steps.proofs.code.Left.{Far, IsCalm, IsMove, calm_addressed, far_named, stored_calm}
+use Rattle.pass_frames_steps.proofs.code.Names.{far_left}
 use Rattle.pass_frames_proof.proofs.from_edges.Front.{listed_contains}
 use Rattle.pass_frames_proof.proofs.jumping.Places.{made_front}
-use Rattle.pass_frames_proof.proofs.layers.Grown.{grown_append, passed_append}
-use Rattle.pass_frames_proof.proofs.layers.Idle.{all_stay, state_stays}
-use Rattle.pass_frames_proof.proofs.layers.Standing.{first_place}
+use Rattle.pass_frames_steps.proofs.layers.Grown.{grown_append, passed_append}
+use Rattle.pass_frames_steps.proofs.layers.Idle.{all_stay, state_stays}
+use Rattle.pass_frames_steps.proofs.layers.Standing.{first_place}
 use Rattle.pass_frames_proof.proofs.ramps.Entry.{IsBareEntry, bare_entry}
-use Rattle.pass_frames_proof.proofs.stepping.Codes.{stay_all}
-use Rattle.pass_frames_proof.proofs.stepping.Names.{named_written, slots_new}
-use Rattle.pass_frames_proof.specs.Code.{front_moves, slot_table}
-use Rattle.pass_frames_proof.specs.Entered.{temporary_of}
-use Rattle.pass_frames_proof.specs.Entering.{front_allocas}
-use Rattle.pass_frames_proof.specs.Entry.{puts_of}
-use Rattle.pass_frames_proof.specs.Framings.{IsFraming}
-use Rattle.pass_frames_proof.specs.Layers.{IsIdle, Layer, both, grown, only, passed}
-use Rattle.pass_frames_proof.specs.Passes.{block_at, fetched_first, fetching, phi_ends}
-use Rattle.pass_frames_proof.specs.Places.{Framing, addressing_layer, copies, edged, entry_layer, fetched, framed, instrs_at, named, offsets, place_by, placed_layer, plan, unmarked, written}
-use Rattle.pass_frames_proof.specs.Ramps.{HasEntryFront, IsPlainEntry, entry_stores}
-use Rattle.pass_proofs.specs.pass_front.Front.{is_no_alloca}
-use Rattle.pass_proofs.specs.run_laws.access.Lines.{StandAt}
-use Rattle.pass_proofs.specs.run_laws.changed.Changed.{Each}
+use Rattle.pass_frames_steps.proofs.stepping.Codes.{stay_all}
+use Rattle.pass_frames_steps.proofs.stepping.Names.{named_written, slots_new}
+use Rattle.pass_frames_steps.specs.Code.{front_moves, slot_table}
+use Rattle.pass_frames_steps.specs.Entered.{temporary_of}
+use Rattle.pass_frames_steps.specs.Entering.{front_allocas}
+use Rattle.pass_frames_steps.specs.Entry.{puts_of}
+use Rattle.pass_frames_steps.specs.Framings.{IsFraming}
+use Rattle.pass_frames_steps.specs.Layers.{IsIdle, Layer, both, grown, only, passed}
+use Rattle.pass_frames_steps.specs.Passes.{block_at, fetched_first, fetching, phi_ends}
+use Rattle.pass_frames_steps.specs.Places.{Framing, addressing_layer, copies, edged, entry_layer, fetched, framed, instrs_at, named, offsets, place_by, placed_layer, plan, unmarked, written}
+use Rattle.pass_frames_steps.specs.Ramps.{HasEntryFront, IsPlainEntry, entry_stores}
+use Rattle.pass_frames_steps.specs.pass_front.Front.{is_no_alloca}
+use Rattle.pass_frames_steps.specs.run_laws.access.Lines.{StandAt}
+use Rattle.pass_frames_steps.specs.run_laws.changed.Changed.{Each}
 
 -- ---- what is no alloca, of what a layer makes of a list
 

@@ -1,24 +1,24 @@
 -- The framed run's memory has grown, and its new blocks have other bytes: what is shown, and where the source stands.
 use Rattle.std.proofs.Common.{◌≡◌, ◌<◌, ◌≤◌, ◌++◌, ◌∙◌, ◌∷◌, [], List, None, Option, Some, ap, arith, length, refl, subst, suc, sym, true, ℕ}
 use Rattle.std.specs.Prelude.{slice_get}
-use Rattle.pass_proofs.specs.ir_base.declared.outcome.Outcome.{Outcome}
+use Rattle.pass_frames_steps.specs.ir_base.declared.outcome.Outcome.{Outcome}
 use Rattle.pass_frames_proof.proofs.calling.Push.{grown_left}
-use Rattle.pass_frames_proof.proofs.followed.Assembly.{events_same, other_instance}
-use Rattle.pass_frames_proof.proofs.moved.Rest.{same_place}
-use Rattle.pass_frames_proof.proofs.stepping.Rest.{instance_kept}
+use Rattle.pass_frames_steps.proofs.followed.Assembly.{events_same, other_instance}
+use Rattle.pass_frames_steps.proofs.moved.Rest.{same_place}
+use Rattle.pass_frames_steps.proofs.stepping.Rest.{instance_kept}
 use Rattle.pass_frames_proof.proofs.waking.Grown.{free_new, over_grown}
-use Rattle.pass_frames_proof.specs.Followed.{IsOn}
-use Rattle.pass_frames_proof.specs.Framings.{IsFraming}
-use Rattle.pass_frames_proof.specs.Moved.{IsSamePlace}
-use Rattle.pass_frames_proof.specs.Related.{AreBuiltOf, Building, IsFreeOf, all_slots, instance_in, is_coroutine}
-use Rattle.pass_frames_proof.specs.Returning.{IsAmong}
-use Rattle.pass_proofs.specs.run_framed.Framed.{frame_rights}
-use Rattle.pass_proofs.specs.run_laws.transfer.Transfer.{AreOver}
-use Rattle.pass_proofs.specs.run_memory.Memory.{owner_rights}
-use Rattle.pass_proofs.specs.run_memory.declared.block.MemoryBlock.{MemoryBlock}
-use Rattle.pass_proofs.specs.run_source.declared.state.Activation.{Activation}
-use Rattle.pass_proofs.specs.run_source.declared.state.State.{State}
-use Rattle.pass_proofs.specs.run_step.declared.world.World.{World}
+use Rattle.pass_frames_steps.specs.Followed.{IsOn}
+use Rattle.pass_frames_steps.specs.Framings.{IsFraming}
+use Rattle.pass_frames_steps.specs.Moved.{IsSamePlace}
+use Rattle.pass_frames_steps.specs.Related.{AreBuiltOf, Building, IsFreeOf, all_slots, instance_in, is_coroutine}
+use Rattle.pass_frames_steps.specs.Returning.{IsAmong}
+use Rattle.pass_frames_steps.specs.run_framed.Framed.{frame_rights}
+use Rattle.pass_frames_steps.specs.run_laws.transfer.Transfer.{AreOver}
+use Rattle.pass_frames_steps.specs.run_memory.Memory.{owner_rights}
+use Rattle.pass_frames_steps.specs.run_memory.declared.block.MemoryBlock.{MemoryBlock}
+use Rattle.pass_frames_steps.specs.run_source.declared.state.Activation.{Activation}
+use Rattle.pass_frames_steps.specs.run_source.declared.state.State.{State}
+use Rattle.pass_frames_steps.specs.run_step.declared.world.World.{World}
 
 -- a memory that keeps the blocks of another is that one with blocks behind it
 pub split_grown : (m k : List MemoryBlock) → ((e : ℕ) → e < length m → slice_get k e ≡ slice_get m e)

@@ -2,45 +2,45 @@
 use Rattle.std.proofs.Common.{◌≡◌, ◌<◌, ◌≤◌, ◌∙◌, ◌∷◌, ◌++◌, [], Bool, List, None, Option, Some, ap, arith, false, inl, inr, length, refl, replicate, subst, suc, sym, true, ℕ}
 use Rattle.std.specs.List.{list_any}
 use Rattle.std.specs.Prelude.{codes, filter, if◌then◌else◌, map, slice_get, ◌==◌, ◌||◌}
-use Rattle.pass_proofs.specs.ir_base.declared.outcome.Place.{Place}
-use Rattle.pass_proofs.proofs.ir_laws.facts.Members.{at_each, each_joined}
-use Rattle.pass_proofs.proofs.ir_laws.facts.Truth.{equal_numbers, holds}
-use Rattle.pass_proofs.specs.ir_model.Names.{is_local}
-use Rattle.pass_proofs.specs.ir_model.declared.instr.Instr.{Instr}
-use Rattle.pass_proofs.specs.ir_model.declared.module.Block.{Block}
-use Rattle.pass_proofs.specs.ir_model.declared.module.Function.{Function}
-use Rattle.pass_proofs.specs.ir_model.declared.module.Module.{Module}
-use Rattle.pass_proofs.specs.ir_model.declared.operand.Arg.{Arg}
-use Rattle.pass_proofs.specs.ir_model.declared.operand.Callee.{Callee}
-use Rattle.pass_proofs.specs.ir_model.declared.operand.Intrinsic.{Intrinsic}
-use Rattle.pass_proofs.specs.ir_model.declared.operand.Operand.{Operand}
-use Rattle.pass_proofs.specs.ir_parts.Contents.{instr_operands}
-use Rattle.pass_proofs.specs.ir_paths.Windows.{is_call_of}
-use Rattle.pass_proofs.specs.pass_addresses.Placing.{is_flagged, lies_outside, marks_flagged, slot_fetches, stays, turned_block, without_promise_of}
-use Rattle.pass_proofs.specs.pass_copies.Uses.{flag_at}
-use Rattle.pass_proofs.specs.pass_fetch.Blocks.{end_at, ends_of_blocks, fetched_blocks, next_after_block, next_after_phis, next_after_phis_by, with_fetches}
-use Rattle.pass_proofs.specs.pass_fetch.Fetching.{fetch_into, fetch_of, fetched_args, fetched_operand, fetches_of_all, next_after, operand_by}
-use Rattle.pass_proofs.specs.pass_fetch.Instrs.{fetched_instrs, next_after_instr, next_after_instrs, term_operands, with_fetched}
-use Rattle.pass_proofs.specs.pass_fetch.declared.fetch.Fetch.{Fetch}
-use Rattle.pass_proofs.specs.pass_frames.Framed.{begin_of}
-use Rattle.pass_frames_proof.proofs.code.Framed.{framed_is}
-use Rattle.pass_frames_proof.proofs.code.Passes.{addressed}
+use Rattle.pass_frames_steps.specs.ir_base.declared.outcome.Place.{Place}
+use Rattle.pass_frames_steps.proofs.ir_laws.facts.Members.{at_each, each_joined}
+use Rattle.pass_frames_steps.proofs.ir_laws.facts.Truth.{equal_numbers, holds}
+use Rattle.pass_frames_steps.specs.ir_model.Names.{is_local}
+use Rattle.pass_frames_steps.specs.ir_model.declared.instr.Instr.{Instr}
+use Rattle.pass_frames_steps.specs.ir_model.declared.module.Block.{Block}
+use Rattle.pass_frames_steps.specs.ir_model.declared.module.Function.{Function}
+use Rattle.pass_frames_steps.specs.ir_model.declared.module.Module.{Module}
+use Rattle.pass_frames_steps.specs.ir_model.declared.operand.Arg.{Arg}
+use Rattle.pass_frames_steps.specs.ir_model.declared.operand.Callee.{Callee}
+use Rattle.pass_frames_steps.specs.ir_model.declared.operand.Intrinsic.{Intrinsic}
+use Rattle.pass_frames_steps.specs.ir_model.declared.operand.Operand.{Operand}
+use Rattle.pass_frames_steps.specs.ir_parts.Contents.{instr_operands}
+use Rattle.pass_frames_steps.specs.ir_paths.Windows.{is_call_of}
+use Rattle.pass_frames_steps.specs.pass_addresses.Placing.{is_flagged, lies_outside, marks_flagged, slot_fetches, stays, turned_block, without_promise_of}
+use Rattle.pass_frames_steps.specs.pass_copies.Uses.{flag_at}
+use Rattle.pass_frames_steps.specs.pass_fetch.Blocks.{end_at, ends_of_blocks, fetched_blocks, next_after_block, next_after_phis, next_after_phis_by, with_fetches}
+use Rattle.pass_frames_steps.specs.pass_fetch.Fetching.{fetch_into, fetch_of, fetched_args, fetched_operand, fetches_of_all, next_after, operand_by}
+use Rattle.pass_frames_steps.specs.pass_fetch.Instrs.{fetched_instrs, next_after_instr, next_after_instrs, term_operands, with_fetched}
+use Rattle.pass_frames_steps.specs.pass_fetch.declared.fetch.Fetch.{Fetch}
+use Rattle.pass_frames_steps.specs.pass_frames.Framed.{begin_of}
+use Rattle.pass_frames_steps.proofs.code.Framed.{framed_is}
+use Rattle.pass_frames_steps.proofs.code.Passes.{addressed}
 use Rattle.pass_frames_proof.proofs.entered.Front.{cell_listed}
 use Rattle.pass_frames_proof.proofs.ramps.Classes.{ramp_low, ramp_unfetched}
-use Rattle.pass_frames_proof.proofs.stepping.Names.{cell_is_name, where_is_name}
-use Rattle.pass_frames_proof.specs.Entered.{IsEntryName}
-use Rattle.pass_frames_proof.specs.Framings.{IsFraming}
-use Rattle.pass_frames_proof.specs.Places.{Framing, copies, edged, framed, marked, offsets, unmarked, with_copies}
-use Rattle.pass_frames_proof.specs.Related.{IsCellName}
-use Rattle.pass_proofs.specs.pass_front.Front.{is_alloca, is_no_alloca, with_allocas_first}
-use Rattle.pass_proofs.proofs.cells.crossing.Calls.{AreQuiet, fetches_quiet, same_call}
-use Rattle.pass_proofs.proofs.fetch.shape.Fetching.{ends_each, no_rows}
-use Rattle.pass_proofs.proofs.rule_laws.rules.counted.PartFacts.{block_passes}
-use Rattle.pass_proofs.specs.rule_laws.rules.function_rules.Kept.{KeepsFunctionRules}
-use Rattle.pass_proofs.specs.rule_locals.Instrs.{on_instr}
-use Rattle.pass_proofs.specs.rule_locals.Markers.{marks, marks_otherwise, marks_size, marks_slot, slot_size}
-use Rattle.pass_proofs.specs.run_laws.changed.Changed.{Each}
-use Rattle.pass_proofs.specs.run_step.Step.{has_markers, is_marker_of}
+use Rattle.pass_frames_steps.proofs.stepping.Names.{cell_is_name, where_is_name}
+use Rattle.pass_frames_steps.specs.Entered.{IsEntryName}
+use Rattle.pass_frames_steps.specs.Framings.{IsFraming}
+use Rattle.pass_frames_steps.specs.Places.{Framing, copies, edged, framed, marked, offsets, unmarked, with_copies}
+use Rattle.pass_frames_steps.specs.Related.{IsCellName}
+use Rattle.pass_frames_steps.specs.pass_front.Front.{is_alloca, is_no_alloca, with_allocas_first}
+use Rattle.pass_frames_steps.proofs.pass_proofs.cells.crossing.Calls.{AreQuiet, fetches_quiet, same_call}
+use Rattle.pass_frames_steps.proofs.pass_proofs.fetch.shape.Fetching.{ends_each, no_rows}
+use Rattle.pass_frames_steps.proofs.rule_laws.rules.counted.PartFacts.{block_passes}
+use Rattle.pass_frames_steps.specs.rule_laws.rules.function_rules.Kept.{KeepsFunctionRules}
+use Rattle.pass_frames_steps.specs.rule_locals.Instrs.{on_instr}
+use Rattle.pass_frames_steps.specs.rule_locals.Markers.{marks, marks_otherwise, marks_size, marks_slot, slot_size}
+use Rattle.pass_frames_steps.specs.run_laws.changed.Changed.{Each}
+use Rattle.pass_frames_steps.specs.run_step.Step.{has_markers, is_marker_of}
 
 -- ---- what calls no marker stays
 

@@ -1,37 +1,37 @@
 -- Parameters have names of their own. None is that of an alloca or of a getelementptr, so no distance is kept of one.
 use Rattle.std.proofs.Common.{◌≡◌, ◌<◌, ◌++◌, ◌∙◌, ◌∷◌, [], Bool, List, None, Option, Some, ap, inl, inr, length, refl, replicate, subst, suc, sym, zero, ℕ, ⊎_elim}
 use Rattle.std.specs.Prelude.{flat_map, map}
-use Rattle.pass_proofs.specs.flow_solver.Paths.{IsListed}
-use Rattle.pass_proofs.proofs.ir_laws.facts.Lists.{phi_names, row_of, set_other}
-use Rattle.pass_proofs.proofs.ir_laws.paths.source_rules.Locals.{Apart, listed_either, listed_left, listed_right}
-use Rattle.pass_proofs.specs.ir_laws.paths.woven_rules.Pairs.{AreDifferent}
-use Rattle.pass_proofs.specs.ir_model.declared.instr.Instr.{Instr}
-use Rattle.pass_proofs.specs.ir_model.declared.module.Block.{Block}
-use Rattle.pass_proofs.specs.ir_model.declared.module.Function.{Function}
-use Rattle.pass_proofs.specs.ir_model.declared.module.Param.{Param}
-use Rattle.pass_proofs.specs.ir_model.declared.operand.Operand.{Operand}
-use Rattle.pass_proofs.specs.ir_parts.Locals.{locals_of}
-use Rattle.pass_proofs.specs.ir_paths.Slots.{allocas_in, allocas_of}
-use Rattle.pass_proofs.specs.pass_cells.Kept.{entry, joined}
-use Rattle.pass_proofs.specs.pass_cells.Links.{bases_of, further, jumped, roots_after, roots_of, slot_by, slots_of, with_base, with_bases_by, with_bases_in}
-use Rattle.pass_frames_proof.proofs.code.Names.{local}
+use Rattle.pass_frames_steps.specs.flow_solver.Paths.{IsListed}
+use Rattle.pass_frames_steps.proofs.ir_laws.facts.Lists.{phi_names, row_of, set_other}
+use Rattle.pass_frames_steps.proofs.ir_laws.paths.source_rules.Locals.{Apart, listed_either, listed_left, listed_right}
+use Rattle.pass_frames_steps.specs.ir_laws.paths.woven_rules.Pairs.{AreDifferent}
+use Rattle.pass_frames_steps.specs.ir_model.declared.instr.Instr.{Instr}
+use Rattle.pass_frames_steps.specs.ir_model.declared.module.Block.{Block}
+use Rattle.pass_frames_steps.specs.ir_model.declared.module.Function.{Function}
+use Rattle.pass_frames_steps.specs.ir_model.declared.module.Param.{Param}
+use Rattle.pass_frames_steps.specs.ir_model.declared.operand.Operand.{Operand}
+use Rattle.pass_frames_steps.specs.ir_parts.Locals.{locals_of}
+use Rattle.pass_frames_steps.specs.ir_paths.Slots.{allocas_in, allocas_of}
+use Rattle.pass_frames_steps.specs.pass_cells.Kept.{entry, joined}
+use Rattle.pass_frames_steps.specs.pass_cells.Links.{bases_of, further, jumped, roots_after, roots_of, slot_by, slots_of, with_base, with_bases_by, with_bases_in}
+use Rattle.pass_frames_steps.proofs.code.Names.{local}
 use Rattle.pass_frames_proof.proofs.ramps.Values.{IsUnaddressed, name_listed, names_of}
-use Rattle.pass_frames_proof.proofs.stepping.After.{has_root}
-use Rattle.pass_frames_proof.specs.Framings.{IsFraming}
-use Rattle.pass_frames_proof.specs.Lines.{IsNoRoot}
-use Rattle.pass_frames_proof.specs.Places.{Framing, edged, plan}
-use Rattle.pass_frames_proof.specs.Related.{root_of}
-use Rattle.pass_frames_proof.specs.Stores.{given_params}
-use Rattle.pass_proofs.proofs.cells.rules.Labels.{untold}
-use Rattle.pass_proofs.proofs.cells.rules.Links.{slot_flagged}
-use Rattle.pass_proofs.proofs.rule_laws.rules.front_rules.Names.{once_at}
-use Rattle.pass_proofs.proofs.rule_laws.rules.local_rules.Names.{numbers}
-use Rattle.pass_proofs.proofs.rule_laws.rules.source_rules.Locals.{block_names, made_by}
-use Rattle.pass_proofs.proofs.rule_laws.rules.woven_rules.Once.{names_below, once_apart}
-use Rattle.pass_proofs.specs.rule_laws.rules.source_rules.Named.{HasTabledLocals}
-use Rattle.pass_proofs.specs.rule_names.Definitions.{first_twice}
-use Rattle.pass_proofs.specs.run_laws.changed.Changed.{Each}
-use Rattle.pass_proofs.specs.run_memory.declared.pointer.Value.{Value}
+use Rattle.pass_frames_steps.proofs.stepping.After.{has_root}
+use Rattle.pass_frames_steps.specs.Framings.{IsFraming}
+use Rattle.pass_frames_steps.specs.Lines.{IsNoRoot}
+use Rattle.pass_frames_steps.specs.Places.{Framing, edged, plan}
+use Rattle.pass_frames_steps.specs.Related.{root_of}
+use Rattle.pass_frames_steps.specs.Stores.{given_params}
+use Rattle.pass_frames_steps.proofs.pass_proofs.cells.rules.Labels.{untold}
+use Rattle.pass_frames_steps.proofs.pass_proofs.cells.rules.Links.{slot_flagged}
+use Rattle.pass_frames_steps.proofs.rule_laws.rules.front_rules.Names.{once_at}
+use Rattle.pass_frames_steps.proofs.rule_laws.rules.local_rules.Names.{numbers}
+use Rattle.pass_frames_steps.proofs.rule_laws.rules.source_rules.Locals.{block_names, made_by}
+use Rattle.pass_frames_steps.proofs.rule_laws.rules.woven_rules.Once.{names_below, once_apart}
+use Rattle.pass_frames_steps.specs.rule_laws.rules.source_rules.Named.{HasTabledLocals}
+use Rattle.pass_frames_steps.specs.rule_names.Definitions.{first_twice}
+use Rattle.pass_frames_steps.specs.run_laws.changed.Changed.{Each}
+use Rattle.pass_frames_steps.specs.run_memory.declared.pointer.Value.{Value}
 
 -- ---- names of their own
 

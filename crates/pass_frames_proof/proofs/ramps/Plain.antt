@@ -1,18 +1,18 @@
 -- There is an entry, since there is a begin, and it has no phis, as it had none before blocks were put on edges.
 use Rattle.std.proofs.Common.{◌≡◌, ◌∙◌, ◌∷◌, [], Bool, List, Option, Some, ap, length, refl, subst, sym, ℕ}
 use Rattle.std.specs.Prelude.{slice_get, unwrap_or}
-use Rattle.pass_proofs.specs.ir_laws.facts.spelled.Filled.{HasNoEntryPhis}
-use Rattle.pass_proofs.specs.ir_model.Calls.{first_result_by}
-use Rattle.pass_proofs.specs.ir_model.declared.module.Block.{Block}
-use Rattle.pass_proofs.specs.ir_model.declared.operand.Intrinsic.{Intrinsic}
-use Rattle.pass_proofs.specs.pass_edges.EdgeBlocks.{split_block, split_blocks}
-use Rattle.pass_proofs.specs.pass_edges.Edges.{edge_table, edges_of, phi_flags}
-use Rattle.pass_proofs.specs.pass_edges.declared.edge.Edge.{Edge}
-use Rattle.pass_frames_proof.specs.Framings.{IsFraming}
-use Rattle.pass_frames_proof.specs.Passes.{block_at, no_block}
-use Rattle.pass_frames_proof.specs.Places.{Framing, edged}
-use Rattle.pass_frames_proof.specs.Ramps.{IsPlainEntry}
-use Rattle.pass_proofs.proofs.edges.spelled.Entry.{edges_entry}
+use Rattle.pass_frames_steps.specs.ir_laws.facts.spelled.Filled.{HasNoEntryPhis}
+use Rattle.pass_frames_steps.specs.ir_model.Calls.{first_result_by}
+use Rattle.pass_frames_steps.specs.ir_model.declared.module.Block.{Block}
+use Rattle.pass_frames_steps.specs.ir_model.declared.operand.Intrinsic.{Intrinsic}
+use Rattle.pass_frames_steps.specs.pass_edges.EdgeBlocks.{split_block, split_blocks}
+use Rattle.pass_frames_steps.specs.pass_edges.Edges.{edge_table, edges_of, phi_flags}
+use Rattle.pass_frames_steps.specs.pass_edges.declared.edge.Edge.{Edge}
+use Rattle.pass_frames_steps.specs.Framings.{IsFraming}
+use Rattle.pass_frames_steps.specs.Passes.{block_at, no_block}
+use Rattle.pass_frames_steps.specs.Places.{Framing, edged}
+use Rattle.pass_frames_steps.specs.Ramps.{IsPlainEntry}
+use Rattle.pass_frames_steps.proofs.pass_proofs.edges.spelled.Entry.{edges_entry}
 
 abbrev IsFirst : List Block → Type 0
 IsFirst bs = (c : Block) × (slice_get bs 0 ≡ Some c)

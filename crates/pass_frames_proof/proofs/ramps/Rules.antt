@@ -1,20 +1,20 @@
 -- What the rules say of the allocas in front of an entry: each has a name of its own, which is no parameter's.
 use Rattle.std.proofs.Common.{◌≡◌, ◌+◌, ◌<◌, ◌≤◌, ◌∙◌, ◌∷◌, [], Bool, List, None, Option, Some, ap, arith, false, inl, inr, length, refl, subst, suc, sym, true, zero, ℕ}
 use Rattle.std.specs.Prelude.{map, slice_get, ◌==◌}
-use Rattle.pass_proofs.specs.flow_solver.Paths.{IsListed}
-use Rattle.pass_proofs.proofs.ir_laws.facts.Members.{each_turns}
-use Rattle.pass_proofs.specs.ir_laws.paths.woven_rules.Pairs.{AreDifferent}
-use Rattle.pass_proofs.specs.ir_model.Layout.{extent_of, extent_or}
-use Rattle.pass_proofs.specs.ir_model.declared.instr.Instr.{Instr}
-use Rattle.pass_proofs.specs.ir_model.declared.instr.Terminator.{Terminator}
-use Rattle.pass_proofs.specs.ir_model.declared.module.Block.{Block}
-use Rattle.pass_proofs.specs.ir_model.declared.module.Function.{Function}
-use Rattle.pass_proofs.specs.ir_model.declared.module.Module.{Module}
-use Rattle.pass_proofs.specs.ir_model.declared.module.Param.{Param}
-use Rattle.pass_proofs.specs.ir_model.declared.module.TypeItem.{TypeItem}
-use Rattle.pass_proofs.specs.ir_paths.Windows.{instr_at, instr_in}
-use Rattle.pass_proofs.specs.ir_paths.declared.point.Point.{Point}
-use Rattle.pass_frames_proof.proofs.code.Framed.{entry_made}
+use Rattle.pass_frames_steps.specs.flow_solver.Paths.{IsListed}
+use Rattle.pass_frames_steps.proofs.ir_laws.facts.Members.{each_turns}
+use Rattle.pass_frames_steps.specs.ir_laws.paths.woven_rules.Pairs.{AreDifferent}
+use Rattle.pass_frames_steps.specs.ir_model.Layout.{extent_of, extent_or}
+use Rattle.pass_frames_steps.specs.ir_model.declared.instr.Instr.{Instr}
+use Rattle.pass_frames_steps.specs.ir_model.declared.instr.Terminator.{Terminator}
+use Rattle.pass_frames_steps.specs.ir_model.declared.module.Block.{Block}
+use Rattle.pass_frames_steps.specs.ir_model.declared.module.Function.{Function}
+use Rattle.pass_frames_steps.specs.ir_model.declared.module.Module.{Module}
+use Rattle.pass_frames_steps.specs.ir_model.declared.module.Param.{Param}
+use Rattle.pass_frames_steps.specs.ir_model.declared.module.TypeItem.{TypeItem}
+use Rattle.pass_frames_steps.specs.ir_paths.Windows.{instr_at, instr_in}
+use Rattle.pass_frames_steps.specs.ir_paths.declared.point.Point.{Point}
+use Rattle.pass_frames_steps.proofs.code.Framed.{entry_made}
 use Rattle.pass_frames_proof.proofs.ramps.Aligned.{all_aligned, are_allocas}
 use Rattle.pass_frames_proof.proofs.ramps.Behind.{AreEntryAllocas, framed_params}
 use Rattle.pass_frames_proof.proofs.ramps.Front.{entry_front}
@@ -22,20 +22,20 @@ use Rattle.pass_frames_proof.proofs.ramps.Markers.{entry_name, new_unmarked}
 use Rattle.pass_frames_proof.proofs.ramps.Plain.{entry_there}
 use Rattle.pass_frames_proof.proofs.ramps.Values.{name_listed}
 use Rattle.pass_frames_proof.proofs.returning.Behind.{stand_before}
-use Rattle.pass_frames_proof.specs.Entered.{IsAlloca, names_in}
-use Rattle.pass_frames_proof.specs.Entering.{front_allocas}
-use Rattle.pass_frames_proof.specs.Framings.{IsFraming}
-use Rattle.pass_frames_proof.specs.Layers.{woven}
-use Rattle.pass_frames_proof.specs.Passes.{block_at}
-use Rattle.pass_frames_proof.specs.Places.{Framing, edged, framed, instrs_at, placed_layer}
-use Rattle.pass_frames_proof.specs.Ramps.{HasEntryAllocas, IsPlainEntry, entry_stores}
-use Rattle.pass_frames_proof.specs.Saving.{HasLowAllocas}
-use Rattle.pass_proofs.proofs.rule_laws.rules.source_rules.Locals.{no_param, result_below, same_result}
-use Rattle.pass_proofs.specs.rule_laws.rules.function_rules.Kept.{KeepsFunctionRules}
-use Rattle.pass_proofs.specs.rule_uses.Undefined.{params_of}
-use Rattle.pass_proofs.specs.run_laws.access.Lines.{StandAt}
-use Rattle.pass_proofs.specs.run_laws.changed.Changed.{Each, result_of}
-use Rattle.pass_proofs.specs.run_step.Step.{AtInstr, fetch_in, fetch_or}
+use Rattle.pass_frames_steps.specs.Entered.{IsAlloca, names_in}
+use Rattle.pass_frames_steps.specs.Entering.{front_allocas}
+use Rattle.pass_frames_steps.specs.Framings.{IsFraming}
+use Rattle.pass_frames_steps.specs.Layers.{woven}
+use Rattle.pass_frames_steps.specs.Passes.{block_at}
+use Rattle.pass_frames_steps.specs.Places.{Framing, edged, framed, instrs_at, placed_layer}
+use Rattle.pass_frames_steps.specs.Ramps.{HasEntryAllocas, IsPlainEntry, entry_stores}
+use Rattle.pass_frames_steps.specs.Saving.{HasLowAllocas}
+use Rattle.pass_frames_steps.proofs.rule_laws.rules.source_rules.Locals.{no_param, result_below, same_result}
+use Rattle.pass_frames_steps.specs.rule_laws.rules.function_rules.Kept.{KeepsFunctionRules}
+use Rattle.pass_frames_steps.specs.rule_uses.Undefined.{params_of}
+use Rattle.pass_frames_steps.specs.run_laws.access.Lines.{StandAt}
+use Rattle.pass_frames_steps.specs.run_laws.changed.Changed.{Each, result_of}
+use Rattle.pass_frames_steps.specs.run_step.Step.{AtInstr, fetch_in, fetch_or}
 
 -- ---- what is fetched stands there
 

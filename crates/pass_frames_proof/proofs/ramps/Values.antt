@@ -2,28 +2,28 @@
 use Rattle.std.proofs.Common.{◌≡◌, ◌<◌, ◌≤◌, ◌∙◌, ◌∷◌, [], List, None, ap, arith, inl, inr, length, refl, replicate, subst, sym, ℕ, ⊎_elim}
 use Rattle.std.proofs.lemmas.List.{length-replicate}
 use Rattle.std.specs.Prelude.{map}
-use Rattle.pass_proofs.specs.flow_solver.Paths.{IsListed}
-use Rattle.pass_proofs.proofs.ir_laws.facts.Truth.{is_number}
-use Rattle.pass_proofs.specs.ir_laws.paths.woven_rules.Pairs.{AreDifferent}
-use Rattle.pass_proofs.specs.ir_model.declared.instr.Instr.{Instr}
-use Rattle.pass_proofs.specs.ir_model.declared.module.Function.{Function}
-use Rattle.pass_proofs.specs.ir_model.declared.module.Module.{Module}
-use Rattle.pass_proofs.specs.ir_model.declared.module.Param.{Param}
-use Rattle.pass_proofs.specs.pass_cells.Kept.{entry}
-use Rattle.pass_frames_proof.proofs.stepping.Called.{no_value}
-use Rattle.pass_frames_proof.specs.Entered.{IsAlloca, Made, made_all, made_one}
-use Rattle.pass_frames_proof.specs.Lines.{IsNoRoot}
-use Rattle.pass_frames_proof.specs.Places.{Framing, plan}
-use Rattle.pass_frames_proof.specs.Ramps.{FitsParam}
-use Rattle.pass_frames_proof.specs.Stores.{IsNameGiven, given_params}
-use Rattle.pass_renewed_proof.proofs.EnteredValues.{set_here}
-use Rattle.pass_proofs.proofs.run_laws.transfer.Sets.{set_elsewhere, set_length}
-use Rattle.pass_proofs.specs.run_laws.changed.Changed.{Each}
-use Rattle.pass_proofs.specs.run_laws.embedded.Related.{AreValues}
-use Rattle.pass_proofs.specs.run_laws.memory.Pointers.{Home, IsValue}
-use Rattle.pass_proofs.specs.run_memory.declared.pointer.Value.{Value}
-use Rattle.pass_proofs.specs.run_step.Step.{Work, with_params}
-use Rattle.pass_proofs.specs.run_step.Values.{Env, pointer_to, value_in, with_value}
+use Rattle.pass_frames_steps.specs.flow_solver.Paths.{IsListed}
+use Rattle.pass_frames_steps.proofs.ir_laws.facts.Truth.{is_number}
+use Rattle.pass_frames_steps.specs.ir_laws.paths.woven_rules.Pairs.{AreDifferent}
+use Rattle.pass_frames_steps.specs.ir_model.declared.instr.Instr.{Instr}
+use Rattle.pass_frames_steps.specs.ir_model.declared.module.Function.{Function}
+use Rattle.pass_frames_steps.specs.ir_model.declared.module.Module.{Module}
+use Rattle.pass_frames_steps.specs.ir_model.declared.module.Param.{Param}
+use Rattle.pass_frames_steps.specs.pass_cells.Kept.{entry}
+use Rattle.pass_frames_steps.proofs.stepping.Called.{no_value}
+use Rattle.pass_frames_steps.specs.Entered.{IsAlloca, Made, made_all, made_one}
+use Rattle.pass_frames_steps.specs.Lines.{IsNoRoot}
+use Rattle.pass_frames_steps.specs.Places.{Framing, plan}
+use Rattle.pass_frames_steps.specs.Ramps.{FitsParam}
+use Rattle.pass_frames_steps.specs.Stores.{IsNameGiven, given_params}
+use Rattle.pass_frames_steps.proofs.pass_renewed_proof.EnteredValues.{set_here}
+use Rattle.pass_frames_steps.proofs.run_laws.transfer.Sets.{set_elsewhere, set_length}
+use Rattle.pass_frames_steps.specs.run_laws.changed.Changed.{Each}
+use Rattle.pass_frames_steps.specs.run_laws.embedded.Related.{AreValues}
+use Rattle.pass_frames_steps.specs.run_laws.memory.Pointers.{Home, IsValue}
+use Rattle.pass_frames_steps.specs.run_memory.declared.pointer.Value.{Value}
+use Rattle.pass_frames_steps.specs.run_step.Step.{Work, with_params}
+use Rattle.pass_frames_steps.specs.run_step.Values.{Env, pointer_to, value_in, with_value}
 
 -- so many names without a value
 abbrev pub no_values : ℕ → Env

@@ -1,27 +1,27 @@
 -- The activation on top returns in both runs: its slots die, and the one below it goes on behind its call.
 use Rattle.std.proofs.Common.{◌≡◌, ℕ, Bool, List, [], ◌∷◌, refl, sym, ap, ◌∙◌, subst}
 use Rattle.std.specs.Prelude.{Ok, Option, unwrap_or}
-use Rattle.pass_proofs.specs.ir_base.declared.outcome.Outcome.{Outcome}
+use Rattle.pass_frames_steps.specs.ir_base.declared.outcome.Outcome.{Outcome}
 use Rattle.pass_frames_proof.proofs.returning.Dying.{died, over, u, w}
 use Rattle.pass_frames_proof.proofs.returning.Popped.{popped, popped_homes, t'}
 use Rattle.pass_frames_proof.proofs.returning.Results.{result_given}
-use Rattle.pass_frames_proof.proofs.stepping.Onward.{EndsUp}
-use Rattle.pass_frames_proof.specs.Followed.{IsOn}
-use Rattle.pass_frames_proof.specs.Meaning.{behind_cost}
-use Rattle.pass_frames_proof.specs.Related.{AreBelow, AreBuiltOf, Building, below_place, point_of}
-use Rattle.pass_frames_proof.specs.Returning.{GoesBehind, IsGivenBehind, OwnsSlots}
-use Rattle.pass_frames_proof.specs.Stepping.{AreGiven}
-use Rattle.pass_renewed_proof.specs.Renewed.{RenewedGiven}
-use Rattle.pass_proofs.specs.run_agreement.Machines.{iterate}
-use Rattle.pass_proofs.specs.run_framed.Framed.{framed_step}
-use Rattle.pass_proofs.specs.run_laws.memory.Pointers.{Home, IsValue}
-use Rattle.pass_proofs.specs.run_memory.declared.pointer.Value.{Value}
-use Rattle.pass_proofs.specs.run_source.Source.{pop, return, returned}
-use Rattle.pass_proofs.specs.run_source.declared.state.Activation.{Activation}
-use Rattle.pass_proofs.specs.run_source.declared.state.State.{State}
-use Rattle.pass_proofs.specs.run_step.Step.{without_slots}
-use Rattle.pass_proofs.specs.run_step.Values.{Env, with_result}
-use Rattle.pass_proofs.specs.run_step.declared.world.World.{World}
+use Rattle.pass_frames_steps.proofs.stepping.Onward.{EndsUp}
+use Rattle.pass_frames_steps.specs.Followed.{IsOn}
+use Rattle.pass_frames_steps.specs.Meaning.{behind_cost}
+use Rattle.pass_frames_steps.specs.Related.{AreBelow, AreBuiltOf, Building, below_place, point_of}
+use Rattle.pass_frames_steps.specs.Returning.{GoesBehind, IsGivenBehind, OwnsSlots}
+use Rattle.pass_frames_steps.specs.Stepping.{AreGiven}
+use Rattle.pass_frames_steps.specs.pass_renewed_proof.Renewed.{RenewedGiven}
+use Rattle.pass_frames_steps.specs.run_agreement.Machines.{iterate}
+use Rattle.pass_frames_steps.specs.run_framed.Framed.{framed_step}
+use Rattle.pass_frames_steps.specs.run_laws.memory.Pointers.{Home, IsValue}
+use Rattle.pass_frames_steps.specs.run_memory.declared.pointer.Value.{Value}
+use Rattle.pass_frames_steps.specs.run_source.Source.{pop, return, returned}
+use Rattle.pass_frames_steps.specs.run_source.declared.state.Activation.{Activation}
+use Rattle.pass_frames_steps.specs.run_source.declared.state.State.{State}
+use Rattle.pass_frames_steps.specs.run_step.Step.{without_slots}
+use Rattle.pass_frames_steps.specs.run_step.Values.{Env, with_result}
+use Rattle.pass_frames_steps.specs.run_step.declared.world.World.{World}
 
 -- what the source shows doesn't depend on the values on top
 pub on_top : (b : Building) (s t : State) (a : Activation) → IsOn b s t → IsOn b (record s { top = a }) t

@@ -2,31 +2,31 @@
 use Rattle.std.proofs.Common.{◌≡◌, ℕ, ◌+◌, Bool, true, false, List, [], ◌∷◌, ◌++◌, length, refl, sym, ap, ◌∙◌, subst, arith, append-nil}
 use Rattle.std.proofs.lemmas.List.{length-append}
 use Rattle.std.specs.Prelude.{None, Option, Some, slice_get}
-use Rattle.pass_proofs.specs.ir_model.declared.instr.Instr.{Instr}
-use Rattle.pass_proofs.specs.ir_model.declared.module.Function.{Function}
-use Rattle.pass_proofs.specs.ir_model.declared.operand.Callee.{Callee}
-use Rattle.pass_proofs.specs.ir_model.declared.operand.Intrinsic.{Intrinsic}
-use Rattle.pass_proofs.specs.ir_model.declared.operand.Operand.{Operand}
-use Rattle.pass_proofs.specs.ir_parts.Contents.{result_of}
-use Rattle.pass_proofs.specs.pass_cells.Cells.{fetches_of}
-use Rattle.pass_proofs.specs.pass_cells.Written.{distance_behind, stored_result}
-use Rattle.pass_proofs.specs.pass_fetch.Fetching.{callee_by, fetch_of}
-use Rattle.pass_proofs.specs.pass_fetch.Instrs.{with_fetched}
-use Rattle.pass_proofs.specs.pass_fetch.declared.fetch.Fetch.{Fetch}
-use Rattle.pass_frames_proof.proofs.stepping.Line.{stored_no_alloca}
-use Rattle.pass_frames_proof.proofs.stepping.Owns.{alone_stands}
-use Rattle.pass_frames_proof.specs.Code.{address_state, load_name, loaded, slot_table, stores}
-use Rattle.pass_frames_proof.specs.Framings.{IsFraming}
-use Rattle.pass_frames_proof.specs.Operands.{IsLeftAlone, StandsAlone}
-use Rattle.pass_frames_proof.specs.Places.{Framing, Placed, framed, instrs_at, is_return, own_place, place, plan}
-use Rattle.pass_frames_proof.specs.Returning.{SwitchesTo, IsSwitching}
-use Rattle.pass_frames_proof.specs.Stepping.{IsUnlocated, placed_front, placed_instr, state_in}
-use Rattle.pass_proofs.specs.pass_front.Front.{is_no_alloca}
-use Rattle.pass_proofs.proofs.fetch.rules.Times.{with_result}
-use Rattle.pass_renewed_proof.specs.Renewed.{is_idle}
-use Rattle.pass_proofs.specs.run_laws.access.Lines.{StandAt}
-use Rattle.pass_proofs.specs.run_laws.changed.Changed.{Each}
-use Rattle.pass_proofs.specs.run_step.Step.{AtInstr, fetch}
+use Rattle.pass_frames_steps.specs.ir_model.declared.instr.Instr.{Instr}
+use Rattle.pass_frames_steps.specs.ir_model.declared.module.Function.{Function}
+use Rattle.pass_frames_steps.specs.ir_model.declared.operand.Callee.{Callee}
+use Rattle.pass_frames_steps.specs.ir_model.declared.operand.Intrinsic.{Intrinsic}
+use Rattle.pass_frames_steps.specs.ir_model.declared.operand.Operand.{Operand}
+use Rattle.pass_frames_steps.specs.ir_parts.Contents.{result_of}
+use Rattle.pass_frames_steps.specs.pass_cells.Cells.{fetches_of}
+use Rattle.pass_frames_steps.specs.pass_cells.Written.{distance_behind, stored_result}
+use Rattle.pass_frames_steps.specs.pass_fetch.Fetching.{callee_by, fetch_of}
+use Rattle.pass_frames_steps.specs.pass_fetch.Instrs.{with_fetched}
+use Rattle.pass_frames_steps.specs.pass_fetch.declared.fetch.Fetch.{Fetch}
+use Rattle.pass_frames_steps.proofs.stepping.Line.{stored_no_alloca}
+use Rattle.pass_frames_steps.proofs.stepping.Owns.{alone_stands}
+use Rattle.pass_frames_steps.specs.Code.{address_state, load_name, loaded, slot_table, stores}
+use Rattle.pass_frames_steps.specs.Framings.{IsFraming}
+use Rattle.pass_frames_steps.specs.Operands.{IsLeftAlone, StandsAlone}
+use Rattle.pass_frames_steps.specs.Places.{Framing, Placed, framed, instrs_at, is_return, own_place, place, plan}
+use Rattle.pass_frames_steps.specs.Returning.{SwitchesTo, IsSwitching}
+use Rattle.pass_frames_steps.specs.Stepping.{IsUnlocated, placed_front, placed_instr, state_in}
+use Rattle.pass_frames_steps.specs.pass_front.Front.{is_no_alloca}
+use Rattle.pass_frames_steps.proofs.pass_proofs.fetch.rules.Times.{with_result}
+use Rattle.pass_frames_steps.specs.pass_renewed_proof.Renewed.{is_idle}
+use Rattle.pass_frames_steps.specs.run_laws.access.Lines.{StandAt}
+use Rattle.pass_frames_steps.specs.run_laws.changed.Changed.{Each}
+use Rattle.pass_frames_steps.specs.run_step.Step.{AtInstr, fetch}
 
 -- ---- tests that such a call passes
 

@@ -2,24 +2,24 @@
 use Rattle.std.proofs.Common.{◌≡◌, ◌⊎◌, inl, inr, ⊎_elim, ℕ, zero, suc, ◌<◌, Bool, true, false, List, [], ◌∷◌, length, refl, sym, ap, ◌∙◌, arith}
 use Rattle.std.specs.List.{Contains}
 use Rattle.std.specs.Prelude.{None, Option, Some, option_map, slice_get, ◌≢◌, ◌||◌, not}
-use Rattle.pass_proofs.proofs.ir_laws.facts.Truth.{is_number}
-use Rattle.pass_frames_proof.specs.Returning.{IsAmong}
-use Rattle.pass_frames_proof.proofs.stepping.Stored.{muted_is}
-use Rattle.pass_renewed_proof.proofs.Marked.{length_with}
-use Rattle.pass_proofs.specs.run_framed.Framed.{FramedGiven, frame_rights}
-use Rattle.pass_proofs.proofs.run_laws.memory.Itself.{owner_rights_fit}
-use Rattle.pass_proofs.proofs.run_laws.memory.Written.{changed_elsewhere, changed_here}
-use Rattle.pass_proofs.proofs.run_laws.transfer.Places.{fewer_stand, given_back}
-use Rattle.pass_proofs.specs.run_laws.memory.Pointers.{Home, home_of}
-use Rattle.pass_proofs.specs.run_laws.transfer.Muted.{ended_if, muted}
-use Rattle.pass_proofs.specs.run_laws.transfer.Places.{AreStanding, HasFewer}
-use Rattle.run_access_worked.proofs.run_laws_worked.Frames.{frame_rights_fit}
-use Rattle.pass_proofs.specs.run_memory.Memory.{Rights, is_live, killed, killed_block, may_compare_at, owner_rights}
-use Rattle.pass_proofs.specs.run_memory.declared.block.MemoryBlock.{MemoryBlock}
-use Rattle.pass_proofs.specs.run_memory.declared.pointer.Offset.{Offset}
-use Rattle.pass_proofs.specs.run_source.declared.state.Instance.{Instance}
-use Rattle.pass_proofs.specs.run_step.Step.{without_slots}
-use Rattle.pass_proofs.specs.run_step.declared.world.Slot.{Slot}
+use Rattle.pass_frames_steps.proofs.ir_laws.facts.Truth.{is_number}
+use Rattle.pass_frames_steps.specs.Returning.{IsAmong}
+use Rattle.pass_frames_steps.proofs.stepping.Stored.{muted_is}
+use Rattle.pass_frames_steps.proofs.pass_renewed_proof.Marked.{length_with}
+use Rattle.pass_frames_steps.specs.run_framed.Framed.{FramedGiven, frame_rights}
+use Rattle.pass_frames_steps.proofs.run_laws.memory.Itself.{owner_rights_fit}
+use Rattle.pass_frames_steps.proofs.run_laws.memory.Written.{changed_elsewhere, changed_here}
+use Rattle.pass_frames_steps.proofs.run_laws.transfer.Places.{fewer_stand, given_back}
+use Rattle.pass_frames_steps.specs.run_laws.memory.Pointers.{Home, home_of}
+use Rattle.pass_frames_steps.specs.run_laws.transfer.Muted.{ended_if, muted}
+use Rattle.pass_frames_steps.specs.run_laws.transfer.Places.{AreStanding, HasFewer}
+use Rattle.pass_frames_steps.proofs.run_access_worked.run_laws_worked.Frames.{frame_rights_fit}
+use Rattle.pass_frames_steps.specs.run_memory.Memory.{Rights, is_live, killed, killed_block, may_compare_at, owner_rights}
+use Rattle.pass_frames_steps.specs.run_memory.declared.block.MemoryBlock.{MemoryBlock}
+use Rattle.pass_frames_steps.specs.run_memory.declared.pointer.Offset.{Offset}
+use Rattle.pass_frames_steps.specs.run_source.declared.state.Instance.{Instance}
+use Rattle.pass_frames_steps.specs.run_step.Step.{without_slots}
+use Rattle.pass_frames_steps.specs.run_step.declared.world.Slot.{Slot}
 
 -- ---- blocks of slots
 

@@ -2,37 +2,37 @@
 use Rattle.std.proofs.Common.{◌≡◌, ◌⊎◌, inl, inr, ⊎_elim, ℕ, ◌<◌, Bool, true, false, List, [], length, refl, sym, ap, ◌∙◌, subst, arith}
 use Rattle.std.specs.List.{Contains}
 use Rattle.std.specs.Prelude.{None, Option, Some, map, option_map, slice_get, ◌&&◌}
-use Rattle.pass_proofs.specs.flow_solver.Paths.{IsListed}
-use Rattle.pass_proofs.proofs.ir_laws.facts.Lists.{get_within}
-use Rattle.pass_proofs.specs.ir_model.Ty.{Ty}
+use Rattle.pass_frames_steps.specs.flow_solver.Paths.{IsListed}
+use Rattle.pass_frames_steps.proofs.ir_laws.facts.Lists.{get_within}
+use Rattle.pass_frames_steps.specs.ir_model.Ty.{Ty}
 use Rattle.pass_frames_proof.proofs.returning.Deaths.{WasThere, both_die, dead_there, kept_there, living, slot_among, was_there, without_length}
-use Rattle.pass_frames_proof.proofs.stepping.Rest.{LeavesRest, got, seen_known, slot_block}
-use Rattle.pass_frames_proof.proofs.stepping.Same.{fields_kept, right_kept, slot_listed}
-use Rattle.pass_frames_proof.proofs.stepping.Stored.{muted_is}
-use Rattle.pass_proofs.proofs.ir_laws.paths.edges.Lists.{different_both}
-use Rattle.pass_proofs.specs.ir_laws.paths.woven_rules.Pairs.{AreDifferent}
+use Rattle.pass_frames_steps.proofs.stepping.Rest.{LeavesRest, got, seen_known, slot_block}
+use Rattle.pass_frames_steps.proofs.stepping.Same.{fields_kept, right_kept, slot_listed}
+use Rattle.pass_frames_steps.proofs.stepping.Stored.{muted_is}
+use Rattle.pass_frames_steps.proofs.ir_laws.paths.edges.Lists.{different_both}
+use Rattle.pass_frames_steps.specs.ir_laws.paths.woven_rules.Pairs.{AreDifferent}
 use Rattle.std.proofs.lemmas.List.{map-append}
-use Rattle.pass_frames_proof.specs.Framings.{IsFraming}
-use Rattle.pass_frames_proof.specs.Places.{Framing, offsets}
-use Rattle.pass_frames_proof.specs.Related.{AreBuiltOf, AreInstances, AreMates, Building, IsAhead, IsFreeOf, IsSlotBy, IsUnplacedSlot, instance_in, is_coroutine, is_slot, slots_below}
-use Rattle.pass_frames_proof.specs.Returning.{IsAmong, OwnsSlots}
-use Rattle.pass_proofs.specs.addresses.rules.Addresses.{lies_in_frame}
-use Rattle.pass_proofs.specs.run_framed.Framed.{frame_rights}
-use Rattle.pass_proofs.specs.run_laws.access.Lines.{Holds}
-use Rattle.pass_proofs.specs.run_laws.embedded.Making.{whole_home}
-use Rattle.pass_proofs.specs.run_laws.memory.Pointers.{Home, home_of}
-use Rattle.pass_proofs.specs.run_laws.transfer.Muted.{ended_if, muted}
-use Rattle.pass_proofs.specs.run_laws.transfer.Places.{AreStanding}
-use Rattle.pass_proofs.specs.run_laws.transfer.Transfer.{AreOver}
-use Rattle.pass_proofs.specs.run_memory.Memory.{Rights, is_live, killed_block, owner_rights}
-use Rattle.pass_proofs.specs.run_memory.declared.block.Byte.{Byte}
-use Rattle.pass_proofs.specs.run_memory.declared.block.MemoryBlock.{MemoryBlock}
-use Rattle.pass_proofs.specs.run_source.declared.state.Activation.{Activation}
-use Rattle.pass_proofs.specs.run_source.declared.state.Instance.{Instance}
-use Rattle.pass_proofs.specs.run_source.declared.state.State.{State}
-use Rattle.pass_proofs.specs.run_step.Step.{without_slots}
-use Rattle.pass_proofs.specs.run_step.declared.world.Slot.{Slot}
-use Rattle.pass_proofs.specs.run_step.declared.world.World.{World}
+use Rattle.pass_frames_steps.specs.Framings.{IsFraming}
+use Rattle.pass_frames_steps.specs.Places.{Framing, offsets}
+use Rattle.pass_frames_steps.specs.Related.{AreBuiltOf, AreInstances, AreMates, Building, IsAhead, IsFreeOf, IsSlotBy, IsUnplacedSlot, instance_in, is_coroutine, is_slot, slots_below}
+use Rattle.pass_frames_steps.specs.Returning.{IsAmong, OwnsSlots}
+use Rattle.pass_frames_steps.specs.pass_proofs.addresses.rules.Addresses.{lies_in_frame}
+use Rattle.pass_frames_steps.specs.run_framed.Framed.{frame_rights}
+use Rattle.pass_frames_steps.specs.run_laws.access.Lines.{Holds}
+use Rattle.pass_frames_steps.specs.run_laws.embedded.Making.{whole_home}
+use Rattle.pass_frames_steps.specs.run_laws.memory.Pointers.{Home, home_of}
+use Rattle.pass_frames_steps.specs.run_laws.transfer.Muted.{ended_if, muted}
+use Rattle.pass_frames_steps.specs.run_laws.transfer.Places.{AreStanding}
+use Rattle.pass_frames_steps.specs.run_laws.transfer.Transfer.{AreOver}
+use Rattle.pass_frames_steps.specs.run_memory.Memory.{Rights, is_live, killed_block, owner_rights}
+use Rattle.pass_frames_steps.specs.run_memory.declared.block.Byte.{Byte}
+use Rattle.pass_frames_steps.specs.run_memory.declared.block.MemoryBlock.{MemoryBlock}
+use Rattle.pass_frames_steps.specs.run_source.declared.state.Activation.{Activation}
+use Rattle.pass_frames_steps.specs.run_source.declared.state.Instance.{Instance}
+use Rattle.pass_frames_steps.specs.run_source.declared.state.State.{State}
+use Rattle.pass_frames_steps.specs.run_step.Step.{without_slots}
+use Rattle.pass_frames_steps.specs.run_step.declared.world.Slot.{Slot}
+use Rattle.pass_frames_steps.specs.run_step.declared.world.World.{World}
 
 -- no pointer is about into a slot that isn't in its frame yet
 pub unplaced_unseen : (x : Framing) (homes : List Home) (hides : ℕ → Bool) (c : Activation) (slot : Slot)

@@ -2,64 +2,64 @@
 use Rattle.std.proofs.Common.{◌≡◌, inr, ℕ, ◌+◌, ◌-◌, ◌<◌, ◌≤◌, true, List, [], ◌∷◌, length, refl, sym, ap, ◌∙◌, subst, arith, append-nil}
 use Rattle.std.specs.List.{Contains}
 use Rattle.std.specs.Prelude.{None, Option, Some, slice_get}
-use Rattle.pass_proofs.specs.ir_base.declared.outcome.Outcome.{Outcome}
-use Rattle.pass_proofs.proofs.ir_laws.facts.Members.{each_turns}
-use Rattle.pass_proofs.specs.ir_model.Names.{function_at}
-use Rattle.pass_proofs.specs.ir_model.Ty.{int}
-use Rattle.pass_proofs.specs.ir_model.declared.instr.Instr.{Instr}
-use Rattle.pass_proofs.specs.ir_model.declared.module.Function.{Function}
-use Rattle.pass_proofs.specs.ir_paths.declared.point.Point.{Point}
-use Rattle.pass_proofs.specs.pass_cells.Written.{stored, stored_result}
+use Rattle.pass_frames_steps.specs.ir_base.declared.outcome.Outcome.{Outcome}
+use Rattle.pass_frames_steps.proofs.ir_laws.facts.Members.{each_turns}
+use Rattle.pass_frames_steps.specs.ir_model.Names.{function_at}
+use Rattle.pass_frames_steps.specs.ir_model.Ty.{int}
+use Rattle.pass_frames_steps.specs.ir_model.declared.instr.Instr.{Instr}
+use Rattle.pass_frames_steps.specs.ir_model.declared.module.Function.{Function}
+use Rattle.pass_frames_steps.specs.ir_paths.declared.point.Point.{Point}
+use Rattle.pass_frames_steps.specs.pass_cells.Written.{stored, stored_result}
 use Rattle.pass_frames_proof.proofs.jumping.Pairs.{AreAllSet, all_set}
-use Rattle.pass_frames_proof.proofs.led.Steps.{fills_elsewhere, short_result}
-use Rattle.pass_frames_proof.proofs.led.Through.{one_through}
-use Rattle.pass_frames_proof.proofs.lined.Lines.{each_between, line_leads}
-use Rattle.pass_frames_proof.proofs.lines.Filled.{worlds_stand}
-use Rattle.pass_frames_proof.proofs.lines.Names.{distance_of}
-use Rattle.pass_frames_proof.proofs.lines.Results.{kept_is_cell}
-use Rattle.pass_frames_proof.proofs.lines.Stored.{names_stored}
+use Rattle.pass_frames_steps.proofs.led.Steps.{fills_elsewhere, short_result}
+use Rattle.pass_frames_steps.proofs.led.Through.{one_through}
+use Rattle.pass_frames_steps.proofs.lined.Lines.{each_between, line_leads}
+use Rattle.pass_frames_steps.proofs.lines.Filled.{worlds_stand}
+use Rattle.pass_frames_steps.proofs.lines.Names.{distance_of}
+use Rattle.pass_frames_steps.proofs.lines.Results.{kept_is_cell}
+use Rattle.pass_frames_steps.proofs.lines.Stored.{names_stored}
 use Rattle.pass_frames_proof.proofs.returning.Behind.{CallStands, call_stands}
-use Rattle.pass_frames_proof.proofs.stepping.After.{cell_turned}
-use Rattle.pass_frames_proof.proofs.stepping.Fetch.{coroutine_values, not_returned, own_blocks}
-use Rattle.pass_frames_proof.proofs.stepping.Landing.{landed, own_free, spared_shown}
-use Rattle.pass_frames_proof.proofs.stepping.Line.{stored_gives}
-use Rattle.pass_frames_proof.proofs.stepping.Names.{cell_is_name, named_written, slots_new, edged_named}
-use Rattle.pass_frames_proof.proofs.stepping.Operands.{asked}
-use Rattle.pass_frames_proof.proofs.stepping.Stands.{top_is}
-use Rattle.pass_frames_proof.specs.Edges.{IsOnFront}
-use Rattle.pass_frames_proof.specs.Followed.{IsOn}
-use Rattle.pass_frames_proof.specs.Framings.{IsFraming}
-use Rattle.pass_frames_proof.specs.Landing.{LeavesCells}
-use Rattle.pass_frames_proof.specs.Led.{RunsThrough, SparesBlocks}
-use Rattle.pass_frames_proof.specs.Lined.{GivesNone, lined}
-use Rattle.pass_frames_proof.specs.Lines.{AreAway, AreInCells, IsCellOf, at_work}
-use Rattle.pass_frames_proof.specs.Places.{Framing, edged, framed, own_place, place, plan, written}
-use Rattle.pass_frames_proof.specs.Related.{AreBuiltOf, AreCellsRight, AreCoroutines, AreWheresRight, Building, HasCells, IsDistanceOf, instance_in, is_coroutine}
-use Rattle.pass_frames_proof.specs.Returning.{FitsResult, IsBehindCall}
-use Rattle.pass_frames_proof.specs.Stepping.{AreGiven}
-use Rattle.pass_frames_proof.specs.Stores.{AreNamesStored, IsNameGiven}
-use Rattle.pass_renewed_proof.proofs.EnteredValues.{set_here}
-use Rattle.pass_renewed_proof.specs.Renewed.{RenewedGiven}
-use Rattle.pass_proofs.specs.run_agreement.Machines.{iterate}
-use Rattle.pass_proofs.specs.run_framed.Framed.{frame_rights, framed_context, framed_step}
-use Rattle.pass_proofs.proofs.run_laws.memory.Itself.{owner_rights_fit}
-use Rattle.pass_proofs.proofs.run_laws.transfer.Sets.{set_elsewhere}
-use Rattle.pass_proofs.specs.run_laws.access.Accessed.{Span}
-use Rattle.pass_proofs.specs.run_laws.access.Lines.{StandAt}
-use Rattle.pass_proofs.specs.run_laws.changed.Changed.{Each}
-use Rattle.pass_proofs.specs.run_laws.memory.Pointers.{IsValue}
-use Rattle.pass_proofs.specs.run_laws.memory.Standing.{IsAway}
-use Rattle.pass_proofs.specs.run_laws.transfer.Muted.{muted}
-use Rattle.pass_proofs.specs.run_laws.transfer.Transfer.{AreOver, muted_world}
-use Rattle.run_access_worked.proofs.run_laws_worked.Frames.{frame_rights_fit}
-use Rattle.pass_proofs.specs.run_memory.Memory.{Rights, is_live, owner_rights}
-use Rattle.pass_proofs.specs.run_memory.declared.block.MemoryBlock.{MemoryBlock}
-use Rattle.pass_proofs.specs.run_memory.declared.pointer.Value.{Value}
-use Rattle.pass_proofs.specs.run_source.State.{function_of}
-use Rattle.pass_proofs.specs.run_source.declared.state.State.{State}
-use Rattle.pass_proofs.specs.run_step.Step.{Context, Work}
-use Rattle.pass_proofs.specs.run_step.Values.{Env, value_in, with_result, with_value}
-use Rattle.pass_proofs.specs.run_step.declared.world.World.{World}
+use Rattle.pass_frames_steps.proofs.stepping.After.{cell_turned}
+use Rattle.pass_frames_steps.proofs.stepping.Fetch.{coroutine_values, not_returned, own_blocks}
+use Rattle.pass_frames_steps.proofs.stepping.Landing.{landed, own_free, spared_shown}
+use Rattle.pass_frames_steps.proofs.stepping.Line.{stored_gives}
+use Rattle.pass_frames_steps.proofs.stepping.Names.{cell_is_name, named_written, slots_new, edged_named}
+use Rattle.pass_frames_steps.proofs.stepping.Operands.{asked}
+use Rattle.pass_frames_steps.proofs.stepping.Stands.{top_is}
+use Rattle.pass_frames_steps.specs.Edges.{IsOnFront}
+use Rattle.pass_frames_steps.specs.Followed.{IsOn}
+use Rattle.pass_frames_steps.specs.Framings.{IsFraming}
+use Rattle.pass_frames_steps.specs.Landing.{LeavesCells}
+use Rattle.pass_frames_steps.specs.Led.{RunsThrough, SparesBlocks}
+use Rattle.pass_frames_steps.specs.Lined.{GivesNone, lined}
+use Rattle.pass_frames_steps.specs.Lines.{AreAway, AreInCells, IsCellOf, at_work}
+use Rattle.pass_frames_steps.specs.Places.{Framing, edged, framed, own_place, place, plan, written}
+use Rattle.pass_frames_steps.specs.Related.{AreBuiltOf, AreCellsRight, AreCoroutines, AreWheresRight, Building, HasCells, IsDistanceOf, instance_in, is_coroutine}
+use Rattle.pass_frames_steps.specs.Returning.{FitsResult, IsBehindCall}
+use Rattle.pass_frames_steps.specs.Stepping.{AreGiven}
+use Rattle.pass_frames_steps.specs.Stores.{AreNamesStored, IsNameGiven}
+use Rattle.pass_frames_steps.proofs.pass_renewed_proof.EnteredValues.{set_here}
+use Rattle.pass_frames_steps.specs.pass_renewed_proof.Renewed.{RenewedGiven}
+use Rattle.pass_frames_steps.specs.run_agreement.Machines.{iterate}
+use Rattle.pass_frames_steps.specs.run_framed.Framed.{frame_rights, framed_context, framed_step}
+use Rattle.pass_frames_steps.proofs.run_laws.memory.Itself.{owner_rights_fit}
+use Rattle.pass_frames_steps.proofs.run_laws.transfer.Sets.{set_elsewhere}
+use Rattle.pass_frames_steps.specs.run_laws.access.Accessed.{Span}
+use Rattle.pass_frames_steps.specs.run_laws.access.Lines.{StandAt}
+use Rattle.pass_frames_steps.specs.run_laws.changed.Changed.{Each}
+use Rattle.pass_frames_steps.specs.run_laws.memory.Pointers.{IsValue}
+use Rattle.pass_frames_steps.specs.run_laws.memory.Standing.{IsAway}
+use Rattle.pass_frames_steps.specs.run_laws.transfer.Muted.{muted}
+use Rattle.pass_frames_steps.specs.run_laws.transfer.Transfer.{AreOver, muted_world}
+use Rattle.pass_frames_steps.proofs.run_access_worked.run_laws_worked.Frames.{frame_rights_fit}
+use Rattle.pass_frames_steps.specs.run_memory.Memory.{Rights, is_live, owner_rights}
+use Rattle.pass_frames_steps.specs.run_memory.declared.block.MemoryBlock.{MemoryBlock}
+use Rattle.pass_frames_steps.specs.run_memory.declared.pointer.Value.{Value}
+use Rattle.pass_frames_steps.specs.run_source.State.{function_of}
+use Rattle.pass_frames_steps.specs.run_source.declared.state.State.{State}
+use Rattle.pass_frames_steps.specs.run_step.Step.{Context, Work}
+use Rattle.pass_frames_steps.specs.run_step.Values.{Env, value_in, with_result, with_value}
+use Rattle.pass_frames_steps.specs.run_step.declared.world.World.{World}
 
 -- ---- a line that fills cells of a coroutine on top leaves the source where it stands
 

@@ -1,39 +1,39 @@
 -- The entry function returns, and so have both runs.
 use Rattle.std.proofs.Common.{◌≡◌, ℕ, ◌+◌, ◌≤◌, Bool, true, false, List, [], ◌∷◌, refl, sym, ap, ◌∙◌, subst, arith}
 use Rattle.std.specs.Prelude.{None, Ok, Option, Some, Result, if◌then◌else◌}
-use Rattle.pass_proofs.specs.ir_base.declared.cause.Cause.{Cause}
-use Rattle.pass_proofs.specs.ir_base.declared.outcome.Outcome.{Outcome}
-use Rattle.pass_proofs.specs.ir_model.declared.instr.Terminator.{Terminator}
-use Rattle.pass_proofs.specs.ir_model.declared.operand.Arg.{Arg}
-use Rattle.pass_frames_proof.proofs.lined.Lines.{framed_does}
+use Rattle.pass_frames_steps.specs.ir_base.declared.cause.Cause.{Cause}
+use Rattle.pass_frames_steps.specs.ir_base.declared.outcome.Outcome.{Outcome}
+use Rattle.pass_frames_steps.specs.ir_model.declared.instr.Terminator.{Terminator}
+use Rattle.pass_frames_steps.specs.ir_model.declared.operand.Arg.{Arg}
+use Rattle.pass_frames_steps.proofs.lined.Lines.{framed_does}
 use Rattle.pass_frames_proof.proofs.returning.Dying.{died, over, u, w}
 use Rattle.pass_frames_proof.proofs.returning.Returns.{returns_value}
-use Rattle.pass_frames_proof.proofs.stepping.Other.{fetched_there, one_followed, operand_stands, stands, values_other}
-use Rattle.pass_frames_proof.proofs.stepping.Rest.{LeavesRest, instance_kept}
-use Rattle.pass_frames_proof.proofs.stepping.Stands.{cost_is, renewed_does}
-use Rattle.pass_frames_proof.specs.Followed.{IsFollowed}
-use Rattle.pass_frames_proof.specs.Meaning.{action_at, behind_cost, coroutine_cost, other_cost, step_cost}
-use Rattle.pass_frames_proof.specs.Related.{AreActivations, AreAllAhead, AreBelow, AreBuiltOf, AreFreeCells, AreInstances, Building, IsStatus, is_coroutine, place_by, point_of, slots_below, top_place}
-use Rattle.pass_frames_proof.specs.Returning.{IsAtLast, OwnsSlots, value_of}
-use Rattle.pass_frames_proof.specs.Stepping.{AreGiven}
-use Rattle.pass_proofs.specs.ir_laws.paths.woven_rules.Pairs.{AreDifferent}
+use Rattle.pass_frames_steps.proofs.stepping.Other.{fetched_there, one_followed, operand_stands, stands, values_other}
+use Rattle.pass_frames_steps.proofs.stepping.Rest.{LeavesRest, instance_kept}
+use Rattle.pass_frames_steps.proofs.stepping.Stands.{cost_is, renewed_does}
+use Rattle.pass_frames_steps.specs.Followed.{IsFollowed}
+use Rattle.pass_frames_steps.specs.Meaning.{action_at, behind_cost, coroutine_cost, other_cost, step_cost}
+use Rattle.pass_frames_steps.specs.Related.{AreActivations, AreAllAhead, AreBelow, AreBuiltOf, AreFreeCells, AreInstances, Building, IsStatus, is_coroutine, place_by, point_of, slots_below, top_place}
+use Rattle.pass_frames_steps.specs.Returning.{IsAtLast, OwnsSlots, value_of}
+use Rattle.pass_frames_steps.specs.Stepping.{AreGiven}
+use Rattle.pass_frames_steps.specs.ir_laws.paths.woven_rules.Pairs.{AreDifferent}
 use Rattle.std.specs.Prelude.{map}
-use Rattle.pass_renewed_proof.specs.Renewed.{RenewedGiven, renewed_step}
-use Rattle.pass_proofs.specs.run_framed.Framed.{frame_rights, framed_context, framed_step}
-use Rattle.pass_proofs.specs.run_laws.memory.Pointers.{Home, IsValue}
-use Rattle.pass_proofs.specs.run_memory.Memory.{Rights}
-use Rattle.pass_proofs.specs.run_memory.declared.pointer.Value.{Value}
-use Rattle.pass_proofs.specs.run_source.Source.{context_of, pop, returned}
-use Rattle.pass_proofs.specs.run_source.State.{or_undefined, work_of}
-use Rattle.pass_proofs.specs.run_source.declared.state.Activation.{Activation}
-use Rattle.pass_proofs.specs.run_source.declared.state.Instance.{Instance}
-use Rattle.pass_proofs.specs.run_source.declared.state.State.{State}
-use Rattle.pass_proofs.specs.run_source.declared.state.Status.{Status}
-use Rattle.pass_proofs.specs.run_step.Results.{and_then}
-use Rattle.pass_proofs.specs.run_step.Step.{AtTerm, Context, Return, action_of, outcome_of}
-use Rattle.pass_proofs.specs.run_step.Values.{arg_value}
-use Rattle.pass_proofs.specs.run_step.declared.world.Slot.{Slot}
-use Rattle.pass_proofs.specs.run_step.declared.world.World.{World}
+use Rattle.pass_frames_steps.specs.pass_renewed_proof.Renewed.{RenewedGiven, renewed_step}
+use Rattle.pass_frames_steps.specs.run_framed.Framed.{frame_rights, framed_context, framed_step}
+use Rattle.pass_frames_steps.specs.run_laws.memory.Pointers.{Home, IsValue}
+use Rattle.pass_frames_steps.specs.run_memory.Memory.{Rights}
+use Rattle.pass_frames_steps.specs.run_memory.declared.pointer.Value.{Value}
+use Rattle.pass_frames_steps.specs.run_source.Source.{context_of, pop, returned}
+use Rattle.pass_frames_steps.specs.run_source.State.{or_undefined, work_of}
+use Rattle.pass_frames_steps.specs.run_source.declared.state.Activation.{Activation}
+use Rattle.pass_frames_steps.specs.run_source.declared.state.Instance.{Instance}
+use Rattle.pass_frames_steps.specs.run_source.declared.state.State.{State}
+use Rattle.pass_frames_steps.specs.run_source.declared.state.Status.{Status}
+use Rattle.pass_frames_steps.specs.run_step.Results.{and_then}
+use Rattle.pass_frames_steps.specs.run_step.Step.{AtTerm, Context, Return, action_of, outcome_of}
+use Rattle.pass_frames_steps.specs.run_step.Values.{arg_value}
+use Rattle.pass_frames_steps.specs.run_step.declared.world.Slot.{Slot}
+use Rattle.pass_frames_steps.specs.run_step.declared.world.World.{World}
 
 -- ---- a state that has another outcome
 

@@ -3,28 +3,28 @@ use Rattle.std.proofs.Common.{◌≡◌, ◌⊎◌, inl, inr, ⊎_elim, ℕ, Boo
 use Rattle.std.specs.List.{Contains}
 use Rattle.std.specs.Prelude.{None, Option, Some, map, option_map, slice_get, ◌&&◌, ◌||◌}
 use Rattle.std.proofs.lemmas.List.{map-append}
-use Rattle.pass_proofs.specs.flow_solver.Paths.{IsListed}
-use Rattle.pass_proofs.proofs.ir_laws.paths.edges.Lists.{different_both}
-use Rattle.pass_proofs.specs.ir_laws.paths.woven_rules.Pairs.{AreDifferent}
-use Rattle.pass_frames_proof.proofs.followed.Assembly.{other_instance}
+use Rattle.pass_frames_steps.specs.flow_solver.Paths.{IsListed}
+use Rattle.pass_frames_steps.proofs.ir_laws.paths.edges.Lists.{different_both}
+use Rattle.pass_frames_steps.specs.ir_laws.paths.woven_rules.Pairs.{AreDifferent}
+use Rattle.pass_frames_steps.proofs.followed.Assembly.{other_instance}
 use Rattle.pass_frames_proof.proofs.returning.Deaths.{slot_among}
-use Rattle.pass_frames_proof.proofs.stepping.Rest.{got, more_below, one_below as in_first, slot_block}
-use Rattle.pass_frames_proof.proofs.stepping.Stored.{muted_is}
-use Rattle.pass_frames_proof.specs.Places.{offsets}
-use Rattle.pass_frames_proof.specs.Related.{AreBelow, AreBuiltOf, AreInstances, Building, IsOwnSlot, IsSlotBy, is_coroutine, is_slot, slots_below}
-use Rattle.pass_frames_proof.specs.Returning.{HasOwnSlots, HasSlotKinds, HasSlotsListed, IsAmong, OwnsSlots, is_own_kind}
-use Rattle.pass_proofs.specs.addresses.rules.Addresses.{lies_in_frame}
-use Rattle.pass_proofs.specs.run_laws.embedded.Making.{whole_home}
-use Rattle.pass_proofs.specs.run_laws.memory.Pointers.{Home, home_of}
-use Rattle.pass_proofs.specs.run_laws.transfer.Muted.{ended_if, muted}
-use Rattle.pass_proofs.specs.run_memory.Memory.{is_killed, is_live, same_kind}
-use Rattle.pass_proofs.specs.run_memory.declared.block.Kind.{Kind}
-use Rattle.pass_proofs.specs.run_memory.declared.block.Life.{Life}
-use Rattle.pass_proofs.specs.run_memory.declared.block.MemoryBlock.{MemoryBlock}
-use Rattle.pass_proofs.specs.run_source.declared.state.Activation.{Activation}
-use Rattle.pass_proofs.specs.run_source.declared.state.Instance.{Instance}
-use Rattle.pass_proofs.specs.run_source.declared.state.State.{State}
-use Rattle.pass_proofs.specs.run_step.declared.world.Slot.{Slot}
+use Rattle.pass_frames_steps.proofs.stepping.Rest.{got, more_below, one_below as in_first, slot_block}
+use Rattle.pass_frames_steps.proofs.stepping.Stored.{muted_is}
+use Rattle.pass_frames_steps.specs.Places.{offsets}
+use Rattle.pass_frames_steps.specs.Related.{AreBelow, AreBuiltOf, AreInstances, Building, IsOwnSlot, IsSlotBy, is_coroutine, is_slot, slots_below}
+use Rattle.pass_frames_steps.specs.Returning.{HasOwnSlots, HasSlotKinds, HasSlotsListed, IsAmong, OwnsSlots, is_own_kind}
+use Rattle.pass_frames_steps.specs.pass_proofs.addresses.rules.Addresses.{lies_in_frame}
+use Rattle.pass_frames_steps.specs.run_laws.embedded.Making.{whole_home}
+use Rattle.pass_frames_steps.specs.run_laws.memory.Pointers.{Home, home_of}
+use Rattle.pass_frames_steps.specs.run_laws.transfer.Muted.{ended_if, muted}
+use Rattle.pass_frames_steps.specs.run_memory.Memory.{is_killed, is_live, same_kind}
+use Rattle.pass_frames_steps.specs.run_memory.declared.block.Kind.{Kind}
+use Rattle.pass_frames_steps.specs.run_memory.declared.block.Life.{Life}
+use Rattle.pass_frames_steps.specs.run_memory.declared.block.MemoryBlock.{MemoryBlock}
+use Rattle.pass_frames_steps.specs.run_source.declared.state.Activation.{Activation}
+use Rattle.pass_frames_steps.specs.run_source.declared.state.Instance.{Instance}
+use Rattle.pass_frames_steps.specs.run_source.declared.state.State.{State}
+use Rattle.pass_frames_steps.specs.run_step.declared.world.Slot.{Slot}
 
 first_block : (c : Activation) (cs : List Activation) (k : ℕ) → IsAmong k c.slots
     → IsListed k (map (λ (slot : Slot). slot.block) (slots_below (c ∷ cs)))

@@ -2,19 +2,19 @@
 use Rattle.std.proofs.Common.{◌≡◌, List, ◌∷◌, refl, sym, ◌∙◌, subst}
 use Rattle.std.proofs.lemmas.List.{map-append}
 use Rattle.std.specs.Prelude.{map}
-use Rattle.pass_proofs.specs.flow_solver.Paths.{IsListed}
-use Rattle.pass_proofs.proofs.ir_laws.paths.edges.Lists.{different_right}
-use Rattle.pass_proofs.specs.ir_laws.paths.woven_rules.Pairs.{AreDifferent}
+use Rattle.pass_frames_steps.specs.flow_solver.Paths.{IsListed}
+use Rattle.pass_frames_steps.proofs.ir_laws.paths.edges.Lists.{different_right}
+use Rattle.pass_frames_steps.specs.ir_laws.paths.woven_rules.Pairs.{AreDifferent}
 use Rattle.pass_frames_proof.proofs.returning.Turned.{activation_turned, ahead_turned, placed_at}
-use Rattle.pass_frames_proof.proofs.stepping.Rest.{LeavesRest, all_ahead_kept, below_kept, free_kept, instance_kept}
-use Rattle.pass_frames_proof.specs.Related.{AreAllAhead, AreBelow, AreBuiltOf, AreFreeCells, Building, all_slots, slots_below, top_place}
-use Rattle.pass_proofs.specs.run_framed.Framed.{frame_rights}
-use Rattle.pass_proofs.specs.run_laws.transfer.Transfer.{AreOver}
-use Rattle.pass_proofs.specs.run_memory.Memory.{owner_rights}
-use Rattle.pass_proofs.specs.run_source.declared.state.Activation.{Activation}
-use Rattle.pass_proofs.specs.run_source.declared.state.State.{State}
-use Rattle.pass_proofs.specs.run_step.declared.world.Slot.{Slot}
-use Rattle.pass_proofs.specs.run_step.declared.world.World.{World}
+use Rattle.pass_frames_steps.proofs.stepping.Rest.{LeavesRest, all_ahead_kept, below_kept, free_kept, instance_kept}
+use Rattle.pass_frames_steps.specs.Related.{AreAllAhead, AreBelow, AreBuiltOf, AreFreeCells, Building, all_slots, slots_below, top_place}
+use Rattle.pass_frames_steps.specs.run_framed.Framed.{frame_rights}
+use Rattle.pass_frames_steps.specs.run_laws.transfer.Transfer.{AreOver}
+use Rattle.pass_frames_steps.specs.run_memory.Memory.{owner_rights}
+use Rattle.pass_frames_steps.specs.run_source.declared.state.Activation.{Activation}
+use Rattle.pass_frames_steps.specs.run_source.declared.state.State.{State}
+use Rattle.pass_frames_steps.specs.run_step.declared.world.Slot.{Slot}
+use Rattle.pass_frames_steps.specs.run_step.declared.world.World.{World}
 
 module _ (b : Building) (s t : State) (r : AreBuiltOf b s t) (w u : World) (left : LeavesRest b s t r w u)
     (over : AreOver owner_rights (frame_rights b.given t.instances) r.homes r.hides (λ d. d) w u)

@@ -1,60 +1,60 @@
 -- The return of a coroutine's ramp is followed: what it returns is fetched at the end of its block.
 use Rattle.std.proofs.Common.{◌≡◌, ℕ, ◌+◌, ◌-◌, ◌<◌, ◌≤◌, Bool, List, ◌++◌, length, refl, sym, ap, ◌∙◌, subst, arith}
 use Rattle.std.specs.Prelude.{None, Option, Some, if◌then◌else◌}
-use Rattle.pass_proofs.specs.ir_base.declared.outcome.Outcome.{Outcome}
-use Rattle.pass_proofs.specs.ir_model.Names.{function_at}
-use Rattle.pass_proofs.specs.ir_model.declared.instr.Instr.{Instr}
-use Rattle.pass_proofs.specs.ir_model.declared.instr.Terminator.{Terminator}
-use Rattle.pass_proofs.specs.ir_model.declared.module.Function.{Function}
-use Rattle.pass_proofs.specs.ir_model.declared.operand.Arg.{Arg}
-use Rattle.pass_proofs.specs.ir_paths.declared.point.Point.{Point}
-use Rattle.pass_proofs.specs.pass_cells.Cells.{fetches_of}
-use Rattle.pass_proofs.specs.pass_fetch.Blocks.{end_at}
-use Rattle.pass_proofs.specs.pass_fetch.Fetching.{fetch_into, fetches_of_all, next_after_all}
-use Rattle.pass_proofs.specs.pass_fetch.Instrs.{fetched_return, fetched_term, term_operands}
-use Rattle.pass_proofs.specs.pass_fetch.declared.fetch.Fetch.{Fetch}
-use Rattle.pass_frames_proof.proofs.code.Left.{Far, far_named}
-use Rattle.pass_frames_proof.proofs.code.Names.{far_left}
+use Rattle.pass_frames_steps.specs.ir_base.declared.outcome.Outcome.{Outcome}
+use Rattle.pass_frames_steps.specs.ir_model.Names.{function_at}
+use Rattle.pass_frames_steps.specs.ir_model.declared.instr.Instr.{Instr}
+use Rattle.pass_frames_steps.specs.ir_model.declared.instr.Terminator.{Terminator}
+use Rattle.pass_frames_steps.specs.ir_model.declared.module.Function.{Function}
+use Rattle.pass_frames_steps.specs.ir_model.declared.operand.Arg.{Arg}
+use Rattle.pass_frames_steps.specs.ir_paths.declared.point.Point.{Point}
+use Rattle.pass_frames_steps.specs.pass_cells.Cells.{fetches_of}
+use Rattle.pass_frames_steps.specs.pass_fetch.Blocks.{end_at}
+use Rattle.pass_frames_steps.specs.pass_fetch.Fetching.{fetch_into, fetches_of_all, next_after_all}
+use Rattle.pass_frames_steps.specs.pass_fetch.Instrs.{fetched_return, fetched_term, term_operands}
+use Rattle.pass_frames_steps.specs.pass_fetch.declared.fetch.Fetch.{Fetch}
+use Rattle.pass_frames_steps.proofs.code.Left.{Far, far_named}
+use Rattle.pass_frames_steps.proofs.code.Names.{far_left}
 use Rattle.pass_frames_proof.proofs.jumping.Ends.{end_each, into_gives, into_still}
 use Rattle.pass_frames_proof.proofs.jumping.Goes.{one_at_end}
 use Rattle.pass_frames_proof.proofs.jumping.Places.{ends_there}
-use Rattle.pass_frames_proof.proofs.led.Steps.{still_through}
-use Rattle.pass_frames_proof.proofs.lined.Lines.{each_between, framed_does, line_leads}
-use Rattle.pass_frames_proof.proofs.phis.Rows.{ends as ends_run}
+use Rattle.pass_frames_steps.proofs.led.Steps.{still_through}
+use Rattle.pass_frames_steps.proofs.lined.Lines.{each_between, framed_does, line_leads}
+use Rattle.pass_frames_steps.proofs.phis.Rows.{ends as ends_run}
 use Rattle.pass_frames_proof.proofs.returning.Back.{GoesBack, goes_back}
 use Rattle.pass_frames_proof.proofs.returning.Returns.{returns_value}
-use Rattle.pass_frames_proof.proofs.stepping.Onward.{onward_followed}
+use Rattle.pass_frames_steps.proofs.stepping.Onward.{onward_followed}
 use Rattle.pass_frames_proof.proofs.jumping.Placed.{between_label}
-use Rattle.pass_frames_proof.proofs.stepping.Shown.{still_shown}
-use Rattle.pass_frames_proof.proofs.stepping.Stands.{cost_is, renewed_does, top_is}
-use Rattle.pass_frames_proof.specs.Code.{address_state, end_code, end_loads, end_term, last_state, load_name, slot_table}
-use Rattle.pass_frames_proof.specs.Distances.{IsBelow}
-use Rattle.pass_frames_proof.specs.Edges.{EndsInPlace}
-use Rattle.pass_frames_proof.specs.Fetched.{AreSeenAs}
-use Rattle.pass_frames_proof.specs.Followed.{IsFollowed, IsOn}
-use Rattle.pass_frames_proof.specs.Framings.{IsFraming}
-use Rattle.pass_frames_proof.specs.Jumps.{EndsAt, label_at}
-use Rattle.pass_frames_proof.specs.Led.{IsStill, IsTwiceFor, RunsThrough}
-use Rattle.pass_frames_proof.specs.Lined.{GivesNone, lined}
-use Rattle.pass_frames_proof.specs.Meaning.{action_at, coroutine_cost, other_cost, step_cost}
-use Rattle.pass_frames_proof.specs.Passes.{block_at, phi_ends}
-use Rattle.pass_frames_proof.specs.Places.{Framing, edged, framed, instrs_at, named, place, plan, unmarked}
-use Rattle.pass_frames_proof.specs.Related.{AreBuiltOf, Building, point_of}
-use Rattle.pass_frames_proof.specs.Returning.{IsAtReturn, MayReturn, OwnsSlots, given_value, value_of}
-use Rattle.pass_frames_proof.specs.Stepping.{AreGiven}
-use Rattle.pass_renewed_proof.specs.Renewed.{RenewedGiven, renewed_step}
-use Rattle.pass_proofs.specs.run_agreement.Machines.{iterate}
-use Rattle.pass_proofs.specs.run_framed.Framed.{framed_context, framed_step}
-use Rattle.pass_proofs.specs.run_laws.access.Lines.{Runs, StandAt}
-use Rattle.pass_proofs.specs.run_laws.changed.Changed.{Each}
-use Rattle.pass_proofs.specs.run_laws.memory.Pointers.{IsValue}
-use Rattle.pass_proofs.specs.run_memory.declared.pointer.Value.{Value}
-use Rattle.pass_proofs.specs.run_source.Source.{context_of}
-use Rattle.pass_proofs.specs.run_source.State.{function_of, or_undefined, work_of}
-use Rattle.pass_proofs.specs.run_source.declared.state.Activation.{Activation}
-use Rattle.pass_proofs.specs.run_source.declared.state.State.{State}
-use Rattle.pass_proofs.specs.run_step.Step.{AtTerm, Context, Return, Work, action_of, fetch}
-use Rattle.pass_proofs.specs.run_step.Values.{arg_value}
+use Rattle.pass_frames_steps.proofs.stepping.Shown.{still_shown}
+use Rattle.pass_frames_steps.proofs.stepping.Stands.{cost_is, renewed_does, top_is}
+use Rattle.pass_frames_steps.specs.Code.{address_state, end_code, end_loads, end_term, last_state, load_name, slot_table}
+use Rattle.pass_frames_steps.specs.Distances.{IsBelow}
+use Rattle.pass_frames_steps.specs.Edges.{EndsInPlace}
+use Rattle.pass_frames_steps.specs.Fetched.{AreSeenAs}
+use Rattle.pass_frames_steps.specs.Followed.{IsFollowed, IsOn}
+use Rattle.pass_frames_steps.specs.Framings.{IsFraming}
+use Rattle.pass_frames_steps.specs.Jumps.{EndsAt, label_at}
+use Rattle.pass_frames_steps.specs.Led.{IsStill, IsTwiceFor, RunsThrough}
+use Rattle.pass_frames_steps.specs.Lined.{GivesNone, lined}
+use Rattle.pass_frames_steps.specs.Meaning.{action_at, coroutine_cost, other_cost, step_cost}
+use Rattle.pass_frames_steps.specs.Passes.{block_at, phi_ends}
+use Rattle.pass_frames_steps.specs.Places.{Framing, edged, framed, instrs_at, named, place, plan, unmarked}
+use Rattle.pass_frames_steps.specs.Related.{AreBuiltOf, Building, point_of}
+use Rattle.pass_frames_steps.specs.Returning.{IsAtReturn, MayReturn, OwnsSlots, given_value, value_of}
+use Rattle.pass_frames_steps.specs.Stepping.{AreGiven}
+use Rattle.pass_frames_steps.specs.pass_renewed_proof.Renewed.{RenewedGiven, renewed_step}
+use Rattle.pass_frames_steps.specs.run_agreement.Machines.{iterate}
+use Rattle.pass_frames_steps.specs.run_framed.Framed.{framed_context, framed_step}
+use Rattle.pass_frames_steps.specs.run_laws.access.Lines.{Runs, StandAt}
+use Rattle.pass_frames_steps.specs.run_laws.changed.Changed.{Each}
+use Rattle.pass_frames_steps.specs.run_laws.memory.Pointers.{IsValue}
+use Rattle.pass_frames_steps.specs.run_memory.declared.pointer.Value.{Value}
+use Rattle.pass_frames_steps.specs.run_source.Source.{context_of}
+use Rattle.pass_frames_steps.specs.run_source.State.{function_of, or_undefined, work_of}
+use Rattle.pass_frames_steps.specs.run_source.declared.state.Activation.{Activation}
+use Rattle.pass_frames_steps.specs.run_source.declared.state.State.{State}
+use Rattle.pass_frames_steps.specs.run_step.Step.{AtTerm, Context, Return, Work, action_of, fetch}
+use Rattle.pass_frames_steps.specs.run_step.Values.{arg_value}
 
 module _ (b : Building) (g : RenewedGiven) (given : AreGiven b g) (s t : State) (r : AreBuiltOf b s t)
     (arg : Option Arg) (a : Activation) (more : List Activation) (h : IsAtReturn b g s arg a more)

@@ -1,24 +1,24 @@
 -- An activation, of a coroutine or not, is given the result of its call.
 use Rattle.std.proofs.Common.{◌≡◌, ℕ, suc, ◌+◌, ◌-◌, ◌<◌, Bool, true, false, List, length, refl, sym, ap, ◌∙◌, subst, arith}
 use Rattle.std.specs.Prelude.{None, Option, Some, if◌then◌else◌}
-use Rattle.pass_proofs.specs.ir_base.declared.outcome.Outcome.{Outcome}
-use Rattle.pass_proofs.specs.ir_paths.declared.point.Point.{Point}
-use Rattle.pass_proofs.specs.pass_cells.Written.{stored_result}
+use Rattle.pass_frames_steps.specs.ir_base.declared.outcome.Outcome.{Outcome}
+use Rattle.pass_frames_steps.specs.ir_paths.declared.point.Point.{Point}
+use Rattle.pass_frames_steps.specs.pass_cells.Written.{stored_result}
 use Rattle.pass_frames_proof.proofs.returning.Given.{cost, leads, own_at, related, shown}
-use Rattle.pass_frames_proof.proofs.stepping.Other.{AreStanding, memory_left, one_standing, related_left, stands}
-use Rattle.pass_frames_proof.specs.Followed.{IsOn}
-use Rattle.pass_frames_proof.specs.Meaning.{behind_at}
-use Rattle.pass_frames_proof.specs.Places.{Framing, own_place, place, plan}
-use Rattle.pass_frames_proof.specs.Related.{AreBuiltOf, Building, behind_place, below_place, is_coroutine, point_of}
-use Rattle.pass_frames_proof.specs.Returning.{FitsResult, GoesBehind, IsBehindCall, IsGivenBehind, behind_state}
-use Rattle.pass_frames_proof.specs.Stepping.{AreGiven, IsNotEntering}
-use Rattle.pass_renewed_proof.specs.Renewed.{RenewedGiven}
-use Rattle.pass_proofs.specs.run_agreement.Machines.{iterate}
-use Rattle.pass_proofs.specs.run_framed.Framed.{framed_step}
-use Rattle.pass_proofs.specs.run_laws.memory.Pointers.{Home, IsValue}
-use Rattle.pass_proofs.specs.run_memory.declared.pointer.Value.{Value}
-use Rattle.pass_proofs.specs.run_source.declared.state.State.{State}
-use Rattle.pass_proofs.specs.run_step.Values.{Env, with_result}
+use Rattle.pass_frames_steps.proofs.stepping.Other.{AreStanding, memory_left, one_standing, related_left, stands}
+use Rattle.pass_frames_steps.specs.Followed.{IsOn}
+use Rattle.pass_frames_steps.specs.Meaning.{behind_at}
+use Rattle.pass_frames_steps.specs.Places.{Framing, own_place, place, plan}
+use Rattle.pass_frames_steps.specs.Related.{AreBuiltOf, Building, behind_place, below_place, is_coroutine, point_of}
+use Rattle.pass_frames_steps.specs.Returning.{FitsResult, GoesBehind, IsBehindCall, IsGivenBehind, behind_state}
+use Rattle.pass_frames_steps.specs.Stepping.{AreGiven, IsNotEntering}
+use Rattle.pass_frames_steps.specs.pass_renewed_proof.Renewed.{RenewedGiven}
+use Rattle.pass_frames_steps.specs.run_agreement.Machines.{iterate}
+use Rattle.pass_frames_steps.specs.run_framed.Framed.{framed_step}
+use Rattle.pass_frames_steps.specs.run_laws.memory.Pointers.{Home, IsValue}
+use Rattle.pass_frames_steps.specs.run_memory.declared.pointer.Value.{Value}
+use Rattle.pass_frames_steps.specs.run_source.declared.state.State.{State}
+use Rattle.pass_frames_steps.specs.run_step.Values.{Env, with_result}
 
 result_standing : (homes : List Home) (env other : Env) (o : Option ℕ) (v u : Value) → AreStanding homes env other
     → IsValue homes v u → AreStanding homes (with_result env o v) (with_result other o u)

@@ -1,29 +1,29 @@
 -- Returns to an activation below are followed.
 use Rattle.std.proofs.Common.{◌≡◌, ℕ, ◌+◌, ◌<◌, Bool, false, List, refl, ap, ◌∙◌, arith}
 use Rattle.std.specs.Prelude.{None, Option, Some, if◌then◌else◌}
-use Rattle.pass_proofs.specs.ir_base.declared.outcome.Outcome.{Outcome}
-use Rattle.pass_proofs.specs.ir_model.declared.instr.Terminator.{Terminator}
-use Rattle.pass_proofs.specs.ir_model.declared.operand.Arg.{Arg}
-use Rattle.pass_frames_proof.proofs.followed.Assembly.{shown_alike}
-use Rattle.pass_frames_proof.proofs.lined.Lines.{framed_does}
+use Rattle.pass_frames_steps.specs.ir_base.declared.outcome.Outcome.{Outcome}
+use Rattle.pass_frames_steps.specs.ir_model.declared.instr.Terminator.{Terminator}
+use Rattle.pass_frames_steps.specs.ir_model.declared.operand.Arg.{Arg}
+use Rattle.pass_frames_steps.proofs.followed.Assembly.{shown_alike}
+use Rattle.pass_frames_steps.proofs.lined.Lines.{framed_does}
 use Rattle.pass_frames_proof.proofs.returning.Back.{GoesBack, goes_back}
-use Rattle.pass_frames_proof.proofs.stepping.Onward.{onward_followed}
-use Rattle.pass_frames_proof.proofs.stepping.Other.{fetched_there, operand_stands}
-use Rattle.pass_frames_proof.proofs.stepping.Stands.{cost_is, renewed_does}
-use Rattle.pass_frames_proof.specs.Followed.{IsFollowed}
-use Rattle.pass_frames_proof.specs.Meaning.{action_at, coroutine_cost, other_cost, step_cost}
-use Rattle.pass_frames_proof.specs.Related.{AreBuiltOf, Building, is_coroutine}
-use Rattle.pass_frames_proof.specs.Returning.{IsAtReturn, OwnsSlots, given_value, value_of}
-use Rattle.pass_frames_proof.specs.Stepping.{AreGiven}
-use Rattle.pass_renewed_proof.specs.Renewed.{RenewedGiven, renewed_step}
-use Rattle.pass_proofs.specs.run_framed.Framed.{framed_context, framed_step}
-use Rattle.pass_proofs.specs.run_laws.memory.Pointers.{IsValue}
-use Rattle.pass_proofs.specs.run_memory.declared.pointer.Value.{Value}
-use Rattle.pass_proofs.specs.run_source.Source.{context_of}
-use Rattle.pass_proofs.specs.run_source.State.{or_undefined, work_of}
-use Rattle.pass_proofs.specs.run_source.declared.state.Activation.{Activation}
-use Rattle.pass_proofs.specs.run_source.declared.state.State.{State}
-use Rattle.pass_proofs.specs.run_step.Step.{AtTerm, Context, Return, Work, action_of, term_action}
+use Rattle.pass_frames_steps.proofs.stepping.Onward.{onward_followed}
+use Rattle.pass_frames_steps.proofs.stepping.Other.{fetched_there, operand_stands}
+use Rattle.pass_frames_steps.proofs.stepping.Stands.{cost_is, renewed_does}
+use Rattle.pass_frames_steps.specs.Followed.{IsFollowed}
+use Rattle.pass_frames_steps.specs.Meaning.{action_at, coroutine_cost, other_cost, step_cost}
+use Rattle.pass_frames_steps.specs.Related.{AreBuiltOf, Building, is_coroutine}
+use Rattle.pass_frames_steps.specs.Returning.{IsAtReturn, OwnsSlots, given_value, value_of}
+use Rattle.pass_frames_steps.specs.Stepping.{AreGiven}
+use Rattle.pass_frames_steps.specs.pass_renewed_proof.Renewed.{RenewedGiven, renewed_step}
+use Rattle.pass_frames_steps.specs.run_framed.Framed.{framed_context, framed_step}
+use Rattle.pass_frames_steps.specs.run_laws.memory.Pointers.{IsValue}
+use Rattle.pass_frames_steps.specs.run_memory.declared.pointer.Value.{Value}
+use Rattle.pass_frames_steps.specs.run_source.Source.{context_of}
+use Rattle.pass_frames_steps.specs.run_source.State.{or_undefined, work_of}
+use Rattle.pass_frames_steps.specs.run_source.declared.state.Activation.{Activation}
+use Rattle.pass_frames_steps.specs.run_source.declared.state.State.{State}
+use Rattle.pass_frames_steps.specs.run_step.Step.{AtTerm, Context, Return, Work, action_of, term_action}
 
 -- what a return does
 pub returns_value : (c : Context) (y : Work) (arg : Option Arg)

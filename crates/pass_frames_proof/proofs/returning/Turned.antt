@@ -1,22 +1,22 @@
 -- An activation that stands at another place, or differs in nothing but what no value depends on, is related as it was.
 use Rattle.std.proofs.Common.{◌≡◌, ℕ, Bool, true, false, List, ap, refl}
 use Rattle.std.specs.Prelude.{None, Option, Some, ◌&&◌}
-use Rattle.pass_proofs.specs.ir_model.Ty.{Ty, int, ptr}
-use Rattle.pass_proofs.specs.ir_paths.declared.point.Point.{Point}
-use Rattle.pass_frames_proof.proofs.stepping.After.{cell_turned, cells_turned, wheres_turned}
-use Rattle.pass_frames_proof.specs.Places.{Framing, offsets}
-use Rattle.pass_frames_proof.specs.Related.{Anything, AreActivations, AreAhead, AreCoroutines, AreMade, AreCellsThere, AreWheresThere, Building, HasCells, HasValues, IsAhead, IsSlotBy, instance_in, is_coroutine, returned_from}
-use Rattle.pass_proofs.specs.addresses.rules.Addresses.{lies_in_frame}
-use Rattle.pass_proofs.specs.run_framed.Framed.{frame_rights}
-use Rattle.pass_proofs.specs.run_laws.memory.Pointers.{Home}
-use Rattle.pass_proofs.specs.run_memory.Memory.{Rights}
-use Rattle.pass_proofs.specs.run_memory.declared.block.MemoryBlock.{MemoryBlock}
-use Rattle.pass_proofs.specs.run_source.declared.state.Activation.{Activation}
-use Rattle.pass_proofs.specs.run_source.declared.state.Instance.{Instance}
-use Rattle.pass_proofs.specs.run_source.declared.state.Mode.{Mode}
-use Rattle.pass_proofs.specs.run_source.declared.state.State.{State}
-use Rattle.pass_proofs.specs.run_step.Values.{Env, value_in}
-use Rattle.pass_proofs.specs.run_step.declared.world.Slot.{Slot}
+use Rattle.pass_frames_steps.specs.ir_model.Ty.{Ty, int, ptr}
+use Rattle.pass_frames_steps.specs.ir_paths.declared.point.Point.{Point}
+use Rattle.pass_frames_steps.proofs.stepping.After.{cell_turned, cells_turned, wheres_turned}
+use Rattle.pass_frames_steps.specs.Places.{Framing, offsets}
+use Rattle.pass_frames_steps.specs.Related.{Anything, AreActivations, AreAhead, AreCoroutines, AreMade, AreCellsThere, AreWheresThere, Building, HasCells, HasValues, IsAhead, IsSlotBy, instance_in, is_coroutine, returned_from}
+use Rattle.pass_frames_steps.specs.pass_proofs.addresses.rules.Addresses.{lies_in_frame}
+use Rattle.pass_frames_steps.specs.run_framed.Framed.{frame_rights}
+use Rattle.pass_frames_steps.specs.run_laws.memory.Pointers.{Home}
+use Rattle.pass_frames_steps.specs.run_memory.Memory.{Rights}
+use Rattle.pass_frames_steps.specs.run_memory.declared.block.MemoryBlock.{MemoryBlock}
+use Rattle.pass_frames_steps.specs.run_source.declared.state.Activation.{Activation}
+use Rattle.pass_frames_steps.specs.run_source.declared.state.Instance.{Instance}
+use Rattle.pass_frames_steps.specs.run_source.declared.state.Mode.{Mode}
+use Rattle.pass_frames_steps.specs.run_source.declared.state.State.{State}
+use Rattle.pass_frames_steps.specs.run_step.Values.{Env, value_in}
+use Rattle.pass_frames_steps.specs.run_step.declared.world.Slot.{Slot}
 
 -- the activation at a place
 abbrev pub placed_at : Activation → Point → Activation

@@ -2,61 +2,61 @@
 -- front of the call.
 use Rattle.std.proofs.Common.{◌≡◌, ◌+◌, ◌-◌, ◌<◌, ◌∙◌, if◌then◌else◌, Bool, List, Ok, Option, Result, ap, arith, false, length, not, refl, subst, suc, sym, true, ℕ}
 use Rattle.std.specs.List.{Contains}
-use Rattle.pass_proofs.specs.ir_base.declared.cause.Cause.{Cause}
-use Rattle.pass_proofs.specs.ir_base.declared.outcome.Outcome.{Outcome}
-use Rattle.pass_proofs.specs.ir_model.Names.{function_at}
-use Rattle.pass_proofs.specs.ir_model.declared.instr.Instr.{Instr}
-use Rattle.pass_proofs.specs.ir_model.declared.module.Function.{Function}
-use Rattle.pass_proofs.specs.ir_model.declared.operand.Arg.{Arg}
-use Rattle.pass_proofs.specs.ir_model.declared.operand.Callee.{Callee}
-use Rattle.pass_proofs.specs.ir_model.declared.operand.Intrinsic.{Intrinsic}
-use Rattle.pass_proofs.specs.ir_paths.Windows.{destroy_label, resume_label}
-use Rattle.pass_proofs.specs.ir_paths.declared.point.Point.{Point}
-use Rattle.pass_proofs.specs.pass_cells.Cells.{fetches_of}
-use Rattle.pass_proofs.specs.pass_fetch.Fetching.{fetched_args}
-use Rattle.pass_frames_proof.proofs.asking.Finals.{final_same}
-use Rattle.pass_frames_proof.proofs.asking.Found.{sleeper_found}
-use Rattle.pass_frames_proof.proofs.asking.Others.{nth_stands}
+use Rattle.pass_frames_steps.specs.ir_base.declared.cause.Cause.{Cause}
+use Rattle.pass_frames_steps.specs.ir_base.declared.outcome.Outcome.{Outcome}
+use Rattle.pass_frames_steps.specs.ir_model.Names.{function_at}
+use Rattle.pass_frames_steps.specs.ir_model.declared.instr.Instr.{Instr}
+use Rattle.pass_frames_steps.specs.ir_model.declared.module.Function.{Function}
+use Rattle.pass_frames_steps.specs.ir_model.declared.operand.Arg.{Arg}
+use Rattle.pass_frames_steps.specs.ir_model.declared.operand.Callee.{Callee}
+use Rattle.pass_frames_steps.specs.ir_model.declared.operand.Intrinsic.{Intrinsic}
+use Rattle.pass_frames_steps.specs.ir_paths.Windows.{destroy_label, resume_label}
+use Rattle.pass_frames_steps.specs.ir_paths.declared.point.Point.{Point}
+use Rattle.pass_frames_steps.specs.pass_cells.Cells.{fetches_of}
+use Rattle.pass_frames_steps.specs.pass_fetch.Fetching.{fetched_args}
+use Rattle.pass_frames_steps.proofs.asking.Finals.{final_same}
+use Rattle.pass_frames_steps.proofs.asking.Found.{sleeper_found}
+use Rattle.pass_frames_steps.proofs.asking.Others.{nth_stands}
 use Rattle.pass_frames_proof.proofs.calling.Passed.{passed_on}
-use Rattle.pass_frames_proof.proofs.followed.Assembly.{shown_alike}
-use Rattle.pass_frames_proof.proofs.here.Intrinsics.{call_args, pair_stands}
-use Rattle.pass_frames_proof.proofs.lined.Lines.{framed_does}
+use Rattle.pass_frames_steps.proofs.followed.Assembly.{shown_alike}
+use Rattle.pass_frames_steps.proofs.here.Intrinsics.{call_args, pair_stands}
+use Rattle.pass_frames_steps.proofs.lined.Lines.{framed_does}
 use Rattle.pass_frames_proof.proofs.returning.Behind.{CallStands, call_stands}
 use Rattle.pass_frames_proof.proofs.returning.Turned.{placed_at}
-use Rattle.pass_frames_proof.proofs.stepping.Doing.{at_place, code_framed, fetched_is}
-use Rattle.pass_frames_proof.proofs.stepping.Fronted as fronted
-use Rattle.pass_frames_proof.proofs.stepping.Other.{fetched_there, here_is}
-use Rattle.pass_frames_proof.proofs.stepping.Stands.{cost_is, renewed_does}
+use Rattle.pass_frames_steps.proofs.stepping.Doing.{at_place, code_framed, fetched_is}
+use Rattle.pass_frames_steps.proofs.stepping.Fronted as fronted
+use Rattle.pass_frames_steps.proofs.stepping.Other.{fetched_there, here_is}
+use Rattle.pass_frames_steps.proofs.stepping.Stands.{cost_is, renewed_does}
 use Rattle.pass_frames_proof.proofs.waking.Entered.{entered_followed}
 use Rattle.pass_frames_proof.proofs.waking.Labels.{labels_same}
 use Rattle.pass_frames_proof.proofs.waking.Woken.{woken_followed}
-use Rattle.pass_frames_proof.specs.Asking.{IsSleeperBeside}
-use Rattle.pass_frames_proof.specs.Code.{address_state, load_name, slot_table}
-use Rattle.pass_frames_proof.specs.Followed.{IsFollowed, IsOn}
-use Rattle.pass_frames_proof.specs.Framings.{IsFraming}
-use Rattle.pass_frames_proof.specs.Meaning.{action_at, coroutine_cost, other_cost, own_cost, sleeper_by, step_cost, woken_cost}
-use Rattle.pass_frames_proof.specs.Places.{Framing, Placed, edged, framed, is_return, own_place, place, plan}
-use Rattle.pass_frames_proof.specs.Related.{AreBuiltOf, Building, all_slots, behind_place, below_place, is_coroutine, point_of}
-use Rattle.pass_frames_proof.specs.Returning.{SwitchesTo}
-use Rattle.pass_frames_proof.specs.Stepping.{AreGiven, IsNotEntering, placed_front, placed_instr, state_in}
-use Rattle.pass_frames_proof.specs.Waking.{AreWoken, HasFirstAnew, HasNoneAnew, IsAtOwnWaking, IsAtWaking, IsSleeping, IsUnfinal, IsWaking, wake_call}
-use Rattle.pass_proofs.specs.pass_kept_proof.Kept.{kept}
-use Rattle.pass_renewed_proof.specs.Renewed.{RenewedGiven, continue_renewed, renewed_step}
-use Rattle.pass_proofs.specs.run_agreement.Machines.{iterate}
-use Rattle.pass_proofs.specs.run_framed.Framed.{continue_framed, framed_context, framed_step}
-use Rattle.pass_proofs.specs.run_laws.memory.Pointers.{Home, IsValue}
-use Rattle.pass_proofs.specs.run_laws.transfer.Transfer.{StandsFor}
-use Rattle.pass_proofs.specs.run_memory.declared.block.MemoryBlock.{MemoryBlock}
-use Rattle.pass_proofs.specs.run_memory.declared.pointer.Value.{Value}
-use Rattle.pass_proofs.specs.run_source.Source.{Sleeper, context_of, sleeper_at}
-use Rattle.pass_proofs.specs.run_source.State.{function_of, or_undefined, work_of}
-use Rattle.pass_proofs.specs.run_source.declared.state.State.{State}
-use Rattle.pass_proofs.specs.run_source_tables.Given.{is_final}
-use Rattle.pass_proofs.specs.run_step.Results.{and_then, ok_if}
-use Rattle.pass_proofs.specs.run_step.Step.{AtInstr, Context, Coro, Work, action_of, fetch, intrinsic_call}
-use Rattle.pass_proofs.specs.run_step.Values.{arg_values, nth}
-use Rattle.pass_proofs.specs.run_step.declared.world.Slot.{Slot}
-use Rattle.pass_proofs.specs.run_step.declared.world.World.{World}
+use Rattle.pass_frames_steps.specs.Asking.{IsSleeperBeside}
+use Rattle.pass_frames_steps.specs.Code.{address_state, load_name, slot_table}
+use Rattle.pass_frames_steps.specs.Followed.{IsFollowed, IsOn}
+use Rattle.pass_frames_steps.specs.Framings.{IsFraming}
+use Rattle.pass_frames_steps.specs.Meaning.{action_at, coroutine_cost, other_cost, own_cost, sleeper_by, step_cost, woken_cost}
+use Rattle.pass_frames_steps.specs.Places.{Framing, Placed, edged, framed, is_return, own_place, place, plan}
+use Rattle.pass_frames_steps.specs.Related.{AreBuiltOf, Building, all_slots, behind_place, below_place, is_coroutine, point_of}
+use Rattle.pass_frames_steps.specs.Returning.{SwitchesTo}
+use Rattle.pass_frames_steps.specs.Stepping.{AreGiven, IsNotEntering, placed_front, placed_instr, state_in}
+use Rattle.pass_frames_steps.specs.Waking.{AreWoken, HasFirstAnew, HasNoneAnew, IsAtOwnWaking, IsAtWaking, IsSleeping, IsUnfinal, IsWaking, wake_call}
+use Rattle.pass_frames_steps.specs.pass_kept_proof.Kept.{kept}
+use Rattle.pass_frames_steps.specs.pass_renewed_proof.Renewed.{RenewedGiven, continue_renewed, renewed_step}
+use Rattle.pass_frames_steps.specs.run_agreement.Machines.{iterate}
+use Rattle.pass_frames_steps.specs.run_framed.Framed.{continue_framed, framed_context, framed_step}
+use Rattle.pass_frames_steps.specs.run_laws.memory.Pointers.{Home, IsValue}
+use Rattle.pass_frames_steps.specs.run_laws.transfer.Transfer.{StandsFor}
+use Rattle.pass_frames_steps.specs.run_memory.declared.block.MemoryBlock.{MemoryBlock}
+use Rattle.pass_frames_steps.specs.run_memory.declared.pointer.Value.{Value}
+use Rattle.pass_frames_steps.specs.run_source.Source.{Sleeper, context_of, sleeper_at}
+use Rattle.pass_frames_steps.specs.run_source.State.{function_of, or_undefined, work_of}
+use Rattle.pass_frames_steps.specs.run_source.declared.state.State.{State}
+use Rattle.pass_frames_steps.specs.run_source_tables.Given.{is_final}
+use Rattle.pass_frames_steps.specs.run_step.Results.{and_then, ok_if}
+use Rattle.pass_frames_steps.specs.run_step.Step.{AtInstr, Context, Coro, Work, action_of, fetch, intrinsic_call}
+use Rattle.pass_frames_steps.specs.run_step.Values.{arg_values, nth}
+use Rattle.pass_frames_steps.specs.run_step.declared.world.Slot.{Slot}
+use Rattle.pass_frames_steps.specs.run_step.declared.world.World.{World}
 
 -- ---- what resumes and destroys have in common
 

@@ -3,75 +3,75 @@ use Rattle.std.proofs.Common.{◌≡◌, ◌+◌, ◌-◌, ◌<◌, ◌≤◌, �
 use Rattle.std.proofs.lemmas.List.{length-replicate}
 use Rattle.std.specs.List.{Contains}
 use Rattle.std.specs.Prelude.{option_map, slice_get, slice_set}
-use Rattle.pass_proofs.proofs.ir_laws.facts.Lists.{get_within, set_here, set_length}
-use Rattle.pass_proofs.specs.ir_model.Layout.{size_of}
-use Rattle.pass_proofs.specs.ir_model.Names.{function_at, position_of}
-use Rattle.pass_proofs.specs.ir_model.Ty.{Ty, int, ptr}
-use Rattle.pass_proofs.specs.ir_model.declared.instr.Instr.{Instr}
-use Rattle.pass_proofs.specs.ir_model.declared.module.Function.{Function}
-use Rattle.pass_proofs.specs.ir_model.declared.module.Module.{Module}
-use Rattle.pass_proofs.specs.ir_paths.declared.point.Point.{Point}
-use Rattle.pass_proofs.specs.pass_cells.Kept.{entry}
-use Rattle.pass_proofs.specs.pass_cells.declared.plan.KeptValue.{KeptValue}
-use Rattle.pass_proofs.specs.pass_fetch.Fetching.{value_bytes}
-use Rattle.pass_proofs.specs.pass_frames.Framed.{begin_of}
-use Rattle.pass_frames_proof.proofs.distances.Sums.{value_set}
+use Rattle.pass_frames_steps.proofs.ir_laws.facts.Lists.{get_within, set_here, set_length}
+use Rattle.pass_frames_steps.specs.ir_model.Layout.{size_of}
+use Rattle.pass_frames_steps.specs.ir_model.Names.{function_at, position_of}
+use Rattle.pass_frames_steps.specs.ir_model.Ty.{Ty, int, ptr}
+use Rattle.pass_frames_steps.specs.ir_model.declared.instr.Instr.{Instr}
+use Rattle.pass_frames_steps.specs.ir_model.declared.module.Function.{Function}
+use Rattle.pass_frames_steps.specs.ir_model.declared.module.Module.{Module}
+use Rattle.pass_frames_steps.specs.ir_paths.declared.point.Point.{Point}
+use Rattle.pass_frames_steps.specs.pass_cells.Kept.{entry}
+use Rattle.pass_frames_steps.specs.pass_cells.declared.plan.KeptValue.{KeptValue}
+use Rattle.pass_frames_steps.specs.pass_fetch.Fetching.{value_bytes}
+use Rattle.pass_frames_steps.specs.pass_frames.Framed.{begin_of}
+use Rattle.pass_frames_steps.proofs.distances.Sums.{value_set}
 use Rattle.pass_frames_proof.proofs.entering.Allocas.{alloca_there, to_the_last, up_to_next}
 use Rattle.pass_frames_proof.proofs.entering.Behind.{AreBehind, are_behind}
 use Rattle.pass_frames_proof.proofs.entering.Edge.{edge_is, edge_too, no_phis, no_phis_too}
 use Rattle.pass_frames_proof.proofs.entering.Into.{enters, last_behind}
 use Rattle.pass_frames_proof.proofs.entering.Stand.{all_counted, entry_stands, none_left}
-use Rattle.pass_frames_proof.proofs.followed.Assembly.{events_same}
+use Rattle.pass_frames_steps.proofs.followed.Assembly.{events_same}
 use Rattle.pass_frames_proof.proofs.ramps.Plain.{entry_there}
-use Rattle.pass_frames_proof.proofs.moved.Rest.{activation_on, ahead_on, below_on, free_on}
-use Rattle.pass_frames_proof.proofs.saving.Sets.{set_instances, set_places}
-use Rattle.pass_frames_proof.proofs.stepping.Rest.{got}
-use Rattle.pass_frames_proof.proofs.stepping.Stands.{top_is, values_of}
+use Rattle.pass_frames_steps.proofs.moved.Rest.{activation_on, ahead_on, below_on, free_on}
+use Rattle.pass_frames_steps.proofs.saving.Sets.{set_instances, set_places}
+use Rattle.pass_frames_steps.proofs.stepping.Rest.{got}
+use Rattle.pass_frames_steps.proofs.stepping.Stands.{top_is, values_of}
 use Rattle.pass_frames_proof.proofs.waking.Grown.{free_new, instance_grown, mates_grown, moves_grown, over_grown, right_grown, seen_there}
 use Rattle.pass_frames_proof.proofs.waking.Restated.{activation_same, below_same, instance_same}
-use Rattle.pass_frames_proof.specs.Entering.{IsGoodAlloca, IsMaking, behind_allocas, front_allocas, made_blocks}
-use Rattle.pass_frames_proof.specs.Followed.{IsFollowed, IsOn}
-use Rattle.pass_frames_proof.specs.Framings.{IsFraming}
-use Rattle.pass_frames_proof.specs.Meaning.{step_cost}
-use Rattle.pass_frames_proof.specs.Moved.{IsSamePlace}
-use Rattle.pass_frames_proof.specs.Passes.{block_at}
-use Rattle.pass_frames_proof.specs.Places.{Framing, edged, framed, own_place, plan}
-use Rattle.pass_frames_proof.specs.Related.{Anything, AreActivations, AreAllAhead, AreBuiltOf, AreCellsThere, AreFieldsRight, AreInstances, AreNamed, AreWheresThere, Building, HasCells, IsCell, IsFreeOf, IsKeptAs, IsKeptValue, IsStatus, below_place, instance_in, is_coroutine, returned_from, slots_below, top_place}
-use Rattle.pass_frames_proof.specs.Stepping.{AreGiven}
-use Rattle.pass_frames_proof.specs.Waking.{AreWoken, HasNoneAnew, IsCellMade, IsSleeping, framed_start}
-use Rattle.pass_proofs.specs.pass_kept_proof.Kept.{kept}
-use Rattle.pass_renewed_proof.specs.Renewed.{RenewedGiven, renew_after, renewed_step, renewed_value, renewed_values}
-use Rattle.run_access_worked.proofs.Ended.{set_frames}
-use Rattle.run_access_worked.specs.Frames.{IsSameFrame}
-use Rattle.pass_proofs.specs.run_agreement.Machines.{iterate}
-use Rattle.pass_proofs.specs.run_framed.Framed.{alloca_from, begin_name, enter_after, frame_rights, framed_step, reentry_values}
-use Rattle.pass_proofs.specs.run_laws.access.Lines.{Holds, StandAt}
-use Rattle.pass_proofs.specs.run_laws.changed.Changed.{Each}
-use Rattle.pass_proofs.specs.run_laws.memory.Pointers.{Home, IsValue, home_of}
-use Rattle.pass_proofs.specs.run_memory.Memory.{Rights, decode}
-use Rattle.pass_proofs.specs.run_memory.Pointers.{moved, offset_of}
-use Rattle.pass_proofs.specs.run_memory.declared.block.MemoryBlock.{MemoryBlock}
-use Rattle.pass_proofs.specs.run_memory.declared.pointer.Pointer.{Pointer}
-use Rattle.pass_proofs.specs.run_memory.declared.pointer.Value.{Value}
-use Rattle.pass_proofs.specs.run_source.Source.{enter_block, push, resumed}
-use Rattle.pass_proofs.specs.run_source.State.{address_in, frame_address_of, function_of, with_status}
-use Rattle.pass_proofs.specs.run_source.declared.state.Activation.{Activation}
-use Rattle.pass_proofs.specs.run_source.declared.state.Instance.{Instance}
-use Rattle.pass_proofs.specs.run_source.declared.state.Mode.{Mode}
-use Rattle.pass_proofs.specs.run_source.declared.state.State.{State}
-use Rattle.pass_proofs.specs.run_source.declared.state.Status.{Status}
-use Rattle.pass_proofs.specs.run_step.Step.{AtInstr, fetch, has_markers, label_of, values_in}
-use Rattle.pass_proofs.specs.run_step.Values.{Env, access_of, value_in, with_result}
-use Rattle.pass_proofs.specs.run_step.declared.world.Slot.{Slot}
-use Rattle.pass_proofs.specs.run_step.declared.world.World.{World}
-use Rattle.pass_proofs.proofs.run_laws.transfer.Sets.{set_length as value_length}
-use Rattle.run_access_worked.proofs.Ended.{rights_same as frames_same, set_frames}
+use Rattle.pass_frames_steps.specs.Entering.{IsGoodAlloca, IsMaking, behind_allocas, front_allocas, made_blocks}
+use Rattle.pass_frames_steps.specs.Followed.{IsFollowed, IsOn}
+use Rattle.pass_frames_steps.specs.Framings.{IsFraming}
+use Rattle.pass_frames_steps.specs.Meaning.{step_cost}
+use Rattle.pass_frames_steps.specs.Moved.{IsSamePlace}
+use Rattle.pass_frames_steps.specs.Passes.{block_at}
+use Rattle.pass_frames_steps.specs.Places.{Framing, edged, framed, own_place, plan}
+use Rattle.pass_frames_steps.specs.Related.{Anything, AreActivations, AreAllAhead, AreBuiltOf, AreCellsThere, AreFieldsRight, AreInstances, AreNamed, AreWheresThere, Building, HasCells, IsCell, IsFreeOf, IsKeptAs, IsKeptValue, IsStatus, below_place, instance_in, is_coroutine, returned_from, slots_below, top_place}
+use Rattle.pass_frames_steps.specs.Stepping.{AreGiven}
+use Rattle.pass_frames_steps.specs.Waking.{AreWoken, HasNoneAnew, IsCellMade, IsSleeping, framed_start}
+use Rattle.pass_frames_steps.specs.pass_kept_proof.Kept.{kept}
+use Rattle.pass_frames_steps.specs.pass_renewed_proof.Renewed.{RenewedGiven, renew_after, renewed_step, renewed_value, renewed_values}
+use Rattle.pass_frames_steps.proofs.run_access_worked.Ended.{set_frames}
+use Rattle.pass_frames_steps.specs.run_access_worked.Frames.{IsSameFrame}
+use Rattle.pass_frames_steps.specs.run_agreement.Machines.{iterate}
+use Rattle.pass_frames_steps.specs.run_framed.Framed.{alloca_from, begin_name, enter_after, frame_rights, framed_step, reentry_values}
+use Rattle.pass_frames_steps.specs.run_laws.access.Lines.{Holds, StandAt}
+use Rattle.pass_frames_steps.specs.run_laws.changed.Changed.{Each}
+use Rattle.pass_frames_steps.specs.run_laws.memory.Pointers.{Home, IsValue, home_of}
+use Rattle.pass_frames_steps.specs.run_memory.Memory.{Rights, decode}
+use Rattle.pass_frames_steps.specs.run_memory.Pointers.{moved, offset_of}
+use Rattle.pass_frames_steps.specs.run_memory.declared.block.MemoryBlock.{MemoryBlock}
+use Rattle.pass_frames_steps.specs.run_memory.declared.pointer.Pointer.{Pointer}
+use Rattle.pass_frames_steps.specs.run_memory.declared.pointer.Value.{Value}
+use Rattle.pass_frames_steps.specs.run_source.Source.{enter_block, push, resumed}
+use Rattle.pass_frames_steps.specs.run_source.State.{address_in, frame_address_of, function_of, with_status}
+use Rattle.pass_frames_steps.specs.run_source.declared.state.Activation.{Activation}
+use Rattle.pass_frames_steps.specs.run_source.declared.state.Instance.{Instance}
+use Rattle.pass_frames_steps.specs.run_source.declared.state.Mode.{Mode}
+use Rattle.pass_frames_steps.specs.run_source.declared.state.State.{State}
+use Rattle.pass_frames_steps.specs.run_source.declared.state.Status.{Status}
+use Rattle.pass_frames_steps.specs.run_step.Step.{AtInstr, fetch, has_markers, label_of, values_in}
+use Rattle.pass_frames_steps.specs.run_step.Values.{Env, access_of, value_in, with_result}
+use Rattle.pass_frames_steps.specs.run_step.declared.world.Slot.{Slot}
+use Rattle.pass_frames_steps.specs.run_step.declared.world.World.{World}
+use Rattle.pass_frames_steps.proofs.run_laws.transfer.Sets.{set_length as value_length}
+use Rattle.pass_frames_steps.proofs.run_access_worked.Ended.{rights_same as frames_same, set_frames}
 use Rattle.pass_frames_proof.proofs.entering.Cells.{cells_made}
-use Rattle.pass_frames_proof.specs.Places.{place_by as place_by_flag}
+use Rattle.pass_frames_steps.specs.Places.{place_by as place_by_flag}
 use Rattle.pass_frames_proof.proofs.calling.Passed.{ahead_passed, caller_passed, passed_on}
 use Rattle.pass_frames_proof.proofs.returning.Turned.{placed_at}
-use Rattle.pass_frames_proof.proofs.stepping.Onward.{EndsUp, onward_followed}
-use Rattle.pass_frames_proof.specs.Costs.{allocas_before, resume_cost}
+use Rattle.pass_frames_steps.proofs.stepping.Onward.{EndsUp, onward_followed}
+use Rattle.pass_frames_steps.specs.Costs.{allocas_before, resume_cost}
 
 module _ (b : Building) (g : RenewedGiven) (given : AreGiven b g) (s t0 : State) (label : ℕ)
     (z : IsSleeping b g s label) (k : AreWoken b g s t0 label z)

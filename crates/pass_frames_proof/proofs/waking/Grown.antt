@@ -1,31 +1,31 @@
 -- The framed run makes blocks of its own, and one of its instances has another status: the rest stays related.
 use Rattle.std.proofs.Common.{◌≡◌, ◌<◌, ◌≤◌, ◌∷◌, ◌++◌, List, Option, arith, length, refl, subst, sym, true, ℕ, ⊎_elim}
-use Rattle.pass_proofs.proofs.ir_laws.facts.Lists.{get_before, get_within}
-use Rattle.pass_frames_proof.proofs.moved.Rest.{instance_on}
-use Rattle.pass_frames_proof.proofs.stepping.Rest.{got, seen_known}
-use Rattle.pass_frames_proof.proofs.stepping.Same.{fields_kept}
-use Rattle.pass_frames_proof.specs.Framings.{IsFraming}
-use Rattle.pass_frames_proof.specs.Moved.{IsSamePlace, MovesRest}
-use Rattle.pass_frames_proof.specs.Places.{Framing}
-use Rattle.pass_frames_proof.specs.Related.{AreBuiltOf, AreFieldsRight, AreInstances, AreMates, Building, HasFields, IsFreeOf, instance_in, is_coroutine}
-use Rattle.pass_proofs.specs.run_framed.Framed.{frame_rights}
-use Rattle.pass_proofs.proofs.run_laws.access.Held.{grown_held}
-use Rattle.pass_proofs.proofs.run_laws.transfer.Muted.{muted_length}
-use Rattle.pass_proofs.specs.run_laws.access.Lines.{Holds}
-use Rattle.pass_proofs.specs.run_laws.memory.Pointers.{home_of}
-use Rattle.pass_proofs.specs.run_laws.transfer.Muted.{muted}
-use Rattle.pass_proofs.specs.run_laws.transfer.Places.{AreThere}
-use Rattle.pass_proofs.specs.run_laws.transfer.Transfer.{AreOver}
-use Rattle.pass_proofs.specs.run_memory.Memory.{Rights, owner_rights}
-use Rattle.pass_proofs.specs.run_memory.declared.block.Byte.{Byte}
-use Rattle.pass_proofs.specs.run_memory.declared.block.MemoryBlock.{MemoryBlock}
-use Rattle.pass_proofs.specs.run_source.declared.state.Activation.{Activation}
-use Rattle.pass_proofs.specs.run_source.declared.state.Instance.{Instance}
-use Rattle.pass_proofs.specs.run_source.declared.state.Mode.{Mode}
-use Rattle.pass_proofs.specs.run_source.declared.state.State.{State}
-use Rattle.pass_proofs.specs.run_step.Values.{Env}
-use Rattle.pass_proofs.specs.run_step.declared.world.World.{World}
-use Rattle.pass_proofs.proofs.run_laws.transfer.Places.{grown as target_grown}
+use Rattle.pass_frames_steps.proofs.ir_laws.facts.Lists.{get_before, get_within}
+use Rattle.pass_frames_steps.proofs.moved.Rest.{instance_on}
+use Rattle.pass_frames_steps.proofs.stepping.Rest.{got, seen_known}
+use Rattle.pass_frames_steps.proofs.stepping.Same.{fields_kept}
+use Rattle.pass_frames_steps.specs.Framings.{IsFraming}
+use Rattle.pass_frames_steps.specs.Moved.{IsSamePlace, MovesRest}
+use Rattle.pass_frames_steps.specs.Places.{Framing}
+use Rattle.pass_frames_steps.specs.Related.{AreBuiltOf, AreFieldsRight, AreInstances, AreMates, Building, HasFields, IsFreeOf, instance_in, is_coroutine}
+use Rattle.pass_frames_steps.specs.run_framed.Framed.{frame_rights}
+use Rattle.pass_frames_steps.proofs.run_laws.access.Held.{grown_held}
+use Rattle.pass_frames_steps.proofs.run_laws.transfer.Muted.{muted_length}
+use Rattle.pass_frames_steps.specs.run_laws.access.Lines.{Holds}
+use Rattle.pass_frames_steps.specs.run_laws.memory.Pointers.{home_of}
+use Rattle.pass_frames_steps.specs.run_laws.transfer.Muted.{muted}
+use Rattle.pass_frames_steps.specs.run_laws.transfer.Places.{AreThere}
+use Rattle.pass_frames_steps.specs.run_laws.transfer.Transfer.{AreOver}
+use Rattle.pass_frames_steps.specs.run_memory.Memory.{Rights, owner_rights}
+use Rattle.pass_frames_steps.specs.run_memory.declared.block.Byte.{Byte}
+use Rattle.pass_frames_steps.specs.run_memory.declared.block.MemoryBlock.{MemoryBlock}
+use Rattle.pass_frames_steps.specs.run_source.declared.state.Activation.{Activation}
+use Rattle.pass_frames_steps.specs.run_source.declared.state.Instance.{Instance}
+use Rattle.pass_frames_steps.specs.run_source.declared.state.Mode.{Mode}
+use Rattle.pass_frames_steps.specs.run_source.declared.state.State.{State}
+use Rattle.pass_frames_steps.specs.run_step.Values.{Env}
+use Rattle.pass_frames_steps.specs.run_step.declared.world.World.{World}
+use Rattle.pass_frames_steps.proofs.run_laws.transfer.Places.{grown as target_grown}
 
 module _ (b : Building) (s t : State) (r : AreBuiltOf b s t)
     (framings : (func : ℕ) → is_coroutine b func ≡ true → IsFraming (b.framing func)) (ys : List Instance)

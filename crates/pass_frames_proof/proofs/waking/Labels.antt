@@ -1,26 +1,26 @@
 -- The switch behind a suspend leads to the same labels in the framed form.
 use Rattle.std.proofs.Common.{◌≡◌, ◌+◌, ◌==◌, ◌∙◌, Bool, List, None, Option, Some, ap, false, length, refl, sym, true, ℕ}
 use Rattle.std.specs.Prelude.{slice_get, unwrap_or}
-use Rattle.pass_proofs.proofs.ir_laws.facts.Members.{at_each}
-use Rattle.pass_proofs.proofs.ir_laws.paths.alike_functions.Lists.{each_where}
-use Rattle.pass_proofs.specs.ir_model.declared.instr.Instr.{Instr}
-use Rattle.pass_proofs.specs.ir_model.declared.instr.Terminator.{Terminator}
-use Rattle.pass_proofs.specs.ir_model.declared.module.Block.{Block}
-use Rattle.pass_proofs.specs.ir_model.declared.module.Function.{Function}
-use Rattle.pass_proofs.specs.ir_model.declared.operand.Intrinsic.{Intrinsic}
-use Rattle.pass_proofs.specs.ir_paths.Windows.{instr_at, instr_in, is_call_of, label_at, label_of_term, points_where}
-use Rattle.pass_proofs.specs.ir_paths.declared.point.Point.{Point}
-use Rattle.pass_proofs.specs.pass_cells.Cells.{fetches_of}
-use Rattle.pass_proofs.specs.pass_fetch.Instrs.{fetched_term}
-use Rattle.pass_proofs.specs.pass_fetch.declared.fetch.Fetch.{Fetch}
+use Rattle.pass_frames_steps.proofs.ir_laws.facts.Members.{at_each}
+use Rattle.pass_frames_steps.proofs.ir_laws.paths.alike_functions.Lists.{each_where}
+use Rattle.pass_frames_steps.specs.ir_model.declared.instr.Instr.{Instr}
+use Rattle.pass_frames_steps.specs.ir_model.declared.instr.Terminator.{Terminator}
+use Rattle.pass_frames_steps.specs.ir_model.declared.module.Block.{Block}
+use Rattle.pass_frames_steps.specs.ir_model.declared.module.Function.{Function}
+use Rattle.pass_frames_steps.specs.ir_model.declared.operand.Intrinsic.{Intrinsic}
+use Rattle.pass_frames_steps.specs.ir_paths.Windows.{instr_at, instr_in, is_call_of, label_at, label_of_term, points_where}
+use Rattle.pass_frames_steps.specs.ir_paths.declared.point.Point.{Point}
+use Rattle.pass_frames_steps.specs.pass_cells.Cells.{fetches_of}
+use Rattle.pass_frames_steps.specs.pass_fetch.Instrs.{fetched_term}
+use Rattle.pass_frames_steps.specs.pass_fetch.declared.fetch.Fetch.{Fetch}
 use Rattle.pass_frames_proof.proofs.jumping.Places.{ends_there}
-use Rattle.pass_frames_proof.specs.Code.{address_state, end_code, end_term, last_state, load_name, slot_table}
-use Rattle.pass_frames_proof.specs.Framings.{IsFraming}
-use Rattle.pass_frames_proof.specs.Passes.{block_at, no_block}
-use Rattle.pass_frames_proof.specs.Places.{Framing, edged, framed, instrs_at, is_return, place, plan}
-use Rattle.pass_frames_proof.specs.Related.{IsSuspendNumber}
-use Rattle.pass_proofs.proofs.run_laws.memory.Written.{same_some}
-use Rattle.pass_proofs.specs.run_step.Step.{AtTerm, Fetched, fetch_in, fetch_or}
+use Rattle.pass_frames_steps.specs.Code.{address_state, end_code, end_term, last_state, load_name, slot_table}
+use Rattle.pass_frames_steps.specs.Framings.{IsFraming}
+use Rattle.pass_frames_steps.specs.Passes.{block_at, no_block}
+use Rattle.pass_frames_steps.specs.Places.{Framing, edged, framed, instrs_at, is_return, place, plan}
+use Rattle.pass_frames_steps.specs.Related.{IsSuspendNumber}
+use Rattle.pass_frames_steps.proofs.run_laws.memory.Written.{same_some}
+use Rattle.pass_frames_steps.specs.run_step.Step.{AtTerm, Fetched, fetch_in, fetch_or}
 
 -- fetches change no case
 label_fetched : (t : List (Option Fetch)) (m n : ℕ) (e : Terminator)

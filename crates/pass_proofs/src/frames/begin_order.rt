@@ -4,34 +4,34 @@
 //! (`framed_slots_stand_before_begin`). So each pass gives what the next one asks of slots, offsets and flags.
 
 ghost use Rattle.std.specs.Prelude.{ℕ, Bool, List, ◌≤◌, Option, length, ◌≡◌, None};
-ghost use Rattle.rule_laws.specs.ir_laws.facts.begin_order.Behind.{AreSizes};
+ghost use Rattle.pass_exits_proof.specs.ir_laws.facts.begin_order.Behind.{AreSizes};
 ghost use Rattle.pass_proofs.specs.frames.begin_order.Behind.{before_begin, IsFrameBehind, AreBlocksBehind};
-ghost use Rattle.rule_laws.specs.frames.counted.Asked.{IsAwayFromEntry};
-ghost use Rattle.pass_proofs.specs.copies.rules.Copies.{CopiesFit, copied_slots};
-ghost use Rattle.rule_laws.specs.flow_solver.Paths.{IsListed};
-ghost use Rattle.rule_laws.specs.rules.function_rules.Kept.{KeepsFunctionRules};
-ghost use Rattle.rule_laws.specs.pass_intrinsics.Shapes.{suspends_of};
-ghost use Rattle.rule_laws.specs.pass_intrinsics.declared.shape.SuspendPoint.{SuspendPoint};
+ghost use Rattle.pass_exits_proof.specs.rule_laws.frames.counted.Asked.{IsAwayFromEntry};
+ghost use Rattle.pass_exits_proof.specs.copies.rules.Copies.{CopiesFit, copied_slots};
+ghost use Rattle.pass_exits_proof.specs.flow_solver.Paths.{IsListed};
+ghost use Rattle.pass_exits_proof.specs.rule_laws.rules.function_rules.Kept.{KeepsFunctionRules};
+ghost use Rattle.pass_exits_proof.specs.pass_intrinsics.Shapes.{suspends_of};
+ghost use Rattle.pass_exits_proof.specs.pass_intrinsics.declared.shape.SuspendPoint.{SuspendPoint};
 ghost use Rattle.ir_model.specs.declared.module.Function.{Function};
 ghost use Rattle.ir_model.specs.declared.module.Module.{Module};
 ghost use Rattle.pass_frames.specs.Framed.{AreBefore, celled, begin_of, copied, offsets_of};
-ghost use Rattle.pass_proofs.specs.addresses.rules.Addresses.{AddressesFit};
+ghost use Rattle.pass_exits_proof.specs.addresses.rules.Addresses.{AddressesFit};
 ghost use Rattle.pass_copies.specs.BeginCopies.{with_begin_copies};
-ghost use Rattle.rule_laws.specs.rules.woven_rules.Pairs.{AreIncomingOnce};
+ghost use Rattle.pass_exits_proof.specs.rule_laws.rules.woven_rules.Pairs.{AreIncomingOnce};
 ghost use Rattle.pass_proofs.specs.frames.begin_order.Fields.{FieldsFit};
-ghost use Rattle.pass_proofs.specs.cells.rules.Asked.{AreCellsFor};
-ghost use Rattle.rule_laws.specs.rules.replaced.Splittable.{AreBlocksBegun};
-ghost use Rattle.rule_laws.specs.pass_cells.Cells.{with_cells};
+ghost use Rattle.pass_exits_proof.specs.cells.rules.Asked.{AreCellsFor};
+ghost use Rattle.pass_exits_proof.specs.rule_laws.rules.replaced.Splittable.{AreBlocksBegun};
+ghost use Rattle.pass_exits_proof.specs.pass_cells.Cells.{with_cells};
 ghost use Rattle.pass_proofs.specs.frames.begin_order.Frames.{IsFrameable};
-ghost use Rattle.rule_laws.specs.frame_contents.declared.contents.Contents.{Contents};
-ghost use Rattle.rule_laws.specs.frame_layout.declared.layout.Layout.{Layout};
-ghost use Rattle.rule_laws.specs.frame_classes.declared.class.SlotClass.{SlotClass};
+ghost use Rattle.pass_exits_proof.specs.frame_contents.declared.contents.Contents.{Contents};
+ghost use Rattle.pass_exits_proof.specs.frame_layout.declared.layout.Layout.{Layout};
+ghost use Rattle.pass_exits_proof.specs.frame_classes.declared.class.SlotClass.{SlotClass};
 ghost use Rattle.pass_frames.specs.Tables.{class_flags, sizes_by_name};
-ghost use Rattle.rule_laws.specs.ir_laws.paths.threads.Labels.{HasNamedLabels};
-ghost use Rattle.pass_proofs.specs.edges.paths.Phis.{AreLabelsOnce};
+ghost use Rattle.pass_exits_proof.specs.ir_laws.paths.threads.Labels.{HasNamedLabels};
+ghost use Rattle.pass_exits_proof.specs.edges.paths.Phis.{AreLabelsOnce};
 ghost use Rattle.pass_edges.specs.EdgeBlocks.{with_edge_blocks};
-ghost use Rattle.rule_laws.specs.rules.counted.Widths.{first_other_width};
-ghost use Rattle.rule_laws.specs.frame_contents.Held.{held_of};
+ghost use Rattle.pass_exits_proof.specs.rule_laws.rules.counted.Widths.{first_other_width};
+ghost use Rattle.pass_exits_proof.specs.frame_contents.Held.{held_of};
 
 /// Where begin stands, each path from the entry has made the slots that are used before it.
 pub fn copied_slots_stand_before_begin()

@@ -1,23 +1,23 @@
 //! Lemmas on crossing.
 
 ghost use Rattle.std.specs.Prelude.{◌≡◌, ℕ, true, None, List, Some};
-ghost use Rattle.rule_laws.specs.rule_shape.OneOfEach.{wrong_call};
-ghost use Rattle.rule_laws.specs.rule_shape.Switches.{wrong_switch};
+ghost use Rattle.pass_exits_proof.specs.rule_shape.OneOfEach.{wrong_call};
+ghost use Rattle.pass_exits_proof.specs.rule_shape.Switches.{wrong_switch};
 ghost use Rattle.pass_edges.specs.EdgeBlocks.{with_edge_blocks};
-ghost use Rattle.pass_proofs.specs.split.crossing.Ended.{AreEndedFirst};
-ghost use Rattle.rule_laws.specs.rules.function_rules.Kept.{KeepsFunctionRules};
+ghost use Rattle.pass_exits_proof.specs.split.crossing.Ended.{AreEndedFirst};
+ghost use Rattle.pass_exits_proof.specs.rule_laws.rules.function_rules.Kept.{KeepsFunctionRules};
 ghost use Rattle.ir_model.specs.declared.module.Function.{Function};
 ghost use Rattle.ir_model.specs.declared.module.Module.{Module};
-ghost use Rattle.rule_laws.specs.rule_windows.Outside.{IsFirstOutside};
-ghost use Rattle.rule_laws.specs.frame_contents.declared.contents.Contents.{Contents};
-ghost use Rattle.rule_laws.specs.frame_layout.declared.layout.Layout.{Layout};
+ghost use Rattle.pass_exits_proof.specs.rule_windows.Outside.{IsFirstOutside};
+ghost use Rattle.pass_exits_proof.specs.frame_contents.declared.contents.Contents.{Contents};
+ghost use Rattle.pass_exits_proof.specs.frame_layout.declared.layout.Layout.{Layout};
 ghost use Rattle.pass_proofs.specs.frames.shape.Passes.{PassesFit};
 ghost use Rattle.ir_model.specs.Calls.{first_result};
 ghost use Rattle.ir_model.specs.declared.operand.Intrinsic.{Intrinsic};
 ghost use Rattle.pass_frames.specs.Framed.{celled, copied, placed};
-ghost use Rattle.rule_laws.specs.frame_crossing.Crossing.{AreCrossing};
-ghost use Rattle.rule_laws.specs.rule_windows.Windows.{IsFirstWindow};
-ghost use Rattle.rule_laws.specs.frames.crossing.Crossed.{IsNothingNeeded};
+ghost use Rattle.pass_exits_proof.specs.frame_crossing.Crossing.{AreCrossing};
+ghost use Rattle.pass_exits_proof.specs.rule_windows.Windows.{IsFirstWindow};
+ghost use Rattle.pass_exits_proof.specs.rule_laws.frames.crossing.Crossed.{IsNothingNeeded};
 
 /// In a coroutine that breaks no rule (K5), no path leads from a suspend to a return outside the end's block where its edges have blocks.
 pub fn suspends_end_first_where_edges_have_blocks()

@@ -1,10 +1,10 @@
 //! Lemmas on headings.
 
-ghost use Rattle.rule_laws.specs.frame_layout.declared.layout.Layouts.{Layouts};
+ghost use Rattle.pass_exits_proof.specs.frame_layout.declared.layout.Layouts.{Layouts};
 ghost use Rattle.ir_model.specs.declared.module.Module.{Module};
 ghost use Rattle.pass_frames.specs.Framed.{IsFramedForm};
-ghost use Rattle.rule_laws.specs.ir_laws.facts.same_names.Same.{HaveSameNames};
-ghost use Rattle.rule_laws.specs.ir_laws.facts.function_rules.Signatures.{HaveSameSignatures};
+ghost use Rattle.pass_exits_proof.specs.ir_laws.facts.same_names.Same.{HaveSameNames};
+ghost use Rattle.pass_exits_proof.specs.ir_laws.facts.function_rules.Signatures.{HaveSameSignatures};
 
 /// So does the framed form of a module leave these names.
 pub fn framed_forms_have_the_same_names()

@@ -1,9 +1,9 @@
 //! Lemmas on names apart.
 
-ghost use Rattle.rule_laws.specs.frame_layout.declared.layout.Layout.{Layout};
+ghost use Rattle.pass_exits_proof.specs.frame_layout.declared.layout.Layout.{Layout};
 ghost use Rattle.ir_model.specs.declared.module.Function.{Function};
 ghost use Rattle.ir_model.specs.declared.module.Module.{Module};
-ghost use Rattle.rule_laws.specs.rules.names_apart.Words.{AreFew, IsTableOf, early_words, framed_words};
+ghost use Rattle.pass_exits_proof.specs.rule_laws.rules.names_apart.Words.{AreFew, IsTableOf, early_words, framed_words};
 ghost use Rattle.pass_frames.specs.Framed.{IsFramedCoroutine};
 
 /// So do the passes that build its frame.

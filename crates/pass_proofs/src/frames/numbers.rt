@@ -2,16 +2,16 @@
 //! suspends there are.
 
 ghost use Rattle.std.specs.Prelude.{ℕ, List, ◌<◌, ◌^◌, Bool, Ok, ◌≤◌, length, ◌≡◌};
-ghost use Rattle.rule_laws.specs.frame_layout.declared.layout.Layout.{Layout};
-ghost use Rattle.rule_laws.specs.frames.suspend_counts.Given.{IsGiven};
+ghost use Rattle.pass_exits_proof.specs.frame_layout.declared.layout.Layout.{Layout};
+ghost use Rattle.pass_exits_proof.specs.rule_laws.frames.suspend_counts.Given.{IsGiven};
 ghost use Rattle.pass_frames.specs.Framed.{layout_at, IsFramedCoroutine};
-ghost use Rattle.rule_laws.specs.frame_contents.Frames.{AreLayouts};
-ghost use Rattle.rule_laws.specs.frame_layout.declared.layout.Layouts.{Layouts};
+ghost use Rattle.pass_exits_proof.specs.frame_contents.Frames.{AreLayouts};
+ghost use Rattle.pass_exits_proof.specs.frame_layout.declared.layout.Layouts.{Layouts};
 ghost use Rattle.ir_model.specs.declared.module.Module.{Module};
 ghost use Rattle.pass_frames.specs.Tables.{offset_at};
-ghost use Rattle.rule_laws.specs.pass_intrinsics.Shapes.{shape_of, suspends_of};
+ghost use Rattle.pass_exits_proof.specs.pass_intrinsics.Shapes.{shape_of, suspends_of};
 ghost use Rattle.ir_model.specs.declared.module.Function.{Function};
-ghost use Rattle.rule_laws.specs.frames.replaced.Parted.{IsSmall};
+ghost use Rattle.pass_exits_proof.specs.rule_laws.frames.replaced.Parted.{IsSmall};
 
 /// The layout that a coroutine is framed by is one of the module's, or that of a frame of an index alone.
 pub fn layouts_by_number_are_given()

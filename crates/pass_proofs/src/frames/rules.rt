@@ -5,14 +5,14 @@
 //! breaks none of the rules of functions and has the calls that splitting asks for (`framed_forms_are_kept`).
 
 ghost use Rattle.std.specs.Prelude.{ℕ, List};
-ghost use Rattle.rule_laws.specs.frame_contents.declared.contents.Contents.{Contents};
-ghost use Rattle.rule_laws.specs.frame_layout.declared.layout.Layout.{Layout};
+ghost use Rattle.pass_exits_proof.specs.frame_contents.declared.contents.Contents.{Contents};
+ghost use Rattle.pass_exits_proof.specs.frame_layout.declared.layout.Layout.{Layout};
 ghost use Rattle.pass_proofs.specs.frames.rules.Buildable.{IsBuildable};
 ghost use Rattle.pass_proofs.specs.frames.shape.Passes.{PassesFit};
 ghost use Rattle.ir_model.specs.declared.module.Function.{Function};
 ghost use Rattle.ir_model.specs.declared.module.Module.{Module};
 ghost use Rattle.pass_frames.specs.Framed.{copied, celled, placed};
-ghost use Rattle.rule_laws.specs.frames.shape.Passes.{IsKept};
+ghost use Rattle.pass_exits_proof.specs.rule_laws.frames.shape.Passes.{IsKept};
 
 /// What the passes that build frames ask of each other holds of such a coroutine: slots that are copied are made before begin, and what lies in
 /// the frame is used behind it.

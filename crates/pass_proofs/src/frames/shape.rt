@@ -1,34 +1,34 @@
 //! Lemmas on shape.
 
 ghost use Rattle.std.specs.Prelude.{◌≡◌, ℕ, Bool, true, List, Option, None, Some};
-ghost use Rattle.pass_proofs.specs.cells.rules.Asked.{AreCellsFor};
-ghost use Rattle.pass_proofs.specs.cells.rules.Weaving.{cells_weaving};
-ghost use Rattle.pass_proofs.specs.edges.rules.Phis.{ArePhisEnteredByJumps};
-ghost use Rattle.rule_laws.specs.frames.shape.Quiet.{AreReturnsQuiet};
-ghost use Rattle.rule_laws.specs.rules.function_rules.Kept.{KeepsFunctionRules};
+ghost use Rattle.pass_exits_proof.specs.cells.rules.Asked.{AreCellsFor};
+ghost use Rattle.pass_exits_proof.specs.cells.rules.Weaving.{cells_weaving};
+ghost use Rattle.pass_exits_proof.specs.edges.rules.Phis.{ArePhisEnteredByJumps};
+ghost use Rattle.pass_exits_proof.specs.rule_laws.frames.shape.Quiet.{AreReturnsQuiet};
+ghost use Rattle.pass_exits_proof.specs.rule_laws.rules.function_rules.Kept.{KeepsFunctionRules};
 ghost use Rattle.ir_model.specs.declared.module.Function.{Function};
 ghost use Rattle.ir_model.specs.declared.module.Module.{Module};
-ghost use Rattle.rule_laws.specs.frame_crossing.Crossing.{AreCrossing};
-ghost use Rattle.rule_laws.specs.pass_cells.Cells.{with_cells};
-ghost use Rattle.rule_laws.specs.frames.woven_shape.Shaped.{IsShaped, KeepsCalls};
-ghost use Rattle.pass_proofs.specs.addresses.rules.Addresses.{AddressesFit};
+ghost use Rattle.pass_exits_proof.specs.frame_crossing.Crossing.{AreCrossing};
+ghost use Rattle.pass_exits_proof.specs.pass_cells.Cells.{with_cells};
+ghost use Rattle.pass_exits_proof.specs.rule_laws.frames.woven_shape.Shaped.{IsShaped, KeepsCalls};
+ghost use Rattle.pass_exits_proof.specs.addresses.rules.Addresses.{AddressesFit};
 ghost use Rattle.pass_addresses.specs.Placing.{with_frame_addresses};
-ghost use Rattle.rule_laws.specs.rules.woven_rules.Pairs.{AreIncomingOnce};
-ghost use Rattle.rule_laws.specs.rules.counted.Widths.{first_other_width};
-ghost use Rattle.rule_laws.specs.rule_shape.OneOfEach.{wrong_call};
-ghost use Rattle.rule_laws.specs.rule_shape.Switches.{wrong_switch};
-ghost use Rattle.rule_laws.specs.frame_contents.declared.contents.Contents.{Contents};
+ghost use Rattle.pass_exits_proof.specs.rule_laws.rules.woven_rules.Pairs.{AreIncomingOnce};
+ghost use Rattle.pass_exits_proof.specs.rule_laws.rules.counted.Widths.{first_other_width};
+ghost use Rattle.pass_exits_proof.specs.rule_shape.OneOfEach.{wrong_call};
+ghost use Rattle.pass_exits_proof.specs.rule_shape.Switches.{wrong_switch};
+ghost use Rattle.pass_exits_proof.specs.frame_contents.declared.contents.Contents.{Contents};
 ghost use Rattle.pass_edges.specs.EdgeBlocks.{with_edge_blocks};
-ghost use Rattle.rule_laws.specs.frame_classes.declared.class.SlotClass.{SlotClass};
+ghost use Rattle.pass_exits_proof.specs.frame_classes.declared.class.SlotClass.{SlotClass};
 ghost use Rattle.pass_frames.specs.Tables.{class_flags};
-ghost use Rattle.rule_laws.specs.frame_layout.declared.layout.Layout.{Layout};
-ghost use Rattle.rule_laws.specs.frames.shape.Passes.{IsKept};
+ghost use Rattle.pass_exits_proof.specs.frame_layout.declared.layout.Layout.{Layout};
+ghost use Rattle.pass_exits_proof.specs.rule_laws.frames.shape.Passes.{IsKept};
 ghost use Rattle.pass_proofs.specs.frames.shape.Passes.{PassesFit};
 ghost use Rattle.ir_model.specs.Calls.{first_result};
 ghost use Rattle.ir_model.specs.declared.operand.Intrinsic.{Intrinsic};
 ghost use Rattle.pass_frames.specs.Framed.{celled, copied, placed};
-ghost use Rattle.rule_laws.specs.rule_windows.Outside.{IsFirstOutside};
-ghost use Rattle.rule_laws.specs.rule_windows.Windows.{IsFirstWindow};
+ghost use Rattle.pass_exits_proof.specs.rule_windows.Outside.{IsFirstOutside};
+ghost use Rattle.pass_exits_proof.specs.rule_windows.Windows.{IsFirstWindow};
 
 /// Values that cross suspends are kept in cells, and that leaves the calls by which a function is a coroutine.
 pub fn cells_keep_calls()

@@ -6,17 +6,17 @@
 ghost use Rattle.std.specs.Prelude.{◌≡◌, ℕ, None, Some, true};
 ghost use Rattle.pass_proofs.specs.frames.begin_order.Behind.{AreBlocksBehind};
 ghost use Rattle.pass_proofs.specs.frames.begin_order.Frames.{slot_offsets};
-ghost use Rattle.rule_laws.specs.rule_shape.OneOfEach.{wrong_call};
-ghost use Rattle.rule_laws.specs.frame_contents.Frames.{AreContents};
-ghost use Rattle.rule_laws.specs.frame_contents.declared.contents.Contents.{Contents};
-ghost use Rattle.rule_laws.specs.frame_layout.declared.layout.Layout.{Layout};
-ghost use Rattle.rule_laws.specs.rules.function_rules.Kept.{KeepsFunctionRules};
+ghost use Rattle.pass_exits_proof.specs.rule_shape.OneOfEach.{wrong_call};
+ghost use Rattle.pass_exits_proof.specs.frame_contents.Frames.{AreContents};
+ghost use Rattle.pass_exits_proof.specs.frame_contents.declared.contents.Contents.{Contents};
+ghost use Rattle.pass_exits_proof.specs.frame_layout.declared.layout.Layout.{Layout};
+ghost use Rattle.pass_exits_proof.specs.rule_laws.rules.function_rules.Kept.{KeepsFunctionRules};
 ghost use Rattle.ir_model.specs.Calls.{first_result};
 ghost use Rattle.ir_model.specs.declared.module.Function.{Function};
 ghost use Rattle.ir_model.specs.declared.module.Module.{Module};
 ghost use Rattle.ir_model.specs.declared.operand.Intrinsic.{Intrinsic};
-ghost use Rattle.rule_laws.specs.frame_classes.declared.class.SlotClass.{SlotClass};
-ghost use Rattle.rule_laws.specs.rule_slots.Early.{IsFirstEarly};
+ghost use Rattle.pass_exits_proof.specs.frame_classes.declared.class.SlotClass.{SlotClass};
+ghost use Rattle.pass_exits_proof.specs.rule_slots.Early.{IsFirstEarly};
 ghost use Rattle.pass_frames.specs.Tables.{class_flags};
 
 /// Frame slots are used behind begin (K9), but for accesses to slots of the entry block.

@@ -1,19 +1,19 @@
 -- In a coroutine that breaks no rule there is one begin, which alone makes its value, a pointer.
 use Rattle.std.proofs.Common.{◌≡◌, inl, inr, ℕ, suc, ◌≤◌, Bool, true, List, [], ◌∷◌, refl, sym, ap, ◌∙◌, subst}
 use Rattle.std.specs.Prelude.{None, Option, Some, slice_get, ◌&&◌, if◌then◌else◌}
-use Rattle.rule_laws.specs.rule_shape.OneOfEach.{wrong_call}
-use Rattle.rule_laws.proofs.ir_laws.facts.Members.{at_each}
-use Rattle.rule_laws.proofs.ir_laws.facts.Truth.{itself, and_first, holds}
-use Rattle.rule_laws.proofs.rules.local_rules.Names.{numbers}
-use Rattle.rule_laws.proofs.rules.local_rules.Woven.{apart_names}
-use Rattle.rule_laws.proofs.ir_laws.paths.source_rules.Locals.{Apart}
-use Rattle.rule_laws.proofs.rules.source_rules.Locals.{names_are, same_instr}
-use Rattle.rule_laws.proofs.rules.source_rules.Once.{one_begin}
-use Rattle.rule_laws.specs.flow_solver.Paths.{IsListed}
-use Rattle.rule_laws.specs.ir_parts.Contents.{result_of}
-use Rattle.rule_laws.specs.ir_parts.Locals.{locals_of}
-use Rattle.rule_laws.specs.ir_parts.Parts.{OfInstr}
-use Rattle.rule_laws.specs.rules.function_rules.Kept.{KeepsFunctionRules}
+use Rattle.pass_exits_proof.specs.rule_shape.OneOfEach.{wrong_call}
+use Rattle.pass_exits_proof.proofs.ir_laws.facts.Members.{at_each}
+use Rattle.pass_exits_proof.proofs.ir_laws.facts.Truth.{itself, and_first, holds}
+use Rattle.pass_exits_proof.proofs.rule_laws.rules.local_rules.Names.{numbers}
+use Rattle.pass_exits_proof.proofs.rule_laws.rules.local_rules.Woven.{apart_names}
+use Rattle.pass_exits_proof.proofs.ir_laws.paths.source_rules.Locals.{Apart}
+use Rattle.pass_exits_proof.proofs.rule_laws.rules.source_rules.Locals.{names_are, same_instr}
+use Rattle.pass_exits_proof.proofs.rule_laws.rules.source_rules.Once.{one_begin}
+use Rattle.pass_exits_proof.specs.flow_solver.Paths.{IsListed}
+use Rattle.pass_exits_proof.specs.ir_parts.Contents.{result_of}
+use Rattle.pass_exits_proof.specs.ir_parts.Locals.{locals_of}
+use Rattle.pass_exits_proof.specs.ir_parts.Parts.{OfInstr}
+use Rattle.pass_exits_proof.specs.rule_laws.rules.function_rules.Kept.{KeepsFunctionRules}
 use Rattle.ir_model.specs.Calls.{first_result, first_result_by, first_result_in, or_else, result_of_call}
 use Rattle.ir_model.specs.Ty.{Ty, ptr}
 use Rattle.ir_model.specs.declared.instr.Instr.{Instr}
@@ -22,19 +22,19 @@ use Rattle.ir_model.specs.declared.module.Function.{Function}
 use Rattle.ir_model.specs.declared.module.Module.{Module}
 use Rattle.ir_model.specs.declared.operand.Callee.{Callee}
 use Rattle.ir_model.specs.declared.operand.Intrinsic.{Intrinsic}
-use Rattle.rule_laws.specs.ir_paths.Windows.{instr_at, instr_in, is_call_of}
-use Rattle.rule_laws.specs.ir_paths.declared.point.Point.{Point}
+use Rattle.pass_exits_proof.specs.ir_paths.Windows.{instr_at, instr_in, is_call_of}
+use Rattle.pass_exits_proof.specs.ir_paths.declared.point.Point.{Point}
 use Rattle.pass_frames.specs.Framed.{is_begin}
-use Rattle.rule_laws.specs.rule_types.Signatures.{are_wanted, calls_otherwise, is_result}
-use Rattle.rule_laws.specs.rule_types.Wants.{intrinsic_params, intrinsic_result}
-use Rattle.rule_laws.specs.rule_values.Kinds.{call_kind, instr_kind, result_kind, value_kind}
-use Rattle.rule_laws.specs.rule_values.declared.kinds.Kind.{Kind}
-use Rattle.rule_laws.proofs.rules.woven_rules.Once.{apart_once}
-use Rattle.rule_laws.proofs.rules.woven_rules.Told.{value_told}
-use Rattle.rule_laws.proofs.rules.woven_rules.Unbroken.{Passes, PassesIn, all_pass}
-use Rattle.rule_laws.proofs.ir_laws.paths.woven_rules.Unbroken.{of_listed}
-use Rattle.rule_laws.specs.ir_laws.facts.woven_rules.Pairs.{times}
-use Rattle.rule_laws.proofs.ir_laws.paths.begin_order.Framed.{get_listed as listed_from}
+use Rattle.pass_exits_proof.specs.rule_types.Signatures.{are_wanted, calls_otherwise, is_result}
+use Rattle.pass_exits_proof.specs.rule_types.Wants.{intrinsic_params, intrinsic_result}
+use Rattle.pass_exits_proof.specs.rule_values.Kinds.{call_kind, instr_kind, result_kind, value_kind}
+use Rattle.pass_exits_proof.specs.rule_values.declared.kinds.Kind.{Kind}
+use Rattle.pass_exits_proof.proofs.rule_laws.rules.woven_rules.Once.{apart_once}
+use Rattle.pass_exits_proof.proofs.rule_laws.rules.woven_rules.Told.{value_told}
+use Rattle.pass_exits_proof.proofs.rule_laws.rules.woven_rules.Unbroken.{Passes, PassesIn, all_pass}
+use Rattle.pass_exits_proof.proofs.ir_laws.paths.woven_rules.Unbroken.{of_listed}
+use Rattle.pass_exits_proof.specs.ir_laws.facts.woven_rules.Pairs.{times}
+use Rattle.pass_exits_proof.proofs.ir_laws.paths.begin_order.Framed.{get_listed as listed_from}
 
 -- ---- begins
 

@@ -5,24 +5,24 @@ use Rattle.pass_copies.specs.Slots.{early_slot, entry_instrs, resumed_at, set_re
 use Rattle.pass_copies.specs.Uses.{flag_at, is_begin, used_before}
 use Rattle.pass_copies.specs.declared.slot.EarlySlot.{EarlySlot}
 use Rattle.pass_proofs.proofs.frames.begin_order.Blocks.{begins_first, flagged_back, none_before, none_begins, same_begin}
-use Rattle.pass_proofs.proofs.copies.begin_order.Marks.{IsAccessed, IsAccessedAt, blocks_back, flag_other, none_flagged}
-use Rattle.rule_laws.specs.ir_laws.facts.begin_order.Behind.{AreSizes}
-use Rattle.rule_laws.specs.rules.begin_order.Behind.{access_operands}
+use Rattle.pass_exits_proof.proofs.copies.begin_order.Marks.{IsAccessed, IsAccessedAt, blocks_back, flag_other, none_flagged}
+use Rattle.pass_exits_proof.specs.ir_laws.facts.begin_order.Behind.{AreSizes}
+use Rattle.pass_exits_proof.specs.rule_laws.rules.begin_order.Behind.{access_operands}
 use Rattle.pass_proofs.specs.frames.begin_order.Behind.{before_begin}
-use Rattle.rule_laws.specs.frames.counted.Asked.{IsAwayFromEntry}
-use Rattle.pass_proofs.proofs.copies.rules.Slots.{IsAlloca, from_allocas}
-use Rattle.pass_proofs.specs.copies.rules.Copies.{CopiesFit, HaveSlots, copied_slots}
-use Rattle.rule_laws.specs.rule_uses.Uses.{instr_uses, phi_values, uses_at, uses_of, values_at, values_in}
-use Rattle.rule_laws.proofs.rules.renamed.Uses.{none_undefined, of_block, three_kinds}
-use Rattle.rule_laws.proofs.ir_laws.facts.Members.{each_left, each_right}
-use Rattle.rule_laws.proofs.ir_laws.paths.source_rules.Locals.{listed_right}
-use Rattle.rule_laws.proofs.rules.source_rules.Locals.{made_by, own_label}
-use Rattle.rule_laws.specs.flow_solver.Paths.{IsListed}
-use Rattle.rule_laws.specs.ir_parts.Contents.{instr_operands, result_of}
-use Rattle.rule_laws.specs.ir_parts.Parts.{instr_place}
-use Rattle.rule_laws.specs.rules.function_rules.Kept.{KeepsFunctionRules}
-use Rattle.rule_laws.specs.pass_intrinsics.Shapes.{suspends_of}
-use Rattle.rule_laws.specs.pass_intrinsics.declared.shape.SuspendPoint.{SuspendPoint}
+use Rattle.pass_exits_proof.specs.rule_laws.frames.counted.Asked.{IsAwayFromEntry}
+use Rattle.pass_exits_proof.proofs.copies.rules.Slots.{IsAlloca, from_allocas}
+use Rattle.pass_exits_proof.specs.copies.rules.Copies.{CopiesFit, HaveSlots, copied_slots}
+use Rattle.pass_exits_proof.specs.rule_uses.Uses.{instr_uses, phi_values, uses_at, uses_of, values_at, values_in}
+use Rattle.pass_exits_proof.proofs.rule_laws.rules.renamed.Uses.{none_undefined, of_block, three_kinds}
+use Rattle.pass_exits_proof.proofs.ir_laws.facts.Members.{each_left, each_right}
+use Rattle.pass_exits_proof.proofs.ir_laws.paths.source_rules.Locals.{listed_right}
+use Rattle.pass_exits_proof.proofs.rule_laws.rules.source_rules.Locals.{made_by, own_label}
+use Rattle.pass_exits_proof.specs.flow_solver.Paths.{IsListed}
+use Rattle.pass_exits_proof.specs.ir_parts.Contents.{instr_operands, result_of}
+use Rattle.pass_exits_proof.specs.ir_parts.Parts.{instr_place}
+use Rattle.pass_exits_proof.specs.rule_laws.rules.function_rules.Kept.{KeepsFunctionRules}
+use Rattle.pass_exits_proof.specs.pass_intrinsics.Shapes.{suspends_of}
+use Rattle.pass_exits_proof.specs.pass_intrinsics.declared.shape.SuspendPoint.{SuspendPoint}
 use Rattle.ir_model.specs.Names.{position_of}
 use Rattle.ir_model.specs.declared.instr.Instr.{Instr}
 use Rattle.ir_model.specs.declared.module.Block.{Block}
@@ -32,11 +32,11 @@ use Rattle.ir_model.specs.declared.operand.Callee.{Callee}
 use Rattle.ir_model.specs.declared.operand.Intrinsic.{Intrinsic}
 use Rattle.ir_model.specs.declared.operand.Operand.{Operand}
 use Rattle.pass_frames.specs.Framed.{AreBefore, begin_block, has_begin}
-use Rattle.rule_laws.specs.run_laws.changed.Changed.{Each}
-use Rattle.rule_laws.proofs.rules.woven_rules.Pieces.{made_contains}
-use Rattle.rule_laws.proofs.ir_laws.paths.woven_rules.Unbroken.{each_listed, of_listed}
-use Rattle.rule_laws.proofs.rules.woven_rules.Uses.{IsFine, IsSound, entry_alone, sound_uses}
-use Rattle.rule_laws.specs.rules.woven_rules.Weaving.{IsThere}
+use Rattle.pass_exits_proof.specs.run_laws.changed.Changed.{Each}
+use Rattle.pass_exits_proof.proofs.rule_laws.rules.woven_rules.Pieces.{made_contains}
+use Rattle.pass_exits_proof.proofs.ir_laws.paths.woven_rules.Unbroken.{each_listed, of_listed}
+use Rattle.pass_exits_proof.proofs.rule_laws.rules.woven_rules.Uses.{IsFine, IsSound, entry_alone, sound_uses}
+use Rattle.pass_exits_proof.specs.rule_laws.rules.woven_rules.Weaving.{IsThere}
 
 -- ---- the slots
 

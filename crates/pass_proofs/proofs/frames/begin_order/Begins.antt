@@ -2,11 +2,11 @@
 use Rattle.std.proofs.Common.{◌≡◌, ◌⊎◌, inl, inr, ⊎_elim, ℕ, zero, suc, ◌+◌, ◌<◌, ◌≤◌, Bool, true, false, List, ◌∷◌, ◌++◌, refl, sym, ap, ◌∙◌, subst, arith}
 use Rattle.std.specs.Prelude.{Option, Some, not, slice_get}
 use Rattle.pass_copies.specs.Slots.{entry_instrs}
-use Rattle.rule_laws.specs.rule_uses.Uses.{phi_values}
-use Rattle.rule_laws.proofs.ir_laws.facts.Truth.{and_second}
-use Rattle.rule_laws.proofs.rules.source_rules.Locals.{made_by}
-use Rattle.rule_laws.specs.flow_solver.Paths.{IsListed}
-use Rattle.rule_laws.specs.ir_parts.Contents.{result_of}
+use Rattle.pass_exits_proof.specs.rule_uses.Uses.{phi_values}
+use Rattle.pass_exits_proof.proofs.ir_laws.facts.Truth.{and_second}
+use Rattle.pass_exits_proof.proofs.rule_laws.rules.source_rules.Locals.{made_by}
+use Rattle.pass_exits_proof.specs.flow_solver.Paths.{IsListed}
+use Rattle.pass_exits_proof.specs.ir_parts.Contents.{result_of}
 use Rattle.ir_model.specs.Ty.{Ty}
 use Rattle.ir_model.specs.declared.instr.Instr.{Instr}
 use Rattle.ir_model.specs.declared.module.Block.{Block}
@@ -16,12 +16,12 @@ use Rattle.ir_model.specs.declared.operand.Arg.{Arg}
 use Rattle.ir_model.specs.declared.operand.Callee.{Callee}
 use Rattle.ir_model.specs.declared.operand.Intrinsic.{Intrinsic}
 use Rattle.ir_model.specs.declared.operand.Operand.{Operand}
-use Rattle.rule_laws.specs.ir_paths.Slots.{allocas_in}
+use Rattle.pass_exits_proof.specs.ir_paths.Slots.{allocas_in}
 use Rattle.pass_frames.specs.Framed.{is_begin}
-use Rattle.rule_laws.proofs.rules.woven_rules.ValueKinds.{same_result}
-use Rattle.rule_laws.specs.rules.woven_rules.Blocks.{AreWoven, AreWovenBlocks, Done, Gone, IsWoven, IsWovenBlock, Kept, NoBlock, OneBlock, Put, Remain, Stays, Unpromised, is_copy, may_stand}
-use Rattle.rule_laws.specs.rules.woven_rules.Parts.{Alloca, Binary, Call, CalleeStays, Cast, Direct, Gep, Icmp, Indirect, InstrStays, Load, Select, Store}
-use Rattle.rule_laws.specs.rules.woven_rules.Weaving.{IsInPlace, Weaving}
+use Rattle.pass_exits_proof.proofs.rule_laws.rules.woven_rules.ValueKinds.{same_result}
+use Rattle.pass_exits_proof.specs.rule_laws.rules.woven_rules.Blocks.{AreWoven, AreWovenBlocks, Done, Gone, IsWoven, IsWovenBlock, Kept, NoBlock, OneBlock, Put, Remain, Stays, Unpromised, is_copy, may_stand}
+use Rattle.pass_exits_proof.specs.rule_laws.rules.woven_rules.Parts.{Alloca, Binary, Call, CalleeStays, Cast, Direct, Gep, Icmp, Indirect, InstrStays, Load, Select, Store}
+use Rattle.pass_exits_proof.specs.rule_laws.rules.woven_rules.Weaving.{IsInPlace, Weaving}
 
 -- ---- instructions
 

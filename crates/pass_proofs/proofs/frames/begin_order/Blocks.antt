@@ -2,19 +2,19 @@
 use Rattle.std.proofs.Common.{◌≡◌, ◌⊎◌, inl, inr, ⊎_elim, ℕ, suc, ◌+◌, ◌<◌, Bool, true, false, List, [], ◌∷◌, length, refl, sym, ap, ◌∙◌, subst, arith}
 use Rattle.std.specs.Prelude.{None, Option, Some, replicate, slice_get, if◌then◌else◌, ◌==◌}
 use Rattle.pass_copies.specs.Uses.{flag_at, is_begin as is_copied_at}
-use Rattle.pass_proofs.proofs.copies.begin_order.Marks.{flag_back, flag_set, flag_stays, none_flagged}
-use Rattle.rule_laws.proofs.flow_blocks.Bounds.{edge_bounded}
-use Rattle.rule_laws.specs.flow_blocks.Edges.{block_edges}
-use Rattle.rule_laws.specs.flow_blocks.Reach.{Edge, IsReached, Start}
-use Rattle.rule_laws.specs.rule_uses.Undefined.{Entry, Next, ReachesWithout, params_of}
-use Rattle.rule_laws.specs.rule_uses.Uses.{phi_values, values_at, values_in}
-use Rattle.rule_laws.proofs.ir_laws.facts.Truth.{equal_numbers, itself}
-use Rattle.rule_laws.proofs.ir_laws.facts.Lists.{get_within, set_length, row_of, flags_length}
-use Rattle.rule_laws.proofs.rules.source_rules.Locals.{block_names, own_label}
-use Rattle.rule_laws.proofs.ir_laws.paths.source_rules.Locals.{in_row, listed_right}
-use Rattle.rule_laws.specs.flow_solver.Paths.{IsListed}
-use Rattle.rule_laws.specs.ir_parts.Contents.{result_of}
-use Rattle.rule_laws.specs.rules.function_rules.Kept.{KeepsFunctionRules}
+use Rattle.pass_exits_proof.proofs.copies.begin_order.Marks.{flag_back, flag_set, flag_stays, none_flagged}
+use Rattle.pass_exits_proof.proofs.rule_laws.flow_blocks.Bounds.{edge_bounded}
+use Rattle.pass_exits_proof.specs.flow_blocks.Edges.{block_edges}
+use Rattle.pass_exits_proof.specs.flow_blocks.Reach.{Edge, IsReached, Start}
+use Rattle.pass_exits_proof.specs.rule_uses.Undefined.{Entry, Next, ReachesWithout, params_of}
+use Rattle.pass_exits_proof.specs.rule_uses.Uses.{phi_values, values_at, values_in}
+use Rattle.pass_exits_proof.proofs.ir_laws.facts.Truth.{equal_numbers, itself}
+use Rattle.pass_exits_proof.proofs.ir_laws.facts.Lists.{get_within, set_length, row_of, flags_length}
+use Rattle.pass_exits_proof.proofs.rule_laws.rules.source_rules.Locals.{block_names, own_label}
+use Rattle.pass_exits_proof.proofs.ir_laws.paths.source_rules.Locals.{in_row, listed_right}
+use Rattle.pass_exits_proof.specs.flow_solver.Paths.{IsListed}
+use Rattle.pass_exits_proof.specs.ir_parts.Contents.{result_of}
+use Rattle.pass_exits_proof.specs.rule_laws.rules.function_rules.Kept.{KeepsFunctionRules}
 use Rattle.ir_model.specs.Names.{position_of}
 use Rattle.ir_model.specs.declared.instr.Instr.{Instr}
 use Rattle.ir_model.specs.declared.module.Block.{Block}
@@ -24,8 +24,8 @@ use Rattle.ir_model.specs.declared.operand.Callee.{Callee}
 use Rattle.ir_model.specs.declared.operand.Intrinsic.{Intrinsic}
 use Rattle.pass_frames.specs.Framed.{AreBefore, begin_block, begin_from, has_begin, is_begin, starts_before}
 use Rattle.pass_frames.specs.Tables.{label_flags, with_label, with_labels}
-use Rattle.rule_laws.proofs.rules.woven_rules.Once.{names_below}
-use Rattle.rule_laws.proofs.rules.woven_rules.Pieces.{made_contains}
+use Rattle.pass_exits_proof.proofs.rule_laws.rules.woven_rules.Once.{names_below}
+use Rattle.pass_exits_proof.proofs.rule_laws.rules.woven_rules.Pieces.{made_contains}
 
 -- ---- begin
 

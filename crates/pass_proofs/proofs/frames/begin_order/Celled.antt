@@ -1,42 +1,42 @@
 -- Where crossing values are kept in cells, what lies in the frame is used behind begin.
 use Rattle.std.proofs.Common.{◌≡◌, ◌⊎◌, inl, inr, ⊎_elim, ℕ, zero, suc, ◌+◌, ◌*◌, ◌<◌, ◌≤◌, Bool, true, false, List, [], ◌∷◌, ◌++◌, length, refl, sym, ap, ◌∙◌, subst, arith, append_assoc, length-append}
 use Rattle.std.specs.Prelude.{None, Option, Some, codes, is_some, map, not, option_to_list, replicate, slice_get, unwrap_or, ◌-◌}
-use Rattle.pass_proofs.specs.addresses.rules.Addresses.{lies_in_frame}
+use Rattle.pass_exits_proof.specs.addresses.rules.Addresses.{lies_in_frame}
 use Rattle.pass_proofs.proofs.frames.begin_order.Begins.{alone_still, allocas_still, named_still}
-use Rattle.pass_proofs.proofs.addresses.begin_order.Early.{in_frame}
+use Rattle.pass_exits_proof.proofs.addresses.begin_order.Early.{in_frame}
 use Rattle.pass_proofs.proofs.frames.begin_order.Fields.{AllQuiet, Quiet, count_is, distance_quiet, far_quiet, fetch_quiet, numbered_field, own_low, params_quiet, phis_quiet, result_quiet}
-use Rattle.rule_laws.proofs.rules.begin_order.Known.{IsOwn, each_both, own_instrs, own_phis, own_term}
-use Rattle.pass_proofs.proofs.fetch.begin_order.Operands.{accesses_kept, accesses_of, ending_kept, low_after, operand_kept, others_kept, others_of}
-use Rattle.pass_proofs.proofs.addresses.begin_order.Passing.{Passes, there_still, woven_passes}
+use Rattle.pass_exits_proof.proofs.rule_laws.rules.begin_order.Known.{IsOwn, each_both, own_instrs, own_phis, own_term}
+use Rattle.pass_exits_proof.proofs.fetch.begin_order.Operands.{accesses_kept, accesses_of, ending_kept, low_after, operand_kept, others_kept, others_of}
+use Rattle.pass_exits_proof.proofs.addresses.begin_order.Passing.{Passes, there_still, woven_passes}
 use Rattle.pass_proofs.proofs.frames.begin_order.Puts.{Whole, all_whole, are_only, are_put, behind_grown, both_grown, may_access}
-use Rattle.pass_proofs.proofs.fetch.begin_order.Rows.{AllRows, all_fetched, blank_rows, blocks_rows}
-use Rattle.pass_proofs.proofs.cells.begin_order.Sums.{behind_holds}
-use Rattle.pass_proofs.proofs.fetch.rules.Times.{with_result as same_fetched}
+use Rattle.pass_exits_proof.proofs.fetch.begin_order.Rows.{AllRows, all_fetched, blank_rows, blocks_rows}
+use Rattle.pass_exits_proof.proofs.cells.begin_order.Sums.{behind_holds}
+use Rattle.pass_exits_proof.proofs.fetch.rules.Times.{with_result as same_fetched}
 use Rattle.pass_proofs.specs.frames.begin_order.Behind.{AreBehind, IsBlockBehind, IsEntrySlot, IsFrameBehind, MayBeAccessed}
-use Rattle.pass_proofs.specs.addresses.begin_order.Behind.{IsBehind, IsIncomingBehind}
-use Rattle.rule_laws.specs.frames.begin_order.Behind.{LeadsAgain}
-use Rattle.rule_laws.specs.rules.begin_order.Behind.{access_operands, other_operands}
+use Rattle.pass_exits_proof.specs.addresses.begin_order.Behind.{IsBehind, IsIncomingBehind}
+use Rattle.pass_exits_proof.specs.rule_laws.frames.begin_order.Behind.{LeadsAgain}
+use Rattle.pass_exits_proof.specs.rule_laws.rules.begin_order.Behind.{access_operands, other_operands}
 use Rattle.pass_proofs.specs.frames.begin_order.Fields.{FieldsFit, IsField, values_kept}
-use Rattle.pass_proofs.proofs.cells.rules.Around.{saved_low, again_low}
-use Rattle.pass_proofs.proofs.cells.rules.Counts.{by_phis_rise, instrs_rise, written_low}
-use Rattle.pass_proofs.proofs.cells.rules.Fronts.{IsNumbered}
-use Rattle.pass_proofs.proofs.fetch.cells.Members.{fetched_phis_make}
-use Rattle.pass_proofs.proofs.cells.rules.NewNames.{blocks_are, ends, first_kept, first_phi, first_use, front, last_use, table}
-use Rattle.pass_proofs.proofs.cells.rules.Spread.{spread}
-use Rattle.pass_proofs.proofs.cells.rules.Whole.{is_woven, loads, planned, sound}
-use Rattle.pass_proofs.proofs.cells.rules.WovenBlocks.{row_is}
-use Rattle.pass_proofs.specs.cells.rules.Asked.{AreCellsFor}
-use Rattle.pass_proofs.specs.cells.rules.Weaving.{cells_weaving}
-use Rattle.rule_laws.specs.rule_uses.Undefined.{ReachesWithout}
-use Rattle.rule_laws.specs.rule_uses.Uses.{block_values, phi_values, values_at, values_in}
-use Rattle.rule_laws.proofs.ir_laws.facts.Members.{each_behind, each_turns}
-use Rattle.rule_laws.proofs.rules.source_rules.Locals.{made_by}
-use Rattle.pass_proofs.proofs.fetch.rules.Puts.{fetch_rises}
-use Rattle.rule_laws.specs.flow_solver.Paths.{IsListed}
+use Rattle.pass_exits_proof.proofs.cells.rules.Around.{saved_low, again_low}
+use Rattle.pass_exits_proof.proofs.cells.rules.Counts.{by_phis_rise, instrs_rise, written_low}
+use Rattle.pass_exits_proof.proofs.cells.rules.Fronts.{IsNumbered}
+use Rattle.pass_exits_proof.proofs.fetch.cells.Members.{fetched_phis_make}
+use Rattle.pass_exits_proof.proofs.cells.rules.NewNames.{blocks_are, ends, first_kept, first_phi, first_use, front, last_use, table}
+use Rattle.pass_exits_proof.proofs.cells.rules.Spread.{spread}
+use Rattle.pass_exits_proof.proofs.cells.rules.Whole.{is_woven, loads, planned, sound}
+use Rattle.pass_exits_proof.proofs.cells.rules.WovenBlocks.{row_is}
+use Rattle.pass_exits_proof.specs.cells.rules.Asked.{AreCellsFor}
+use Rattle.pass_exits_proof.specs.cells.rules.Weaving.{cells_weaving}
+use Rattle.pass_exits_proof.specs.rule_uses.Undefined.{ReachesWithout}
+use Rattle.pass_exits_proof.specs.rule_uses.Uses.{block_values, phi_values, values_at, values_in}
+use Rattle.pass_exits_proof.proofs.ir_laws.facts.Members.{each_behind, each_turns}
+use Rattle.pass_exits_proof.proofs.rule_laws.rules.source_rules.Locals.{made_by}
+use Rattle.pass_exits_proof.proofs.fetch.rules.Puts.{fetch_rises}
+use Rattle.pass_exits_proof.specs.flow_solver.Paths.{IsListed}
 use Rattle.pass_addresses.specs.Placing.{is_none}
-use Rattle.rule_laws.specs.ir_parts.Contents.{ending_operands, instr_operands, result_of}
-use Rattle.rule_laws.specs.rules.function_rules.Kept.{KeepsFunctionRules}
-use Rattle.rule_laws.specs.pass_intrinsics.Shapes.{suspends_of}
+use Rattle.pass_exits_proof.specs.ir_parts.Contents.{ending_operands, instr_operands, result_of}
+use Rattle.pass_exits_proof.specs.rule_laws.rules.function_rules.Kept.{KeepsFunctionRules}
+use Rattle.pass_exits_proof.specs.pass_intrinsics.Shapes.{suspends_of}
 use Rattle.ir_model.specs.Names.{position_of}
 use Rattle.ir_model.specs.declared.instr.Incoming.{Incoming}
 use Rattle.ir_model.specs.declared.instr.Instr.{Instr}
@@ -45,30 +45,30 @@ use Rattle.ir_model.specs.declared.module.Block.{Block}
 use Rattle.ir_model.specs.declared.module.Function.{Function}
 use Rattle.ir_model.specs.declared.module.Module.{Module}
 use Rattle.ir_model.specs.declared.operand.Operand.{Operand}
-use Rattle.rule_laws.specs.rules.replaced.Splittable.{AreBegun, AreBlocksBegun}
-use Rattle.rule_laws.specs.ir_laws.facts.replaced.Splittable.{asks_begin}
-use Rattle.rule_laws.specs.run_laws.changed.Changed.{Each}
-use Rattle.rule_laws.specs.pass_fetch.Blocks.{end_at, fetched_block, fetched_incoming, fetched_phis, next_after_phi, numbered_names}
-use Rattle.rule_laws.specs.pass_fetch.Fetching.{fetches_of_all, next_after}
-use Rattle.rule_laws.specs.pass_fetch.Instrs.{next_after_instr, next_after_instrs, term_operands, with_fetched}
-use Rattle.rule_laws.specs.pass_fetch.declared.fetch.Fetch.{Fetch}
-use Rattle.rule_laws.specs.pass_cells.Cells.{named_function, with_cells}
-use Rattle.rule_laws.specs.pass_cells.Kept.{entry}
-use Rattle.rule_laws.specs.pass_cells.Moves.{after_again, after_saved, again_values, saved_values}
-use Rattle.rule_laws.specs.pass_cells.Plan.{plan_of}
-use Rattle.rule_laws.specs.pass_cells.Written.{after_one, again_row, distance_behind, distance_alloca, distance_allocas, kept_allocas, link_allocas, row_at, save_row, stored_params, stored_phis, stored_result, written_block, written_instrs}
-use Rattle.rule_laws.specs.pass_cells.declared.plan.KeptValue.{KeptValue}
-use Rattle.rule_laws.specs.pass_cells.declared.plan.Plan.{Plan}
-use Rattle.rule_laws.specs.rule_values.Kinds.{value_kind}
-use Rattle.rule_laws.specs.rule_values.declared.kinds.Kind.{Kind}
-use Rattle.rule_laws.proofs.rules.woven_rules.Laid.{valued_old}
-use Rattle.rule_laws.proofs.rules.woven_rules.Once.{names_below}
-use Rattle.rule_laws.proofs.rules.woven_rules.ValueKinds.{old_kind}
-use Rattle.rule_laws.specs.rules.woven_rules.Blocks.{IsWoven}
-use Rattle.rule_laws.specs.rules.woven_rules.Pairs.{AreIncomingOnce}
-use Rattle.rule_laws.specs.rules.woven_rules.Weaving.{IsThere, Weaving}
-use Rattle.pass_proofs.proofs.cells.begin_order.CelledBlocks.{IsCelled, entry_there, first_of, returns_lead, row_asks, same_asks, there_is}
-use Rattle.rule_laws.proofs.rules.begin_order.CelledBlocks.{begun_at}
+use Rattle.pass_exits_proof.specs.rule_laws.rules.replaced.Splittable.{AreBegun, AreBlocksBegun}
+use Rattle.pass_exits_proof.specs.ir_laws.facts.replaced.Splittable.{asks_begin}
+use Rattle.pass_exits_proof.specs.run_laws.changed.Changed.{Each}
+use Rattle.pass_exits_proof.specs.pass_fetch.Blocks.{end_at, fetched_block, fetched_incoming, fetched_phis, next_after_phi, numbered_names}
+use Rattle.pass_exits_proof.specs.pass_fetch.Fetching.{fetches_of_all, next_after}
+use Rattle.pass_exits_proof.specs.pass_fetch.Instrs.{next_after_instr, next_after_instrs, term_operands, with_fetched}
+use Rattle.pass_exits_proof.specs.pass_fetch.declared.fetch.Fetch.{Fetch}
+use Rattle.pass_exits_proof.specs.pass_cells.Cells.{named_function, with_cells}
+use Rattle.pass_exits_proof.specs.pass_cells.Kept.{entry}
+use Rattle.pass_exits_proof.specs.pass_cells.Moves.{after_again, after_saved, again_values, saved_values}
+use Rattle.pass_exits_proof.specs.pass_cells.Plan.{plan_of}
+use Rattle.pass_exits_proof.specs.pass_cells.Written.{after_one, again_row, distance_behind, distance_alloca, distance_allocas, kept_allocas, link_allocas, row_at, save_row, stored_params, stored_phis, stored_result, written_block, written_instrs}
+use Rattle.pass_exits_proof.specs.pass_cells.declared.plan.KeptValue.{KeptValue}
+use Rattle.pass_exits_proof.specs.pass_cells.declared.plan.Plan.{Plan}
+use Rattle.pass_exits_proof.specs.rule_values.Kinds.{value_kind}
+use Rattle.pass_exits_proof.specs.rule_values.declared.kinds.Kind.{Kind}
+use Rattle.pass_exits_proof.proofs.rule_laws.rules.woven_rules.Laid.{valued_old}
+use Rattle.pass_exits_proof.proofs.rule_laws.rules.woven_rules.Once.{names_below}
+use Rattle.pass_exits_proof.proofs.rule_laws.rules.woven_rules.ValueKinds.{old_kind}
+use Rattle.pass_exits_proof.specs.rule_laws.rules.woven_rules.Blocks.{IsWoven}
+use Rattle.pass_exits_proof.specs.rule_laws.rules.woven_rules.Pairs.{AreIncomingOnce}
+use Rattle.pass_exits_proof.specs.rule_laws.rules.woven_rules.Weaving.{IsThere, Weaving}
+use Rattle.pass_exits_proof.proofs.cells.begin_order.CelledBlocks.{IsCelled, entry_there, first_of, returns_lead, row_asks, same_asks, there_is}
+use Rattle.pass_exits_proof.proofs.rule_laws.rules.begin_order.CelledBlocks.{begun_at}
 
 -- ---- the function
 

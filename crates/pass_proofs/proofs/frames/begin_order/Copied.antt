@@ -1,59 +1,59 @@
 -- Once slots are copied at begin, what lies in the frame is used behind begin.
 use Rattle.std.proofs.Common.{◌≡◌, ◌⊎◌, inl, inr, ⊎_elim, ℕ, ◌<◌, ◌≤◌, Bool, true, false, List, [], ◌∷◌, ◌++◌, length, refl, sym, ap, ◌∙◌, subst, arith, append_assoc}
 use Rattle.std.specs.Prelude.{None, Option, Some, is_some, map, option_to_list, replicate, slice_get, ◌&&◌, if◌then◌else◌}
-use Rattle.pass_proofs.proofs.addresses.rules.Unmarked.{left_woven, markers_woven, stays_all}
-use Rattle.pass_proofs.specs.addresses.rules.Addresses.{AddressesFit, HasBegin, left_over, lies_in_frame, turning_weaving}
+use Rattle.pass_exits_proof.proofs.addresses.rules.Unmarked.{left_woven, markers_woven, stays_all}
+use Rattle.pass_exits_proof.specs.addresses.rules.Addresses.{AddressesFit, HasBegin, left_over, lies_in_frame, turning_weaving}
 use Rattle.pass_copies.specs.BeginCopies.{after_instr, begin_copies, behind, block_front, copied_block, copied_instrs, copy, copying_of, entry_front, first_fetched, is_fetched, put, puts, slot_allocas, with_begin_copies}
 use Rattle.pass_copies.specs.Slots.{entry_instrs, fetches_of, resumed_at}
 use Rattle.pass_copies.specs.Uses.{flag_at, is_access, is_begin, still_before, used_before}
 use Rattle.pass_copies.specs.declared.copying.Copying.{Copying}
 use Rattle.pass_copies.specs.declared.slot.EarlySlot.{EarlySlot}
 use Rattle.pass_proofs.proofs.frames.begin_order.Blocks.{before_told, flagged_here, same_begin}
-use Rattle.rule_laws.proofs.ir_laws.facts.Lists.{flags_length}
-use Rattle.pass_proofs.proofs.copies.begin_order.Early.{IsLoaded, all_loaded, leads_again, slot_fetched, slot_listed}
-use Rattle.pass_proofs.proofs.addresses.begin_order.Early.{in_frame}
-use Rattle.pass_proofs.proofs.addresses.begin_order.Lists.{AllLeft, IsLeft, IsMore, all_uses, block_has, each_left_well}
-use Rattle.pass_proofs.proofs.copies.begin_order.Marks.{IsAccessed, blocks_here}
-use Rattle.pass_proofs.proofs.addresses.begin_order.Passing.{Passes, operands_still, passes_both, phis_still, there_still, woven_passes}
+use Rattle.pass_exits_proof.proofs.ir_laws.facts.Lists.{flags_length}
+use Rattle.pass_exits_proof.proofs.copies.begin_order.Early.{IsLoaded, all_loaded, leads_again, slot_fetched, slot_listed}
+use Rattle.pass_exits_proof.proofs.addresses.begin_order.Early.{in_frame}
+use Rattle.pass_exits_proof.proofs.addresses.begin_order.Lists.{AllLeft, IsLeft, IsMore, all_uses, block_has, each_left_well}
+use Rattle.pass_exits_proof.proofs.copies.begin_order.Marks.{IsAccessed, blocks_here}
+use Rattle.pass_exits_proof.proofs.addresses.begin_order.Passing.{Passes, operands_still, passes_both, phis_still, there_still, woven_passes}
 use Rattle.pass_proofs.proofs.frames.begin_order.Turned.{access_stays, access_turned, gone_no_begin, left_operands, no_access}
-use Rattle.pass_proofs.proofs.fetch.rules.Times.{with_result as same_fetched}
+use Rattle.pass_exits_proof.proofs.fetch.rules.Times.{with_result as same_fetched}
 use Rattle.pass_proofs.specs.frames.begin_order.Behind.{AreBehind, IsBlockBehind, IsFrameBehind, MayBeAccessed, before_begin}
-use Rattle.pass_proofs.specs.addresses.begin_order.Behind.{IsBehind, IsIncomingBehind}
-use Rattle.rule_laws.specs.rules.begin_order.Behind.{access_operands, other_operands}
-use Rattle.pass_proofs.proofs.copies.rules.KeptCopies.{with_copies_keeps, with_copies_woven}
-use Rattle.pass_proofs.proofs.copies.rules.Slots.{AreNumbered, Cell, IsFrontOf, Temporary, cell_named, front_allocas, front_range, numbered, one_of, temporary_named}
-use Rattle.pass_proofs.specs.copies.rules.Copies.{CopiesFit, copied_slots, copy_weaving}
-use Rattle.rule_laws.specs.rule_uses.Uses.{block_uses, block_values, phi_values, uses_of, values_in}
-use Rattle.rule_laws.proofs.ir_laws.paths.source_rules.Locals.{listed_either, listed_left, listed_right}
-use Rattle.rule_laws.proofs.rules.source_rules.Locals.{made_by}
-use Rattle.pass_proofs.proofs.fetch.rules.Puts.{fetch_rises}
-use Rattle.rule_laws.specs.flow_solver.Paths.{IsListed}
+use Rattle.pass_exits_proof.specs.addresses.begin_order.Behind.{IsBehind, IsIncomingBehind}
+use Rattle.pass_exits_proof.specs.rule_laws.rules.begin_order.Behind.{access_operands, other_operands}
+use Rattle.pass_exits_proof.proofs.copies.rules.KeptCopies.{with_copies_keeps, with_copies_woven}
+use Rattle.pass_exits_proof.proofs.copies.rules.Slots.{AreNumbered, Cell, IsFrontOf, Temporary, cell_named, front_allocas, front_range, numbered, one_of, temporary_named}
+use Rattle.pass_exits_proof.specs.copies.rules.Copies.{CopiesFit, copied_slots, copy_weaving}
+use Rattle.pass_exits_proof.specs.rule_uses.Uses.{block_uses, block_values, phi_values, uses_of, values_in}
+use Rattle.pass_exits_proof.proofs.ir_laws.paths.source_rules.Locals.{listed_either, listed_left, listed_right}
+use Rattle.pass_exits_proof.proofs.rule_laws.rules.source_rules.Locals.{made_by}
+use Rattle.pass_exits_proof.proofs.fetch.rules.Puts.{fetch_rises}
+use Rattle.pass_exits_proof.specs.flow_solver.Paths.{IsListed}
 use Rattle.pass_addresses.specs.Placing.{is_flagged, stays, without_markers}
-use Rattle.rule_laws.specs.ir_parts.Contents.{ending_operands, instr_operands, result_of}
-use Rattle.rule_laws.specs.rules.function_rules.Kept.{KeepsFunctionRules}
+use Rattle.pass_exits_proof.specs.ir_parts.Contents.{ending_operands, instr_operands, result_of}
+use Rattle.pass_exits_proof.specs.rule_laws.rules.function_rules.Kept.{KeepsFunctionRules}
 use Rattle.ir_model.specs.declared.instr.Instr.{Instr}
 use Rattle.ir_model.specs.declared.module.Block.{Block}
 use Rattle.ir_model.specs.declared.module.Function.{Function}
 use Rattle.ir_model.specs.declared.module.Module.{Module}
 use Rattle.ir_model.specs.declared.operand.Operand.{Operand}
 use Rattle.pass_frames.specs.Framed.{AreBefore, begin_block}
-use Rattle.rule_laws.specs.run_laws.changed.Changed.{Each}
-use Rattle.rule_laws.specs.pass_fetch.Fetching.{fetch_of, fetches_of_all}
-use Rattle.rule_laws.specs.pass_fetch.Instrs.{fetched_instr, next_after_instr, with_fetched}
-use Rattle.rule_laws.specs.pass_fetch.declared.fetch.Fetch.{Fetch}
-use Rattle.rule_laws.specs.rule_values.Kinds.{value_kind}
-use Rattle.rule_laws.specs.rule_values.declared.kinds.Kind.{Kind}
-use Rattle.rule_laws.proofs.rules.woven_rules.All.{rules_woven}
-use Rattle.rule_laws.proofs.rules.woven_rules.Edges.{incoming_woven}
-use Rattle.rule_laws.proofs.rules.woven_rules.Laid.{valued_old}
-use Rattle.rule_laws.proofs.rules.woven_rules.Once.{names_below}
-use Rattle.rule_laws.proofs.ir_laws.paths.woven_rules.Unbroken.{each_listed, of_listed}
-use Rattle.rule_laws.proofs.rules.woven_rules.ValueKinds.{is_result, listed_result, made_grows, old_kind}
-use Rattle.rule_laws.specs.rules.woven_rules.Blocks.{IsWoven}
-use Rattle.rule_laws.specs.rules.woven_rules.Pairs.{AreIncomingOnce}
-use Rattle.rule_laws.specs.rules.woven_rules.Weaving.{IsThere}
+use Rattle.pass_exits_proof.specs.run_laws.changed.Changed.{Each}
+use Rattle.pass_exits_proof.specs.pass_fetch.Fetching.{fetch_of, fetches_of_all}
+use Rattle.pass_exits_proof.specs.pass_fetch.Instrs.{fetched_instr, next_after_instr, with_fetched}
+use Rattle.pass_exits_proof.specs.pass_fetch.declared.fetch.Fetch.{Fetch}
+use Rattle.pass_exits_proof.specs.rule_values.Kinds.{value_kind}
+use Rattle.pass_exits_proof.specs.rule_values.declared.kinds.Kind.{Kind}
+use Rattle.pass_exits_proof.proofs.rule_laws.rules.woven_rules.All.{rules_woven}
+use Rattle.pass_exits_proof.proofs.rule_laws.rules.woven_rules.Edges.{incoming_woven}
+use Rattle.pass_exits_proof.proofs.rule_laws.rules.woven_rules.Laid.{valued_old}
+use Rattle.pass_exits_proof.proofs.rule_laws.rules.woven_rules.Once.{names_below}
+use Rattle.pass_exits_proof.proofs.ir_laws.paths.woven_rules.Unbroken.{each_listed, of_listed}
+use Rattle.pass_exits_proof.proofs.rule_laws.rules.woven_rules.ValueKinds.{is_result, listed_result, made_grows, old_kind}
+use Rattle.pass_exits_proof.specs.rule_laws.rules.woven_rules.Blocks.{IsWoven}
+use Rattle.pass_exits_proof.specs.rule_laws.rules.woven_rules.Pairs.{AreIncomingOnce}
+use Rattle.pass_exits_proof.specs.rule_laws.rules.woven_rules.Weaving.{IsThere}
 use Rattle.pass_proofs.proofs.frames.begin_order.CopiedBlocks.{IsCopyOf, copy_there, left_block, with_copies}
-use Rattle.pass_proofs.proofs.copies.rules.Copied.{copies_are as copied_are}
+use Rattle.pass_exits_proof.proofs.copies.rules.Copied.{copies_are as copied_are}
 
 module _ (m : Module) (k : ℕ) (f : Function) (begin : ℕ) (slots : List Bool) (before : List ℕ) (sizes : List ℕ) (offsets : List (Option ℕ)) (marked : List Bool) (keeps : KeepsFunctionRules m k f) (once : AreIncomingOnce f) (are : AreBefore f before) (fit : CopiesFit f (copied_slots f slots (before_begin f before) sizes)) (all : IsFrameBehind f begin slots offsets marked) where
   abbrev Early : List Bool

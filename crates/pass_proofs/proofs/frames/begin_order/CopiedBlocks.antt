@@ -4,12 +4,12 @@ use Rattle.std.specs.Prelude.{Some, filter, map, slice_get, if◌then◌else◌}
 use Rattle.pass_copies.specs.BeginCopies.{after_block, after_instr, after_instrs, block_front, copied_block, copied_blocks, copied_instrs, entry_front, is_fetched}
 use Rattle.pass_copies.specs.Uses.{flag_at, still_before}
 use Rattle.pass_copies.specs.declared.copying.Copying.{Copying}
-use Rattle.pass_proofs.proofs.fetch.rules.Puts.{fetch_rises}
+use Rattle.pass_exits_proof.proofs.fetch.rules.Puts.{fetch_rises}
 use Rattle.pass_addresses.specs.Placing.{stays, turned_block, without_promise_of}
-use Rattle.rule_laws.specs.ir_parts.Contents.{instr_operands}
+use Rattle.pass_exits_proof.specs.ir_parts.Contents.{instr_operands}
 use Rattle.ir_model.specs.declared.instr.Instr.{Instr}
 use Rattle.ir_model.specs.declared.module.Block.{Block}
-use Rattle.rule_laws.specs.pass_fetch.Instrs.{next_after_instr}
+use Rattle.pass_exits_proof.specs.pass_fetch.Instrs.{next_after_instr}
 
 -- ---- blocks of the result
 

@@ -4,27 +4,27 @@ use Rattle.std.specs.List.{cons_option}
 use Rattle.std.specs.Prelude.{None, Option, Some, filter_map, map, slice_get, if◌then◌else◌, ◌==◌}
 use Rattle.pass_copies.specs.Slots.{entry_instrs}
 use Rattle.pass_proofs.specs.frames.begin_order.Behind.{AreBehind, AreBlocksBehind, IsBlockBehind, IsEntrySlot, MayBeAccessed}
-use Rattle.pass_proofs.specs.addresses.begin_order.Behind.{IsBehind, IsIncomingBehind}
-use Rattle.rule_laws.specs.rules.begin_order.Behind.{access_operands, other_operands}
-use Rattle.rule_laws.specs.ir_base.declared.outcome.Place.{Place}
-use Rattle.rule_laws.specs.rule_uses.Uses.{block_values, phi_values, values_at}
-use Rattle.rule_laws.proofs.ir_laws.facts.Truth.{equal_numbers}
-use Rattle.rule_laws.proofs.rules.source_rules.Locals.{made_by}
-use Rattle.pass_proofs.proofs.edges.paths.Blocks.{own_number, spot}
-use Rattle.pass_proofs.proofs.edges.paths.Edges.{edges_of_block}
-use Rattle.rule_laws.specs.ir_laws.paths.threads.Labels.{HasLabelsBelow, HasNamedLabels}
-use Rattle.pass_proofs.specs.edges.paths.Phis.{AreLabelsOnce}
-use Rattle.pass_proofs.specs.edges.paths.Spots.{table_of}
-use Rattle.pass_proofs.proofs.edges.rules.Homes.{IsEdge, IsOwn, home, own_block}
-use Rattle.pass_proofs.proofs.edges.rules.Labels.{ComesFromBlock, edge_to_label}
-use Rattle.pass_proofs.proofs.edges.rules.Operands.{ending_operands_same}
-use Rattle.pass_proofs.proofs.edges.rules.Uses.{edge_fine, moved_fine, phi_values_same, values_same}
+use Rattle.pass_exits_proof.specs.addresses.begin_order.Behind.{IsBehind, IsIncomingBehind}
+use Rattle.pass_exits_proof.specs.rule_laws.rules.begin_order.Behind.{access_operands, other_operands}
+use Rattle.pass_exits_proof.specs.ir_base.declared.outcome.Place.{Place}
+use Rattle.pass_exits_proof.specs.rule_uses.Uses.{block_values, phi_values, values_at}
+use Rattle.pass_exits_proof.proofs.ir_laws.facts.Truth.{equal_numbers}
+use Rattle.pass_exits_proof.proofs.rule_laws.rules.source_rules.Locals.{made_by}
+use Rattle.pass_exits_proof.proofs.edges.paths.Blocks.{own_number, spot}
+use Rattle.pass_exits_proof.proofs.edges.paths.Edges.{edges_of_block}
+use Rattle.pass_exits_proof.specs.ir_laws.paths.threads.Labels.{HasLabelsBelow, HasNamedLabels}
+use Rattle.pass_exits_proof.specs.edges.paths.Phis.{AreLabelsOnce}
+use Rattle.pass_exits_proof.specs.edges.paths.Spots.{table_of}
+use Rattle.pass_exits_proof.proofs.edges.rules.Homes.{IsEdge, IsOwn, home, own_block}
+use Rattle.pass_exits_proof.proofs.edges.rules.Labels.{ComesFromBlock, edge_to_label}
+use Rattle.pass_exits_proof.proofs.edges.rules.Operands.{ending_operands_same}
+use Rattle.pass_exits_proof.proofs.edges.rules.Uses.{edge_fine, moved_fine, phi_values_same, values_same}
 use Rattle.pass_edges.specs.EdgeBlocks.{incoming_on, incoming_with, operand_from, split_blocks, split_phi, with_edge_blocks}
 use Rattle.pass_edges.specs.Edges.{edges_at, ends_in_suspend, phi_flags}
 use Rattle.pass_edges.specs.declared.edge.Edge.{Edge}
-use Rattle.rule_laws.specs.flow_solver.Paths.{IsListed}
-use Rattle.rule_laws.specs.ir_parts.Contents.{ending_operands}
-use Rattle.rule_laws.specs.ir_parts.Parts.{instr_place}
+use Rattle.pass_exits_proof.specs.flow_solver.Paths.{IsListed}
+use Rattle.pass_exits_proof.specs.ir_parts.Contents.{ending_operands}
+use Rattle.pass_exits_proof.specs.ir_parts.Parts.{instr_place}
 use Rattle.ir_model.specs.Names.{position_of}
 use Rattle.ir_model.specs.declared.instr.Incoming.{Incoming}
 use Rattle.ir_model.specs.declared.instr.Instr.{Instr}
@@ -32,10 +32,10 @@ use Rattle.ir_model.specs.declared.instr.Phi.{Phi}
 use Rattle.ir_model.specs.declared.module.Block.{Block}
 use Rattle.ir_model.specs.declared.module.Function.{Function}
 use Rattle.ir_model.specs.declared.operand.Operand.{Operand}
-use Rattle.rule_laws.specs.ir_paths.Slots.{allocas_in}
-use Rattle.rule_laws.proofs.ir_laws.facts.Members.{at_each as each_at, each_turns}
-use Rattle.rule_laws.specs.run_laws.changed.Changed.{Each}
-use Rattle.rule_laws.specs.rules.woven_rules.Weaving.{IsThere}
+use Rattle.pass_exits_proof.specs.ir_paths.Slots.{allocas_in}
+use Rattle.pass_exits_proof.proofs.ir_laws.facts.Members.{at_each as each_at, each_turns}
+use Rattle.pass_exits_proof.specs.run_laws.changed.Changed.{Each}
+use Rattle.pass_exits_proof.specs.rule_laws.rules.woven_rules.Weaving.{IsThere}
 
 module _ (f : Function) (named : HasNamedLabels f) (once : AreLabelsOnce f) (begin : ℕ) (slots : List Bool) (offsets : List (Option ℕ)) where
   abbrev g : Function

@@ -1,40 +1,40 @@
 -- The operands of what is put in, but at saves and behind resume and destroy edges, don't lie in the frame.
 use Rattle.std.proofs.Common.{◌≡◌, ⊎_elim, ℕ, ◌+◌, ◌*◌, ◌<◌, ◌≤◌, Bool, true, false, List, [], ◌∷◌, ◌++◌, length, refl, sym, ◌∙◌, subst, arith, length-append}
 use Rattle.std.specs.Prelude.{None, Option, Some, codes, slice_get}
-use Rattle.pass_proofs.specs.addresses.rules.Addresses.{lies_in_frame}
+use Rattle.pass_exits_proof.specs.addresses.rules.Addresses.{lies_in_frame}
 use Rattle.pass_proofs.specs.frames.begin_order.Fields.{FieldsFit, IsField, values_kept}
-use Rattle.pass_proofs.proofs.cells.rules.Fronts.{IsNumbered}
-use Rattle.pass_proofs.proofs.cells.rules.Keepable.{IsKeepable, blocks_tell, keeping_holds, params_tell}
-use Rattle.pass_proofs.proofs.cells.rules.Keeping.{IsKeeping, place_within}
-use Rattle.pass_proofs.proofs.cells.rules.Links.{IsDistanceCell, OfLink, OfValue, distance_there}
-use Rattle.pass_proofs.proofs.cells.rules.Planned.{fetch_there}
-use Rattle.pass_proofs.proofs.cells.rules.Plans.{kept_length, kept_numbered}
-use Rattle.pass_proofs.proofs.cells.rules.Totals.{numbered_length}
-use Rattle.pass_proofs.specs.cells.rules.Asked.{AreCellsFor}
-use Rattle.pass_proofs.specs.cells.rules.Weaving.{cells_weaving}
-use Rattle.rule_laws.specs.ir_base.declared.name.Name.{Name}
-use Rattle.rule_laws.proofs.ir_laws.facts.Members.{each_behind}
-use Rattle.rule_laws.proofs.ir_laws.facts.Lists.{get_within}
-use Rattle.rule_laws.specs.ir_parts.Contents.{instr_operands}
-use Rattle.rule_laws.specs.rules.function_rules.Kept.{KeepsFunctionRules}
+use Rattle.pass_exits_proof.proofs.cells.rules.Fronts.{IsNumbered}
+use Rattle.pass_exits_proof.proofs.cells.rules.Keepable.{IsKeepable, blocks_tell, keeping_holds, params_tell}
+use Rattle.pass_exits_proof.proofs.cells.rules.Keeping.{IsKeeping, place_within}
+use Rattle.pass_exits_proof.proofs.cells.rules.Links.{IsDistanceCell, OfLink, OfValue, distance_there}
+use Rattle.pass_exits_proof.proofs.cells.rules.Planned.{fetch_there}
+use Rattle.pass_exits_proof.proofs.cells.rules.Plans.{kept_length, kept_numbered}
+use Rattle.pass_exits_proof.proofs.cells.rules.Totals.{numbered_length}
+use Rattle.pass_exits_proof.specs.cells.rules.Asked.{AreCellsFor}
+use Rattle.pass_exits_proof.specs.cells.rules.Weaving.{cells_weaving}
+use Rattle.pass_exits_proof.specs.ir_base.declared.name.Name.{Name}
+use Rattle.pass_exits_proof.proofs.ir_laws.facts.Members.{each_behind}
+use Rattle.pass_exits_proof.proofs.ir_laws.facts.Lists.{get_within}
+use Rattle.pass_exits_proof.specs.ir_parts.Contents.{instr_operands}
+use Rattle.pass_exits_proof.specs.rule_laws.rules.function_rules.Kept.{KeepsFunctionRules}
 use Rattle.ir_model.specs.declared.instr.Instr.{Instr}
 use Rattle.ir_model.specs.declared.instr.Phi.{Phi}
 use Rattle.ir_model.specs.declared.module.Function.{Function}
 use Rattle.ir_model.specs.declared.module.Module.{Module}
 use Rattle.ir_model.specs.declared.module.Param.{Param}
 use Rattle.ir_model.specs.declared.operand.Operand.{Operand}
-use Rattle.rule_laws.specs.run_laws.changed.Changed.{Each}
-use Rattle.rule_laws.specs.pass_fetch.Blocks.{numbered_names}
-use Rattle.rule_laws.specs.pass_fetch.Fetching.{fetch_into, fetch_of}
-use Rattle.rule_laws.specs.pass_fetch.declared.fetch.Fetch.{Fetch}
-use Rattle.rule_laws.specs.pass_cells.Cells.{fetch_by, fetch_for, fetches_of, with_own_names}
-use Rattle.rule_laws.specs.pass_cells.Kept.{entry}
-use Rattle.rule_laws.specs.pass_cells.Links.{bases_of, links_from, marks_of, slots_of}
-use Rattle.rule_laws.specs.pass_cells.Plan.{plan_of}
-use Rattle.rule_laws.specs.pass_cells.Written.{stored, stored_at, stored_one, stored_params, stored_phis, stored_result}
-use Rattle.rule_laws.specs.pass_cells.declared.keeping.Keeping.{Keeping}
-use Rattle.rule_laws.specs.pass_cells.declared.plan.KeptValue.{KeptValue}
-use Rattle.rule_laws.specs.pass_cells.declared.plan.Plan.{Plan}
+use Rattle.pass_exits_proof.specs.run_laws.changed.Changed.{Each}
+use Rattle.pass_exits_proof.specs.pass_fetch.Blocks.{numbered_names}
+use Rattle.pass_exits_proof.specs.pass_fetch.Fetching.{fetch_into, fetch_of}
+use Rattle.pass_exits_proof.specs.pass_fetch.declared.fetch.Fetch.{Fetch}
+use Rattle.pass_exits_proof.specs.pass_cells.Cells.{fetch_by, fetch_for, fetches_of, with_own_names}
+use Rattle.pass_exits_proof.specs.pass_cells.Kept.{entry}
+use Rattle.pass_exits_proof.specs.pass_cells.Links.{bases_of, links_from, marks_of, slots_of}
+use Rattle.pass_exits_proof.specs.pass_cells.Plan.{plan_of}
+use Rattle.pass_exits_proof.specs.pass_cells.Written.{stored, stored_at, stored_one, stored_params, stored_phis, stored_result}
+use Rattle.pass_exits_proof.specs.pass_cells.declared.keeping.Keeping.{Keeping}
+use Rattle.pass_exits_proof.specs.pass_cells.declared.plan.KeptValue.{KeptValue}
+use Rattle.pass_exits_proof.specs.pass_cells.declared.plan.Plan.{Plan}
 
 own_names : (names : List Name) (count links : ℕ) → length names + 2 * count ≤ length (with_own_names names count links)
 own_names names count links =

@@ -1,68 +1,68 @@
 -- A coroutine whose frame is built by its contents: slots and fields lie behind begin.
 use Rattle.std.proofs.Common.{◌≡◌, ◌⊎◌, inl, inr, ⊎_elim, ℕ, zero, suc, ◌+◌, ◌<◌, ◌≤◌, Bool, true, false, List, [], ◌∷◌, ◌++◌, length, refl, sym, ap, ◌∙◌, subst, arith, append_assoc}
 use Rattle.std.specs.Prelude.{None, Option, Some, flat_map, is_some, map, not, replicate, slice_get, unwrap_or, ◌^◌}
-use Rattle.pass_proofs.specs.addresses.rules.Addresses.{AddressesFit, lies_in_frame}
+use Rattle.pass_exits_proof.specs.addresses.rules.Addresses.{AddressesFit, lies_in_frame}
 use Rattle.pass_copies.specs.BeginCopies.{with_begin_copies}
 use Rattle.pass_copies.specs.Uses.{flag_at}
-use Rattle.rule_laws.proofs.frames.begin_order.Again.{again_behind}
+use Rattle.pass_exits_proof.proofs.rule_laws.frames.begin_order.Again.{again_behind}
 use Rattle.pass_proofs.proofs.frames.begin_order.Alone.{begin_pointer, begins_alone, begins_named}
 use Rattle.pass_proofs.proofs.frames.begin_order.Before.{slots_before}
 use Rattle.pass_proofs.proofs.frames.begin_order.Celled.{cells_behind}
 use Rattle.pass_proofs.proofs.frames.begin_order.Copied.{addresses_fit}
-use Rattle.pass_proofs.proofs.addresses.begin_order.Early.{in_frame}
+use Rattle.pass_exits_proof.proofs.addresses.begin_order.Early.{in_frame}
 use Rattle.pass_proofs.proofs.frames.begin_order.Edged.{edges_behind}
-use Rattle.pass_proofs.proofs.copies.begin_order.Marks.{none_flagged}
-use Rattle.pass_proofs.proofs.addresses.begin_order.Passing.{Passes, woven_passes}
+use Rattle.pass_exits_proof.proofs.copies.begin_order.Marks.{none_flagged}
+use Rattle.pass_exits_proof.proofs.addresses.begin_order.Passing.{Passes, woven_passes}
 use Rattle.pass_proofs.proofs.frames.begin_order.Tables.{IsFieldAt, IsOfClass, IsSlotAt, IsSlotHeld, field_at, fields_length, frame_slot, in_blocks, in_params, offsets_length, slot_at, slot_flagged}
-use Rattle.rule_laws.specs.ir_laws.facts.begin_order.Behind.{AreSizes}
+use Rattle.pass_exits_proof.specs.ir_laws.facts.begin_order.Behind.{AreSizes}
 use Rattle.pass_proofs.specs.frames.begin_order.Behind.{IsFrameBehind, before_begin}
 use Rattle.pass_proofs.specs.frames.begin_order.Fields.{FieldsFit, IsField, values_kept}
 use Rattle.pass_proofs.specs.frames.begin_order.Frames.{IsFrameable, slot_offsets}
-use Rattle.pass_proofs.proofs.cells.rules.Keepable.{IsKeepable, keeping_holds, once as names_once}
-use Rattle.pass_proofs.proofs.cells.rules.Keeping.{IsKeeping}
-use Rattle.rule_laws.proofs.rules.counted.Slots.{alloca_sized, alloca_slot}
-use Rattle.pass_proofs.proofs.cells.rules.Whole.{is_woven}
-use Rattle.rule_laws.specs.frames.counted.Asked.{IsAwayFromEntry}
-use Rattle.pass_proofs.specs.cells.rules.Weaving.{cells_weaving}
-use Rattle.pass_proofs.specs.copies.rules.Copies.{CopiesFit, copied_slots}
-use Rattle.rule_laws.specs.frame_contents.Held.{crossing_values, frame_slots, held_blocks, held_of, held_params}
-use Rattle.rule_laws.specs.frame_contents.declared.contents.Contents.{Contents}
-use Rattle.rule_laws.proofs.ir_laws.paths.source_rules.Locals.{listed_either}
+use Rattle.pass_exits_proof.proofs.cells.rules.Keepable.{IsKeepable, keeping_holds, once as names_once}
+use Rattle.pass_exits_proof.proofs.cells.rules.Keeping.{IsKeeping}
+use Rattle.pass_exits_proof.proofs.rule_laws.rules.counted.Slots.{alloca_sized, alloca_slot}
+use Rattle.pass_exits_proof.proofs.cells.rules.Whole.{is_woven}
+use Rattle.pass_exits_proof.specs.rule_laws.frames.counted.Asked.{IsAwayFromEntry}
+use Rattle.pass_exits_proof.specs.cells.rules.Weaving.{cells_weaving}
+use Rattle.pass_exits_proof.specs.copies.rules.Copies.{CopiesFit, copied_slots}
+use Rattle.pass_exits_proof.specs.frame_contents.Held.{crossing_values, frame_slots, held_blocks, held_of, held_params}
+use Rattle.pass_exits_proof.specs.frame_contents.declared.contents.Contents.{Contents}
+use Rattle.pass_exits_proof.proofs.ir_laws.paths.source_rules.Locals.{listed_either}
 use Rattle.pass_edges.specs.EdgeBlocks.{edge_block, split_blocks, with_edge_blocks}
 use Rattle.pass_edges.specs.Edges.{block_edges, edge_table, edges_of, phi_flags}
 use Rattle.pass_edges.specs.declared.edge.Edge.{Edge}
-use Rattle.rule_laws.specs.flow_solver.Paths.{IsListed}
+use Rattle.pass_exits_proof.specs.flow_solver.Paths.{IsListed}
 use Rattle.pass_addresses.specs.Placing.{is_none}
-use Rattle.rule_laws.specs.frame_layout.declared.layout.Layout.{Layout}
-use Rattle.rule_laws.specs.ir_parts.Contents.{result_of}
-use Rattle.rule_laws.specs.rules.function_rules.Kept.{KeepsFunctionRules}
-use Rattle.rule_laws.specs.pass_intrinsics.Shapes.{suspends_of}
-use Rattle.rule_laws.specs.pass_intrinsics.declared.shape.SuspendPoint.{SuspendPoint}
+use Rattle.pass_exits_proof.specs.frame_layout.declared.layout.Layout.{Layout}
+use Rattle.pass_exits_proof.specs.ir_parts.Contents.{result_of}
+use Rattle.pass_exits_proof.specs.rule_laws.rules.function_rules.Kept.{KeepsFunctionRules}
+use Rattle.pass_exits_proof.specs.pass_intrinsics.Shapes.{suspends_of}
+use Rattle.pass_exits_proof.specs.pass_intrinsics.declared.shape.SuspendPoint.{SuspendPoint}
 use Rattle.ir_model.specs.Calls.{first_result, first_result_by, first_result_in, or_else}
 use Rattle.ir_model.specs.declared.instr.Instr.{Instr}
 use Rattle.ir_model.specs.declared.module.Block.{Block}
 use Rattle.ir_model.specs.declared.module.Function.{Function}
 use Rattle.ir_model.specs.declared.module.Module.{Module}
 use Rattle.ir_model.specs.declared.operand.Intrinsic.{Intrinsic}
-use Rattle.rule_laws.specs.ir_paths.Slots.{allocas_in, allocas_of, has_name, promise_of}
-use Rattle.rule_laws.specs.frame_classes.Classes.{IsOf}
-use Rattle.rule_laws.specs.frame_classes.declared.class.SlotClass.{SlotClass}
+use Rattle.pass_exits_proof.specs.ir_paths.Slots.{allocas_in, allocas_of, has_name, promise_of}
+use Rattle.pass_exits_proof.specs.frame_classes.Classes.{IsOf}
+use Rattle.pass_exits_proof.specs.frame_classes.declared.class.SlotClass.{SlotClass}
 use Rattle.pass_frames.specs.Framed.{AreBefore, begin_of, celled, copied, is_begin, offsets_of}
 use Rattle.pass_frames.specs.Tables.{class_flags, is_of, offset_at, sizes_by_name}
-use Rattle.rule_laws.specs.pass_cells.Cells.{with_cells}
-use Rattle.rule_laws.specs.pass_cells.Kept.{entry}
-use Rattle.rule_laws.specs.pass_cells.declared.keeping.Keeping.{Keeping}
-use Rattle.rule_laws.specs.rule_values.Kinds.{value_kind}
-use Rattle.rule_laws.specs.rule_values.declared.kinds.Kind.{Kind}
-use Rattle.rule_laws.proofs.rules.woven_rules.All.{rules_woven}
-use Rattle.rule_laws.proofs.rules.woven_rules.Edges.{incoming_woven}
-use Rattle.rule_laws.proofs.rules.woven_rules.Laid.{valued_old}
-use Rattle.rule_laws.proofs.rules.woven_rules.Once.{names_below}
-use Rattle.rule_laws.specs.rules.woven_rules.Blocks.{IsWoven}
-use Rattle.rule_laws.specs.rules.woven_rules.Pairs.{AreIncomingOnce}
-use Rattle.rule_laws.specs.rules.woven_rules.Weaving.{Weaving}
-use Rattle.rule_laws.proofs.ir_laws.facts.Lists.{blank_length}
-use Rattle.rule_laws.proofs.ir_laws.paths.begin_order.Framed.{get_listed}
+use Rattle.pass_exits_proof.specs.pass_cells.Cells.{with_cells}
+use Rattle.pass_exits_proof.specs.pass_cells.Kept.{entry}
+use Rattle.pass_exits_proof.specs.pass_cells.declared.keeping.Keeping.{Keeping}
+use Rattle.pass_exits_proof.specs.rule_values.Kinds.{value_kind}
+use Rattle.pass_exits_proof.specs.rule_values.declared.kinds.Kind.{Kind}
+use Rattle.pass_exits_proof.proofs.rule_laws.rules.woven_rules.All.{rules_woven}
+use Rattle.pass_exits_proof.proofs.rule_laws.rules.woven_rules.Edges.{incoming_woven}
+use Rattle.pass_exits_proof.proofs.rule_laws.rules.woven_rules.Laid.{valued_old}
+use Rattle.pass_exits_proof.proofs.rule_laws.rules.woven_rules.Once.{names_below}
+use Rattle.pass_exits_proof.specs.rule_laws.rules.woven_rules.Blocks.{IsWoven}
+use Rattle.pass_exits_proof.specs.rule_laws.rules.woven_rules.Pairs.{AreIncomingOnce}
+use Rattle.pass_exits_proof.specs.rule_laws.rules.woven_rules.Weaving.{Weaving}
+use Rattle.pass_exits_proof.proofs.ir_laws.facts.Lists.{blank_length}
+use Rattle.pass_exits_proof.proofs.ir_laws.paths.begin_order.Framed.{get_listed}
 
 -- ---- allocas where edges have blocks
 

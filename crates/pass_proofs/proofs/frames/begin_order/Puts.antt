@@ -1,19 +1,19 @@
 -- Instructions that are put in, whose operands are no names in the frame, or stand behind begin.
 use Rattle.std.proofs.Common.{inr, ⊎_elim, ℕ, Bool, List, [], ◌∷◌, ◌++◌}
 use Rattle.std.specs.Prelude.{Option}
-use Rattle.pass_proofs.proofs.fetch.begin_order.Operands.{accesses_of, others_of}
+use Rattle.pass_exits_proof.proofs.fetch.begin_order.Operands.{accesses_of, others_of}
 use Rattle.pass_proofs.specs.frames.begin_order.Behind.{AreBehind, MayBeAccessed}
-use Rattle.pass_proofs.specs.addresses.begin_order.Behind.{IsBehind}
-use Rattle.rule_laws.specs.rules.begin_order.Behind.{access_operands}
-use Rattle.rule_laws.proofs.ir_laws.paths.source_rules.Locals.{listed_either, listed_left, listed_right}
-use Rattle.rule_laws.proofs.rules.source_rules.Locals.{made_by}
-use Rattle.rule_laws.specs.flow_solver.Paths.{IsListed}
-use Rattle.rule_laws.specs.ir_parts.Contents.{instr_operands}
+use Rattle.pass_exits_proof.specs.addresses.begin_order.Behind.{IsBehind}
+use Rattle.pass_exits_proof.specs.rule_laws.rules.begin_order.Behind.{access_operands}
+use Rattle.pass_exits_proof.proofs.ir_laws.paths.source_rules.Locals.{listed_either, listed_left, listed_right}
+use Rattle.pass_exits_proof.proofs.rule_laws.rules.source_rules.Locals.{made_by}
+use Rattle.pass_exits_proof.specs.flow_solver.Paths.{IsListed}
+use Rattle.pass_exits_proof.specs.ir_parts.Contents.{instr_operands}
 use Rattle.ir_model.specs.declared.instr.Instr.{Instr}
 use Rattle.ir_model.specs.declared.module.Function.{Function}
 use Rattle.ir_model.specs.declared.operand.Operand.{Operand}
-use Rattle.rule_laws.specs.run_laws.changed.Changed.{Each}
-use Rattle.rule_laws.proofs.ir_laws.facts.Members.{each_all, each_turns}
+use Rattle.pass_exits_proof.specs.run_laws.changed.Changed.{Each}
+use Rattle.pass_exits_proof.proofs.ir_laws.facts.Members.{each_all, each_turns}
 
 module _ (g : Function) (begin : ℕ) (slots : List Bool) (offsets : List (Option ℕ)) (at : ℕ) where
   abbrev P : List ℕ → Operand → Type 0

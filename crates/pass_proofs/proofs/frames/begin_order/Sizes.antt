@@ -2,28 +2,28 @@
 use Rattle.std.proofs.Common.{◌≡◌, ℕ, ◌+◌, Bool, true, false, List, [], ◌∷◌, ◌++◌, length, sym, subst}
 use Rattle.std.specs.List.{list_all}
 use Rattle.std.specs.Prelude.{None, Some, map, option_to_list, replicate, slice_get, slice_set}
-use Rattle.rule_laws.specs.ir_laws.facts.begin_order.Behind.{AreSizes}
-use Rattle.rule_laws.proofs.rules.counted.PartFacts.{block_passes, signature_passes}
-use Rattle.rule_laws.specs.rules.counted.Widths.{first_other_width, is_of_other_width}
-use Rattle.rule_laws.specs.ir_laws.facts.counted.Widths.{has_width}
-use Rattle.rule_laws.specs.frame_contents.Held.{crossing_values, frame_slots, held_blocks, held_of, held_params}
-use Rattle.rule_laws.specs.frame_contents.declared.contents.Contents.{Contents}
-use Rattle.rule_laws.specs.frame_contents.declared.held.Holding.{Holding}
-use Rattle.rule_laws.proofs.ir_laws.facts.Members.{each_behind, each_there, each_turns}
-use Rattle.rule_laws.proofs.ir_laws.facts.Truth.{and_first, holds}
-use Rattle.rule_laws.specs.ir_base.declared.outcome.Place.{Place}
-use Rattle.rule_laws.specs.ir_parts.Contents.{instr_types}
-use Rattle.rule_laws.specs.ir_parts.Parts.{OfInstr, OfPhi}
+use Rattle.pass_exits_proof.specs.ir_laws.facts.begin_order.Behind.{AreSizes}
+use Rattle.pass_exits_proof.proofs.rule_laws.rules.counted.PartFacts.{block_passes, signature_passes}
+use Rattle.pass_exits_proof.specs.rule_laws.rules.counted.Widths.{first_other_width, is_of_other_width}
+use Rattle.pass_exits_proof.specs.ir_laws.facts.counted.Widths.{has_width}
+use Rattle.pass_exits_proof.specs.frame_contents.Held.{crossing_values, frame_slots, held_blocks, held_of, held_params}
+use Rattle.pass_exits_proof.specs.frame_contents.declared.contents.Contents.{Contents}
+use Rattle.pass_exits_proof.specs.frame_contents.declared.held.Holding.{Holding}
+use Rattle.pass_exits_proof.proofs.ir_laws.facts.Members.{each_behind, each_there, each_turns}
+use Rattle.pass_exits_proof.proofs.ir_laws.facts.Truth.{and_first, holds}
+use Rattle.pass_exits_proof.specs.ir_base.declared.outcome.Place.{Place}
+use Rattle.pass_exits_proof.specs.ir_parts.Contents.{instr_types}
+use Rattle.pass_exits_proof.specs.ir_parts.Parts.{OfInstr, OfPhi}
 use Rattle.ir_model.specs.declared.instr.Instr.{Instr}
 use Rattle.ir_model.specs.declared.instr.Phi.{Phi}
 use Rattle.ir_model.specs.declared.module.Block.{Block}
 use Rattle.ir_model.specs.declared.module.Function.{Function}
 use Rattle.ir_model.specs.declared.module.Module.{Module}
 use Rattle.ir_model.specs.declared.module.Param.{Param}
-use Rattle.rule_laws.specs.ir_paths.Slots.{has_name, promise_of}
+use Rattle.pass_exits_proof.specs.ir_paths.Slots.{has_name, promise_of}
 use Rattle.pass_frames.specs.Tables.{sizes_by_name, with_sizes}
-use Rattle.rule_laws.specs.run_laws.changed.Changed.{Each}
-use Rattle.rule_laws.proofs.frames.begin_order.Sizes.{HasWidths, IsSmall, all_behind, blocks_small, each_set, none_sized, params_small}
+use Rattle.pass_exits_proof.specs.run_laws.changed.Changed.{Each}
+use Rattle.pass_exits_proof.proofs.rule_laws.frames.begin_order.Sizes.{HasWidths, IsSmall, all_behind, blocks_small, each_set, none_sized, params_small}
 
 all_set : (hs : List Holding) (sizes : List ℕ) → Each IsSmall hs → AreSizes sizes → AreSizes (with_sizes hs sizes)
 all_set [] sizes h k = k

@@ -2,26 +2,26 @@
 use Rattle.std.proofs.Common.{◌≡◌, ◌⊎◌, inl, inr, ⊎_elim, ℕ, zero, suc, ◌+◌, ◌<◌, Bool, true, false, List, [], ◌∷◌, ◌++◌, length, refl, sym, ap, ◌∙◌, subst, arith}
 use Rattle.std.specs.Prelude.{None, Option, Some, flat_map, get_or, slice_get, slice_set, if◌then◌else◌, ◌==◌}
 use Rattle.pass_copies.specs.Uses.{flag_at}
-use Rattle.pass_proofs.proofs.copies.begin_order.Marks.{flag_back, flag_set, flag_stays}
-use Rattle.rule_laws.specs.frame_contents.Held.{frame_slots_from, held_blocks, held_instrs, held_params, held_phis, if_result, if_value, is_frame, result_size, slot_held, value_held}
-use Rattle.rule_laws.specs.frame_contents.declared.held.Holding.{Holding}
-use Rattle.rule_laws.proofs.ir_laws.facts.Truth.{equal_numbers}
-use Rattle.rule_laws.proofs.ir_laws.facts.Lists.{set_length}
-use Rattle.rule_laws.proofs.ir_laws.paths.source_rules.Locals.{listed_either, listed_left, listed_right}
-use Rattle.rule_laws.proofs.flow_solver.Lists.{set_cases}
-use Rattle.rule_laws.specs.flow_solver.Paths.{IsListed}
-use Rattle.rule_laws.specs.frame_layout.declared.layout.Layout.{Layout}
-use Rattle.rule_laws.specs.ir_parts.Contents.{result_of}
+use Rattle.pass_exits_proof.proofs.copies.begin_order.Marks.{flag_back, flag_set, flag_stays}
+use Rattle.pass_exits_proof.specs.frame_contents.Held.{frame_slots_from, held_blocks, held_instrs, held_params, held_phis, if_result, if_value, is_frame, result_size, slot_held, value_held}
+use Rattle.pass_exits_proof.specs.frame_contents.declared.held.Holding.{Holding}
+use Rattle.pass_exits_proof.proofs.ir_laws.facts.Truth.{equal_numbers}
+use Rattle.pass_exits_proof.proofs.ir_laws.facts.Lists.{set_length}
+use Rattle.pass_exits_proof.proofs.ir_laws.paths.source_rules.Locals.{listed_either, listed_left, listed_right}
+use Rattle.pass_exits_proof.proofs.flow_solver.Lists.{set_cases}
+use Rattle.pass_exits_proof.specs.flow_solver.Paths.{IsListed}
+use Rattle.pass_exits_proof.specs.frame_layout.declared.layout.Layout.{Layout}
+use Rattle.pass_exits_proof.specs.ir_parts.Contents.{result_of}
 use Rattle.ir_model.specs.declared.instr.Instr.{Instr}
 use Rattle.ir_model.specs.declared.instr.Phi.{Phi}
 use Rattle.ir_model.specs.declared.module.Block.{Block}
 use Rattle.ir_model.specs.declared.module.Module.{Module}
 use Rattle.ir_model.specs.declared.module.Param.{Param}
-use Rattle.rule_laws.specs.ir_paths.Slots.{allocas_in, has_name}
-use Rattle.rule_laws.specs.frame_classes.declared.class.SlotClass.{SlotClass}
+use Rattle.pass_exits_proof.specs.ir_paths.Slots.{allocas_in, has_name}
+use Rattle.pass_exits_proof.specs.frame_classes.declared.class.SlotClass.{SlotClass}
 use Rattle.pass_frames.specs.Tables.{is_of, is_slot_kind, offset_at, with_field_offset, with_field_offsets, with_slot, with_slot_offset, with_slot_offsets, with_slots}
-use Rattle.rule_laws.specs.pass_cells.Links.{field_name}
-use Rattle.rule_laws.proofs.ir_laws.facts.names_apart.Words.{either as either_name}
+use Rattle.pass_exits_proof.specs.pass_cells.Links.{field_name}
+use Rattle.pass_exits_proof.proofs.ir_laws.facts.names_apart.Words.{either as either_name}
 
 -- ---- flags by class
 

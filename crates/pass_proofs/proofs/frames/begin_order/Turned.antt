@@ -2,19 +2,19 @@
 use Rattle.std.proofs.Common.{◌≡◌, ℕ, ◌≤◌, Bool, true, false, List, [], ◌∷◌, refl, arith}
 use Rattle.std.specs.Prelude.{None, Option, Some}
 use Rattle.pass_copies.specs.Uses.{is_access, is_begin}
-use Rattle.rule_laws.specs.rules.begin_order.Behind.{access_operands, other_operands}
-use Rattle.pass_proofs.proofs.fetch.rules.Puts.{fetch_rises}
+use Rattle.pass_exits_proof.specs.rule_laws.rules.begin_order.Behind.{access_operands, other_operands}
+use Rattle.pass_exits_proof.proofs.fetch.rules.Puts.{fetch_rises}
 use Rattle.pass_addresses.specs.Placing.{is_flagged, stays, without_promise_of}
-use Rattle.rule_laws.specs.ir_parts.Contents.{arg_operands, instr_operands}
+use Rattle.pass_exits_proof.specs.ir_parts.Contents.{arg_operands, instr_operands}
 use Rattle.ir_model.specs.declared.instr.Instr.{Instr}
 use Rattle.ir_model.specs.declared.operand.Arg.{Arg}
 use Rattle.ir_model.specs.declared.operand.Callee.{Callee}
 use Rattle.ir_model.specs.declared.operand.Intrinsic.{Intrinsic}
 use Rattle.ir_model.specs.declared.operand.Operand.{Operand}
-use Rattle.rule_laws.specs.run_laws.changed.Changed.{Each}
-use Rattle.rule_laws.specs.pass_fetch.Fetching.{fetch_of, fetched_args, fetched_operand, next_after, operand_by}
-use Rattle.rule_laws.specs.pass_fetch.Instrs.{with_fetched}
-use Rattle.rule_laws.specs.pass_fetch.declared.fetch.Fetch.{Fetch}
+use Rattle.pass_exits_proof.specs.run_laws.changed.Changed.{Each}
+use Rattle.pass_exits_proof.specs.pass_fetch.Fetching.{fetch_of, fetched_args, fetched_operand, next_after, operand_by}
+use Rattle.pass_exits_proof.specs.pass_fetch.Instrs.{with_fetched}
+use Rattle.pass_exits_proof.specs.pass_fetch.declared.fetch.Fetch.{Fetch}
 
 -- what goes is no begin
 pub gone_no_begin : (marked : List Bool) (i : Instr) → stays marked i ≡ false → is_begin i ≡ true → ⊥

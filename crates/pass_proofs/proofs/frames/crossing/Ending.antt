@@ -1,57 +1,57 @@
 -- Where edges have blocks, no path from a suspend leads to a return outside the end's block, as in the function (K5).
 use Rattle.std.proofs.Common.{◌≡◌, inl, inr, ⊎_elim, ℕ, suc, ◌+◌, ◌<◌, Bool, true, false, List, [], ◌∷◌, length, refl, sym, ap, ◌∙◌, subst, arith}
 use Rattle.std.specs.Prelude.{Some, None, Option, if◌then◌else◌, option_map, slice_get, unwrap_or, ◌==◌}
-use Rattle.rule_laws.proofs.frames.crossing.Defined.{switch_leads}
-use Rattle.rule_laws.proofs.frames.crossing.Paths.{leads_on, to_end}
-use Rattle.rule_laws.proofs.ir_laws.paths.crossing.Spots.{spot_first, spot_term}
-use Rattle.rule_laws.specs.ir_laws.facts.crossing.Crossed.{is_switch}
-use Rattle.rule_laws.specs.rule_shape.OneOfEach.{wrong_call}
-use Rattle.rule_laws.specs.rule_shape.Switches.{wrong_switch}
+use Rattle.pass_exits_proof.proofs.rule_laws.frames.crossing.Defined.{switch_leads}
+use Rattle.pass_exits_proof.proofs.rule_laws.frames.crossing.Paths.{leads_on, to_end}
+use Rattle.pass_exits_proof.proofs.ir_laws.paths.crossing.Spots.{spot_first, spot_term}
+use Rattle.pass_exits_proof.specs.ir_laws.facts.crossing.Crossed.{is_switch}
+use Rattle.pass_exits_proof.specs.rule_shape.OneOfEach.{wrong_call}
+use Rattle.pass_exits_proof.specs.rule_shape.Switches.{wrong_switch}
 use Rattle.pass_split.specs.Reached.{entry_of}
-use Rattle.rule_laws.proofs.ir_laws.facts.Lists.{get_within}
-use Rattle.rule_laws.proofs.ir_laws.facts.Truth.{itself}
-use Rattle.rule_laws.specs.ir_laws.facts.renamed.Regular.{passes}
-use Rattle.rule_laws.proofs.rules.path_rules.Outside.{NothingOutside, of_outside}
-use Rattle.rule_laws.proofs.ir_laws.paths.path_rules.Where.{has_where}
-use Rattle.pass_proofs.proofs.edges.paths.Blocks.{position_edge, spot}
-use Rattle.pass_proofs.proofs.edges.paths.Edges.{edges_of_block}
-use Rattle.pass_proofs.proofs.edges.paths.Whole.{first_moved}
-use Rattle.rule_laws.specs.ir_laws.paths.threads.Labels.{HasNamedLabels}
-use Rattle.pass_proofs.specs.edges.paths.Labels.{IsSplit}
-use Rattle.pass_proofs.proofs.edges.rules.Homes.{IsEdge, IsOwn, edge_target, edge_there, home, own_block, spots_apart, spots_no_edge}
-use Rattle.pass_proofs.proofs.edges.rules.Standing.{BothTerm, IsBranch, branch_home, leads_home, place_of_target}
-use Rattle.pass_proofs.proofs.edges.rules.Switched.{switched, switches_stay}
+use Rattle.pass_exits_proof.proofs.ir_laws.facts.Lists.{get_within}
+use Rattle.pass_exits_proof.proofs.ir_laws.facts.Truth.{itself}
+use Rattle.pass_exits_proof.specs.ir_laws.facts.renamed.Regular.{passes}
+use Rattle.pass_exits_proof.proofs.rule_laws.rules.path_rules.Outside.{NothingOutside, of_outside}
+use Rattle.pass_exits_proof.proofs.ir_laws.paths.path_rules.Where.{has_where}
+use Rattle.pass_exits_proof.proofs.edges.paths.Blocks.{position_edge, spot}
+use Rattle.pass_exits_proof.proofs.edges.paths.Edges.{edges_of_block}
+use Rattle.pass_exits_proof.proofs.edges.paths.Whole.{first_moved}
+use Rattle.pass_exits_proof.specs.ir_laws.paths.threads.Labels.{HasNamedLabels}
+use Rattle.pass_exits_proof.specs.edges.paths.Labels.{IsSplit}
+use Rattle.pass_exits_proof.proofs.edges.rules.Homes.{IsEdge, IsOwn, edge_target, edge_there, home, own_block, spots_apart, spots_no_edge}
+use Rattle.pass_exits_proof.proofs.edges.rules.Standing.{BothTerm, IsBranch, branch_home, leads_home, place_of_target}
+use Rattle.pass_exits_proof.proofs.edges.rules.Switched.{switched, switches_stay}
 use Rattle.pass_edges.specs.EdgeBlocks.{edge_block, split_term, with_edge_blocks}
 use Rattle.pass_edges.specs.Edges.{phi_flags}
 use Rattle.pass_edges.specs.declared.edge.Edge.{Edge}
-use Rattle.rule_laws.proofs.rules.known_labels.Known.{labels_known}
-use Rattle.rule_laws.specs.flow_solver.Paths.{IsListed}
-use Rattle.rule_laws.proofs.frames.needed.States.{Stands, at_entry, next_in, not_end, point, runs_on, runs_out, runs_through, stands_on, stands_within, suspend_runs}
-use Rattle.rule_laws.proofs.ir_laws.paths.renamed.Switches.{suspend_no_end}
-use Rattle.pass_proofs.specs.split.crossing.Ended.{AreEndedFirst}
-use Rattle.rule_laws.proofs.frames.shape.Points.{IsFrom, point_from}
-use Rattle.rule_laws.specs.rules.function_rules.Kept.{KeepsFunctionRules}
-use Rattle.rule_laws.specs.pass_intrinsics.declared.shape.SuspendPoint.{SuspendPoint}
+use Rattle.pass_exits_proof.proofs.rule_laws.rules.known_labels.Known.{labels_known}
+use Rattle.pass_exits_proof.specs.flow_solver.Paths.{IsListed}
+use Rattle.pass_exits_proof.proofs.rule_laws.frames.needed.States.{Stands, at_entry, next_in, not_end, point, runs_on, runs_out, runs_through, stands_on, stands_within, suspend_runs}
+use Rattle.pass_exits_proof.proofs.ir_laws.paths.renamed.Switches.{suspend_no_end}
+use Rattle.pass_exits_proof.specs.split.crossing.Ended.{AreEndedFirst}
+use Rattle.pass_exits_proof.proofs.rule_laws.frames.shape.Points.{IsFrom, point_from}
+use Rattle.pass_exits_proof.specs.rule_laws.rules.function_rules.Kept.{KeepsFunctionRules}
+use Rattle.pass_exits_proof.specs.pass_intrinsics.declared.shape.SuspendPoint.{SuspendPoint}
 use Rattle.ir_model.specs.Names.{first_where, position_of}
 use Rattle.ir_model.specs.declared.module.Block.{Block}
 use Rattle.ir_model.specs.declared.module.Function.{Function}
 use Rattle.ir_model.specs.declared.module.Module.{Module}
 use Rattle.ir_model.specs.declared.operand.Intrinsic.{Intrinsic}
-use Rattle.rule_laws.specs.ir_paths.Paths.{has_point, targets}
-use Rattle.rule_laws.specs.ir_paths.Windows.{end_block, instr_at, instr_in, is_call_of, label_of_term}
-use Rattle.pass_proofs.specs.split.rules.Reached.{Edge as LedEdge, Entry as LedEntry, IsLedTo}
-use Rattle.rule_laws.specs.frames.replaced.Splittable.{Across, Here, IsEndedFirst, LeadsToReturn, is_return}
+use Rattle.pass_exits_proof.specs.ir_paths.Paths.{has_point, targets}
+use Rattle.pass_exits_proof.specs.ir_paths.Windows.{end_block, instr_at, instr_in, is_call_of, label_of_term}
+use Rattle.pass_exits_proof.specs.split.rules.Reached.{Edge as LedEdge, Entry as LedEntry, IsLedTo}
+use Rattle.pass_exits_proof.specs.rule_laws.frames.replaced.Splittable.{Across, Here, IsEndedFirst, LeadsToReturn, is_return}
 use Rattle.std.specs.List.{list_any}
-use Rattle.rule_laws.specs.frame_crossing.Paths.{Along, BranchesTo, IsOutside, LeadsTo, There}
-use Rattle.rule_laws.specs.rule_windows.Points.{ends}
-use Rattle.rule_laws.specs.rule_windows.Sets.{RunsOut}
-use Rattle.pass_proofs.proofs.edges.rules.Kept.{rules_kept}
-use Rattle.rule_laws.proofs.rules.source_rules.Locals.{own_label}
-use Rattle.pass_proofs.proofs.edges.calls.Fetched.{call_suspends}
+use Rattle.pass_exits_proof.specs.frame_crossing.Paths.{Along, BranchesTo, IsOutside, LeadsTo, There}
+use Rattle.pass_exits_proof.specs.rule_windows.Points.{ends}
+use Rattle.pass_exits_proof.specs.rule_windows.Sets.{RunsOut}
+use Rattle.pass_exits_proof.proofs.edges.rules.Kept.{rules_kept}
+use Rattle.pass_exits_proof.proofs.rule_laws.rules.source_rules.Locals.{own_label}
+use Rattle.pass_exits_proof.proofs.edges.calls.Fetched.{call_suspends}
 use Rattle.ir_model.specs.declared.instr.Terminator.{Terminator}
-use Rattle.rule_laws.specs.run_step.Step.{AtTerm}
-use Rattle.rule_laws.specs.rule_windows.Outside.{IsFirstOutside, is_return as returns}
-use Rattle.pass_proofs.proofs.split.crossing.Ending.{block_there}
+use Rattle.pass_exits_proof.specs.run_step.Step.{AtTerm}
+use Rattle.pass_exits_proof.specs.rule_windows.Outside.{IsFirstOutside, is_return as returns}
+use Rattle.pass_exits_proof.proofs.split.crossing.Ending.{block_there}
 
 abbrev position_in : List Block → ℕ → ℕ
 position_in bs label = unwrap_or (first_where (λ (b : Block). b.label == label) bs) (length bs)

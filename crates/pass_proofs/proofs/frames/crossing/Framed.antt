@@ -1,37 +1,37 @@
 -- In a coroutine whose frame is built nothing is needed behind a suspend that is reached, and the end comes before a return.
 use Rattle.std.proofs.Common.{◌≡◌, ℕ, Bool, true, false, List, length, refl, sym, ap, ◌∙◌, arith}
 use Rattle.std.specs.Prelude.{Option, codes, filter, map}
-use Rattle.pass_proofs.proofs.addresses.rules.Placed.{fetched, fetched_keeps, slots_woven}
-use Rattle.pass_proofs.proofs.addresses.rules.Unmarked.{left_woven, markers_woven, stays_all, unmarked_keeps}
-use Rattle.pass_proofs.specs.addresses.rules.Addresses.{AddressesFit, left_over, lies_in_frame, turning_weaving}
-use Rattle.rule_laws.specs.frames.crossing.Crossed.{IsNothingNeeded}
-use Rattle.pass_proofs.specs.edges.rules.Phis.{ArePhisEnteredByJumps}
-use Rattle.pass_proofs.proofs.fetch.rules.Ends.{blocks_rise}
-use Rattle.pass_proofs.specs.fetch.rules.Fetches.{base_of, fetch_weaving, second_name}
+use Rattle.pass_exits_proof.proofs.addresses.rules.Placed.{fetched, fetched_keeps, slots_woven}
+use Rattle.pass_exits_proof.proofs.addresses.rules.Unmarked.{left_woven, markers_woven, stays_all, unmarked_keeps}
+use Rattle.pass_exits_proof.specs.addresses.rules.Addresses.{AddressesFit, left_over, lies_in_frame, turning_weaving}
+use Rattle.pass_exits_proof.specs.rule_laws.frames.crossing.Crossed.{IsNothingNeeded}
+use Rattle.pass_exits_proof.specs.edges.rules.Phis.{ArePhisEnteredByJumps}
+use Rattle.pass_exits_proof.proofs.fetch.rules.Ends.{blocks_rise}
+use Rattle.pass_exits_proof.specs.fetch.rules.Fetches.{base_of, fetch_weaving, second_name}
 use Rattle.pass_addresses.specs.Placing.{lies_outside, slot_fetches, stays, with_frame_addresses, without_markers, without_promise_of}
-use Rattle.pass_proofs.proofs.fetch.crossing.Fetched.{fetches_follow}
-use Rattle.pass_proofs.proofs.addresses.crossing.Marks.{marker_none}
-use Rattle.rule_laws.proofs.frames.needed.Others.{is_address, other_than_begin}
-use Rattle.pass_proofs.proofs.split.crossing.Steps.{IsQuiet, frames_stay, nothing_stays}
-use Rattle.pass_proofs.proofs.addresses.crossing.Turned.{filter_follows, promise_follows, turned_follows}
-use Rattle.pass_proofs.proofs.split.crossing.Ways.{woven_end_first}
-use Rattle.rule_laws.specs.frames.needed.Crossed.{AreFramesUnneeded}
-use Rattle.pass_proofs.specs.split.crossing.Ended.{AreEndedFirst}
+use Rattle.pass_exits_proof.proofs.fetch.crossing.Fetched.{fetches_follow}
+use Rattle.pass_exits_proof.proofs.addresses.crossing.Marks.{marker_none}
+use Rattle.pass_exits_proof.proofs.rule_laws.frames.needed.Others.{is_address, other_than_begin}
+use Rattle.pass_exits_proof.proofs.split.crossing.Steps.{IsQuiet, frames_stay, nothing_stays}
+use Rattle.pass_exits_proof.proofs.addresses.crossing.Turned.{filter_follows, promise_follows, turned_follows}
+use Rattle.pass_exits_proof.proofs.split.crossing.Ways.{woven_end_first}
+use Rattle.pass_exits_proof.specs.rule_laws.frames.needed.Crossed.{AreFramesUnneeded}
+use Rattle.pass_exits_proof.specs.split.crossing.Ended.{AreEndedFirst}
 use Rattle.pass_proofs.proofs.frames.shape.Addresses.{address_found, keeps_unmarked, keeps_unpromised, keeps_refetched, keeps_addressed, rules_unmarked, shape_unmarked, shape_unpromised, shape_refetched}
-use Rattle.rule_laws.specs.rules.function_rules.Kept.{KeepsFunctionRules}
+use Rattle.pass_exits_proof.specs.rule_laws.rules.function_rules.Kept.{KeepsFunctionRules}
 use Rattle.ir_model.specs.declared.instr.Instr.{Instr}
 use Rattle.ir_model.specs.declared.module.Block.{Block}
 use Rattle.ir_model.specs.declared.module.Function.{Function}
 use Rattle.ir_model.specs.declared.module.Module.{Module}
-use Rattle.rule_laws.specs.ir_paths.Windows.{instr_in}
-use Rattle.rule_laws.specs.ir_paths.declared.point.Point.{Point}
-use Rattle.rule_laws.specs.pass_fetch.Blocks.{with_fetches}
-use Rattle.rule_laws.specs.pass_fetch.declared.fetch.Fetch.{Fetch}
-use Rattle.rule_laws.specs.rules.woven_rules.Blocks.{IsWoven}
-use Rattle.rule_laws.specs.rules.woven_rules.Pairs.{AreIncomingOnce}
-use Rattle.rule_laws.specs.rules.woven_rules.Weaving.{Weaving}
-use Rattle.rule_laws.specs.frames.woven_shape.Shaped.{IsShaped, KeepsCalls}
-use Rattle.rule_laws.proofs.ir_laws.paths.crossing.Values.{listed_at}
+use Rattle.pass_exits_proof.specs.ir_paths.Windows.{instr_in}
+use Rattle.pass_exits_proof.specs.ir_paths.declared.point.Point.{Point}
+use Rattle.pass_exits_proof.specs.pass_fetch.Blocks.{with_fetches}
+use Rattle.pass_exits_proof.specs.pass_fetch.declared.fetch.Fetch.{Fetch}
+use Rattle.pass_exits_proof.specs.rule_laws.rules.woven_rules.Blocks.{IsWoven}
+use Rattle.pass_exits_proof.specs.rule_laws.rules.woven_rules.Pairs.{AreIncomingOnce}
+use Rattle.pass_exits_proof.specs.rule_laws.rules.woven_rules.Weaving.{Weaving}
+use Rattle.pass_exits_proof.specs.rule_laws.frames.woven_shape.Shaped.{IsShaped, KeepsCalls}
+use Rattle.pass_exits_proof.proofs.ir_laws.paths.crossing.Values.{listed_at}
 
 -- what lies in the frame is an alloca
 lies_in : (offsets : List (Option ℕ)) (i : Instr) → lies_outside offsets i ≡ false → is_address i ≡ true

@@ -1,62 +1,62 @@
 -- All the passes that build a coroutine's frame, one behind another.
 use Rattle.std.proofs.Common.{◌≡◌, ℕ, ◌<◌, ◌≤◌, Bool, true, List, [], ◌∷◌, length, refl, sym, ◌∙◌, subst}
 use Rattle.std.specs.Prelude.{None, Some}
-use Rattle.pass_proofs.specs.addresses.rules.Addresses.{AddressesFit}
-use Rattle.pass_proofs.proofs.cells.crossing.Whole.{nothing_needed, was_needed}
-use Rattle.rule_laws.specs.frames.crossing.Crossed.{IsNothingNeeded}
-use Rattle.rule_laws.proofs.rules.local_rules.Names.{numbers}
-use Rattle.rule_laws.proofs.rules.local_rules.Woven.{apart_names}
-use Rattle.rule_laws.proofs.ir_laws.paths.source_rules.Locals.{Apart}
-use Rattle.rule_laws.proofs.rules.source_rules.Locals.{names_are}
-use Rattle.rule_laws.proofs.rules.counted.DefinedKinds.{made_in}
-use Rattle.rule_laws.proofs.rules.counted.Slots.{instr_size}
-use Rattle.rule_laws.proofs.rules.counted.Times.{apart_times}
-use Rattle.rule_laws.proofs.rules.woven_rules.Once.{names_below}
-use Rattle.pass_proofs.specs.cells.rules.Asked.{AreCellsFor}
-use Rattle.rule_laws.specs.ir_laws.facts.woven_rules.Pairs.{times}
-use Rattle.rule_laws.specs.ir_parts.Locals.{locals_of}
-use Rattle.pass_proofs.specs.cells.rules.Weaving.{cells_weaving}
-use Rattle.pass_proofs.specs.copies.rules.Copies.{CopiesFit, copied_slots, copy_weaving}
-use Rattle.rule_laws.specs.rule_shape.OneOfEach.{wrong_call}
-use Rattle.rule_laws.specs.rule_shape.Switches.{wrong_switch}
-use Rattle.rule_laws.specs.frame_contents.declared.contents.Contents.{Contents}
+use Rattle.pass_exits_proof.specs.addresses.rules.Addresses.{AddressesFit}
+use Rattle.pass_exits_proof.proofs.cells.crossing.Whole.{nothing_needed, was_needed}
+use Rattle.pass_exits_proof.specs.rule_laws.frames.crossing.Crossed.{IsNothingNeeded}
+use Rattle.pass_exits_proof.proofs.rule_laws.rules.local_rules.Names.{numbers}
+use Rattle.pass_exits_proof.proofs.rule_laws.rules.local_rules.Woven.{apart_names}
+use Rattle.pass_exits_proof.proofs.ir_laws.paths.source_rules.Locals.{Apart}
+use Rattle.pass_exits_proof.proofs.rule_laws.rules.source_rules.Locals.{names_are}
+use Rattle.pass_exits_proof.proofs.rule_laws.rules.counted.DefinedKinds.{made_in}
+use Rattle.pass_exits_proof.proofs.rule_laws.rules.counted.Slots.{instr_size}
+use Rattle.pass_exits_proof.proofs.rule_laws.rules.counted.Times.{apart_times}
+use Rattle.pass_exits_proof.proofs.rule_laws.rules.woven_rules.Once.{names_below}
+use Rattle.pass_exits_proof.specs.cells.rules.Asked.{AreCellsFor}
+use Rattle.pass_exits_proof.specs.ir_laws.facts.woven_rules.Pairs.{times}
+use Rattle.pass_exits_proof.specs.ir_parts.Locals.{locals_of}
+use Rattle.pass_exits_proof.specs.cells.rules.Weaving.{cells_weaving}
+use Rattle.pass_exits_proof.specs.copies.rules.Copies.{CopiesFit, copied_slots, copy_weaving}
+use Rattle.pass_exits_proof.specs.rule_shape.OneOfEach.{wrong_call}
+use Rattle.pass_exits_proof.specs.rule_shape.Switches.{wrong_switch}
+use Rattle.pass_exits_proof.specs.frame_contents.declared.contents.Contents.{Contents}
 use Rattle.pass_edges.specs.EdgeBlocks.{with_edge_blocks}
-use Rattle.rule_laws.specs.frame_layout.declared.layout.Layout.{Layout}
-use Rattle.pass_proofs.proofs.copies.crossing.Copied.{copies_follow, fronts_apart}
+use Rattle.pass_exits_proof.specs.frame_layout.declared.layout.Layout.{Layout}
+use Rattle.pass_exits_proof.proofs.copies.crossing.Copied.{copies_follow, fronts_apart}
 use Rattle.pass_proofs.proofs.frames.crossing.Ending.{edges_end_first}
 use Rattle.pass_proofs.proofs.frames.crossing.Framed.{addresses_end_first, addresses_frames, addresses_nothing}
-use Rattle.pass_proofs.proofs.split.crossing.Steps.{IsQuiet, frame_back, frame_named, frames_stay, nothing_stays}
-use Rattle.pass_proofs.proofs.split.crossing.Ways.{woven_end_first}
-use Rattle.rule_laws.specs.frames.needed.Crossed.{AreFramesUnneeded}
-use Rattle.pass_proofs.specs.split.crossing.Ended.{AreEndedFirst}
-use Rattle.pass_proofs.proofs.cells.shape.Apart.{edges_apart}
-use Rattle.pass_proofs.proofs.edges.calls.Edges.{edges_shaped}
+use Rattle.pass_exits_proof.proofs.split.crossing.Steps.{IsQuiet, frame_back, frame_named, frames_stay, nothing_stays}
+use Rattle.pass_exits_proof.proofs.split.crossing.Ways.{woven_end_first}
+use Rattle.pass_exits_proof.specs.rule_laws.frames.needed.Crossed.{AreFramesUnneeded}
+use Rattle.pass_exits_proof.specs.split.crossing.Ended.{AreEndedFirst}
+use Rattle.pass_exits_proof.proofs.cells.shape.Apart.{edges_apart}
+use Rattle.pass_exits_proof.proofs.edges.calls.Edges.{edges_shaped}
 use Rattle.pass_proofs.proofs.frames.shape.Fits.{cells_fit}
 use Rattle.pass_proofs.proofs.frames.shape.Framed.{begin_is, coroutine_c, coroutine_d, crossed_e, jumps_d, keeps_c, keeps_d, once_d, rules_c, rules_d, rules_e, shape_c, shape_d, woven_c, woven_d}
 use Rattle.pass_proofs.specs.frames.shape.Passes.{PassesFit}
-use Rattle.rule_laws.specs.rules.function_rules.Kept.{KeepsFunctionRules}
+use Rattle.pass_exits_proof.specs.rule_laws.rules.function_rules.Kept.{KeepsFunctionRules}
 use Rattle.ir_model.specs.Calls.{first_result}
 use Rattle.ir_model.specs.declared.instr.Instr.{Instr}
 use Rattle.ir_model.specs.declared.module.Function.{Function}
 use Rattle.ir_model.specs.declared.module.Module.{Module}
 use Rattle.ir_model.specs.declared.operand.Intrinsic.{Intrinsic}
-use Rattle.rule_laws.specs.ir_paths.Windows.{instr_at, is_call_of}
-use Rattle.rule_laws.specs.ir_paths.declared.point.Point.{Point}
-use Rattle.rule_laws.specs.rule_locals.Markers.{made_size, slot_size}
-use Rattle.pass_proofs.proofs.edges.unused_frames.Edges.{unused_where_edges_have_blocks}
-use Rattle.pass_proofs.proofs.early.unused_frames.Flags.{IsFrame}
-use Rattle.rule_laws.proofs.ir_laws.paths.unused.Standing.{stands_at}
-use Rattle.rule_laws.proofs.frames.unused.Unneeded.{unneeded}
-use Rattle.rule_laws.specs.rules.unused.Unused.{AreFramesUnused}
-use Rattle.rule_laws.specs.frame_classes.declared.class.SlotClass.{SlotClass}
+use Rattle.pass_exits_proof.specs.ir_paths.Windows.{instr_at, is_call_of}
+use Rattle.pass_exits_proof.specs.ir_paths.declared.point.Point.{Point}
+use Rattle.pass_exits_proof.specs.rule_locals.Markers.{made_size, slot_size}
+use Rattle.pass_exits_proof.proofs.edges.unused_frames.Edges.{unused_where_edges_have_blocks}
+use Rattle.pass_exits_proof.proofs.early.unused_frames.Flags.{IsFrame}
+use Rattle.pass_exits_proof.proofs.ir_laws.paths.unused.Standing.{stands_at}
+use Rattle.pass_exits_proof.proofs.rule_laws.frames.unused.Unneeded.{unneeded}
+use Rattle.pass_exits_proof.specs.rule_laws.rules.unused.Unused.{AreFramesUnused}
+use Rattle.pass_exits_proof.specs.frame_classes.declared.class.SlotClass.{SlotClass}
 use Rattle.pass_frames.specs.Framed.{begin_block, begin_of, celled, copied, offsets_of, placed}
 use Rattle.pass_frames.specs.Tables.{class_flags, label_flags, sizes_by_name}
-use Rattle.rule_laws.specs.frame_crossing.Crossing.{AreCrossing}
-use Rattle.rule_laws.specs.rule_windows.Outside.{IsFirstOutside}
-use Rattle.rule_laws.specs.rule_windows.Windows.{IsFirstWindow}
-use Rattle.rule_laws.specs.rules.woven_rules.Blocks.{IsWoven}
-use Rattle.rule_laws.specs.rules.woven_rules.Weaving.{Weaving}
-use Rattle.rule_laws.specs.frames.woven_shape.Shaped.{IsShaped, KeepsCalls}
+use Rattle.pass_exits_proof.specs.frame_crossing.Crossing.{AreCrossing}
+use Rattle.pass_exits_proof.specs.rule_windows.Outside.{IsFirstOutside}
+use Rattle.pass_exits_proof.specs.rule_windows.Windows.{IsFirstWindow}
+use Rattle.pass_exits_proof.specs.rule_laws.rules.woven_rules.Blocks.{IsWoven}
+use Rattle.pass_exits_proof.specs.rule_laws.rules.woven_rules.Weaving.{Weaving}
+use Rattle.pass_exits_proof.specs.rule_laws.frames.woven_shape.Shaped.{IsShaped, KeepsCalls}
 
 no_size : (m : Module) (i : Instr) (v : ℕ) → is_call_of Intrinsic.CoroFrame i ≡ true → made_size m i v ≡ None
 no_size m (Instr.Alloca r ty align) v e = absurd (cc)

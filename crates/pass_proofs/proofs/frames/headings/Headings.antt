@@ -1,17 +1,17 @@
 -- Names, results and types of parameters of the functions that the passes up to the framed form make.
 use Rattle.std.proofs.Common.{◌≡◌, ℕ, List, [], ◌∷◌, ◌++◌, refl, sym, ap, ◌∙◌, subst}
 use Rattle.std.specs.Prelude.{map}
-use Rattle.rule_laws.specs.frame_contents.declared.contents.Contents.{Contents}
-use Rattle.rule_laws.specs.frame_layout.declared.layout.Layout.{Layout}
-use Rattle.rule_laws.specs.frame_layout.declared.layout.Layouts.{Layouts}
-use Rattle.rule_laws.specs.pass_front.Front.{with_front_allocas}
-use Rattle.rule_laws.specs.ir_laws.facts.function_rules.Signatures.{HaveSameSignatures, heading}
+use Rattle.pass_exits_proof.specs.frame_contents.declared.contents.Contents.{Contents}
+use Rattle.pass_exits_proof.specs.frame_layout.declared.layout.Layout.{Layout}
+use Rattle.pass_exits_proof.specs.frame_layout.declared.layout.Layouts.{Layouts}
+use Rattle.pass_exits_proof.specs.pass_front.Front.{with_front_allocas}
+use Rattle.pass_exits_proof.specs.ir_laws.facts.function_rules.Signatures.{HaveSameSignatures, heading}
 use Rattle.ir_model.specs.declared.module.Function.{Function}
 use Rattle.ir_model.specs.declared.module.Module.{Module}
 use Rattle.pass_frames.specs.Framed.{AreFramed, Coroutine, IsFramedCoroutine, IsFramedForm, NoneYet, Other, celled, copied, layout_at, placed}
-use Rattle.rule_laws.specs.pass_cells.Cells.{fetched_function}
-use Rattle.rule_laws.specs.ir_laws.facts.same_names.Same.{HaveSameNames, naming}
-use Rattle.rule_laws.proofs.ir_laws.facts.Numbers.{IsHeadedAs, heading_stays, naming_stays}
+use Rattle.pass_exits_proof.specs.pass_cells.Cells.{fetched_function}
+use Rattle.pass_exits_proof.specs.ir_laws.facts.same_names.Same.{HaveSameNames, naming}
+use Rattle.pass_exits_proof.proofs.ir_laws.facts.Numbers.{IsHeadedAs, heading_stays, naming_stays}
 
 itself : (f : Function) → IsHeadedAs f f
 itself f = record { name = refl; result = refl; params = refl; coroutine = refl }

@@ -5,27 +5,27 @@ use Rattle.pass_copies.specs.BeginCopies.{copied_function, copying_of, first_fet
 use Rattle.pass_copies.specs.Slots.{early_slots}
 use Rattle.pass_copies.specs.Uses.{used_before}
 use Rattle.pass_copies.specs.declared.copying.Copying.{Copying}
-use Rattle.rule_laws.specs.frame_contents.declared.contents.Contents.{Contents}
+use Rattle.pass_exits_proof.specs.frame_contents.declared.contents.Contents.{Contents}
 use Rattle.pass_edges.specs.EdgeBlocks.{with_edge_blocks}
 use Rattle.pass_edges.specs.Edges.{edges_of, phi_flags}
 use Rattle.pass_addresses.specs.Placing.{slot_fetches, with_frame_addresses, without_markers, without_promise}
-use Rattle.rule_laws.specs.frame_layout.declared.layout.Layout.{Layout}
+use Rattle.pass_exits_proof.specs.frame_layout.declared.layout.Layout.{Layout}
 use Rattle.ir_model.specs.declared.module.Function.{Function}
 use Rattle.ir_model.specs.declared.module.Module.{Module}
-use Rattle.rule_laws.specs.frame_classes.declared.class.SlotClass.{SlotClass}
+use Rattle.pass_exits_proof.specs.frame_classes.declared.class.SlotClass.{SlotClass}
 use Rattle.pass_frames.specs.Framed.{IsFramedCoroutine, begin_block, begin_of, celled, copied, offsets_of, placed}
 use Rattle.pass_frames.specs.Tables.{class_flags, label_flags, sizes_by_name}
-use Rattle.rule_laws.specs.pass_fetch.Blocks.{next_after_blocks, next_after_phis_by, with_fetches}
-use Rattle.rule_laws.specs.pass_fetch.declared.fetch.Fetch.{Fetch}
-use Rattle.rule_laws.specs.pass_cells.Cells.{fetched_function, fetches_of, named_function, with_cells, with_plan}
-use Rattle.rule_laws.specs.pass_cells.Plan.{plan_of}
-use Rattle.rule_laws.specs.pass_cells.Written.{after_blocks}
-use Rattle.rule_laws.specs.pass_cells.declared.plan.Plan.{Plan}
-use Rattle.rule_laws.proofs.rules.names_apart.Numbered.{are_right}
-use Rattle.rule_laws.proofs.rules.names_apart.Steps.{IsStep, then_step}
-use Rattle.pass_proofs.proofs.split.names_apart.Steps.{copies_step, edges_step, named_step, own_step, own_words}
-use Rattle.rule_laws.proofs.rules.names_apart.Words.{are_all_unlike, are_own}
-use Rattle.rule_laws.specs.rules.names_apart.Words.{AreFew, IsTableOf, cell_words, copy_words, early_words, edge_words, framed_words}
+use Rattle.pass_exits_proof.specs.pass_fetch.Blocks.{next_after_blocks, next_after_phis_by, with_fetches}
+use Rattle.pass_exits_proof.specs.pass_fetch.declared.fetch.Fetch.{Fetch}
+use Rattle.pass_exits_proof.specs.pass_cells.Cells.{fetched_function, fetches_of, named_function, with_cells, with_plan}
+use Rattle.pass_exits_proof.specs.pass_cells.Plan.{plan_of}
+use Rattle.pass_exits_proof.specs.pass_cells.Written.{after_blocks}
+use Rattle.pass_exits_proof.specs.pass_cells.declared.plan.Plan.{Plan}
+use Rattle.pass_exits_proof.proofs.rule_laws.rules.names_apart.Numbered.{are_right}
+use Rattle.pass_exits_proof.proofs.rule_laws.rules.names_apart.Steps.{IsStep, then_step}
+use Rattle.pass_exits_proof.proofs.split.names_apart.Steps.{copies_step, edges_step, named_step, own_step, own_words}
+use Rattle.pass_exits_proof.proofs.rule_laws.rules.names_apart.Words.{are_all_unlike, are_own}
+use Rattle.pass_exits_proof.specs.rule_laws.rules.names_apart.Words.{AreFew, IsTableOf, cell_words, copy_words, early_words, edge_words, framed_words}
 
 -- ---- blocks on edges, and uses that are fetched
 

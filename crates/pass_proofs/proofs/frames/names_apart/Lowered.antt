@@ -4,17 +4,17 @@ use Rattle.std.specs.Prelude.{None, Option, Some, option_map, slice_get, if◌th
 use Rattle.std.proofs.lemmas.Option.{slice_get-map}
 use Rattle.pass_early.specs.BeginName.{with_begin_name}
 use Rattle.pass_early.specs.Early.{early_function, early_module, early_named}
-use Rattle.pass_proofs.proofs.early.local_rules.Turned.{turned_function}
-use Rattle.rule_laws.specs.frame_layout.declared.layout.Layout.{Layout}
+use Rattle.pass_exits_proof.proofs.early.local_rules.Turned.{turned_function}
+use Rattle.pass_exits_proof.specs.frame_layout.declared.layout.Layout.{Layout}
 use Rattle.ir_model.specs.declared.module.Function.{Function}
 use Rattle.ir_model.specs.declared.module.Module.{Module}
 use Rattle.pass_proofs.proofs.frames.unnamed.Positions.{Becomes, FramedBy, StandsAs, Unchanged}
-use Rattle.rule_laws.proofs.ir_laws.facts.Truth.{not_both}
-use Rattle.pass_proofs.proofs.early.names.Framed.{early_step}
+use Rattle.pass_exits_proof.proofs.ir_laws.facts.Truth.{not_both}
+use Rattle.pass_exits_proof.proofs.early.names.Framed.{early_step}
 use Rattle.pass_proofs.proofs.frames.names_apart.Framed.{framed_step}
-use Rattle.rule_laws.proofs.rules.names_apart.Steps.{IsStep, then_step}
+use Rattle.pass_exits_proof.proofs.rule_laws.rules.names_apart.Steps.{IsStep, then_step}
 use Rattle.pass_proofs.proofs.frames.headings.Headings.{framed_headed}
-use Rattle.rule_laws.specs.rules.names_apart.Words.{IsSplitTable, IsTableOf, early_words, framed_words}
+use Rattle.pass_exits_proof.specs.rule_laws.rules.names_apart.Words.{IsSplitTable, IsTableOf, early_words, framed_words}
 
 module _ (m : Module) (layouts : List Layout) where
   -- what a function of a source has become

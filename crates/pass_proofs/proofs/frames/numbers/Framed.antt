@@ -1,18 +1,18 @@
 -- A framed coroutine has as many suspends as the coroutine.
 use Rattle.std.proofs.Common.{◌≡◌, ℕ, List, length, ap, ◌∙◌}
-use Rattle.rule_laws.specs.frame_contents.declared.contents.Contents.{Contents}
+use Rattle.pass_exits_proof.specs.frame_contents.declared.contents.Contents.{Contents}
 use Rattle.pass_edges.specs.EdgeBlocks.{with_edge_blocks}
-use Rattle.rule_laws.specs.frame_layout.declared.layout.Layout.{Layout}
-use Rattle.pass_proofs.proofs.cells.numbers.Cells.{cells_total}
-use Rattle.pass_proofs.proofs.addresses.numbers.Copies.{copies_total, placed_total}
-use Rattle.rule_laws.proofs.frames.suspend_counts.Counted.{as_many, total}
-use Rattle.pass_proofs.proofs.edges.numbers.Edges.{edges_as_many}
-use Rattle.rule_laws.proofs.frames.front_rules.Shape.{same_suspends}
-use Rattle.rule_laws.specs.pass_intrinsics.Shapes.{suspends_of}
-use Rattle.rule_laws.specs.pass_intrinsics.declared.shape.SuspendPoint.{SuspendPoint}
+use Rattle.pass_exits_proof.specs.frame_layout.declared.layout.Layout.{Layout}
+use Rattle.pass_exits_proof.proofs.cells.numbers.Cells.{cells_total}
+use Rattle.pass_exits_proof.proofs.addresses.numbers.Copies.{copies_total, placed_total}
+use Rattle.pass_exits_proof.proofs.rule_laws.frames.suspend_counts.Counted.{as_many, total}
+use Rattle.pass_exits_proof.proofs.edges.numbers.Edges.{edges_as_many}
+use Rattle.pass_exits_proof.proofs.rule_laws.frames.front_rules.Shape.{same_suspends}
+use Rattle.pass_exits_proof.specs.pass_intrinsics.Shapes.{suspends_of}
+use Rattle.pass_exits_proof.specs.pass_intrinsics.declared.shape.SuspendPoint.{SuspendPoint}
 use Rattle.ir_model.specs.declared.module.Function.{Function}
 use Rattle.ir_model.specs.declared.module.Module.{Module}
-use Rattle.rule_laws.specs.frame_classes.declared.class.SlotClass.{SlotClass}
+use Rattle.pass_exits_proof.specs.frame_classes.declared.class.SlotClass.{SlotClass}
 use Rattle.pass_frames.specs.Framed.{IsFramedCoroutine, begin_of, celled, copied, offsets_of, placed}
 use Rattle.pass_frames.specs.Tables.{class_flags, sizes_by_name}
 

@@ -6,21 +6,21 @@ use Rattle.std.specs.List.{list_any}
 use Rattle.std.proofs.lemmas.Bool.{cases_lt, lt-ltb}
 use Rattle.std.proofs.lemmas.List.{get_or_past}
 use Rattle.std.proofs.lemmas.Nat.{mod_below}
-use Rattle.rule_laws.specs.frame_contents.Frames.{AreLaid, AreLayouts, Coroutine, IsLaid, IsLayout, NoMore, Other}
-use Rattle.rule_laws.specs.frame_contents.Held.{fields_of}
-use Rattle.rule_laws.specs.frame_contents.declared.held.Holding.{Holding}
-use Rattle.rule_laws.proofs.frame_placing.Greatest.{ends_before}
-use Rattle.rule_laws.specs.frame_placing.Ends.{end_of}
-use Rattle.rule_laws.specs.frame_placing.Placings.{IsFrame, chosen_offsets, frame_alignment}
-use Rattle.rule_laws.specs.frame_placing.declared.placing.Placing.{Placing}
-use Rattle.rule_laws.specs.frame_placing.declared.room.Room.{Room}
-use Rattle.rule_laws.specs.flow_solver.Paths.{IsListed}
-use Rattle.rule_laws.specs.frame_layout.Frames.{index_alone}
-use Rattle.rule_laws.specs.frame_layout.Layouts.{IsLayoutBy, index_offset, rooms_of}
-use Rattle.rule_laws.specs.frame_layout.declared.layout.Field.{Field}
-use Rattle.rule_laws.specs.frame_layout.declared.layout.Layout.{Layout}
-use Rattle.rule_laws.specs.frame_layout.declared.layout.Layouts.{Layouts}
-use Rattle.rule_laws.specs.frames.suspend_counts.Given.{IsGiven}
+use Rattle.pass_exits_proof.specs.frame_contents.Frames.{AreLaid, AreLayouts, Coroutine, IsLaid, IsLayout, NoMore, Other}
+use Rattle.pass_exits_proof.specs.frame_contents.Held.{fields_of}
+use Rattle.pass_exits_proof.specs.frame_contents.declared.held.Holding.{Holding}
+use Rattle.pass_exits_proof.proofs.rule_laws.frame_placing.Greatest.{ends_before}
+use Rattle.pass_exits_proof.specs.rule_laws.frame_placing.Ends.{end_of}
+use Rattle.pass_exits_proof.specs.rule_laws.frame_placing.Placings.{IsFrame, chosen_offsets, frame_alignment}
+use Rattle.pass_exits_proof.specs.rule_laws.frame_placing.declared.placing.Placing.{Placing}
+use Rattle.pass_exits_proof.specs.rule_laws.frame_placing.declared.room.Room.{Room}
+use Rattle.pass_exits_proof.specs.flow_solver.Paths.{IsListed}
+use Rattle.pass_exits_proof.specs.frame_layout.Frames.{index_alone}
+use Rattle.pass_exits_proof.specs.frame_layout.Layouts.{IsLayoutBy, index_offset, rooms_of}
+use Rattle.pass_exits_proof.specs.frame_layout.declared.layout.Field.{Field}
+use Rattle.pass_exits_proof.specs.frame_layout.declared.layout.Layout.{Layout}
+use Rattle.pass_exits_proof.specs.frame_layout.declared.layout.Layouts.{Layouts}
+use Rattle.pass_exits_proof.specs.rule_laws.frames.suspend_counts.Given.{IsGiven}
 use Rattle.ir_model.specs.declared.module.Function.{Function}
 use Rattle.ir_model.specs.declared.module.Module.{Module}
 use Rattle.pass_frames.specs.Framed.{layout_at}

@@ -2,34 +2,34 @@
 use Rattle.std.proofs.Common.{ℕ, Bool, List, length}
 use Rattle.pass_proofs.proofs.frames.begin_order.Framed.{framed_addresses, framed_copies}
 use Rattle.pass_proofs.proofs.frames.begin_order.Sizes.{held_sized}
-use Rattle.rule_laws.specs.ir_laws.facts.begin_order.Behind.{AreSizes}
+use Rattle.pass_exits_proof.specs.ir_laws.facts.begin_order.Behind.{AreSizes}
 use Rattle.pass_proofs.specs.frames.begin_order.Frames.{IsFrameable}
-use Rattle.pass_proofs.proofs.cells.rules.Whole.{is_woven}
-use Rattle.pass_proofs.specs.cells.rules.Asked.{AreCellsFor}
-use Rattle.pass_proofs.specs.cells.rules.Weaving.{cells_weaving}
-use Rattle.rule_laws.specs.frame_contents.declared.contents.Contents.{Contents}
-use Rattle.rule_laws.proofs.rules.source_rules.Locals.{own_label}
-use Rattle.pass_proofs.proofs.edges.rules.Kept.{crossing_kept, labels_different, phis_by_jumps, rules_kept, suspend_blocks}
+use Rattle.pass_exits_proof.proofs.cells.rules.Whole.{is_woven}
+use Rattle.pass_exits_proof.specs.cells.rules.Asked.{AreCellsFor}
+use Rattle.pass_exits_proof.specs.cells.rules.Weaving.{cells_weaving}
+use Rattle.pass_exits_proof.specs.frame_contents.declared.contents.Contents.{Contents}
+use Rattle.pass_exits_proof.proofs.rule_laws.rules.source_rules.Locals.{own_label}
+use Rattle.pass_exits_proof.proofs.edges.rules.Kept.{crossing_kept, labels_different, phis_by_jumps, rules_kept, suspend_blocks}
 use Rattle.pass_edges.specs.EdgeBlocks.{with_edge_blocks}
-use Rattle.rule_laws.proofs.rules.known_labels.Known.{labels_known}
-use Rattle.rule_laws.specs.frame_layout.declared.layout.Layout.{Layout}
+use Rattle.pass_exits_proof.proofs.rule_laws.rules.known_labels.Known.{labels_known}
+use Rattle.pass_exits_proof.specs.frame_layout.declared.layout.Layout.{Layout}
 use Rattle.pass_proofs.specs.frames.rules.Buildable.{IsBuildable}
 use Rattle.pass_proofs.proofs.frames.shape.Cells.{cells_keep}
-use Rattle.pass_proofs.proofs.edges.calls.Edges.{edges_shaped}
+use Rattle.pass_exits_proof.proofs.edges.calls.Edges.{edges_shaped}
 use Rattle.pass_proofs.proofs.frames.shape.Fits.{cells_fit}
 use Rattle.pass_proofs.proofs.frames.shape.Framed.{all_framed, returns_quiet}
-use Rattle.rule_laws.specs.frames.shape.Passes.{IsKept}
+use Rattle.pass_exits_proof.specs.rule_laws.frames.shape.Passes.{IsKept}
 use Rattle.pass_proofs.specs.frames.shape.Passes.{PassesFit}
-use Rattle.rule_laws.specs.rules.function_rules.Kept.{KeepsFunctionRules}
+use Rattle.pass_exits_proof.specs.rule_laws.rules.function_rules.Kept.{KeepsFunctionRules}
 use Rattle.ir_model.specs.declared.module.Function.{Function}
 use Rattle.ir_model.specs.declared.module.Module.{Module}
-use Rattle.rule_laws.specs.frame_classes.declared.class.SlotClass.{SlotClass}
+use Rattle.pass_exits_proof.specs.frame_classes.declared.class.SlotClass.{SlotClass}
 use Rattle.pass_frames.specs.Framed.{celled, copied, placed}
 use Rattle.pass_frames.specs.Tables.{class_flags, sizes_by_name}
-use Rattle.rule_laws.specs.frame_crossing.Crossing.{AreCrossing}
-use Rattle.rule_laws.specs.rules.woven_rules.Blocks.{IsWoven}
-use Rattle.rule_laws.proofs.frames.woven_shape.Shaped.{suspends_kept}
-use Rattle.rule_laws.specs.frames.woven_shape.Shaped.{IsShaped, KeepsCalls}
+use Rattle.pass_exits_proof.specs.frame_crossing.Crossing.{AreCrossing}
+use Rattle.pass_exits_proof.specs.rule_laws.rules.woven_rules.Blocks.{IsWoven}
+use Rattle.pass_exits_proof.proofs.rule_laws.frames.woven_shape.Shaped.{suspends_kept}
+use Rattle.pass_exits_proof.specs.rule_laws.frames.woven_shape.Shaped.{IsShaped, KeepsCalls}
 
 module _ (m : Module) (k : ℕ) (l : Layout) (f : Function) (c : Contents) (before : List ℕ) (begin : ℕ) (h : IsBuildable m k l f c before begin) where
   abbrev E : Function

@@ -2,39 +2,39 @@
 use Rattle.std.proofs.Common.{◌≡◌, ℕ, Bool, true, false, List, length, refl, sym, ap, ◌∙◌, subst, arith}
 use Rattle.std.proofs.lemmas.Option.{slice_get-map}
 use Rattle.std.specs.Prelude.{Some, None, Option, codes, option_map, slice_get}
-use Rattle.pass_proofs.proofs.addresses.rules.Placed.{fetched, fetched_keeps, fetched_once, outside_unfetched, same_value, slots_woven}
-use Rattle.pass_proofs.proofs.addresses.rules.Unmarked.{left_woven, markers_woven, stays_all, unmarked_keeps, unmarked_once}
-use Rattle.pass_proofs.specs.addresses.rules.Addresses.{AddressesFit, left_over, lies_in_frame, turning_weaving}
-use Rattle.pass_proofs.specs.edges.rules.Phis.{ArePhisEnteredByJumps}
-use Rattle.pass_proofs.proofs.fetch.rules.Ends.{blocks_rise}
-use Rattle.pass_proofs.specs.fetch.rules.Fetches.{base_of, fetch_weaving, second_name}
+use Rattle.pass_exits_proof.proofs.addresses.rules.Placed.{fetched, fetched_keeps, fetched_once, outside_unfetched, same_value, slots_woven}
+use Rattle.pass_exits_proof.proofs.addresses.rules.Unmarked.{left_woven, markers_woven, stays_all, unmarked_keeps, unmarked_once}
+use Rattle.pass_exits_proof.specs.addresses.rules.Addresses.{AddressesFit, left_over, lies_in_frame, turning_weaving}
+use Rattle.pass_exits_proof.specs.edges.rules.Phis.{ArePhisEnteredByJumps}
+use Rattle.pass_exits_proof.proofs.fetch.rules.Ends.{blocks_rise}
+use Rattle.pass_exits_proof.specs.fetch.rules.Fetches.{base_of, fetch_weaving, second_name}
 use Rattle.pass_addresses.specs.Placing.{slot_fetches, with_frame_addresses, without_markers}
 use Rattle.pass_proofs.proofs.frames.shape.Fetched.{fetch_steady}
-use Rattle.pass_proofs.proofs.fetch.shape.Held.{IsHeld}
-use Rattle.pass_proofs.proofs.edges.calls.Jumps.{jumps_stay}
-use Rattle.rule_laws.proofs.rules.shape.Ordered.{IsSuspendValue, all_ordered, placed_calls}
-use Rattle.rule_laws.proofs.rules.shape.Results.{suspend_kind, suspend_low}
-use Rattle.pass_proofs.proofs.edges.calls.Steadily.{keeps_calls}
-use Rattle.rule_laws.proofs.rules.shape.Steady.{AreAllOrdered}
-use Rattle.pass_proofs.proofs.addresses.shape.Turned.{markers_steady, promise_steady, slots_steady}
-use Rattle.rule_laws.specs.rules.function_rules.Kept.{KeepsFunctionRules}
+use Rattle.pass_exits_proof.proofs.fetch.shape.Held.{IsHeld}
+use Rattle.pass_exits_proof.proofs.edges.calls.Jumps.{jumps_stay}
+use Rattle.pass_exits_proof.proofs.rule_laws.rules.shape.Ordered.{IsSuspendValue, all_ordered, placed_calls}
+use Rattle.pass_exits_proof.proofs.rule_laws.rules.shape.Results.{suspend_kind, suspend_low}
+use Rattle.pass_exits_proof.proofs.edges.calls.Steadily.{keeps_calls}
+use Rattle.pass_exits_proof.proofs.rule_laws.rules.shape.Steady.{AreAllOrdered}
+use Rattle.pass_exits_proof.proofs.addresses.shape.Turned.{markers_steady, promise_steady, slots_steady}
+use Rattle.pass_exits_proof.specs.rule_laws.rules.function_rules.Kept.{KeepsFunctionRules}
 use Rattle.ir_model.specs.Ty.{token}
 use Rattle.ir_model.specs.declared.module.Function.{Function}
 use Rattle.ir_model.specs.declared.module.Module.{Module}
 use Rattle.ir_model.specs.declared.operand.Operand.{Operand}
-use Rattle.rule_laws.specs.pass_fetch.Blocks.{with_fetches}
-use Rattle.rule_laws.specs.pass_fetch.Fetching.{fetch_at, fetch_of}
-use Rattle.rule_laws.specs.pass_fetch.declared.fetch.Fetch.{Fetch}
-use Rattle.rule_laws.specs.rule_values.Fits.{fits_kind}
-use Rattle.rule_laws.specs.rule_values.Kinds.{value_kind}
-use Rattle.rule_laws.specs.rule_values.declared.kinds.Kind.{Kind}
-use Rattle.rule_laws.proofs.rules.woven_rules.All.{rules_woven}
-use Rattle.rule_laws.proofs.rules.woven_rules.Edges.{incoming_woven}
-use Rattle.rule_laws.specs.rules.woven_rules.Blocks.{IsWoven}
-use Rattle.rule_laws.specs.rules.woven_rules.Pairs.{AreIncomingOnce}
-use Rattle.rule_laws.specs.rules.woven_rules.Weaving.{Weaving}
-use Rattle.rule_laws.proofs.frames.woven_shape.Shaped.{shape_kept}
-use Rattle.rule_laws.specs.frames.woven_shape.Shaped.{IsShaped, KeepsCalls}
+use Rattle.pass_exits_proof.specs.pass_fetch.Blocks.{with_fetches}
+use Rattle.pass_exits_proof.specs.pass_fetch.Fetching.{fetch_at, fetch_of}
+use Rattle.pass_exits_proof.specs.pass_fetch.declared.fetch.Fetch.{Fetch}
+use Rattle.pass_exits_proof.specs.rule_values.Fits.{fits_kind}
+use Rattle.pass_exits_proof.specs.rule_values.Kinds.{value_kind}
+use Rattle.pass_exits_proof.specs.rule_values.declared.kinds.Kind.{Kind}
+use Rattle.pass_exits_proof.proofs.rule_laws.rules.woven_rules.All.{rules_woven}
+use Rattle.pass_exits_proof.proofs.rule_laws.rules.woven_rules.Edges.{incoming_woven}
+use Rattle.pass_exits_proof.specs.rule_laws.rules.woven_rules.Blocks.{IsWoven}
+use Rattle.pass_exits_proof.specs.rule_laws.rules.woven_rules.Pairs.{AreIncomingOnce}
+use Rattle.pass_exits_proof.specs.rule_laws.rules.woven_rules.Weaving.{Weaving}
+use Rattle.pass_exits_proof.proofs.rule_laws.frames.woven_shape.Shaped.{shape_kept}
+use Rattle.pass_exits_proof.specs.rule_laws.frames.woven_shape.Shaped.{IsShaped, KeepsCalls}
 
 -- what is fetched is an address behind begin's value
 pub record IsAddress (begin : ℕ) (offsets : List (Option ℕ)) (v : ℕ) (y : Fetch) : Type 0 where

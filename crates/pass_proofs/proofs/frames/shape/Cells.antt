@@ -1,32 +1,32 @@
 -- Values in cells leave the calls of a coroutine.
 use Rattle.std.proofs.Common.{◌≡◌, ℕ, zero, suc, ◌<◌, ◌≤◌, Bool, true, List, [], ◌∷◌, ◌++◌, length, refl, sym, ap, ◌∙◌, subst, arith}
 use Rattle.std.specs.Prelude.{Some, None, Option, slice_get}
-use Rattle.pass_proofs.proofs.cells.crossing.Calls.{front_quiet}
-use Rattle.pass_proofs.proofs.cells.rules.NewNames.{blocks_are, fetched, first_kept, first_kept_low, first_phi, first_phi_low, first_use, first_use_low, front, table}
-use Rattle.pass_proofs.proofs.cells.rules.Planned.{IsPlanned, fetch_there, unplaced_fetch}
-use Rattle.pass_proofs.proofs.cells.rules.Single.{IsSound}
-use Rattle.rule_laws.proofs.rules.counted.Types.{is_cell_type}
-use Rattle.pass_proofs.proofs.cells.rules.Whole.{p, planned, sound, w}
-use Rattle.pass_proofs.specs.cells.rules.Asked.{AreCellsFor}
-use Rattle.pass_proofs.specs.cells.rules.Weaving.{cells_weaving}
-use Rattle.rule_laws.proofs.ir_laws.facts.Members.{each_there, each_joined}
-use Rattle.pass_proofs.specs.edges.rules.Phis.{ArePhisEnteredByJumps}
-use Rattle.pass_proofs.specs.fetch.rules.Fetches.{base_of}
-use Rattle.pass_proofs.proofs.cells.shape.Begin.{begin_unplaced}
+use Rattle.pass_exits_proof.proofs.cells.crossing.Calls.{front_quiet}
+use Rattle.pass_exits_proof.proofs.cells.rules.NewNames.{blocks_are, fetched, first_kept, first_kept_low, first_phi, first_phi_low, first_use, first_use_low, front, table}
+use Rattle.pass_exits_proof.proofs.cells.rules.Planned.{IsPlanned, fetch_there, unplaced_fetch}
+use Rattle.pass_exits_proof.proofs.cells.rules.Single.{IsSound}
+use Rattle.pass_exits_proof.proofs.rule_laws.rules.counted.Types.{is_cell_type}
+use Rattle.pass_exits_proof.proofs.cells.rules.Whole.{p, planned, sound, w}
+use Rattle.pass_exits_proof.specs.cells.rules.Asked.{AreCellsFor}
+use Rattle.pass_exits_proof.specs.cells.rules.Weaving.{cells_weaving}
+use Rattle.pass_exits_proof.proofs.ir_laws.facts.Members.{each_there, each_joined}
+use Rattle.pass_exits_proof.specs.edges.rules.Phis.{ArePhisEnteredByJumps}
+use Rattle.pass_exits_proof.specs.fetch.rules.Fetches.{base_of}
+use Rattle.pass_exits_proof.proofs.cells.shape.Begin.{begin_unplaced}
 use Rattle.pass_proofs.proofs.frames.shape.Fetched.{fetch_steady}
-use Rattle.pass_proofs.proofs.fetch.shape.Held.{IsHeld}
-use Rattle.rule_laws.proofs.rules.shape.Ordered.{IsSuspendValue, block_no_end, placed_calls, IsNoEnd}
-use Rattle.rule_laws.proofs.rules.shape.Results.{suspend_kind, suspend_low}
-use Rattle.pass_proofs.proofs.copies.shape.Returned.{returned_listed}
-use Rattle.pass_proofs.proofs.edges.calls.Spared.{AreInstrsOther, AreOther}
-use Rattle.rule_laws.proofs.rules.shape.Stands.{StandsAt, begin_stands}
-use Rattle.pass_proofs.proofs.edges.calls.Steadily.{AreSteady, entry_no_end, first_clear, keeps_calls, quiet_there, steady_both, still_ordered}
-use Rattle.pass_proofs.proofs.cells.shape.Unneeded.{unplaced}
-use Rattle.pass_proofs.proofs.cells.shape.Written.{AreReturnsClear, all_plain, entry_ends, entry_other, entry_steady, params_other}
-use Rattle.rule_laws.specs.frames.shape.Quiet.{AreReturnsQuiet}
-use Rattle.rule_laws.specs.ir_parts.Contents.{instr_operands}
-use Rattle.rule_laws.specs.rules.function_rules.Kept.{KeepsFunctionRules}
-use Rattle.rule_laws.specs.pass_intrinsics.Shapes.{suspends_of}
+use Rattle.pass_exits_proof.proofs.fetch.shape.Held.{IsHeld}
+use Rattle.pass_exits_proof.proofs.rule_laws.rules.shape.Ordered.{IsSuspendValue, block_no_end, placed_calls, IsNoEnd}
+use Rattle.pass_exits_proof.proofs.rule_laws.rules.shape.Results.{suspend_kind, suspend_low}
+use Rattle.pass_exits_proof.proofs.copies.shape.Returned.{returned_listed}
+use Rattle.pass_exits_proof.proofs.edges.calls.Spared.{AreInstrsOther, AreOther}
+use Rattle.pass_exits_proof.proofs.rule_laws.rules.shape.Stands.{StandsAt, begin_stands}
+use Rattle.pass_exits_proof.proofs.edges.calls.Steadily.{AreSteady, entry_no_end, first_clear, keeps_calls, quiet_there, steady_both, still_ordered}
+use Rattle.pass_exits_proof.proofs.cells.shape.Unneeded.{unplaced}
+use Rattle.pass_exits_proof.proofs.cells.shape.Written.{AreReturnsClear, all_plain, entry_ends, entry_other, entry_steady, params_other}
+use Rattle.pass_exits_proof.specs.rule_laws.frames.shape.Quiet.{AreReturnsQuiet}
+use Rattle.pass_exits_proof.specs.ir_parts.Contents.{instr_operands}
+use Rattle.pass_exits_proof.specs.rule_laws.rules.function_rules.Kept.{KeepsFunctionRules}
+use Rattle.pass_exits_proof.specs.pass_intrinsics.Shapes.{suspends_of}
 use Rattle.ir_model.specs.Ty.{Ty, int, ptr, token}
 use Rattle.ir_model.specs.declared.instr.Instr.{Instr}
 use Rattle.ir_model.specs.declared.module.Block.{Block}
@@ -34,21 +34,21 @@ use Rattle.ir_model.specs.declared.module.Function.{Function}
 use Rattle.ir_model.specs.declared.module.Module.{Module}
 use Rattle.ir_model.specs.declared.operand.Intrinsic.{Intrinsic}
 use Rattle.ir_model.specs.declared.operand.Operand.{Operand}
-use Rattle.rule_laws.specs.run_laws.changed.Changed.{Each}
-use Rattle.rule_laws.specs.frame_crossing.Crossing.{AreCrossing}
-use Rattle.rule_laws.specs.pass_fetch.Fetching.{fetch_of}
-use Rattle.rule_laws.specs.pass_fetch.declared.fetch.Fetch.{Fetch}
-use Rattle.rule_laws.specs.pass_cells.Cells.{fetch_by, fetch_for, with_cells}
-use Rattle.rule_laws.specs.pass_cells.Kept.{entry}
-use Rattle.rule_laws.specs.pass_cells.Written.{distance_alloca, distance_allocas, entry_blocks, kept_allocas, link_allocas, stored_params}
-use Rattle.rule_laws.specs.pass_cells.declared.plan.KeptValue.{KeptValue}
-use Rattle.rule_laws.specs.pass_cells.declared.plan.Plan.{Plan}
-use Rattle.rule_laws.specs.rule_values.Fits.{fits_kind}
-use Rattle.rule_laws.specs.rule_values.Kinds.{kind_of, value_kind}
-use Rattle.rule_laws.specs.rule_values.declared.kinds.Kind.{Kind}
-use Rattle.rule_laws.specs.rules.woven_rules.Weaving.{Weaving}
-use Rattle.rule_laws.specs.rules.woven_shape.Calls.{ShapingCall, calls_of_block}
-use Rattle.rule_laws.specs.frames.woven_shape.Shaped.{IsShaped, KeepsCalls}
+use Rattle.pass_exits_proof.specs.run_laws.changed.Changed.{Each}
+use Rattle.pass_exits_proof.specs.frame_crossing.Crossing.{AreCrossing}
+use Rattle.pass_exits_proof.specs.pass_fetch.Fetching.{fetch_of}
+use Rattle.pass_exits_proof.specs.pass_fetch.declared.fetch.Fetch.{Fetch}
+use Rattle.pass_exits_proof.specs.pass_cells.Cells.{fetch_by, fetch_for, with_cells}
+use Rattle.pass_exits_proof.specs.pass_cells.Kept.{entry}
+use Rattle.pass_exits_proof.specs.pass_cells.Written.{distance_alloca, distance_allocas, entry_blocks, kept_allocas, link_allocas, stored_params}
+use Rattle.pass_exits_proof.specs.pass_cells.declared.plan.KeptValue.{KeptValue}
+use Rattle.pass_exits_proof.specs.pass_cells.declared.plan.Plan.{Plan}
+use Rattle.pass_exits_proof.specs.rule_values.Fits.{fits_kind}
+use Rattle.pass_exits_proof.specs.rule_values.Kinds.{kind_of, value_kind}
+use Rattle.pass_exits_proof.specs.rule_values.declared.kinds.Kind.{Kind}
+use Rattle.pass_exits_proof.specs.rule_laws.rules.woven_rules.Weaving.{Weaving}
+use Rattle.pass_exits_proof.specs.rule_laws.rules.woven_shape.Calls.{ShapingCall, calls_of_block}
+use Rattle.pass_exits_proof.specs.rule_laws.frames.woven_shape.Shaped.{IsShaped, KeepsCalls}
 
 cell_no_token : (ty : Ty) → is_cell_type ty ≡ true → fits_kind (Some (kind_of ty)) token ≡ true → ⊥
 cell_no_token (int n) e h = absurd (cc)

@@ -2,27 +2,27 @@
 use Rattle.std.proofs.Common.{◌≡◌, inl, inr, ℕ, zero, suc, ◌<◌, ◌≤◌, Bool, true, false, List, [], ◌∷◌, length, refl, sym, ap, ◌∙◌, subst, arith}
 use Rattle.std.specs.List.{list_all, list_any}
 use Rattle.std.specs.Prelude.{Some, None, Option, filter, map, not, replicate, slice_get, if◌then◌else◌, ◌&&◌, ◌||◌, ◌==◌}
-use Rattle.rule_laws.proofs.ir_laws.paths.counted.PartFacts.{all_listed}
-use Rattle.rule_laws.proofs.rules.counted.PartFacts.{block_passes}
-use Rattle.rule_laws.specs.rule_shape.OneOfEach.{wrong_call}
-use Rattle.rule_laws.specs.rule_shape.Switches.{wrong_switch}
-use Rattle.rule_laws.proofs.ir_laws.facts.Members.{at_each, each_there}
-use Rattle.rule_laws.proofs.ir_laws.facts.Truth.{equal_numbers, and_first, and_second, holds}
-use Rattle.rule_laws.proofs.rules.source_rules.Locals.{own_label}
-use Rattle.pass_proofs.proofs.edges.rules.Switched.{switched}
-use Rattle.pass_proofs.specs.edges.rules.Phis.{ArePhisEnteredByJumps}
-use Rattle.pass_proofs.proofs.edges.shape.Uses.{ends_total}
+use Rattle.pass_exits_proof.proofs.ir_laws.paths.counted.PartFacts.{all_listed}
+use Rattle.pass_exits_proof.proofs.rule_laws.rules.counted.PartFacts.{block_passes}
+use Rattle.pass_exits_proof.specs.rule_shape.OneOfEach.{wrong_call}
+use Rattle.pass_exits_proof.specs.rule_shape.Switches.{wrong_switch}
+use Rattle.pass_exits_proof.proofs.ir_laws.facts.Members.{at_each, each_there}
+use Rattle.pass_exits_proof.proofs.ir_laws.facts.Truth.{equal_numbers, and_first, and_second, holds}
+use Rattle.pass_exits_proof.proofs.rule_laws.rules.source_rules.Locals.{own_label}
+use Rattle.pass_exits_proof.proofs.edges.rules.Switched.{switched}
+use Rattle.pass_exits_proof.specs.edges.rules.Phis.{ArePhisEnteredByJumps}
+use Rattle.pass_exits_proof.proofs.edges.shape.Uses.{ends_total}
 use Rattle.pass_edges.specs.Edges.{has_phis}
-use Rattle.rule_laws.specs.rule_phis.Edges.{block_at, breaks_edges, differs, fits_edges, has, incoming_labels, into_block, leads, predecessors}
-use Rattle.pass_proofs.specs.fetch.rules.Fetches.{AreUnfetched}
-use Rattle.rule_laws.specs.flow_solver.Paths.{IsListed}
-use Rattle.pass_proofs.proofs.fetch.shape.Fetching.{IsHeldBlock, IsNotFrom, all_spared, blocks_kept, default_same, ends_each, ends_other, ends_same, fetch_plain, no_rows, rows_none}
-use Rattle.pass_proofs.proofs.fetch.shape.Held.{IsHeld, all_held}
-use Rattle.rule_laws.proofs.rules.shape.Ordered.{IsSuspendValue, all_ordered, placed_calls}
-use Rattle.pass_proofs.proofs.edges.calls.Steadily.{AreSteady}
-use Rattle.rule_laws.proofs.rules.shape.Steady.{AreAllOrdered, IsBlockKept, IsPlain, all_calls, all_labels}
-use Rattle.rule_laws.proofs.ir_laws.paths.shape.Steady.{is_suspend}
-use Rattle.rule_laws.specs.rules.function_rules.Kept.{KeepsFunctionRules}
+use Rattle.pass_exits_proof.specs.rule_phis.Edges.{block_at, breaks_edges, differs, fits_edges, has, incoming_labels, into_block, leads, predecessors}
+use Rattle.pass_exits_proof.specs.fetch.rules.Fetches.{AreUnfetched}
+use Rattle.pass_exits_proof.specs.flow_solver.Paths.{IsListed}
+use Rattle.pass_exits_proof.proofs.fetch.shape.Fetching.{IsHeldBlock, IsNotFrom, all_spared, blocks_kept, default_same, ends_each, ends_other, ends_same, fetch_plain, no_rows, rows_none}
+use Rattle.pass_exits_proof.proofs.fetch.shape.Held.{IsHeld, all_held}
+use Rattle.pass_exits_proof.proofs.rule_laws.rules.shape.Ordered.{IsSuspendValue, all_ordered, placed_calls}
+use Rattle.pass_exits_proof.proofs.edges.calls.Steadily.{AreSteady}
+use Rattle.pass_exits_proof.proofs.rule_laws.rules.shape.Steady.{AreAllOrdered, IsBlockKept, IsPlain, all_calls, all_labels}
+use Rattle.pass_exits_proof.proofs.ir_laws.paths.shape.Steady.{is_suspend}
+use Rattle.pass_exits_proof.specs.rule_laws.rules.function_rules.Kept.{KeepsFunctionRules}
 use Rattle.ir_model.specs.Calls.{first_result}
 use Rattle.ir_model.specs.Names.{position_of}
 use Rattle.ir_model.specs.declared.instr.Incoming.{Incoming}
@@ -33,14 +33,14 @@ use Rattle.ir_model.specs.declared.module.Block.{Block}
 use Rattle.ir_model.specs.declared.module.Function.{Function}
 use Rattle.ir_model.specs.declared.module.Module.{Module}
 use Rattle.ir_model.specs.declared.operand.Intrinsic.{Intrinsic}
-use Rattle.rule_laws.specs.run_laws.changed.Changed.{Each}
-use Rattle.rule_laws.specs.pass_fetch.Blocks.{ends_of_blocks, fetched_blocks}
-use Rattle.rule_laws.specs.pass_fetch.Fetching.{fetch_of}
-use Rattle.rule_laws.specs.pass_fetch.Instrs.{term_operands}
-use Rattle.rule_laws.specs.pass_fetch.declared.fetch.Fetch.{Fetch}
-use Rattle.rule_laws.specs.ir_laws.facts.woven_rules.Pairs.{Pairwise}
-use Rattle.rule_laws.proofs.ir_laws.paths.shape.Fetched.{ordered_value}
-use Rattle.pass_proofs.proofs.edges.calls.Fetched.{call_suspends}
+use Rattle.pass_exits_proof.specs.run_laws.changed.Changed.{Each}
+use Rattle.pass_exits_proof.specs.pass_fetch.Blocks.{ends_of_blocks, fetched_blocks}
+use Rattle.pass_exits_proof.specs.pass_fetch.Fetching.{fetch_of}
+use Rattle.pass_exits_proof.specs.pass_fetch.Instrs.{term_operands}
+use Rattle.pass_exits_proof.specs.pass_fetch.declared.fetch.Fetch.{Fetch}
+use Rattle.pass_exits_proof.specs.ir_laws.facts.woven_rules.Pairs.{Pairwise}
+use Rattle.pass_exits_proof.proofs.ir_laws.paths.shape.Fetched.{ordered_value}
+use Rattle.pass_exits_proof.proofs.edges.calls.Fetched.{call_suspends}
 
 -- ---- where the edges into a block come from
 

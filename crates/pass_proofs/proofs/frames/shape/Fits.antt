@@ -2,34 +2,34 @@
 use Rattle.std.proofs.Common.{◌≡◌, ◌⊎◌, inl, inr, ⊎_elim, ℕ, zero, suc, ◌+◌, Bool, true, false, List, [], ◌∷◌, length, refl, sym, ap, ◌∙◌, subst}
 use Rattle.std.specs.List.{list_all}
 use Rattle.std.specs.Prelude.{None, Option, not, replicate, slice_get, slice_set, if◌then◌else◌}
-use Rattle.rule_laws.proofs.frames.crossing.Asking.{lead_away, pairs_of_values}
-use Rattle.rule_laws.proofs.ir_laws.facts.Truth.{either}
-use Rattle.pass_proofs.specs.cells.rules.Asked.{AreCellsFor}
-use Rattle.rule_laws.specs.rules.counted.Widths.{first_other_width, is_of_other_width}
-use Rattle.rule_laws.specs.ir_laws.facts.counted.Widths.{has_width}
-use Rattle.rule_laws.specs.rule_shape.OneOfEach.{wrong_call}
-use Rattle.rule_laws.specs.rule_shape.Switches.{wrong_switch}
-use Rattle.rule_laws.specs.frame_contents.declared.contents.Contents.{Contents}
-use Rattle.rule_laws.proofs.ir_laws.facts.Lists.{set_other}
-use Rattle.pass_proofs.proofs.edges.paths.Slots.{same_allocas}
-use Rattle.pass_proofs.proofs.edges.paths.Blocks.{own_number}
-use Rattle.pass_proofs.proofs.edges.rules.Carried.{Carries, carried}
-use Rattle.pass_proofs.proofs.edges.rules.Kept.{crossing_kept, rules_kept}
-use Rattle.pass_proofs.proofs.edges.rules.Operands.{ending_types_same}
+use Rattle.pass_exits_proof.proofs.rule_laws.frames.crossing.Asking.{lead_away, pairs_of_values}
+use Rattle.pass_exits_proof.proofs.ir_laws.facts.Truth.{either}
+use Rattle.pass_exits_proof.specs.cells.rules.Asked.{AreCellsFor}
+use Rattle.pass_exits_proof.specs.rule_laws.rules.counted.Widths.{first_other_width, is_of_other_width}
+use Rattle.pass_exits_proof.specs.ir_laws.facts.counted.Widths.{has_width}
+use Rattle.pass_exits_proof.specs.rule_shape.OneOfEach.{wrong_call}
+use Rattle.pass_exits_proof.specs.rule_shape.Switches.{wrong_switch}
+use Rattle.pass_exits_proof.specs.frame_contents.declared.contents.Contents.{Contents}
+use Rattle.pass_exits_proof.proofs.ir_laws.facts.Lists.{set_other}
+use Rattle.pass_exits_proof.proofs.edges.paths.Slots.{same_allocas}
+use Rattle.pass_exits_proof.proofs.edges.paths.Blocks.{own_number}
+use Rattle.pass_exits_proof.proofs.edges.rules.Carried.{Carries, carried}
+use Rattle.pass_exits_proof.proofs.edges.rules.Kept.{crossing_kept, rules_kept}
+use Rattle.pass_exits_proof.proofs.edges.rules.Operands.{ending_types_same}
 use Rattle.pass_edges.specs.EdgeBlocks.{with_edge_blocks}
 use Rattle.pass_edges.specs.Edges.{ends_in_suspend, phi_flags}
-use Rattle.rule_laws.specs.flow_solver.Paths.{IsListed}
-use Rattle.pass_proofs.proofs.cells.shape.Apart.{edges_apart}
-use Rattle.rule_laws.specs.rules.function_rules.Kept.{KeepsFunctionRules}
+use Rattle.pass_exits_proof.specs.flow_solver.Paths.{IsListed}
+use Rattle.pass_exits_proof.proofs.cells.shape.Apart.{edges_apart}
+use Rattle.pass_exits_proof.specs.rule_laws.rules.function_rules.Kept.{KeepsFunctionRules}
 use Rattle.ir_model.specs.Ty.{Ty}
 use Rattle.ir_model.specs.declared.module.Function.{Function}
 use Rattle.ir_model.specs.declared.module.Module.{Module}
-use Rattle.rule_laws.specs.ir_paths.Slots.{allocas_of}
-use Rattle.rule_laws.specs.frame_classes.declared.class.SlotClass.{SlotClass}
+use Rattle.pass_exits_proof.specs.ir_paths.Slots.{allocas_of}
+use Rattle.pass_exits_proof.specs.frame_classes.declared.class.SlotClass.{SlotClass}
 use Rattle.pass_frames.specs.Tables.{class_flags, is_of, with_slot, with_slots}
-use Rattle.rule_laws.specs.frame_crossing.Crossing.{AreCrossing}
-use Rattle.rule_laws.specs.frame_crossing.Values.{values_of}
-use Rattle.rule_laws.specs.pass_cells.Kept.{flag_or_false, is_flagged}
+use Rattle.pass_exits_proof.specs.frame_crossing.Crossing.{AreCrossing}
+use Rattle.pass_exits_proof.specs.frame_crossing.Values.{values_of}
+use Rattle.pass_exits_proof.specs.pass_cells.Kept.{flag_or_false, is_flagged}
 
 -- ---- flagged names are allocas
 

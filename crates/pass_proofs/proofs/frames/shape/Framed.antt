@@ -1,57 +1,57 @@
 -- The passes that build the frame of a coroutine, one behind another.
 use Rattle.std.proofs.Common.{◌≡◌, ℕ, Bool, true, List, [], ◌∷◌, length, sym, ap, ◌∙◌, subst}
 use Rattle.std.specs.Prelude.{Some, None, Option, slice_get, unwrap_or}
-use Rattle.pass_proofs.proofs.addresses.rules.Placed.{placed_keeps, placed_once}
-use Rattle.pass_proofs.specs.addresses.rules.Addresses.{AddressesFit}
-use Rattle.pass_proofs.proofs.cells.rules.Whole.{is_woven}
-use Rattle.pass_proofs.specs.cells.rules.Asked.{AreCellsFor}
-use Rattle.pass_proofs.specs.cells.rules.Weaving.{cells_weaving}
-use Rattle.pass_proofs.proofs.copies.rules.KeptCopies.{with_copies_woven}
-use Rattle.pass_proofs.specs.copies.rules.Copies.{CopiesFit, copied_slots, copy_weaving}
-use Rattle.rule_laws.specs.rule_shape.OneOfEach.{wrong_call}
-use Rattle.rule_laws.specs.rule_shape.Switches.{wrong_switch}
-use Rattle.rule_laws.specs.frame_contents.declared.contents.Contents.{Contents}
-use Rattle.rule_laws.proofs.rules.source_rules.Locals.{own_label}
-use Rattle.pass_proofs.proofs.edges.rules.Kept.{crossing_kept, labels_different, phis_by_jumps, rules_kept, suspend_blocks}
-use Rattle.pass_proofs.specs.edges.rules.Phis.{ArePhisEnteredByJumps}
-use Rattle.rule_laws.specs.frames.rows.Returns.{HaveOwnReturns, return_labels}
-use Rattle.pass_proofs.proofs.edges.shape.Kept.{begin_kept}
+use Rattle.pass_exits_proof.proofs.addresses.rules.Placed.{placed_keeps, placed_once}
+use Rattle.pass_exits_proof.specs.addresses.rules.Addresses.{AddressesFit}
+use Rattle.pass_exits_proof.proofs.cells.rules.Whole.{is_woven}
+use Rattle.pass_exits_proof.specs.cells.rules.Asked.{AreCellsFor}
+use Rattle.pass_exits_proof.specs.cells.rules.Weaving.{cells_weaving}
+use Rattle.pass_exits_proof.proofs.copies.rules.KeptCopies.{with_copies_woven}
+use Rattle.pass_exits_proof.specs.copies.rules.Copies.{CopiesFit, copied_slots, copy_weaving}
+use Rattle.pass_exits_proof.specs.rule_shape.OneOfEach.{wrong_call}
+use Rattle.pass_exits_proof.specs.rule_shape.Switches.{wrong_switch}
+use Rattle.pass_exits_proof.specs.frame_contents.declared.contents.Contents.{Contents}
+use Rattle.pass_exits_proof.proofs.rule_laws.rules.source_rules.Locals.{own_label}
+use Rattle.pass_exits_proof.proofs.edges.rules.Kept.{crossing_kept, labels_different, phis_by_jumps, rules_kept, suspend_blocks}
+use Rattle.pass_exits_proof.specs.edges.rules.Phis.{ArePhisEnteredByJumps}
+use Rattle.pass_exits_proof.specs.rule_laws.frames.rows.Returns.{HaveOwnReturns, return_labels}
+use Rattle.pass_exits_proof.proofs.edges.shape.Kept.{begin_kept}
 use Rattle.pass_edges.specs.EdgeBlocks.{with_edge_blocks}
-use Rattle.rule_laws.specs.flow_solver.Paths.{IsListed}
+use Rattle.pass_exits_proof.specs.flow_solver.Paths.{IsListed}
 use Rattle.pass_addresses.specs.Placing.{with_frame_addresses}
-use Rattle.rule_laws.specs.frame_layout.declared.layout.Layout.{Layout}
+use Rattle.pass_exits_proof.specs.frame_layout.declared.layout.Layout.{Layout}
 use Rattle.pass_proofs.proofs.frames.shape.Addresses.{addressed_shape}
 use Rattle.pass_proofs.proofs.frames.shape.Cells.{cells_keep, cells_steady}
-use Rattle.pass_proofs.proofs.copies.shape.Copies.{copies_keep}
-use Rattle.pass_proofs.proofs.edges.calls.Edges.{edges_shaped}
+use Rattle.pass_exits_proof.proofs.copies.shape.Copies.{copies_keep}
+use Rattle.pass_exits_proof.proofs.edges.calls.Edges.{edges_shaped}
 use Rattle.pass_proofs.proofs.frames.shape.Fits.{cells_fit}
-use Rattle.pass_proofs.proofs.edges.calls.Jumps.{jumps_stay}
-use Rattle.pass_proofs.proofs.edges.calls.Steadily.{quiet_there}
-use Rattle.rule_laws.specs.frames.shape.Passes.{IsKept}
+use Rattle.pass_exits_proof.proofs.edges.calls.Jumps.{jumps_stay}
+use Rattle.pass_exits_proof.proofs.edges.calls.Steadily.{quiet_there}
+use Rattle.pass_exits_proof.specs.rule_laws.frames.shape.Passes.{IsKept}
 use Rattle.pass_proofs.specs.frames.shape.Passes.{PassesFit}
-use Rattle.rule_laws.specs.frames.shape.Quiet.{AreReturnsQuiet}
-use Rattle.rule_laws.specs.rules.function_rules.Kept.{KeepsFunctionRules}
-use Rattle.rule_laws.specs.pass_intrinsics.declared.shape.SuspendPoint.{SuspendPoint}
+use Rattle.pass_exits_proof.specs.rule_laws.frames.shape.Quiet.{AreReturnsQuiet}
+use Rattle.pass_exits_proof.specs.rule_laws.rules.function_rules.Kept.{KeepsFunctionRules}
+use Rattle.pass_exits_proof.specs.pass_intrinsics.declared.shape.SuspendPoint.{SuspendPoint}
 use Rattle.ir_model.specs.Calls.{first_result}
 use Rattle.ir_model.specs.Names.{position_of}
 use Rattle.ir_model.specs.declared.module.Block.{Block}
 use Rattle.ir_model.specs.declared.module.Function.{Function}
 use Rattle.ir_model.specs.declared.module.Module.{Module}
 use Rattle.ir_model.specs.declared.operand.Intrinsic.{Intrinsic}
-use Rattle.rule_laws.specs.frame_classes.declared.class.SlotClass.{SlotClass}
+use Rattle.pass_exits_proof.specs.frame_classes.declared.class.SlotClass.{SlotClass}
 use Rattle.pass_frames.specs.Framed.{begin_block, begin_of, celled, copied, offsets_of, placed}
 use Rattle.pass_frames.specs.Tables.{class_flags, label_flags, sizes_by_name}
-use Rattle.rule_laws.specs.frame_crossing.Crossing.{AreCrossing}
-use Rattle.rule_laws.specs.rule_windows.Outside.{IsFirstOutside}
-use Rattle.rule_laws.specs.rule_windows.Windows.{IsFirstWindow}
-use Rattle.rule_laws.proofs.rules.woven_rules.All.{rules_woven}
-use Rattle.rule_laws.proofs.rules.woven_rules.Edges.{incoming_woven}
-use Rattle.rule_laws.specs.rules.woven_rules.Blocks.{IsWoven}
-use Rattle.rule_laws.specs.rules.woven_rules.Pairs.{AreIncomingOnce}
-use Rattle.rule_laws.specs.rules.woven_rules.Weaving.{Weaving}
-use Rattle.rule_laws.proofs.frames.woven_shape.Shaped.{shape_kept, suspends_kept}
-use Rattle.rule_laws.specs.rules.woven_shape.Calls.{calls_in, calls_of_block}
-use Rattle.rule_laws.specs.frames.woven_shape.Shaped.{IsShaped, KeepsCalls}
+use Rattle.pass_exits_proof.specs.frame_crossing.Crossing.{AreCrossing}
+use Rattle.pass_exits_proof.specs.rule_windows.Outside.{IsFirstOutside}
+use Rattle.pass_exits_proof.specs.rule_windows.Windows.{IsFirstWindow}
+use Rattle.pass_exits_proof.proofs.rule_laws.rules.woven_rules.All.{rules_woven}
+use Rattle.pass_exits_proof.proofs.rule_laws.rules.woven_rules.Edges.{incoming_woven}
+use Rattle.pass_exits_proof.specs.rule_laws.rules.woven_rules.Blocks.{IsWoven}
+use Rattle.pass_exits_proof.specs.rule_laws.rules.woven_rules.Pairs.{AreIncomingOnce}
+use Rattle.pass_exits_proof.specs.rule_laws.rules.woven_rules.Weaving.{Weaving}
+use Rattle.pass_exits_proof.proofs.rule_laws.frames.woven_shape.Shaped.{shape_kept, suspends_kept}
+use Rattle.pass_exits_proof.specs.rule_laws.rules.woven_shape.Calls.{calls_in, calls_of_block}
+use Rattle.pass_exits_proof.specs.rule_laws.frames.woven_shape.Shaped.{IsShaped, KeepsCalls}
 
 -- ---- blocks of their own have no calls
 

@@ -3,23 +3,23 @@ use Rattle.std.proofs.Common.{◌≡◌, inl, ℕ, suc, ◌+◌, Bool, true, Lis
 use Rattle.std.specs.List.{Any}
 use Rattle.std.specs.Prelude.{None, Option, Some, option_to_list, slice_get}
 use Rattle.pass_proofs.proofs.frames.begin_order.Alone.{begins_named}
-use Rattle.rule_laws.proofs.ir_laws.paths.begin_order.Framed.{get_listed}
+use Rattle.pass_exits_proof.proofs.ir_laws.paths.begin_order.Framed.{get_listed}
 use Rattle.pass_proofs.specs.frames.begin_order.Behind.{AreBehind, AreBlocksBehind, MayBeAccessed}
-use Rattle.pass_proofs.specs.addresses.begin_order.Behind.{IsBehind, IsIncomingBehind}
-use Rattle.rule_laws.specs.rules.begin_order.Behind.{access_operands}
+use Rattle.pass_exits_proof.specs.addresses.begin_order.Behind.{IsBehind, IsIncomingBehind}
+use Rattle.pass_exits_proof.specs.rule_laws.rules.begin_order.Behind.{access_operands}
 use Rattle.pass_proofs.specs.frames.begin_order.Frames.{slot_offsets}
-use Rattle.rule_laws.specs.rule_shape.OneOfEach.{wrong_call}
-use Rattle.rule_laws.specs.frame_contents.Frames.{AreContents}
-use Rattle.rule_laws.specs.frame_contents.declared.contents.Contents.{Contents}
-use Rattle.rule_laws.specs.rule_uses.Undefined.{ReachesWithout}
-use Rattle.rule_laws.specs.rule_uses.Uses.{block_values, phi_values, values_in}
-use Rattle.rule_laws.proofs.ir_laws.facts.Members.{at_each, each_there, each_all, each_turns}
-use Rattle.pass_proofs.proofs.early.path_rules.SavedEarly.{NothingEarly, of_early}
-use Rattle.rule_laws.specs.flow_solver.Paths.{IsListed}
-use Rattle.rule_laws.specs.frame_layout.declared.layout.Layout.{Layout}
-use Rattle.rule_laws.specs.ir_parts.Contents.{ending_operands, result_of}
-use Rattle.rule_laws.specs.ir_parts.Parts.{OfInstr}
-use Rattle.rule_laws.specs.rules.function_rules.Kept.{KeepsFunctionRules}
+use Rattle.pass_exits_proof.specs.rule_shape.OneOfEach.{wrong_call}
+use Rattle.pass_exits_proof.specs.frame_contents.Frames.{AreContents}
+use Rattle.pass_exits_proof.specs.frame_contents.declared.contents.Contents.{Contents}
+use Rattle.pass_exits_proof.specs.rule_uses.Undefined.{ReachesWithout}
+use Rattle.pass_exits_proof.specs.rule_uses.Uses.{block_values, phi_values, values_in}
+use Rattle.pass_exits_proof.proofs.ir_laws.facts.Members.{at_each, each_there, each_all, each_turns}
+use Rattle.pass_exits_proof.proofs.early.path_rules.SavedEarly.{NothingEarly, of_early}
+use Rattle.pass_exits_proof.specs.flow_solver.Paths.{IsListed}
+use Rattle.pass_exits_proof.specs.frame_layout.declared.layout.Layout.{Layout}
+use Rattle.pass_exits_proof.specs.ir_parts.Contents.{ending_operands, result_of}
+use Rattle.pass_exits_proof.specs.ir_parts.Parts.{OfInstr}
+use Rattle.pass_exits_proof.specs.rule_laws.rules.function_rules.Kept.{KeepsFunctionRules}
 use Rattle.ir_model.specs.Calls.{first_result}
 use Rattle.ir_model.specs.Names.{position_of}
 use Rattle.ir_model.specs.declared.instr.Incoming.{Incoming}
@@ -31,19 +31,19 @@ use Rattle.ir_model.specs.declared.module.Module.{Module}
 use Rattle.ir_model.specs.declared.operand.Callee.{Callee}
 use Rattle.ir_model.specs.declared.operand.Intrinsic.{Intrinsic}
 use Rattle.ir_model.specs.declared.operand.Operand.{Operand}
-use Rattle.rule_laws.specs.ir_paths.Windows.{instr_in, is_call_of}
-use Rattle.rule_laws.specs.ir_paths.declared.point.Point.{Point}
-use Rattle.rule_laws.specs.frame_classes.declared.class.SlotClass.{SlotClass}
-use Rattle.rule_laws.specs.rule_slots.Early.{IsBeforeBegin, IsFirstEarly, IsTakenEarly, end_of, instr_count, other_uses}
-use Rattle.rule_laws.specs.rule_slots.Slots.{NamesAddress}
-use Rattle.rule_laws.proofs.rules.slots_behind.Operands.{each_unless, others_used}
+use Rattle.pass_exits_proof.specs.ir_paths.Windows.{instr_in, is_call_of}
+use Rattle.pass_exits_proof.specs.ir_paths.declared.point.Point.{Point}
+use Rattle.pass_exits_proof.specs.frame_classes.declared.class.SlotClass.{SlotClass}
+use Rattle.pass_exits_proof.specs.rule_slots.Early.{IsBeforeBegin, IsFirstEarly, IsTakenEarly, end_of, instr_count, other_uses}
+use Rattle.pass_exits_proof.specs.rule_slots.Slots.{NamesAddress}
+use Rattle.pass_exits_proof.proofs.rule_laws.rules.slots_behind.Operands.{each_unless, others_used}
 use Rattle.pass_proofs.proofs.frames.slots_behind.Slots.{entry_slot, slot_address}
-use Rattle.rule_laws.proofs.rules.slots_behind.Walks.{AreNamed, IsSound, end_before, front_before, sound_on}
+use Rattle.pass_exits_proof.proofs.rule_laws.rules.slots_behind.Walks.{AreNamed, IsSound, end_before, front_before, sound_on}
 use Rattle.pass_frames.specs.Framed.{is_begin}
 use Rattle.pass_frames.specs.Tables.{class_flags}
-use Rattle.rule_laws.specs.run_laws.changed.Changed.{Each}
-use Rattle.rule_laws.specs.rule_types.Signatures.{calls_otherwise}
-use Rattle.rule_laws.proofs.rules.woven_rules.Unbroken.{Passes, PassesIn, all_pass}
+use Rattle.pass_exits_proof.specs.run_laws.changed.Changed.{Each}
+use Rattle.pass_exits_proof.specs.rule_types.Signatures.{calls_otherwise}
+use Rattle.pass_exits_proof.proofs.rule_laws.rules.woven_rules.Unbroken.{Passes, PassesIn, all_pass}
 
 begin_called : (i : Instr) → is_call_of Intrinsic.CoroBegin i ≡ true → is_begin i ≡ true
 begin_called (Instr.Call r must_tail ty (Callee.Intrinsic Intrinsic.CoroBegin) args) e = refl

@@ -3,48 +3,48 @@ use Rattle.std.proofs.Common.{◌≡◌, ◌⊎◌, inl, inr, ⊎_elim, ℕ, suc
 use Rattle.std.proofs.lemmas.Bool.{cases_lt}
 use Rattle.std.proofs.lemmas.List.{length-replicate}
 use Rattle.std.specs.Prelude.{None, Option, Some, flat_map, not, replicate, slice_get, ◌==◌}
-use Rattle.pass_proofs.specs.addresses.rules.Addresses.{lies_in_frame}
+use Rattle.pass_exits_proof.specs.addresses.rules.Addresses.{lies_in_frame}
 use Rattle.pass_copies.specs.Slots.{entry_instrs}
-use Rattle.pass_proofs.proofs.addresses.begin_order.Early.{in_frame}
+use Rattle.pass_exits_proof.proofs.addresses.begin_order.Early.{in_frame}
 use Rattle.pass_proofs.proofs.frames.begin_order.Framed.{frame_alone, none_there}
-use Rattle.rule_laws.proofs.ir_laws.paths.begin_order.Framed.{get_listed}
+use Rattle.pass_exits_proof.proofs.ir_laws.paths.begin_order.Framed.{get_listed}
 use Rattle.pass_proofs.proofs.frames.begin_order.Tables.{IsOfClass, IsSlotAt, IsSlotHeld, flagged_slot, frame_slot, in_blocks, in_params, slot_at}
 use Rattle.pass_proofs.specs.frames.begin_order.Behind.{IsEntrySlot}
 use Rattle.pass_proofs.specs.frames.begin_order.Frames.{slot_offsets}
-use Rattle.rule_laws.proofs.rules.counted.PartFacts.{block_passes}
-use Rattle.rule_laws.proofs.rules.counted.Slots.{alloca_slot}
-use Rattle.rule_laws.specs.frame_contents.Frames.{AreContents}
-use Rattle.rule_laws.specs.frame_contents.Held.{crossing_values, frame_slots, held_blocks, held_of, held_params}
-use Rattle.rule_laws.specs.frame_contents.declared.contents.Contents.{Contents}
-use Rattle.rule_laws.proofs.ir_laws.facts.Members.{at_each}
-use Rattle.rule_laws.proofs.ir_laws.facts.Truth.{equal_numbers, holds}
-use Rattle.rule_laws.proofs.rules.local_rules.Names.{numbers}
-use Rattle.rule_laws.proofs.rules.local_rules.ValueKinds.{kind_none}
-use Rattle.rule_laws.proofs.rules.local_rules.Woven.{apart_names}
-use Rattle.rule_laws.proofs.ir_laws.paths.source_rules.Locals.{Apart, listed_either}
-use Rattle.rule_laws.proofs.rules.source_rules.Locals.{names_are}
-use Rattle.rule_laws.specs.flow_solver.Paths.{IsListed}
-use Rattle.rule_laws.specs.frame_layout.declared.layout.Layout.{Layout}
-use Rattle.rule_laws.specs.ir_parts.Locals.{locals_of}
-use Rattle.rule_laws.specs.rules.function_rules.Kept.{KeepsFunctionRules}
+use Rattle.pass_exits_proof.proofs.rule_laws.rules.counted.PartFacts.{block_passes}
+use Rattle.pass_exits_proof.proofs.rule_laws.rules.counted.Slots.{alloca_slot}
+use Rattle.pass_exits_proof.specs.frame_contents.Frames.{AreContents}
+use Rattle.pass_exits_proof.specs.frame_contents.Held.{crossing_values, frame_slots, held_blocks, held_of, held_params}
+use Rattle.pass_exits_proof.specs.frame_contents.declared.contents.Contents.{Contents}
+use Rattle.pass_exits_proof.proofs.ir_laws.facts.Members.{at_each}
+use Rattle.pass_exits_proof.proofs.ir_laws.facts.Truth.{equal_numbers, holds}
+use Rattle.pass_exits_proof.proofs.rule_laws.rules.local_rules.Names.{numbers}
+use Rattle.pass_exits_proof.proofs.rule_laws.rules.local_rules.ValueKinds.{kind_none}
+use Rattle.pass_exits_proof.proofs.rule_laws.rules.local_rules.Woven.{apart_names}
+use Rattle.pass_exits_proof.proofs.ir_laws.paths.source_rules.Locals.{Apart, listed_either}
+use Rattle.pass_exits_proof.proofs.rule_laws.rules.source_rules.Locals.{names_are}
+use Rattle.pass_exits_proof.specs.flow_solver.Paths.{IsListed}
+use Rattle.pass_exits_proof.specs.frame_layout.declared.layout.Layout.{Layout}
+use Rattle.pass_exits_proof.specs.ir_parts.Locals.{locals_of}
+use Rattle.pass_exits_proof.specs.rule_laws.rules.function_rules.Kept.{KeepsFunctionRules}
 use Rattle.ir_model.specs.Ty.{Ty}
 use Rattle.ir_model.specs.declared.instr.Instr.{Instr}
 use Rattle.ir_model.specs.declared.module.Block.{Block}
 use Rattle.ir_model.specs.declared.module.Function.{Function}
 use Rattle.ir_model.specs.declared.module.Module.{Module}
-use Rattle.rule_laws.specs.ir_paths.Slots.{allocas_in, allocas_of, has_name, promise_of}
-use Rattle.rule_laws.specs.rule_locals.Entries.{allocates_late, first_late_alloca, is_past_entry}
-use Rattle.rule_laws.specs.rule_locals.Instrs.{on_instr}
-use Rattle.rule_laws.specs.frame_classes.Classes.{IsOf}
-use Rattle.rule_laws.specs.frame_classes.declared.class.SlotClass.{SlotClass}
-use Rattle.rule_laws.proofs.rule_slots.Chains.{itself-is}
-use Rattle.rule_laws.specs.rule_slots.Slots.{IsSlotAddress}
+use Rattle.pass_exits_proof.specs.ir_paths.Slots.{allocas_in, allocas_of, has_name, promise_of}
+use Rattle.pass_exits_proof.specs.rule_locals.Entries.{allocates_late, first_late_alloca, is_past_entry}
+use Rattle.pass_exits_proof.specs.rule_locals.Instrs.{on_instr}
+use Rattle.pass_exits_proof.specs.frame_classes.Classes.{IsOf}
+use Rattle.pass_exits_proof.specs.frame_classes.declared.class.SlotClass.{SlotClass}
+use Rattle.pass_exits_proof.proofs.rule_laws.rule_slots.Chains.{itself-is}
+use Rattle.pass_exits_proof.specs.rule_slots.Slots.{IsSlotAddress}
 use Rattle.pass_frames.specs.Tables.{class_flags, is_of}
-use Rattle.rule_laws.proofs.frame_crossing.Numbering.{name_at}
-use Rattle.rule_laws.specs.rule_values.Kinds.{value_kind}
-use Rattle.rule_laws.specs.rule_values.declared.kinds.Kind.{Kind}
-use Rattle.rule_laws.proofs.rules.woven_rules.Once.{apart_once, names_below}
-use Rattle.rule_laws.specs.ir_laws.facts.woven_rules.Pairs.{times}
+use Rattle.pass_exits_proof.proofs.rule_laws.frame_crossing.Numbering.{name_at}
+use Rattle.pass_exits_proof.specs.rule_values.Kinds.{value_kind}
+use Rattle.pass_exits_proof.specs.rule_values.declared.kinds.Kind.{Kind}
+use Rattle.pass_exits_proof.proofs.rule_laws.rules.woven_rules.Once.{apart_once, names_below}
+use Rattle.pass_exits_proof.specs.ir_laws.facts.woven_rules.Pairs.{times}
 
 -- ---- allocas stand in the entry block
 

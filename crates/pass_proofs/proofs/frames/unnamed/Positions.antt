@@ -1,11 +1,11 @@
 -- The functions of a framed form, one for one with those of the module.
 use Rattle.std.proofs.Common.{◌≡◌, ◌⊎◌, ⊎_elim, inl, inr, ℕ, zero, suc, List, [], ◌∷◌, ◌++◌, length, refl, sym, ap, ◌∙◌, subst}
 use Rattle.std.specs.Prelude.{Some, IsFalse, IsTrue, slice_get}
-use Rattle.rule_laws.specs.frame_layout.declared.layout.Layout.{Layout}
+use Rattle.pass_exits_proof.specs.frame_layout.declared.layout.Layout.{Layout}
 use Rattle.ir_model.specs.declared.module.Function.{Function}
 use Rattle.ir_model.specs.declared.module.Module.{Module}
 use Rattle.pass_frames.specs.Framed.{AreFramed, Coroutine, IsFramedCoroutine, NoneYet, Other, layout_at}
-use Rattle.rule_laws.proofs.ir_laws.facts.Lists.{one_longer}
+use Rattle.pass_exits_proof.proofs.ir_laws.facts.Lists.{one_longer}
 
 -- the last of a list, or one before it
 last_or_before : {A : Type 0} (xs : List A) (x : A) (k : ℕ) (y : A) → slice_get (xs ++ x ∷ []) k ≡ Some y → (slice_get xs k ≡ Some y) ⊎ ((k ≡ length xs) × (x ≡ y))

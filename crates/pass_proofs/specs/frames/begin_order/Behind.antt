@@ -1,26 +1,26 @@
 -- What is asked of names that lie in the frame, so that they are used behind begin once the slots are copied there.
 use Rattle.std.specs.Prelude.{◌≡◌, ◌⊎◌, ℕ, Bool, true, false, List, [], Some, Option, option_to_list, slice_get, unwrap_or, ◌^◌, ◌<◌, ◌∷◌, ◌++◌}
-use Rattle.pass_proofs.specs.addresses.rules.Addresses.{lies_in_frame}
+use Rattle.pass_exits_proof.specs.addresses.rules.Addresses.{lies_in_frame}
 use Rattle.pass_copies.specs.Slots.{entry_instrs}
 use Rattle.pass_copies.specs.Uses.{flag_at}
-use Rattle.rule_laws.specs.rule_uses.Uses.{block_values, phi_values}
-use Rattle.rule_laws.specs.flow_solver.Paths.{IsListed}
-use Rattle.rule_laws.specs.ir_parts.Contents.{ending_operands, result_of}
+use Rattle.pass_exits_proof.specs.rule_uses.Uses.{block_values, phi_values}
+use Rattle.pass_exits_proof.specs.flow_solver.Paths.{IsListed}
+use Rattle.pass_exits_proof.specs.ir_parts.Contents.{ending_operands, result_of}
 use Rattle.ir_model.specs.declared.instr.Instr.{Instr}
 use Rattle.ir_model.specs.declared.instr.Phi.{Phi}
 use Rattle.ir_model.specs.declared.module.Block.{Block}
 use Rattle.ir_model.specs.declared.module.Function.{Function}
 use Rattle.ir_model.specs.declared.operand.Operand.{Operand}
-use Rattle.rule_laws.specs.ir_paths.Slots.{allocas_in}
+use Rattle.pass_exits_proof.specs.ir_paths.Slots.{allocas_in}
 use Rattle.pass_frames.specs.Framed.{begin_block, is_begin}
 use Rattle.pass_frames.specs.Tables.{label_flags}
-use Rattle.rule_laws.specs.run_laws.changed.Changed.{Each}
-use Rattle.rule_laws.specs.rule_values.Kinds.{value_kind}
-use Rattle.rule_laws.specs.rule_values.declared.kinds.Kind.{Kind}
-use Rattle.rule_laws.specs.rules.woven_rules.Weaving.{IsThere}
-use Rattle.rule_laws.specs.frames.begin_order.Behind.{AreAgainBehind}
-use Rattle.rule_laws.specs.rules.begin_order.Behind.{access_operands, other_operands}
-use Rattle.pass_proofs.specs.addresses.begin_order.Behind.{IsBehind, IsIncomingBehind}
+use Rattle.pass_exits_proof.specs.run_laws.changed.Changed.{Each}
+use Rattle.pass_exits_proof.specs.rule_values.Kinds.{value_kind}
+use Rattle.pass_exits_proof.specs.rule_values.declared.kinds.Kind.{Kind}
+use Rattle.pass_exits_proof.specs.rule_laws.rules.woven_rules.Weaving.{IsThere}
+use Rattle.pass_exits_proof.specs.rule_laws.frames.begin_order.Behind.{AreAgainBehind}
+use Rattle.pass_exits_proof.specs.rule_laws.rules.begin_order.Behind.{access_operands, other_operands}
+use Rattle.pass_exits_proof.specs.addresses.begin_order.Behind.{IsBehind, IsIncomingBehind}
 
 -- the labels of begin's block and of the blocks before it
 abbrev pub before_begin : Function → List ℕ → List Bool

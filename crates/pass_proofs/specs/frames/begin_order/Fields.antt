@@ -1,9 +1,9 @@
 -- What lies in the frame of a function whose crossing values are kept in cells: slots, and the fields of these values.
 use Rattle.std.specs.Prelude.{◌≡◌, ◌⊎◌, ℕ, Bool, true, false, List, [], Some, Option, length, slice_get, unwrap_or, ◌+◌, ◌*◌, ◌^◌, ◌<◌, ◌≤◌}
-use Rattle.pass_proofs.specs.addresses.rules.Addresses.{lies_in_frame}
+use Rattle.pass_exits_proof.specs.addresses.rules.Addresses.{lies_in_frame}
 use Rattle.ir_model.specs.declared.module.Function.{Function}
-use Rattle.rule_laws.specs.pass_cells.Kept.{entry, keeping_of}
-use Rattle.rule_laws.specs.pass_cells.declared.keeping.Keeping.{Keeping}
+use Rattle.pass_exits_proof.specs.pass_cells.Kept.{entry, keeping_of}
+use Rattle.pass_exits_proof.specs.pass_cells.declared.keeping.Keeping.{Keeping}
 
 -- the values of a function that are kept
 abbrev pub values_kept : Function → List (ℕ × ℕ) → Keeping

@@ -1,27 +1,27 @@
 -- Coroutines whose frames are built by their contents and a layout.
 use Rattle.std.specs.Prelude.{◌≡◌, ℕ, true, List, None, Option, Some, replicate, ◌^◌, ◌<◌}
 use Rattle.pass_proofs.specs.frames.begin_order.Behind.{AreBlocksBehind}
-use Rattle.pass_proofs.specs.cells.rules.Asked.{AreCellsFor}
-use Rattle.rule_laws.specs.rule_shape.OneOfEach.{wrong_call}
-use Rattle.rule_laws.specs.frame_contents.Frames.{AreContents}
-use Rattle.rule_laws.specs.frame_contents.declared.contents.Contents.{Contents}
-use Rattle.rule_laws.specs.ir_laws.paths.threads.Labels.{HasNamedLabels}
-use Rattle.pass_proofs.specs.edges.paths.Phis.{AreLabelsOnce}
+use Rattle.pass_exits_proof.specs.cells.rules.Asked.{AreCellsFor}
+use Rattle.pass_exits_proof.specs.rule_shape.OneOfEach.{wrong_call}
+use Rattle.pass_exits_proof.specs.frame_contents.Frames.{AreContents}
+use Rattle.pass_exits_proof.specs.frame_contents.declared.contents.Contents.{Contents}
+use Rattle.pass_exits_proof.specs.ir_laws.paths.threads.Labels.{HasNamedLabels}
+use Rattle.pass_exits_proof.specs.edges.paths.Phis.{AreLabelsOnce}
 use Rattle.pass_edges.specs.EdgeBlocks.{with_edge_blocks}
-use Rattle.rule_laws.specs.frame_layout.declared.layout.Layout.{Layout}
-use Rattle.rule_laws.specs.rules.function_rules.Kept.{KeepsFunctionRules}
-use Rattle.rule_laws.specs.pass_intrinsics.Shapes.{suspends_of}
+use Rattle.pass_exits_proof.specs.frame_layout.declared.layout.Layout.{Layout}
+use Rattle.pass_exits_proof.specs.rule_laws.rules.function_rules.Kept.{KeepsFunctionRules}
+use Rattle.pass_exits_proof.specs.pass_intrinsics.Shapes.{suspends_of}
 use Rattle.ir_model.specs.Calls.{first_result}
 use Rattle.ir_model.specs.declared.module.Function.{Function}
 use Rattle.ir_model.specs.declared.module.Module.{Module}
 use Rattle.ir_model.specs.declared.operand.Intrinsic.{Intrinsic}
-use Rattle.rule_laws.specs.frame_classes.declared.class.SlotClass.{SlotClass}
+use Rattle.pass_exits_proof.specs.frame_classes.declared.class.SlotClass.{SlotClass}
 use Rattle.pass_frames.specs.Framed.{celled}
 use Rattle.pass_frames.specs.Tables.{class_flags, offset_at, with_slot_offsets}
-use Rattle.rule_laws.specs.rules.replaced.Splittable.{AreBlocksBegun}
-use Rattle.rule_laws.specs.frames.replaced.Splittable.{HasOwnEdges}
-use Rattle.rule_laws.specs.run_laws.changed.Changed.{Each}
-use Rattle.rule_laws.specs.rules.woven_rules.Pairs.{AreIncomingOnce}
+use Rattle.pass_exits_proof.specs.rule_laws.rules.replaced.Splittable.{AreBlocksBegun}
+use Rattle.pass_exits_proof.specs.rule_laws.frames.replaced.Splittable.{HasOwnEdges}
+use Rattle.pass_exits_proof.specs.run_laws.changed.Changed.{Each}
+use Rattle.pass_exits_proof.specs.rule_laws.rules.woven_rules.Pairs.{AreIncomingOnce}
 
 -- the offsets of slots alone, for so many names
 abbrev pub slot_offsets : Layout → Contents → ℕ → List (Option ℕ)

@@ -2,22 +2,22 @@
 use Rattle.std.specs.Prelude.{◌≡◌, ◌<◌, ◌^◌, ℕ, true, List, None, Some, length}
 use Rattle.pass_proofs.specs.frames.begin_order.Behind.{AreBlocksBehind}
 use Rattle.pass_proofs.specs.frames.begin_order.Frames.{slot_offsets}
-use Rattle.rule_laws.specs.rules.counted.Widths.{first_other_width}
-use Rattle.rule_laws.specs.rule_shape.OneOfEach.{wrong_call}
-use Rattle.rule_laws.specs.rule_shape.Switches.{wrong_switch}
-use Rattle.rule_laws.specs.frame_contents.Frames.{AreContents}
-use Rattle.rule_laws.specs.frame_contents.declared.contents.Contents.{Contents}
-use Rattle.rule_laws.specs.frame_layout.declared.layout.Layout.{Layout}
-use Rattle.rule_laws.specs.rules.function_rules.Kept.{KeepsFunctionRules}
+use Rattle.pass_exits_proof.specs.rule_laws.rules.counted.Widths.{first_other_width}
+use Rattle.pass_exits_proof.specs.rule_shape.OneOfEach.{wrong_call}
+use Rattle.pass_exits_proof.specs.rule_shape.Switches.{wrong_switch}
+use Rattle.pass_exits_proof.specs.frame_contents.Frames.{AreContents}
+use Rattle.pass_exits_proof.specs.frame_contents.declared.contents.Contents.{Contents}
+use Rattle.pass_exits_proof.specs.frame_layout.declared.layout.Layout.{Layout}
+use Rattle.pass_exits_proof.specs.rule_laws.rules.function_rules.Kept.{KeepsFunctionRules}
 use Rattle.ir_model.specs.Calls.{first_result}
 use Rattle.ir_model.specs.declared.module.Function.{Function}
 use Rattle.ir_model.specs.declared.module.Module.{Module}
 use Rattle.ir_model.specs.declared.operand.Intrinsic.{Intrinsic}
-use Rattle.rule_laws.specs.frame_classes.declared.class.SlotClass.{SlotClass}
+use Rattle.pass_exits_proof.specs.frame_classes.declared.class.SlotClass.{SlotClass}
 use Rattle.pass_frames.specs.Framed.{AreBefore, celled, copied}
 use Rattle.pass_frames.specs.Tables.{class_flags, offset_at}
-use Rattle.rule_laws.specs.rule_windows.Outside.{IsFirstOutside}
-use Rattle.rule_laws.specs.rule_windows.Windows.{IsFirstWindow}
+use Rattle.pass_exits_proof.specs.rule_windows.Outside.{IsFirstOutside}
+use Rattle.pass_exits_proof.specs.rule_windows.Windows.{IsFirstWindow}
 
 -- The coroutine breaks none of the rules of functions, nor K2, K3, K5 and K6, its begin's value has a name, its integer types have the
 -- widths that types are written with, offsets are numbers of 64 bits, and its frame slots are used behind begin, but for accesses.

@@ -1,13 +1,13 @@
 -- Lemmas on passes.
 use Rattle.std.specs.Prelude.{◌≡◌, ℕ, List, None, length, ◌∷◌}
-use Rattle.pass_proofs.specs.addresses.rules.Addresses.{AddressesFit}
-use Rattle.rule_laws.specs.rules.counted.Widths.{first_other_width}
-use Rattle.pass_proofs.specs.copies.rules.Copies.{CopiesFit, copied_slots}
-use Rattle.rule_laws.specs.frame_contents.declared.contents.Contents.{Contents}
-use Rattle.rule_laws.specs.frame_layout.declared.layout.Layout.{Layout}
+use Rattle.pass_exits_proof.specs.addresses.rules.Addresses.{AddressesFit}
+use Rattle.pass_exits_proof.specs.rule_laws.rules.counted.Widths.{first_other_width}
+use Rattle.pass_exits_proof.specs.copies.rules.Copies.{CopiesFit, copied_slots}
+use Rattle.pass_exits_proof.specs.frame_contents.declared.contents.Contents.{Contents}
+use Rattle.pass_exits_proof.specs.frame_layout.declared.layout.Layout.{Layout}
 use Rattle.ir_model.specs.declared.module.Function.{Function}
 use Rattle.ir_model.specs.declared.module.Module.{Module}
-use Rattle.rule_laws.specs.frame_classes.declared.class.SlotClass.{SlotClass}
+use Rattle.pass_exits_proof.specs.frame_classes.declared.class.SlotClass.{SlotClass}
 use Rattle.pass_frames.specs.Framed.{begin_block, begin_of, celled, copied, offsets_of}
 use Rattle.pass_frames.specs.Tables.{class_flags, label_flags, sizes_by_name}
 

@@ -1,0 +1,5 @@
+use Rattle.pass_early_proof.proofs.early.elision.early.Laws.{callees_saved}
+use Rattle.pass_early_proof.proofs.early.elision.early.elidable_callees_stay_saved.Goals as goal
+
+pub returns : goal.returns
+returns c = callees_saved

@@ -1,0 +1,5 @@
+use Rattle.pass_early_proof.proofs.early.source_rules.Accepted.{all_named_keep}
+use Rattle.pass_early_proof.proofs.early.source_rules.named_coroutines_keep_rules.Goals as goal
+
+pub returns : goal.returns
+returns c = all_named_keep

@@ -1,0 +1,5 @@
+use Rattle.pass_exits_proof.proofs.exits.rules.Whole.{switches_kept}
+use Rattle.pass_exits_proof.proofs.exits.rules.switches_break_no_rule_where_exits_have_blocks.Goals as goal
+
+pub returns : goal.returns
+returns c = switches_kept

@@ -1,0 +1,22 @@
+-- What libraries below prove, for those above.
+pub use Rattle.pass_edges_proof.proofs.early as early
+pub use Rattle.pass_edges_proof.proofs.edges as edges
+pub use Rattle.pass_edges_proof.proofs.flow_facts as flow_facts
+pub use Rattle.pass_edges_proof.proofs.flow_solver as flow_solver
+pub use Rattle.pass_edges_proof.proofs.frame_classes as frame_classes
+pub use Rattle.pass_edges_proof.proofs.frame_slots as frame_slots
+pub use Rattle.pass_edges_proof.proofs.ir_laws as ir_laws
+pub use Rattle.pass_edges_proof.proofs.ir_parts as ir_parts
+pub use Rattle.pass_edges_proof.proofs.ir_paths as ir_paths
+pub use Rattle.pass_edges_proof.proofs.ir_tables as ir_tables
+pub use Rattle.pass_edges_proof.proofs.kept as kept
+pub use Rattle.pass_edges_proof.proofs.pass_kept_proof as pass_kept_proof
+pub use Rattle.pass_edges_proof.proofs.rule_laws as rule_laws
+pub use Rattle.pass_edges_proof.proofs.run_agreement as run_agreement
+pub use Rattle.pass_edges_proof.proofs.run_ints as run_ints
+pub use Rattle.pass_edges_proof.proofs.run_laws as run_laws
+pub use Rattle.pass_edges_proof.proofs.run_memory as run_memory
+pub use Rattle.pass_edges_proof.proofs.run_source as run_source
+pub use Rattle.pass_edges_proof.proofs.run_states as run_states
+pub use Rattle.pass_edges_proof.proofs.text_canonical as text_canonical
+pub use Rattle.pass_edges_proof.proofs.text_grammar as text_grammar

@@ -1,5 +1,0 @@
-use Rattle.pass_frames_proof.proofs.asking.Freed.{coroutine_frees}
-use Rattle.pass_frames_proof.proofs.asking.frees_are_followed.Goals as goal
-
-pub returns : goal.returns
-returns c = coroutine_frees

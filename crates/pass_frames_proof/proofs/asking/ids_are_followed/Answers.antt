@@ -1,5 +1,0 @@
-use Rattle.pass_frames_proof.proofs.asking.Ids.{id_followed}
-use Rattle.pass_frames_proof.proofs.asking.ids_are_followed.Goals as goal
-
-pub returns : goal.returns
-returns c = id_followed

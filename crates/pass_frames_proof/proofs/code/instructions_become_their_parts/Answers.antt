@@ -1,5 +1,0 @@
-use Rattle.pass_frames_proof.proofs.code.Instrs.{instr_code}
-use Rattle.pass_frames_proof.proofs.code.instructions_become_their_parts.Goals as goal
-
-pub returns : goal.returns
-returns c = instr_code

@@ -1,5 +1,0 @@
-use Rattle.pass_frames_proof.proofs.entry.Params.{params_stored}
-use Rattle.pass_frames_proof.proofs.entry.parameters_are_stored.Goals as goal
-
-pub returns : goal.returns
-returns c = params_stored

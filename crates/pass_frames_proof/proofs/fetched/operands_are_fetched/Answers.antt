@@ -1,5 +1,0 @@
-use Rattle.pass_frames_proof.proofs.fetched.Runs.{fetched}
-use Rattle.pass_frames_proof.proofs.fetched.operands_are_fetched.Goals as goal
-
-pub returns : goal.returns
-returns c = fetched

@@ -1,5 +1,0 @@
-use Rattle.pass_frames_proof.proofs.givens.Runs.{given_runs}
-use Rattle.pass_frames_proof.proofs.givens.runs_are_given.Goals as goal
-
-pub returns : goal.returns
-returns c = given_runs

@@ -1,5 +1,0 @@
-use Rattle.pass_frames_proof.proofs.led.Stores.{led_store}
-use Rattle.pass_frames_proof.proofs.led.led_stores_are_made.Goals as goal
-
-pub returns : goal.returns
-returns c = led_store

@@ -1,5 +1,0 @@
-use Rattle.pass_frames_proof.proofs.led.Front.{led_twice}
-use Rattle.pass_frames_proof.proofs.led.operands_are_fetched_twice.Goals as goal
-
-pub returns : goal.returns
-returns c = led_twice

@@ -1,5 +1,0 @@
-use Rattle.pass_frames_proof.proofs.lines.Filled.{over_joined}
-use Rattle.pass_frames_proof.proofs.lines.lines_run_on.Goals as goal
-
-pub returns : goal.returns
-returns c = over_joined

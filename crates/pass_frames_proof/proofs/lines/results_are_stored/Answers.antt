@@ -1,5 +1,0 @@
-use Rattle.pass_frames_proof.proofs.lines.Results.{result_stored}
-use Rattle.pass_frames_proof.proofs.lines.results_are_stored.Goals as goal
-
-pub returns : goal.returns
-returns c = result_stored

@@ -1,5 +1,0 @@
-use Rattle.pass_frames_proof.proofs.phis.Rows.{ends}
-use Rattle.pass_frames_proof.proofs.phis.ends_are_executed.Goals as goal
-
-pub returns : goal.returns
-returns c = ends

@@ -1,5 +1,0 @@
-use Rattle.pass_frames_proof.proofs.saving.Saved.{save_followed}
-use Rattle.pass_frames_proof.proofs.saving.saves_are_followed.Goals as goal
-
-pub returns : goal.returns
-returns c = save_followed

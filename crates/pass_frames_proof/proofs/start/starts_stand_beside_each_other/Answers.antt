@@ -1,5 +1,0 @@
-use Rattle.pass_frames_proof.proofs.start.States.{starts_built}
-use Rattle.pass_frames_proof.proofs.start.starts_stand_beside_each_other.Goals as goal
-
-pub returns : goal.returns
-returns c = starts_built

@@ -1,5 +1,0 @@
-use Rattle.pass_frames_proof.proofs.stepping.Ordinary.{ordinary_followed}
-use Rattle.pass_frames_proof.proofs.stepping.ordinary_instructions_are_followed.Goals as goal
-
-pub returns : goal.returns
-returns c = ordinary_followed

@@ -1,5 +1,0 @@
-use Rattle.pass_frames_proof.proofs.stepping.Stores.{stores_followed}
-use Rattle.pass_frames_proof.proofs.stepping.stores_are_followed.Goals as goal
-
-pub returns : goal.returns
-returns c = stores_followed

@@ -1,5 +1,0 @@
-use Rattle.pass_frames_proof.proofs.suspending.Suspended.{suspend_followed}
-use Rattle.pass_frames_proof.proofs.suspending.suspends_are_followed.Goals as goal
-
-pub returns : goal.returns
-returns c = suspend_followed

@@ -1,5 +1,0 @@
-use Rattle.pass_proofs.proofs.addresses.spelled.Addressed.{addresses_spelled}
-use Rattle.pass_proofs.proofs.addresses.spelled.addresses_can_be_spelled.Goals as goal
-
-pub returns : goal.returns
-returns c = addresses_spelled

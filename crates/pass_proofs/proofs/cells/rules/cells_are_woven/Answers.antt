@@ -1,6 +1,0 @@
--- Values in cells are instructions that are woven in.
-use Rattle.pass_proofs.proofs.cells.rules.Whole.{is_woven}
-use Rattle.pass_proofs.proofs.cells.rules.cells_are_woven.Goals as goal
-
-pub returns : goal.returns
-returns c m k f crossing local rules asked = is_woven m k f rules crossing local asked

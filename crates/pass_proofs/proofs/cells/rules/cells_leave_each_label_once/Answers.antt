@@ -1,9 +1,0 @@
--- What is woven in leaves the labels of phis.
-use Rattle.pass_proofs.proofs.cells.rules.Whole.{is_woven}
-use Rattle.pass_proofs.specs.cells.rules.Weaving.{cells_weaving}
-use Rattle.rule_laws.specs.pass_cells.Cells.{with_cells}
-use Rattle.rule_laws.proofs.rules.woven_rules.Edges.{incoming_woven}
-use Rattle.pass_proofs.proofs.cells.rules.cells_leave_each_label_once.Goals as goal
-
-pub returns : goal.returns
-returns c m k f crossing local rules labels asked = incoming_woven (cells_weaving m f crossing local) m f (with_cells m f crossing local) (is_woven m k f rules crossing local asked) labels

@@ -1,5 +1,0 @@
-use Rattle.pass_proofs.proofs.copies.shape.Copies.{copies_keep}
-use Rattle.pass_proofs.proofs.copies.shape.copies_keep_calls.Goals as goal
-
-pub returns : goal.returns
-returns c = copies_keep

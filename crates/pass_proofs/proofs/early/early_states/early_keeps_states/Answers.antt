@@ -1,5 +1,0 @@
-use Rattle.pass_proofs.proofs.early.early_states.Composition.{early_corresponds}
-use Rattle.pass_proofs.proofs.early.early_states.early_keeps_states.Goals as goal
-
-pub returns : goal.returns
-returns c = early_corresponds

@@ -1,5 +1,0 @@
-use Rattle.pass_proofs.proofs.early.begin_naming.Simulation.{named_corresponds}
-use Rattle.pass_proofs.proofs.early.early_states.naming_keeps_states.Goals as goal
-
-pub returns : goal.returns
-returns c = named_corresponds

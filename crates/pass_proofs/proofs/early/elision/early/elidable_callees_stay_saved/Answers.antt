@@ -1,5 +1,0 @@
-use Rattle.pass_proofs.proofs.early.elision.early.Laws.{callees_saved}
-use Rattle.pass_proofs.proofs.early.elision.early.elidable_callees_stay_saved.Goals as goal
-
-pub returns : goal.returns
-returns c = callees_saved

@@ -1,5 +1,0 @@
-use Rattle.pass_proofs.proofs.early.elision.early.Laws.{sites_of_source}
-use Rattle.pass_proofs.proofs.early.elision.early.sites_stay.Goals as goal
-
-pub returns : goal.returns
-returns c = sites_of_source

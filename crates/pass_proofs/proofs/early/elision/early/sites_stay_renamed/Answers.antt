@@ -1,5 +1,0 @@
-use Rattle.pass_proofs.proofs.early.elision.early.Laws.{sites_renamed}
-use Rattle.pass_proofs.proofs.early.elision.early.sites_stay_renamed.Goals as goal
-
-pub returns : goal.returns
-returns c = sites_renamed

@@ -1,5 +1,0 @@
-use Rattle.pass_proofs.proofs.early.elision.early.Laws.{sites_saved}
-use Rattle.pass_proofs.proofs.early.elision.early.sites_stay_saved.Goals as goal
-
-pub returns : goal.returns
-returns c = sites_saved

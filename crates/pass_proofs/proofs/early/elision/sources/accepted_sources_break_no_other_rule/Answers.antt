@@ -1,5 +1,0 @@
-use Rattle.pass_proofs.proofs.early.elision.sources.Alike.{accepted_rules}
-use Rattle.pass_proofs.proofs.early.elision.sources.accepted_sources_break_no_other_rule.Goals as goal
-
-pub returns : goal.returns
-returns c = accepted_rules

@@ -1,5 +1,0 @@
-use Rattle.pass_proofs.proofs.early.frames.Functions.{alive_early}
-use Rattle.pass_proofs.proofs.early.frames.alive_stay.Goals as goal
-
-pub returns : goal.returns
-returns c = alive_early

@@ -1,5 +1,0 @@
-use Rattle.pass_proofs.proofs.early.frames.Functions.{classes_early}
-use Rattle.pass_proofs.proofs.early.frames.classes_stay.Goals as goal
-
-pub returns : goal.returns
-returns c = classes_early

@@ -1,5 +1,0 @@
-use Rattle.pass_proofs.proofs.early.frames.Frames.{contents_early}
-use Rattle.pass_proofs.proofs.early.frames.contents_stay.Goals as goal
-
-pub returns : goal.returns
-returns c = contents_early

@@ -1,5 +1,0 @@
-use Rattle.pass_proofs.proofs.early.frames.Functions.{crossing_early}
-use Rattle.pass_proofs.proofs.early.frames.crossing_stays.Goals as goal
-
-pub returns : goal.returns
-returns c = crossing_early

@@ -1,5 +1,0 @@
-use Rattle.pass_proofs.proofs.early.frames.Frames.{frames_early}
-use Rattle.pass_proofs.proofs.early.frames.frames_stay.Goals as goal
-
-pub returns : goal.returns
-returns c = frames_early

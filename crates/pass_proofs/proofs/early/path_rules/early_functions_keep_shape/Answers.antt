@@ -1,5 +1,0 @@
-use Rattle.pass_proofs.proofs.early.path_rules.Passes.{early_shape}
-use Rattle.pass_proofs.proofs.early.path_rules.early_functions_keep_shape.Goals as goal
-
-pub returns : goal.returns
-returns c = early_shape

@@ -1,5 +1,0 @@
-use Rattle.pass_proofs.proofs.early.save_states.Actions.{action_saved}
-use Rattle.pass_proofs.proofs.early.save_states.actions_are_kept.Goals as goal
-
-pub returns : goal.returns
-returns c = action_saved

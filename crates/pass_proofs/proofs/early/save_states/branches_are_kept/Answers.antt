@@ -1,5 +1,0 @@
-use Rattle.pass_proofs.proofs.early.save_states.States.{branches_same}
-use Rattle.pass_proofs.proofs.early.save_states.branches_are_kept.Goals as goal
-
-pub returns : goal.returns
-returns c = branches_same

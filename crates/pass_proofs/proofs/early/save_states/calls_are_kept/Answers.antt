@@ -1,5 +1,0 @@
-use Rattle.pass_proofs.proofs.early.save_states.Calls.{enter_saved}
-use Rattle.pass_proofs.proofs.early.save_states.calls_are_kept.Goals as goal
-
-pub returns : goal.returns
-returns c = enter_saved

@@ -1,5 +1,0 @@
-use Rattle.pass_proofs.proofs.early.save_states.Performs.{step_kept}
-use Rattle.pass_proofs.proofs.early.save_states.lone_steps_are_kept.Goals as goal
-
-pub returns : goal.returns
-returns c = step_kept

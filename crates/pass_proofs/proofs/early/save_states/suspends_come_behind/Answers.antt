@@ -1,5 +1,0 @@
-use Rattle.pass_proofs.proofs.early.save_states.Suspends.{gives_behind}
-use Rattle.pass_proofs.proofs.early.save_states.suspends_come_behind.Goals as goal
-
-pub returns : goal.returns
-returns c = gives_behind

@@ -1,5 +1,0 @@
-use Rattle.pass_proofs.proofs.early.save_states.Suspends.{written_save_saved}
-use Rattle.pass_proofs.proofs.early.save_states.written_saves_are_made.Goals as goal
-
-pub returns : goal.returns
-returns c = written_save_saved

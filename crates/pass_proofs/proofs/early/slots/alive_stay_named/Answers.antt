@@ -1,5 +1,0 @@
-use Rattle.pass_proofs.proofs.early.slots.Laws.{alive_named}
-use Rattle.pass_proofs.proofs.early.slots.alive_stay_named.Goals as goal
-
-pub returns : goal.returns
-returns c = alive_named

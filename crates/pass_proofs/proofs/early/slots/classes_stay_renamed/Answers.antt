@@ -1,5 +1,0 @@
-use Rattle.pass_proofs.proofs.early.slots.Laws.{classes_renamed}
-use Rattle.pass_proofs.proofs.early.slots.classes_stay_renamed.Goals as goal
-
-pub returns : goal.returns
-returns c = classes_renamed

@@ -1,5 +1,0 @@
-use Rattle.pass_proofs.proofs.early.slots.Laws.{conflicts_named}
-use Rattle.pass_proofs.proofs.early.slots.conflicts_stay_named.Goals as goal
-
-pub returns : goal.returns
-returns c = conflicts_named

@@ -1,5 +1,0 @@
-use Rattle.pass_proofs.proofs.early.sources.Accepted.{accepted_agree}
-use Rattle.pass_proofs.proofs.early.sources.accepted_sources_keep_meaning.Goals as goal
-
-pub returns : goal.returns
-returns c = accepted_agree

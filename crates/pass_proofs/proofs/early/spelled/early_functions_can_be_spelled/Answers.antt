@@ -1,5 +1,0 @@
-use Rattle.pass_proofs.proofs.early.spelled.Early.{early_spelled}
-use Rattle.pass_proofs.proofs.early.spelled.early_functions_can_be_spelled.Goals as goal
-
-pub returns : goal.returns
-returns c = early_spelled

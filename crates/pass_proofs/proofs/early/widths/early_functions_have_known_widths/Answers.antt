@@ -1,5 +1,0 @@
-use Rattle.pass_proofs.proofs.early.widths.Widths.{early_widths}
-use Rattle.pass_proofs.proofs.early.widths.early_functions_have_known_widths.Goals as goal
-
-pub returns : goal.returns
-returns c = early_widths

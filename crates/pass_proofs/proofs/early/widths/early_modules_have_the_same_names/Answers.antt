@@ -1,5 +1,0 @@
-use Rattle.pass_proofs.proofs.early.widths.Headings.{early_names}
-use Rattle.pass_proofs.proofs.early.widths.early_modules_have_the_same_names.Goals as goal
-
-pub returns : goal.returns
-returns c = early_names

@@ -1,5 +1,0 @@
-use Rattle.pass_proofs.proofs.early.widths.Headings.{early_signatures}
-use Rattle.pass_proofs.proofs.early.widths.early_modules_have_the_same_signatures.Goals as goal
-
-pub returns : goal.returns
-returns c = early_signatures

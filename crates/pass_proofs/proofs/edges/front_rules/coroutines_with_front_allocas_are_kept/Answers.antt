@@ -1,5 +1,0 @@
-use Rattle.pass_proofs.proofs.edges.front_rules.Whole.{all_kept}
-use Rattle.pass_proofs.proofs.edges.front_rules.coroutines_with_front_allocas_are_kept.Goals as goal
-
-pub returns : goal.returns
-returns c = all_kept

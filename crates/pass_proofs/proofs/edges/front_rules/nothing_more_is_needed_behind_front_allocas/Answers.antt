@@ -1,5 +1,0 @@
-use Rattle.pass_proofs.proofs.edges.front_rules.Paths.{nothing_kept}
-use Rattle.pass_proofs.proofs.edges.front_rules.nothing_more_is_needed_behind_front_allocas.Goals as goal
-
-pub returns : goal.returns
-returns c = nothing_kept

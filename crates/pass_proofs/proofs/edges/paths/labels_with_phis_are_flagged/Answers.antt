@@ -1,5 +1,0 @@
-use Rattle.pass_proofs.proofs.edges.paths.Tables.{flag_at}
-use Rattle.pass_proofs.proofs.edges.paths.labels_with_phis_are_flagged.Goals as goal
-
-pub returns : goal.returns
-returns c = flag_at

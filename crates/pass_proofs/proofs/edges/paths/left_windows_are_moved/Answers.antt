@@ -1,5 +1,0 @@
-use Rattle.pass_proofs.proofs.edges.paths.Left.{left_moved}
-use Rattle.pass_proofs.proofs.edges.paths.left_windows_are_moved.Goals as goal
-
-pub returns : goal.returns
-returns c = left_moved

@@ -1,5 +1,0 @@
-use Rattle.pass_proofs.proofs.edges.rules.Switched.{switches_stay}
-use Rattle.pass_proofs.proofs.edges.rules.suspends_stay_switched.Goals as goal
-
-pub returns : goal.returns
-returns c = switches_stay

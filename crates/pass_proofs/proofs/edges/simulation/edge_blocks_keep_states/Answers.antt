@@ -1,5 +1,0 @@
-use Rattle.pass_proofs.proofs.edges.simulation.Simulation.{edges_correspond}
-use Rattle.pass_proofs.proofs.edges.simulation.edge_blocks_keep_states.Goals as goal
-
-pub returns : goal.returns
-returns c = edges_correspond

@@ -1,5 +1,0 @@
-use Rattle.pass_proofs.proofs.edges.sources.Accepted.{accepted_kept}
-use Rattle.pass_proofs.proofs.edges.sources.accepted_edges_are_kept.Goals as goal
-
-pub returns : goal.returns
-returns c = accepted_kept

@@ -1,5 +1,0 @@
-use Rattle.pass_proofs.proofs.edges.sources.Known.{modules_keep}
-use Rattle.pass_proofs.proofs.edges.sources.rules_keep_edges_of_modules.Goals as goal
-
-pub returns : goal.returns
-returns c = modules_keep

@@ -1,5 +1,0 @@
-use Rattle.pass_proofs.proofs.edges.states.Calls.{enter_moved}
-use Rattle.pass_proofs.proofs.edges.states.calls_are_kept.Goals as goal
-
-pub returns : goal.returns
-returns c = enter_moved

@@ -1,5 +1,0 @@
-use Rattle.pass_proofs.proofs.edges.states.Acts.{new_slot_moved}
-use Rattle.pass_proofs.proofs.edges.states.new_slots_are_kept.Goals as goal
-
-pub returns : goal.returns
-returns c = new_slot_moved

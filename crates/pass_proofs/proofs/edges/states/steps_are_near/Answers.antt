@@ -1,5 +1,0 @@
-use Rattle.pass_proofs.proofs.edges.states.Performs.{step_near}
-use Rattle.pass_proofs.proofs.edges.states.steps_are_near.Goals as goal
-
-pub returns : goal.returns
-returns c = step_near

@@ -1,5 +1,0 @@
-use Rattle.pass_proofs.proofs.edges.states.Resumes.{continue_near}
-use Rattle.pass_proofs.proofs.edges.states.suspended_go_on.Goals as goal
-
-pub returns : goal.returns
-returns c = continue_near

@@ -1,5 +1,0 @@
-use Rattle.pass_proofs.proofs.exits.rules.Whole.{same_begin}
-use Rattle.pass_proofs.proofs.exits.rules.begin_stays_where_exits_have_blocks.Goals as goal
-
-pub returns : goal.returns
-returns c = same_begin

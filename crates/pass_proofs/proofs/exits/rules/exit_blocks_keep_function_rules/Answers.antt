@@ -1,5 +1,0 @@
-use Rattle.pass_proofs.proofs.exits.rules.Kept.{rules_kept}
-use Rattle.pass_proofs.proofs.exits.rules.exit_blocks_keep_function_rules.Goals as goal
-
-pub returns : goal.returns
-returns c = rules_kept

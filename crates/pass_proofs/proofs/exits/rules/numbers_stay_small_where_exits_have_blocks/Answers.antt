@@ -1,5 +1,0 @@
-use Rattle.pass_proofs.proofs.exits.rules.Unnamed.{stays_small}
-use Rattle.pass_proofs.proofs.exits.rules.numbers_stay_small_where_exits_have_blocks.Goals as goal
-
-pub returns : goal.returns
-returns c = stays_small

@@ -1,5 +1,0 @@
-use Rattle.pass_proofs.proofs.exits.rules.Suspends.{edges_stay}
-use Rattle.pass_proofs.proofs.exits.rules.suspends_keep_their_edges.Goals as goal
-
-pub returns : goal.returns
-returns c = edges_stay

@@ -1,5 +1,0 @@
-use Rattle.pass_proofs.proofs.exits.rules.Suspends.{same_suspends}
-use Rattle.pass_proofs.proofs.exits.rules.suspends_stay_where_exits_have_blocks.Goals as goal
-
-pub returns : goal.returns
-returns c = same_suspends

@@ -1,5 +1,0 @@
-use Rattle.pass_proofs.proofs.exits.spelled.Edges.{exits_spelled}
-use Rattle.pass_proofs.proofs.exits.spelled.exit_blocks_can_be_spelled.Goals as goal
-
-pub returns : goal.returns
-returns c = exits_spelled

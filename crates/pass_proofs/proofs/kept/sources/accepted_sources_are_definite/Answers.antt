@@ -1,5 +1,0 @@
-use Rattle.pass_proofs.proofs.kept.sources.Modules.{early_definite}
-use Rattle.pass_proofs.proofs.kept.sources.accepted_sources_are_definite.Goals as goal
-
-pub returns : goal.returns
-returns c = early_definite

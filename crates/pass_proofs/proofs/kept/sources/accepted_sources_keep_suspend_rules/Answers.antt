@@ -1,5 +1,0 @@
-use Rattle.pass_proofs.proofs.kept.sources.Modules.{early_keeps}
-use Rattle.pass_proofs.proofs.kept.sources.accepted_sources_keep_suspend_rules.Goals as goal
-
-pub returns : goal.returns
-returns c = early_keeps

@@ -1,5 +1,0 @@
-use Rattle.pass_proofs.proofs.kept.sources.States.{split_corresponds}
-use Rattle.pass_proofs.proofs.kept.sources.accepted_sources_keep_what_is_needed.Goals as goal
-
-pub returns : goal.returns
-returns c = split_corresponds

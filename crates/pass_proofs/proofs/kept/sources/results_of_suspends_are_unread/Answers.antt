@@ -1,5 +1,0 @@
-use Rattle.pass_proofs.proofs.kept.sources.Suspends.{is_unread}
-use Rattle.pass_proofs.proofs.kept.sources.results_of_suspends_are_unread.Goals as goal
-
-pub returns : goal.returns
-returns c = is_unread

@@ -1,5 +1,0 @@
-use Rattle.pass_proofs.proofs.kept.sources.Suspends.{is_switched}
-use Rattle.pass_proofs.proofs.kept.sources.suspends_are_switched.Goals as goal
-
-pub returns : goal.returns
-returns c = is_switched

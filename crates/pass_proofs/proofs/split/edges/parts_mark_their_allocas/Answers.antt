@@ -1,5 +1,0 @@
-use Rattle.pass_proofs.proofs.split.edges.Marks.{part_marks_kept}
-use Rattle.pass_proofs.proofs.split.edges.parts_mark_their_allocas.Goals as goal
-
-pub returns : goal.returns
-returns c = part_marks_kept

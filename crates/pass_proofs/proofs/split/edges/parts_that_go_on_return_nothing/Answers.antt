@@ -1,5 +1,0 @@
-use Rattle.pass_proofs.proofs.split.edges.Returns.{later_parts_return_nothing}
-use Rattle.pass_proofs.proofs.split.edges.parts_that_go_on_return_nothing.Goals as goal
-
-pub returns : goal.returns
-returns c = later_parts_return_nothing

@@ -1,5 +1,0 @@
-use Rattle.pass_proofs.proofs.split.names_apart.Split.{split_at}
-use Rattle.pass_proofs.proofs.split.names_apart.split_names_are_apart.Goals as goal
-
-pub returns : goal.returns
-returns c = split_at

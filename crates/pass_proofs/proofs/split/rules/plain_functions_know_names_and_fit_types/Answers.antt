@@ -1,5 +1,0 @@
-use Rattle.pass_proofs.proofs.split.rules.Laws.{plain_named}
-use Rattle.pass_proofs.proofs.split.rules.plain_functions_know_names_and_fit_types.Goals as goal
-
-pub returns : goal.returns
-returns c = plain_named

@@ -1,5 +1,0 @@
-use Rattle.pass_proofs.proofs.split.uses.Laws.{locals_once}
-use Rattle.pass_proofs.proofs.split.uses.parts_define_locals_once.Goals as goal
-
-pub returns : goal.returns
-returns c = locals_once

@@ -1,5 +1,0 @@
-use Rattle.pass_proofs.proofs.split.uses.Laws.{uses_made}
-use Rattle.pass_proofs.proofs.split.uses.parts_make_what_they_use.Goals as goal
-
-pub returns : goal.returns
-returns c = uses_made

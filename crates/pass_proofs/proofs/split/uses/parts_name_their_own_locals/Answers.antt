@@ -1,5 +1,0 @@
-use Rattle.pass_proofs.proofs.split.uses.Laws.{locals_known}
-use Rattle.pass_proofs.proofs.split.uses.parts_name_their_own_locals.Goals as goal
-
-pub returns : goal.returns
-returns c = locals_known
