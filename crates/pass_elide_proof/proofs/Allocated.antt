@@ -151,6 +151,10 @@ module _ (e : Elision) (s t : State) (a : Allocator) (result : ℕ) (must_tail :
   goes Allocator.ZdlPv h = absurd (cc)
   goes Allocator.ZdlPvm h = absurd (cc)
 
+  pub allocates_here : framed_step (framed e) s
+      ≡ settled s (allocated (work_of s) (Some result) (frame_size e s.top.func))
+  allocates_here = stepped (framed e) s u (call a) at.runs at.there (goes a at.allocates)
+
   -- ---- homes and what is hidden
 
   abbrev homes : List Home
@@ -572,4 +576,4 @@ module _ (e : Elision) (s t : State) (a : Allocator) (result : ℕ) (must_tail :
   pub waits : AreElided e (framed_step (framed e) s) t
   waits =
       subst (λ (v : State). AreElided e v t)
-      (sym (stepped (framed e) s u (call a) at.runs at.there (goes a at.allocates))) beside
+      (sym allocates_here) beside

@@ -61,7 +61,7 @@ module _ (e : Elision) (func : ℕ) where
   f = function_in e func
 
   -- its value is the call's result
-  site_value : (call : Point) (i : Instr) (name : ℕ) → IsSiteOf e func call i name
+  pub site_value : (call : Point) (i : Instr) (name : ℕ) → IsSiteOf e func call i name
       → value_at (function_in e func) call ≡ result_of i
   site_value call i name site =
       ap (option_and_then call_result) (there (slice_get f.blocks call.block) site.there)

@@ -97,7 +97,7 @@ module _ (e : Elision) (s t : State) (r : AreReady e s t) (k : IsAtCall e s t) w
   steps : framed_step (framed e) s ≡ after
   steps = stepped (framed e) s after (AtInstr i) k.runs (ours e s t r i k.there) (both k.callee k.calls).0
 
-  other_steps : framed_step (elided e) t ≡ other
+  pub other_steps : framed_step (elided e) t ≡ other
   other_steps =
       stepped (elided e) t other (AtInstr i) (r.beside.outcome ∙ k.runs)
       (theirs e s t r i k.there ∙ ap (λ (o : Option GivenFrame). AtInstr (elided_instr (name_at (rooms e s.top.func)

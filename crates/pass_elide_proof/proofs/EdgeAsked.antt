@@ -59,7 +59,7 @@ module _ (e : Elision) (s t : State) (r : AreElided e s t)
         stuck : branch Value.Poison k.one k.other ≡ GoTo label → ⊥
         stuck h = absurd (cc)
 
-    leads : position_of f label ≡ k.allocates
+    pub leads : position_of (function_in e s.top.func) label ≡ k.allocates
     leads =
         ap (position_of f)
         (sym (same_label k.one label

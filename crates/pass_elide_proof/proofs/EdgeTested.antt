@@ -59,7 +59,7 @@ module _ (e : Elision) (s t : State) (r : AreElided e s t)
   chosen true one other = refl
   chosen false one other = refl
 
-  leads : position_of f label ≡ k.frees
+  pub leads : position_of (function_in e s.top.func) label ≡ k.frees
   leads =
       ap (position_of f)
       (sym (same_label (if k.is_eq then k.other else k.one) label

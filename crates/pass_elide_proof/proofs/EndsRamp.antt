@@ -11,6 +11,7 @@ use Rattle.pass_elide_proof.proofs.TopMoved.{SameHeld, gone_on, moved}
 use Rattle.pass_elide_proof.specs.Edges.{GivesNone, IsNoAnswer}
 use Rattle.pass_elide_proof.specs.Elision.{Elision, elided, framed, function_in, function_in_elided, rooms}
 use Rattle.pass_elide_proof.specs.Ends.{IsAtCoroEnd, IsAtRampEnd}
+use Rattle.pass_elide_proof.specs.Places.{front_at}
 use Rattle.pass_elide_proof.specs.Match.{AreAsked, AreElided, AreModes, AreNamed, AreReleased, Beside, Given, IsAt, Same, held_name, is_given_mode, sides, was_given}
 use Rattle.pass_proofs.specs.ir_base.declared.cause.Cause.{Cause}
 use Rattle.pass_proofs.specs.ir_model.Ty.{Ty}
@@ -155,22 +156,33 @@ module _ (e : Elision) (s t : State) (r : AreElided e s t) (none : GivesNone e s
 
 -- ---- coro.end
 
+-- both stand at the same call
+module _ (e : Elision) (s t : State) (r : AreElided e s t) (none : GivesNone e s.top.func)
+    (beside : t.top.block ≡ s.top.block)
+    (stands : t.top.at ≡ front_at (rooms e s.top.func) (function_in e s.top.func) s.top.block s.top.at) where
+  same_function : function_in_elided e t.top.func ≡ function_in e s.top.func
+  same_function = ap (function_in_elided e) r.top.func ∙ function_same e s.top.func none
+
+  pub place_same : t.top.at ≡ s.top.at
+  place_same = stands ∙ front_same (rooms e s.top.func) (function_in e s.top.func) none s.top.block s.top.at
+
+  pub there_same : (x : Fetched) → fetch (function_of (framed e).given s) s.top.block s.top.at ≡ x
+      → fetch (function_of (elided e).given t) t.top.block t.top.at ≡ x
+  there_same x there = (λ i. fetch (same_function i) (beside i) (place_same i)) ∙ there
+
 module _ (e : Elision) (s t : State) (r : AreElided e s t) (result : Option ℕ) (must_tail : Bool) (ty : Option Ty)
     (args : List Arg) (at : IsAtCoroEnd e s t r result must_tail ty args) where
   abbrev pub call : Fetched
   call = AtInstr (Instr.Call result must_tail ty (Callee.Intrinsic Intrinsic.CoroEnd) args)
 
-  same_function : function_in_elided e t.top.func ≡ function_in e s.top.func
-  same_function = ap (function_in_elided e) r.top.func ∙ function_same e s.top.func at.none
-
   pub same_place : t.top.at ≡ s.top.at
-  same_place = at.stands ∙ front_same (rooms e s.top.func) (function_in e s.top.func) at.none s.top.block s.top.at
+  same_place = place_same e s t r at.none at.beside at.stands
 
   pub end_there : fetch (function_of (elided e).given t) t.top.block t.top.at ≡ call
-  end_there = (λ i. fetch (same_function i) (at.beside i) (same_place i)) ∙ at.there
+  end_there = there_same e s t r at.none at.beside at.stands call at.there
 
 -- a ramp beside a ramp, given or not
-goes_on : (m k : Mode) → AreModes m k → m ≡ Mode.Ramp → (t : State) (result : Option ℕ)
+pub goes_on : (m k : Mode) → AreModes m k → m ≡ Mode.Ramp → (t : State) (result : Option ℕ)
     → after_end t result k ≡ Ok (gives t result (truth_value false))
 goes_on m k (Same mode allocating) ramp t result = ap (after_end t result) ramp
 goes_on m k (Given block offset) ramp t result = refl

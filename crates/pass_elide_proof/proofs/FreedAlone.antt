@@ -128,7 +128,7 @@ module _ (e : Elision) (s t : State) (a : Allocator) (result : Option ℕ) (must
   abbrev z : Instance
   z = theirs.0
 
-  steps : framed_step (framed e) s ≡ at.after
+  pub steps : framed_step (framed e) s ≡ at.after
   steps =
       stepped (framed e) s at.after (at_call a result must_tail ty args) at.runs at.there
       (deallocates (framed e) s a result must_tail ty args at.frees

@@ -6,7 +6,7 @@ use Rattle.pass_elide.specs.Elided.{elided_function, function_frames}
 use Rattle.pass_elide_proof.proofs.Apart.{apart_same}
 use Rattle.pass_elide_proof.proofs.Callers.{allocas_same}
 use Rattle.pass_elide_proof.proofs.Kept.{alloca_kept, below_kept}
-use Rattle.pass_elide_proof.proofs.Making.{HasMade, IsMade, all_made, made_at}
+use Rattle.pass_elide_proof.proofs.Making.{HasMade, IsMade, all_made, made_at, on_the_way}
 use Rattle.pass_elide_proof.proofs.GivingMarkers.{markers_same, nothing_put, plain_put}
 use Rattle.pass_elide_proof.proofs.Modules.{finds_alike}
 use Rattle.pass_elide_proof.proofs.MoreBlocks.{count_more, frames_more, given_more, instances_more, keeps_more, mates_more, new_free, world_more}
@@ -51,7 +51,7 @@ none_mapped : {A B : Type 0} (f : A → B) (xs : List A) (ys : List B) → map f
 none_mapped f [] ys e = refl
 none_mapped f (x ∷ xs) ys e = absurd (cc)
 
-past : (env : Env) (v : ℕ) → length env ≤ v → value_in env v ≡ Value.Poison
+pub past : (env : Env) (v : ℕ) → length env ≤ v → value_in env v ≡ Value.Poison
 past [] v le = refl
 past (x ∷ env) zero le = absurd (omega (arith, le))
 past (x ∷ env) (suc v) le = past env v (omega (arith, le))
@@ -282,6 +282,18 @@ module _ (e : Elision) (s t : State) (r : AreElided e s t) (at : IsAtFront e s t
   pub fronts_made : AreReady e s (iterate (framed_step (elided e))
       (length (allocas_ahead (rooms e s.top.func) (function_in e s.top.func))) t)
   fronts_made = subst (AreReady e s) (sym made.comes) ready
+
+  -- on the way nothing is shown
+  pub fronts_pass : (i : ℕ) → i ≤ length (allocas_ahead (rooms e s.top.func) (function_in e s.top.func))
+      → ((iterate (framed_step (elided e)) i t).outcome ≡ Outcome.Running)
+      × ((iterate (framed_step (elided e)) i t).world.events ≡ t.world.events)
+  fronts_pass i le =
+      let x = on_the_way (elided e) t runs at.mode plain (length own.names)
+      (function_frames (rooms e s.top.func) own) t.world.memory t.top.values t.top.slots t.top.at stand at.aligned
+      unmarked i le in (
+        ap (λ (v : State). v.outcome) x.is ∙ runs,
+        ap (λ (v : State). v.world.events) x.is,
+      )
 
   -- callers of instances stay: the activation has no slot yet, so it is none
   no_caller : (y : Instance) (number : ℕ) → HasCaller e t.world.memory y number t.top [] → ⊥

@@ -49,7 +49,7 @@ here x xs = (0, omega arith, refl)
 further : {A : Type 0} (y : A) (xs : List A) (x : A) → Contains xs x → Contains (y ∷ xs) x
 further y xs x h = let lt = h.1 in (suc h.0, omega (arith, lt), h.2)
 
-set_there : (env : Env) (name : ℕ) (v : Value) → name < length env → value_in (with_value env name v) name ≡ v
+pub set_there : (env : Env) (name : ℕ) (v : Value) → name < length env → value_in (with_value env name v) name ≡ v
 set_there [] name v lt = absurd (omega (arith, lt))
 set_there (x ∷ env) zero v lt = refl
 set_there (x ∷ env) (suc name) v lt = set_there env name v (omega (arith, lt))
@@ -246,3 +246,30 @@ module _ (g : FramedGiven) (t : State) (runs : t.outcome ≡ Outcome.Running) (m
         where
           grown : (m : List MemoryBlock) → length m ≤ length (m ++ stack size align ∷ [])
           grown m = let long = length-append m (stack size align ∷ []) in omega (arith, long)
+
+  -- ---- on the way
+
+  -- another memory, and another place of the activation
+  pub record IsOnTheWay (x : State) : Type 0 where
+    pub memory : List MemoryBlock
+    pub values : Env
+    pub slots : List Slot
+    pub at : ℕ
+    pub is : x ≡ made_at memory values slots at
+
+  pub on_the_way : (n : ℕ) (rs : List GivenFrame) (memory : List MemoryBlock) (values : Env) (slots : List Slot)
+      (at : ℕ) → StandAt (function_of g.given t) t.top.block at (frame_allocas n rs)
+      → Each IsAligned (frame_allocas n rs)
+      → ((v : ℕ) → n ≤ v → has_markers (function_of g.given t) v ≡ false) → (i : ℕ) → i ≤ length (frame_allocas n rs)
+      → IsOnTheWay (iterate (framed_step g) i (made_at memory values slots at))
+  on_the_way n rs memory values slots at stand aligned unmarked zero le =
+      record { memory = memory; values = values; slots = slots; at = at; is = refl }
+  on_the_way n [] memory values slots at stand aligned unmarked (suc i) le = absurd (omega (arith, le))
+  on_the_way n (GivenFrame.Field base distance ∷ rs) memory values slots at stand aligned unmarked (suc i) le =
+      on_the_way (n + 1) rs memory values slots at stand aligned (λ v low. unmarked v (omega (arith, low))) (suc i) le
+  on_the_way n (GivenFrame.Alloca size align ∷ rs) memory values slots at stand aligned unmarked (suc i) le =
+      let first = alloca_made memory values slots at n size align stand.0 aligned.0 (unmarked n (omega arith)) in
+      subst (λ (x : State). IsOnTheWay (iterate (framed_step g) i x)) (sym first)
+      (on_the_way (n + 1) rs (memory ++ stack size align ∷ []) (with_value values n (pointer_to (length memory)))
+      (next n memory ∷ slots) (at + 1) stand.1 aligned.1 (λ v low. unmarked v (omega (arith, low))) i
+      (omega (arith, le)))

@@ -154,7 +154,7 @@ module _ (e : Elision) (s t : State) (n : ℕ) (r : AreElided e s (with_at t n))
   abbrev pub homes : List Home
   homes = more d r.homes r.hides z r.known theirs
 
-  abbrev hides : ℕ → Bool
+  abbrev pub hides : ℕ → Bool
   hides = later d r.homes r.hides z r.known theirs
 
   stands : AreStanding (frame_rights (framed e) s.instances) (frame_rights (elided e) t.instances) homes
@@ -174,7 +174,8 @@ module _ (e : Elision) (s t : State) (n : ℕ) (r : AreElided e s (with_at t n))
     allocs = refl;
   }
 
-  on : GoesOn d (s.world.memory ++ z ∷ []) (t.world.memory ++ z ∷ []) r.homes homes r.hides hides
+  pub on : GoesOn (sides s t) (s.world.memory ++ new_block size align kind marked ∷ [])
+      (t.world.memory ++ new_block size align kind marked ∷ []) r.homes homes r.hides hides
   on = grows_on d r.homes r.hides z r.known theirs
 
   set : AreSet homes (given_at (AtInstr i)) s.top.values t.top.values first_work.values second_work.values

@@ -38,7 +38,7 @@ pub all_long : (env : Env) (ps : List (ℕ × Value)) → length (with_all env p
 all_long env [] = refl
 all_long env (p ∷ ps) = all_long (with_value env p.0 p.1) ps ∙ set_length env p.0 p.1
 
-value_here : (env : Env) (name : ℕ) (v : Value) → name < length env → value_in (with_value env name v) name ≡ v
+pub value_here : (env : Env) (name : ℕ) (v : Value) → name < length env → value_in (with_value env name v) name ≡ v
 value_here [] name v lt = absurd (omega (arith, lt))
 value_here (c ∷ env) zero v lt = refl
 value_here (c ∷ env) (suc name) v lt = value_here env name v (omega (arith, lt))

@@ -1,7 +1,7 @@
 -- A function whose calls give no frames stays as it is.
 use Rattle.std.proofs.Common.{◌≡◌, ◌+◌, ℕ, zero, suc, List, [], ◌∷◌, ◌++◌, length, Option, refl, ap, ◌∙◌, arith}
 use Rattle.std.specs.Prelude.{None, option_map, slice_get}
-use Rattle.pass_elide.specs.Elided.{block_frames, blocks_frames, elided_all, elided_blocks, elided_by, elided_function, elided_instrs, frame_allocas, frames_by, instr_frames, with_front}
+use Rattle.pass_elide.specs.Elided.{block_frames, blocks_frames, elided_all, elided_blocks, elided_by, elided_function, elided_instrs, frame_allocas, frames_by, function_frames, instr_frames, with_front}
 use Rattle.pass_elide.specs.declared.given.GivenFrame.{GivenFrame}
 use Rattle.pass_elide_proof.specs.Places.{Rooms, ahead, front_at, instrs_of, own_at, phi_count, put_by, put_up_to}
 use Rattle.pass_proofs.specs.ir_model.declared.instr.Instr.{Instr}
@@ -45,6 +45,9 @@ module _ (room : Rooms) (f : Function) (none : (block at : ℕ) (i : Instr) → 
   front_none : (bs : List Block) → with_front [] bs ≡ bs
   front_none [] = refl
   front_none (b ∷ bs) = refl
+
+  pub no_frames : function_frames room f ≡ []
+  no_frames = blocks_none 0 f.blocks
 
   all_same : elided_all room (length f.names) f.blocks ≡ f.blocks
   all_same =

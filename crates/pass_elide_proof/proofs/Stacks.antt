@@ -46,7 +46,7 @@ module _ (e : Elision) (memory : List MemoryBlock) (y : Instance) (number : ℕ)
   SameHead (d ∷ above) [] = ⊥
   SameHead (d ∷ above) (d' ∷ others) = KeepsHead d d'
 
-  destroys_on : (d d' : Activation) → KeepsHead d d' → IsDestroying e y number d → IsDestroying e y number d'
+  pub destroys_on : (d d' : Activation) → KeepsHead d d' → IsDestroying e y number d → IsDestroying e y number d'
   destroys_on d d' k h = record {
     func = k.func ∙ h.func;
     instance = k.instance ∙ h.instance;
@@ -54,6 +54,7 @@ module _ (e : Elision) (memory : List MemoryBlock) (y : Instance) (number : ℕ)
     block = h.block;
     entered = entered h.entered;
     way = λ mode. h.way (sym k.mode ∙ mode);
+    ahead = λ from label mode. h.ahead from label (sym k.mode ∙ mode);
   }
     where
       entered : ((d.mode ≡ Mode.Resumed) × (d.block ≡ h.block))
@@ -171,7 +172,7 @@ called_under e memory y number c c' below keeps never h = by (called_at e memory
 
 -- ---- the next point of a block
 
-next_point : (f : Function) (p : Point) (i : Instr) → instr_at f p ≡ Some i
+pub next_point : (f : Function) (p : Point) (i : Instr) → instr_at f p ≡ Some i
     → IsTrue (has_point (nexts f p) (record { block = p.block; at = p.at + 1 }))
 next_point f p i there = by (slice_get f.blocks p.block) there
   where

@@ -65,6 +65,21 @@ pub record IsAtRampEnd (e : Elision) (s t : State) (r : AreElided e s t) (result
   pub holds : (e.shape s.top.func).holds s.top.block (s.top.at + 1) ≡ (e.shape s.top.func).holds s.top.block s.top.at
   pub kept : (v name : ℕ) → result ≡ Some v → (e.shape s.top.func).holds s.top.block s.top.at ≡ Some name → name ≢ v
 
+-- in a ramp that hasn't begun, which goes on too
+pub record IsAtEarlyEnd (e : Elision) (s t : State) (result : Option ℕ) (must_tail : Bool) (ty : Option Ty)
+    (args : List Arg) : Type 0 where
+  pub runs : s.outcome ≡ Outcome.Running
+  pub there : fetch (function_of (framed e).given s) s.top.block s.top.at
+      ≡ AtInstr (Instr.Call result must_tail ty (Callee.Intrinsic Intrinsic.CoroEnd) args)
+  pub none : GivesNone e s.top.func
+  pub beside : t.top.block ≡ s.top.block
+  pub stands : t.top.at ≡ front_at (rooms e s.top.func) (function_in e s.top.func) s.top.block s.top.at
+  pub ramp : s.top.mode ≡ Mode.Ramp
+  pub alone : s.top.instance ≡ None
+  pub answers : (v : ℕ) → result ≡ Some v → IsNoAnswer (e.shape s.top.func) v
+  pub holds : (e.shape s.top.func).holds s.top.block (s.top.at + 1) ≡ (e.shape s.top.func).holds s.top.block s.top.at
+  pub kept : (v name : ℕ) → result ≡ Some v → (e.shape s.top.func).holds s.top.block s.top.at ≡ Some name → name ≢ v
+
 -- in a resumed activation, which returns to its caller
 
 -- The block of a slot is no stack block and has no frame. The name of its alloca has its address.

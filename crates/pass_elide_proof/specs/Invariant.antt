@@ -11,6 +11,7 @@ use Rattle.pass_elide_proof.specs.Elision.{Elision, function_in, rooms}
 use Rattle.pass_elide_proof.specs.Places.{front_at, instrs_of, name_at, room_at}
 use Rattle.pass_proofs.specs.flow_points.Reached.{IsReached}
 use Rattle.pass_proofs.specs.ir_base.declared.outcome.Word.{Word}
+use Rattle.pass_proofs.specs.ir_model.Names.{position_of}
 use Rattle.pass_proofs.specs.ir_model.declared.instr.Instr.{Instr}
 use Rattle.pass_proofs.specs.ir_parts.Contents.{result_of}
 use Rattle.pass_proofs.specs.ir_paths.declared.point.Point.{Point}
@@ -58,6 +59,8 @@ pub record IsDestroying (e : Elision) (y : Instance) (number : ℕ) (d : Activat
   pub entered : ((d.mode ≡ Mode.Resumed) × (d.block ≡ block))
       ⊎ ((from label : ℕ) × (d.mode ≡ Mode.Entering from label))
   pub way : d.mode ≡ Mode.Resumed → IsOn Way.Destroyed (function_in e y.coroutine) block
+  pub ahead : (from label : ℕ) → d.mode ≡ Mode.Entering from label
+      → IsOn Way.Destroyed (function_in e y.coroutine) (position_of (function_in e y.coroutine) label)
 
 -- ---- an instance whose frame lies in an alloca of an activation
 

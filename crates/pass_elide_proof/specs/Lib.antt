@@ -5,6 +5,10 @@ pub mod Frames
 pub mod Match
 pub mod Invariant
 pub mod Statement
+pub mod NullTests
+pub mod StepCases
+pub mod Stepping
+pub mod Assembling
 pub mod Worked
 pub mod WorkedStates
 pub mod Compared
@@ -34,3 +38,10 @@ pub mod Returning
 pub mod OwnSlots
 pub mod Ending
 pub mod Ends
+pub mod Releasing
+pub mod Destroying
+pub mod Callers
+pub mod CallersStack
+pub mod CallersWorked
+pub mod Placing
+pub mod PlacingStates

@@ -22,9 +22,13 @@ pub record JumpsTo (f : Function) (block target : ℕ) : Type 0 where
   pub stands : fetch f block (length (instrs_of f block)) ≡ AtTerm (Terminator.Jump label)
   pub leads : position_of f label ≡ target
 
--- a call of coro.size, or the one call of an allocator
+-- a load of a kept value, for the allocator's call
+pub data IsKeptLoad : Instr → Type 0 where
+  KeptLoad : (name cell align : ℕ) (ty : Ty) → IsKeptLoad (Instr.Load name ty (Operand.Local cell) align)
+
+-- a call of coro.size, the one call of an allocator, or a load for it
 abbrev pub IsAllocating : Instr → Type 0
-IsAllocating i = (is_size_call i ≡ true) ⊎ (deals_by Dealing.Allocates i ≡ true)
+IsAllocating i = (is_size_call i ≡ true) ⊎ ((deals_by Dealing.Allocates i ≡ true) ⊎ IsKeptLoad i)
 
 -- loads of the same kept values, into names of their own
 pub data AreSameLoads : Instr → Instr → Type 0 where

@@ -1,5 +1,5 @@
 -- A given ramp waits at its branch while the other one asks for the frame's size in the allocator's block.
-use Rattle.std.specs.Prelude.{◌≡◌, ◌≢◌, ◌+◌, ◌⊎◌, ℕ, Bool, true, false, List, [], Some, None, Option}
+use Rattle.std.specs.Prelude.{◌≡◌, ◌≢◌, ◌+◌, ◌⊎◌, ℕ, Bool, true, false, List, [], Ok, Some, None, Option}
 use Rattle.pass_elide_proof.specs.Elision.{Elision, Shape, framed, function_in, rooms}
 use Rattle.pass_elide_proof.specs.Match.{IsAtEnd, is_given_mode}
 use Rattle.pass_elide_proof.specs.Places.{allocas_ahead}
@@ -9,7 +9,9 @@ use Rattle.pass_proofs.specs.ir_model.declared.instr.Instr.{Instr}
 use Rattle.pass_proofs.specs.ir_model.declared.operand.Arg.{Arg}
 use Rattle.pass_proofs.specs.ir_model.declared.operand.Callee.{Callee}
 use Rattle.pass_proofs.specs.ir_model.declared.operand.Intrinsic.{Intrinsic}
-use Rattle.pass_proofs.specs.run_source.State.{function_of}
+use Rattle.pass_proofs.specs.run_framed.Framed.{framed_next}
+use Rattle.pass_proofs.specs.run_memory.declared.pointer.Value.{Value}
+use Rattle.pass_proofs.specs.run_source.State.{function_of, gives}
 use Rattle.pass_proofs.specs.run_source.declared.state.State.{State}
 use Rattle.pass_proofs.specs.run_step.Step.{AtInstr, fetch}
 
@@ -34,5 +36,19 @@ pub record IsAtSize (e : Elision) (s t : State) (i : Intrinsic) (result : Option
   pub none : allocas_ahead (rooms e s.top.func) (function_in e s.top.func) ≡ []
   pub made : (v : ℕ) → result ≡ Some v → IsMadeThere (e.shape s.top.func) v
   -- no block is allocated here, and the name of one that was isn't set
+  pub holds : (e.shape s.top.func).holds s.top.block (s.top.at + 1) ≡ (e.shape s.top.func).holds s.top.block s.top.at
+  pub kept : (v name : ℕ) → result ≡ Some v → (e.shape s.top.func).holds s.top.block s.top.at ≡ Some name → name ≢ v
+
+-- The framed run sets a name of what is made there, by an instruction of any kind: a size, or a kept value that is
+-- loaded.
+pub record IsAtMade (e : Elision) (s t : State) (result : Option ℕ) (w : Value) : Type 0 where
+  pub runs : s.outcome ≡ Outcome.Running
+  pub goes : framed_next (framed e) s (fetch (function_of (framed e).given s) s.top.block s.top.at)
+      ≡ Ok (gives s result w)
+  pub given : is_given_mode t.top.mode ≡ true
+  pub waits : (e.shape s.top.func).waits s.top.block ≡ Some t.top.block
+  pub stays : IsAtEnd e t.top
+  pub none : allocas_ahead (rooms e s.top.func) (function_in e s.top.func) ≡ []
+  pub made : (v : ℕ) → result ≡ Some v → IsMadeThere (e.shape s.top.func) v
   pub holds : (e.shape s.top.func).holds s.top.block (s.top.at + 1) ≡ (e.shape s.top.func).holds s.top.block s.top.at
   pub kept : (v name : ℕ) → result ≡ Some v → (e.shape s.top.func).holds s.top.block s.top.at ≡ Some name → name ≢ v

@@ -28,12 +28,6 @@ use Rattle.std.specs.List.{Contains}
 
 -- ---- the relation of the simulation
 
--- an activation that destroys an instance has yet to come to a coro.free, is in a block that frees, or has freed it
-abbrev pub IsOnItsWay : Elision → Instance → Activation → Type 0
-IsOnItsWay e x d =
-    (x.freed ≡ true) ⊎ (IsOn Way.Unfreed (function_in e d.func) d.block
-    ⊎ ((block : ℕ) × ((e.shape d.func).frees d.block ≡ Some block)))
-
 -- the states stand beside each other, and handles are held; what its caller holds no more was freed in the first run
 pub record AreRelated (e : Elision) (s t : State) : Type 0 where
   pub beside : AreElided e s t
@@ -45,9 +39,6 @@ pub record AreRelated (e : Elision) (s t : State) : Type 0 where
   pub renewed : (number block offset : ℕ) (x y : Instance) (c : Activation) → slice_get s.instances number ≡ Some x
       → slice_get t.instances number ≡ Some y → Contains (t.top ∷ t.below) c → c.instance ≡ None
       → c.mode ≡ Mode.GivenRamp (address_in block offset) → y.block ≡ block → y.start ≡ offset → x.freed ≡ true
-  pub ways : (number : ℕ) (x y : Instance) (a : Activation) → slice_get s.instances number ≡ Some x
-      → slice_get t.instances number ≡ Some y → is_given t.world.memory y ≡ true → Contains (s.top ∷ s.below) a
-      → IsDestroying e y number a → IsOnItsWay e x a
 
 -- They are related, or both runs are over: behind the entry's return its allocas are dead.
 abbrev pub AreRelatedOrOver : Elision → State → State → Type 0

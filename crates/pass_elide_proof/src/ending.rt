@@ -3,7 +3,7 @@
 ghost use Rattle.std.specs.Prelude.{Bool, List, Option, ℕ};
 ghost use Rattle.pass_elide_proof.specs.Elision.{Elision, elided, framed};
 ghost use Rattle.pass_elide_proof.specs.Ending.{IsAtFree, IsAtFreeBeside, IsAtFreeOfNull, IsAtPassed};
-ghost use Rattle.pass_elide_proof.specs.Ends.{IsAtRampEnd, IsAtResumedEnd};
+ghost use Rattle.pass_elide_proof.specs.Ends.{IsAtEarlyEnd, IsAtRampEnd, IsAtResumedEnd};
 ghost use Rattle.pass_elide_proof.specs.Match.{AreElided};
 ghost use Rattle.pass_proofs.specs.ir_model.Ty.{Ty};
 ghost use Rattle.pass_proofs.specs.ir_model.declared.operand.Allocator.{Allocator};
@@ -46,6 +46,13 @@ pub fn frees_stay_beside()
 pub fn ramp_ends_stay_beside()
     ensures { (e : Elision) (s t : State) (r : AreElided e s t) (result : Option ℕ) (must_tail : Bool)
         (ty : Option Ty) (args : List Arg) → IsAtRampEnd e s t r result must_tail ty args
+        → AreElided e (framed_step (framed e) s) (framed_step (elided e) t) }
+{}
+
+/// At coro.end of a ramp that hasn't begun both go on, and no instance ends.
+pub fn early_ends_stay_beside()
+    ensures { (e : Elision) (s t : State) (result : Option ℕ) (must_tail : Bool) (ty : Option Ty) (args : List Arg)
+        → AreElided e s t → IsAtEarlyEnd e s t result must_tail ty args
         → AreElided e (framed_step (framed e) s) (framed_step (elided e) t) }
 {}
 

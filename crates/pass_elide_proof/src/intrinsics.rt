@@ -7,10 +7,13 @@ ghost use Rattle.pass_elide_proof.specs.Frees.{IsAtFree};
 ghost use Rattle.pass_elide_proof.specs.Invariant.{HaveCallers};
 ghost use Rattle.pass_elide_proof.specs.Looking.{IsAtDone, IsAtPromise};
 ghost use Rattle.pass_elide_proof.specs.Match.{AreElided};
+ghost use Rattle.pass_elide_proof.specs.NullTests.{IsAtNullTest};
 ghost use Rattle.pass_elide_proof.specs.Saves.{IsAtSave, IsAtSuspend};
+ghost use Rattle.pass_proofs.specs.ir_base.declared.ops.Pred.{Pred};
 ghost use Rattle.pass_proofs.specs.ir_model.Ty.{Ty};
 ghost use Rattle.pass_proofs.specs.ir_model.declared.operand.Arg.{Arg};
 ghost use Rattle.pass_proofs.specs.ir_model.declared.operand.Intrinsic.{Intrinsic};
+ghost use Rattle.pass_proofs.specs.ir_model.declared.operand.Operand.{Operand};
 ghost use Rattle.pass_proofs.specs.run_agreement.Machines.{IsFine};
 ghost use Rattle.pass_proofs.specs.run_framed.Framed.{framed_step};
 ghost use Rattle.pass_proofs.specs.run_source.declared.state.State.{State};
@@ -64,4 +67,11 @@ pub fn saves_stay_beside()
         (args : List Arg) → AreElided e s t → IsFine (framed_step (framed e) s).outcome
         → IsAtSuspend e s t result must_tail ty args
         → AreElided e (framed_step (framed e) s) (framed_step (elided e) t) }
+{}
+
+/// Where the frame was given a comparison with null of what coro.free gave isn't true of it in the framed run, and is in
+/// the other one.
+pub fn null_tests_stay_beside()
+    ensures { (e : Elision) (s t : State) (name : ℕ) (pred : Pred) (a b : Operand) → AreElided e s t
+        → IsAtNullTest e s t name pred a b → AreElided e (framed_step (framed e) s) (framed_step (elided e) t) }
 {}

@@ -2,23 +2,29 @@
 //! allocate them.
 #![tactic(auto)]
 
+pub mod assembling;
 pub mod beginning;
 pub mod calling;
 pub mod code;
 pub mod counts;
+pub mod destroying;
 pub mod edges;
 pub mod ending;
 pub mod frames;
 pub mod handles;
 pub mod intrinsics;
 pub mod keeping;
+pub mod kept_callers;
 pub mod ordinary;
 pub mod over;
 pub mod own_slots;
+pub mod placing;
+pub mod releasing;
 pub mod returning;
 pub mod slots;
 pub mod sound;
 pub mod starting;
+pub mod stepping;
 pub mod waiting;
 pub mod waking;
 pub mod worked;

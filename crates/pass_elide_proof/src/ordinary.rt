@@ -1,7 +1,7 @@
 //! Ordinary instructions, which both runs execute.
 
 ghost use Rattle.std.specs.Prelude.{Bool, List, Option, ℕ};
-ghost use Rattle.pass_elide_proof.specs.Again.{IsAtAllocaAgain};
+ghost use Rattle.pass_elide_proof.specs.Again.{IsAtAllocaAgain, IsAtLastAlloca};
 ghost use Rattle.pass_elide_proof.specs.Asides.{IsAtLoads};
 ghost use Rattle.pass_elide_proof.specs.Asked.{IsAtAsking};
 ghost use Rattle.pass_elide_proof.specs.Elision.{Elision, elided, framed};
@@ -104,6 +104,14 @@ pub fn asked_values_stay_beside()
 pub fn allocas_again_stay_beside()
     ensures { (e : Elision) (s t : State) (name : ℕ) (ty : Ty) (align from label : ℕ) (next : Point)
         → AreElided e s t → StandsInFront e s t → IsAtAllocaAgain e s t name ty align from label next
+        → AreElided e (framed_step (framed e) s) (framed_step (elided e) t) }
+{}
+
+/// Where a resumed activation executes the last of its allocas, both runs enter the same label behind it. The label's
+/// phis take what is alike.
+pub fn last_allocas_stay_beside()
+    ensures { (e : Elision) (s t : State) (name : ℕ) (ty : Ty) (align from label : ℕ) → AreElided e s t
+        → StandsInFront e s t → IsAtLastAlloca e s t name ty align from label
         → AreElided e (framed_step (framed e) s) (framed_step (elided e) t) }
 {}
 

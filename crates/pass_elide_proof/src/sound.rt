@@ -5,9 +5,12 @@ ghost use Rattle.pass_elide_proof.specs.Beginning.{HaveFrames};
 ghost use Rattle.pass_elide_proof.specs.Elision.{Elision, elided, framed};
 ghost use Rattle.pass_elide_proof.specs.Match.{instance_in, is_given_mode};
 ghost use Rattle.pass_elide_proof.specs.Sound.{IsSoundState, KnowsAllocas, NestsNone};
+ghost use Rattle.pass_elide_proof.specs.StepCases.{LeadsTo};
 ghost use Rattle.pass_proofs.specs.frame_layout.declared.layout.Layout.{Layout as TheLayout};
+ghost use Rattle.pass_proofs.specs.ir_base.declared.outcome.Outcome.{Outcome};
 ghost use Rattle.pass_proofs.specs.ir_base.declared.outcome.Word.{Word};
 ghost use Rattle.pass_proofs.specs.ir_model.declared.module.Module.{Module as TheModule};
+ghost use Rattle.pass_proofs.specs.run_agreement.Machines.{IsFine};
 ghost use Rattle.pass_proofs.specs.run_framed.Framed.{FramedGiven, framed_given, framed_state_at, framed_step, is_given};
 ghost use Rattle.pass_proofs.specs.run_memory.Memory.{is_live};
 ghost use Rattle.pass_proofs.specs.run_memory.declared.block.Kind.{Kind};
@@ -47,4 +50,10 @@ pub fn sound_states_have_frames()
     ensures dead { (s : State) → IsSlottedState s → (i : ℕ) (x : Instance) → slice_get s.instances i ≡ Some x
         → (z : MemoryBlock) → x.freed ≡ true → slice_get s.world.memory x.block ≡ Some z
         → is_live z.life ≡ false }
+{}
+
+/// A step of a framed run that isn't undefined is one of the cases that are written down, with the state behind it.
+pub fn steps_are_one_of_the_cases()
+    ensures { (g : FramedGiven) (s : State) → s.outcome ≡ Outcome.Running → IsFine (framed_step g s).outcome
+        → LeadsTo g s (framed_step g s) }
 {}

@@ -1,0 +1,204 @@
+-- Both runs agree by prices, where each step of the first is of a known kind and leaves the states related.
+use Rattle.std.proofs.Common.{◌≡◌, ◌+◌, ◌-◌, ◌<◌, ◌≤◌, ◌∙◌, ◌⊎◌, ⊎_elim, inl, inr, ℕ, zero, suc, List, [], ◌∷◌, Some, ap, arith, length, map, refl, slice_get, subst, sym}
+use Rattle.std.proofs.lemmas.Bool.{cases_lt}
+use Rattle.pass_elide.specs.Elided.{frame_allocas, function_frames}
+use Rattle.pass_elide.specs.declared.given.GivenFrame.{GivenFrame}
+use Rattle.pass_elide_proof.proofs.FrontsMade.{fronts_pass}
+use Rattle.pass_elide_proof.proofs.StepKinds.{few_steps, followed}
+use Rattle.pass_elide_proof.proofs.WaitingFalls.{waiting_falls}
+use Rattle.pass_elide_proof.specs.Assembling.{KnowsSteps, WaitsBehind, elided_after, framed_after, waiting_left}
+use Rattle.pass_elide_proof.specs.Counts.{uncounted}
+use Rattle.pass_elide_proof.specs.Elision.{Elision, elided, elided_code, framed, function_in, rooms}
+use Rattle.pass_elide_proof.specs.Match.{AreElided}
+use Rattle.pass_elide_proof.specs.Places.{allocas_ahead}
+use Rattle.pass_elide_proof.specs.Returning.{HaveReturned}
+use Rattle.pass_elide_proof.specs.Statement.{AreRelated, AreRelatedOrOver, IsElisionOf, elided_run, framed_run}
+use Rattle.pass_elide_proof.specs.Stepping.{IsKnownStep, steps_of}
+use Rattle.pass_proofs.proofs.run_agreement.Costs.{weaken_by}
+use Rattle.pass_proofs.proofs.run_agreement.PricedLockstep.{AdvanceBy, IsPassed, SimulatesBy, lockstep_by}
+use Rattle.pass_proofs.proofs.run_agreement.Runs.{iterate-add, returned_over}
+use Rattle.pass_proofs.proofs.run_agreement.Shows.{ShowsSame}
+use Rattle.pass_proofs.specs.ir_base.declared.outcome.Event.{Event}
+use Rattle.pass_proofs.specs.ir_base.declared.outcome.Outcome.{Outcome}
+use Rattle.pass_proofs.specs.ir_base.declared.outcome.Word.{Word}
+use Rattle.pass_proofs.specs.ir_model.declared.module.Module.{Module}
+use Rattle.pass_proofs.specs.run_agreement.Costs.{AgreesBy, IsNear, cost_from}
+use Rattle.pass_proofs.specs.run_agreement.Machines.{IsFine, IsReturned, IsRunning, Machine, iterate}
+use Rattle.pass_proofs.specs.run_framed.Framed.{FramedGiven, framed_advance, framed_step}
+use Rattle.pass_proofs.specs.run_laws.embedded.Related.{moved_event}
+use Rattle.pass_proofs.specs.run_source.declared.state.State.{State}
+use Rattle.pass_proofs.specs.run_step.Runs.{seen_event}
+
+-- ---- lists and numbers
+
+same_events : (es : List Event) → map (moved_event (λ d. d)) es ≡ es
+same_events [] = refl
+same_events (x ∷ es) = ap (λ (ys : List Event). x ∷ ys) (same_events es)
+
+-- each frame that is given an alloca has one
+few_allocas : (n : ℕ) (rs : List GivenFrame) → length (frame_allocas n rs) ≤ length rs
+few_allocas n [] = omega arith
+few_allocas n (GivenFrame.Alloca size align ∷ rs) = let few = few_allocas (n + 1) rs in omega (arith, few)
+few_allocas n (GivenFrame.Field base distance ∷ rs) = let few = few_allocas (n + 1) rs in omega (arith, few)
+
+running_is : (o : Outcome) → IsRunning o → o ≡ Outcome.Running
+running_is (Outcome.Returned v) h = absurd h
+running_is Outcome.Running h = refl
+running_is (Outcome.Undefined cause place) h = absurd h
+
+pub framed_stays : (g : FramedGiven) (s : State) → (IsRunning s.outcome → ⊥) → framed_step g s ≡ s
+framed_stays g s over = on s.outcome refl
+  where
+    on : (o : Outcome) → s.outcome ≡ o → framed_step g s ≡ s
+    on (Outcome.Returned v) e = ap (framed_advance g s) e
+    on Outcome.Running e = absurd (over (subst IsRunning (sym e) tt))
+    on (Outcome.Undefined cause place) e = ap (framed_advance g s) e
+
+ones : {S : Type 0} (step : S → S) (n : ℕ) (s : S) → cost_from step (λ t. 1) n s ≡ n
+ones step zero s = refl
+ones step (suc n) s = let rest = ones step n (step s) in omega (arith, rest)
+
+-- ---- the runs
+
+module _ (e : Elision) (source : Module) (most : ℕ) (is : IsElisionOf e source most)
+    (waits : (func : ℕ) → WaitsBehind (function_in e func) (e.shape func)) (entry : ℕ) (args : List Word)
+    (start : AreRelated e (framed_after e entry args 0) (elided_after e entry args 0))
+    (knows : KnowsSteps e entry args) where
+  abbrev A : Machine State
+  A = uncounted (framed_run e entry args)
+
+  abbrev B : Machine State
+  B = uncounted (elided_run e entry args)
+
+  abbrev R : State → State → Type 0
+  R = AreRelatedOrOver e
+
+  abbrev V : State → State → Type 0
+  V = IsNear (elided_run e entry args) (1 + most) R
+
+  abbrev price : State → ℕ
+  price s = 1 + most
+
+  abbrev cost : State → ℕ
+  cost t = 1
+
+  -- both runs come to the states
+  record Along (c : ℕ) (s t : State) : Type 0 where
+    first : ℕ
+    second : ℕ
+    comes : s ≡ framed_after e entry args first
+    other : t ≡ elided_after e entry args second
+    related : R s t
+
+  near : (s t : State) → R s t → V s t
+  near s t r = (0, omega arith, inl (t, r, refl))
+
+  -- ---- what is shown
+
+  shows : (s t : State) → R s t → ShowsSame (B.seen t) (A.seen s)
+  shows s t (inl r) = record {
+    events = ap (map (seen_event e.code)) (r.beside.world.events ∙ same_events s.world.events);
+    outcome = r.beside.outcome;
+  }
+  shows s t (inr over) = record { events = ap (map (seen_event e.code)) over.events; outcome = over.outcome }
+
+  -- ---- a step
+
+  abbrev Advances : ℕ → State → State → Type 0
+  Advances c s t = AdvanceBy A price B cost Along V (waiting_left e) c s t
+
+  module _ (n m : ℕ) (r : AreRelated e (framed_after e entry args n) (elided_after e entry args m))
+      (runs : (framed_after e entry args n).outcome ≡ Outcome.Running)
+      (fine : IsFine (framed_step (framed e) (framed_after e entry args n)).outcome) where
+    abbrev s : State
+    s = framed_after e entry args n
+
+    abbrev t : State
+    t = elided_after e entry args m
+
+    k : IsKnownStep e (framed_after e entry args n) (elided_after e entry args m) r.beside
+    k = knows.known n m r runs fine
+
+    abbrev steps : ℕ
+    steps = steps_of e s t r.beside k
+
+    few : steps ≤ 1 + most
+    few =
+        let low = few_steps e s t r.beside k in
+        let allocas = few_allocas (length (function_in e s.top.func).names)
+        (function_frames (rooms e s.top.func) (function_in e s.top.func)) in
+        let frames = is.few s.top.func in
+        omega (arith, low, allocas, frames)
+
+    paid : (c : ℕ) → cost_from B.step cost steps t + 0 ≤ price s + c
+    paid c = let all = ones B.step steps t in let low = few in omega (arith, all, low)
+
+    goes : (k : IsKnownStep e s t r.beside)
+        → (0 < steps_of e s t r.beside k) ⊎ (waiting_left e (framed_step (framed e) s) < waiting_left e s)
+    goes (IsKnownStep.Waiting at) = inr (waiting_falls e s t (waits s.top.func) r.beside at)
+    goes (IsKnownStep.Going at) = inl (omega arith)
+    goes (IsKnownStep.Fronting at place) = inl (omega arith)
+    goes (IsKnownStep.Standing at place) = inl (omega arith)
+
+    passes : (k : IsKnownStep e s t r.beside) → (i : ℕ) → 0 < i → i < steps_of e s t r.beside k
+        → steps_of e s t r.beside k ≤ 1 + most → IsPassed A B V s (iterate B.step i t)
+    passes (IsKnownStep.Waiting at) i low high all = absurd (omega (arith, high))
+    passes (IsKnownStep.Going at) i low high all = absurd (omega (arith, low, high))
+    passes (IsKnownStep.Standing at place) i low high all = absurd (omega (arith, low, high))
+    passes (IsKnownStep.Fronting at place) i low high all =
+        let way = fronts_pass e s t r.beside at i (omega (arith, high)) in
+        record {
+          runs = way.0;
+          events = ap (map (seen_event e.code)) (way.1 ∙ (r.beside.world.events ∙ same_events s.world.events));
+          holds = (i, omega (arith, high, all), inl (t, inl r, refl));
+        }
+
+    advances_at : (c : ℕ) → Advances c s t
+    advances_at c = record {
+      steps = steps;
+      credit = 0;
+      few = paid c;
+      goes_on = goes k;
+      between = λ i low high. inl (passes k i low high few);
+      related = record {
+        first = n + 1;
+        second = m + steps;
+        comes = sym (iterate-add A.step n 1 A.start);
+        other = sym (iterate-add B.step m steps B.start);
+        related = ⊎_elim (λ beside. inl (knows.kept n m r runs fine k beside)) (λ over. inr over)
+            (followed e s t r.beside fine k);
+      };
+    }
+
+  advances : (c : ℕ) (s t : State) → Along c s t → IsRunning s.outcome → IsFine (framed_step (framed e) s).outcome
+      → Advances c s t
+  advances c s t k runs fine =
+      subst (λ (p : State × State). R p.0 p.1 → IsRunning p.0.outcome → IsFine (framed_step (framed e) p.0).outcome
+      → Advances c p.0 p.1) (λ j. (sym k.comes j, sym k.other j)) (at_once k.first k.second) k.related runs fine
+    where
+      at_once : (n m : ℕ) → R (framed_after e entry args n) (elided_after e entry args m)
+          → IsRunning (framed_after e entry args n).outcome
+          → IsFine (framed_step (framed e) (framed_after e entry args n)).outcome
+          → Advances c (framed_after e entry args n) (elided_after e entry args m)
+      at_once n m (inl r) runs fine =
+          advances_at n m r (running_is (framed_after e entry args n).outcome runs) fine c
+      at_once n m (inr over) runs fine =
+          absurd (returned_over (framed_after e entry args n).outcome over.returned runs)
+
+  simulates : SimulatesBy A price B cost Along V (waiting_left e)
+  simulates = record {
+    begin = record { first = 0; second = 0; comes = refl; other = refl; related = inl start };
+    same = λ c s t k. shows s t k.related;
+    counts = λ c s t k. refl;
+    holds = λ c s t k. near s t k.related;
+    advance = advances;
+    stays_a = framed_stays (framed e);
+    stays_b = framed_stays (elided e);
+  }
+
+  pub assembled : AgreesBy (AreRelatedOrOver e) (IsNear (elided_run e entry args) (1 + most) (AreRelatedOrOver e))
+      (uncounted (framed_run e entry args)) (λ s. 1 + most) (uncounted (elided_run e entry args)) (λ t. 1)
+  assembled =
+      weaken_by (λ s t. (c : ℕ) × Along c s t) V R V A price price B cost cost (λ s t k. k.1.related) (λ s t v. v)
+      (λ n fine. omega arith) (λ n. omega arith)
+      (lockstep_by A price B cost Along V (waiting_left e) simulates)
