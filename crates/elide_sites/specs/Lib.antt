@@ -1,3 +1,4 @@
+pub use Rattle.elide_shape.specs as elide_shape
 pub mod Destroyed
 pub mod Chosen
 pub mod Elidable

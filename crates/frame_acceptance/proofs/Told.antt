@@ -1,7 +1,7 @@
 -- What comes of a module, where its first broken rule and the first frame that is too large are told.
 use Rattle.std.proofs.Common.{◌≡◌, ℕ, ◌<◌, ◌≤◌, Bool, false, Option, Ok, Err, sym, subst, ◌∙◌}
 use Rattle.std.specs.Prelude.{Result, IfOk, IsTrue}
-use Rattle.frame_contents.specs.Frames.{AreLayouts}
+use Rattle.frame_bounds.specs.frame_contents.Frames.{AreLayouts}
 use Rattle.frame_bounds.specs.Bounds.{NoneTooLarge}
 use Rattle.frame_layout.specs.declared.layout.Layouts.{Layouts}
 use Rattle.rule_all.specs.Refused.{IsRefused}

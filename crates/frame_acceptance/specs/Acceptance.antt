@@ -1,7 +1,7 @@
 -- What becomes of a module that is looked at for all rules.
 use Rattle.std.specs.Prelude.{◌≡◌, ℕ, Bool, false, ◌<◌, ◌≤◌, Some, None, Option, Ok, Err}
-use Rattle.frame_contents.specs.Frames.{AreLayouts}
-use Rattle.frame_contents.specs.declared.module_frames.LayoutsError.{LayoutsError}
+use Rattle.frame_bounds.specs.frame_contents.Frames.{AreLayouts}
+use Rattle.frame_bounds.specs.frame_contents.declared.module_frames.LayoutsError.{LayoutsError}
 use Rattle.frame_bounds.specs.Bounds.{NoneTooLarge}
 use Rattle.frame_layout.specs.declared.layout.Layouts.{Layouts}
 use Rattle.rule_all.specs.Refused.{IsRefused}

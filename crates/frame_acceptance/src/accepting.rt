@@ -6,7 +6,7 @@ ghost use Rattle.frame_acceptance.specs.Order.{looked_at as looked_at_before};
 
 use crate::order::{looked_at, too_large};
 use frame_bounds::are_small;
-use frame_contents::{LayoutsError, layouts_of};
+use frame_bounds::frame_contents_library::{LayoutsError, layouts_of};
 use frame_layout::Layouts;
 use ir_model::Module;
 use rule_all::{Refusal, Stage, first_refusal};

@@ -1,1 +1,2 @@
+pub use Rattle.frame_contents.specs as frame_contents
 pub mod Bounds

@@ -7,4 +7,5 @@
 mod bounds;
 mod small;
 
+pub use frame_contents as frame_contents_library;
 pub use small::are_small;

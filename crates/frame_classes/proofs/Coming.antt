@@ -26,7 +26,7 @@ use Rattle.frame_slots.specs.Spots.{Comes, LeadsFrom, Spot}
 use Rattle.frame_slots.specs.Spots.Spot.{At, On}
 use Rattle.frame_slots.specs.Words.{word_at_point}
 use Rattle.frame_slots.specs.declared.edge.EdgeWord.{EdgeWord}
-use Rattle.rule_windows.specs.Windows.{own_edges}
+use Rattle.frame_slots.specs.rule_windows.Windows.{own_edges}
 
 -- of the function's points just those are avoided at which the question ends
 pub record Avoids (f : Function) (stops : List (List ℕ)) (c : ℕ) (avoided : List Point) : Type 0 where

@@ -13,7 +13,7 @@ use Rattle.ir_paths.specs.Slots.{IsRampSlot, allocas_of, has_name}
 use Rattle.ir_paths.specs.Windows.{saves_of}
 use Rattle.ir_paths.specs.declared.point.Point.{Point}
 use Rattle.ir_paths.specs.declared.point.Window.{Window}
-use Rattle.flow_facts.specs.Slots.{AreRampSlots}
+use Rattle.frame_slots.specs.flow_facts.Slots.{AreRampSlots}
 use Rattle.flow_points.specs.Rows.{is_marked}
 use Rattle.frame_classes.proofs.Passing.{shape_of_parting}
 use Rattle.frame_classes.proofs.Sentences.{frame_complete, frame_sound}
@@ -24,8 +24,8 @@ use Rattle.frame_classes.specs.Words.{IsChunkOf, IsFrameWord, IsPlanOf, is_insid
 use Rattle.frame_classes.specs.declared.chunk.Chunk.{Chunk}
 use Rattle.frame_classes.specs.declared.class.SlotClass.{SlotClass}
 use Rattle.frame_classes.specs.declared.plan.Plan.{Plan}
-use Rattle.rule_slots.specs.Closed.{IsInOneOf, IsInSomeWindow}
-use Rattle.rule_windows.specs.Sets.{AreIn, AreThose}
+use Rattle.frame_slots.specs.rule_slots.Closed.{IsInOneOf, IsInSomeWindow}
+use Rattle.frame_slots.specs.rule_windows.Sets.{AreIn, AreThose}
 
 pub of_ok : {T E : Type 0} (r : Result T E) (P Q : T → Type 0) → ((x : T) → P x → Q x) → IfOk r P → IfOk r Q
 of_ok (Ok x) P Q h p = h x p

@@ -10,7 +10,7 @@ use Rattle.frame_classes.specs.Rows.{block_words, common, row_word, rows_word, w
 use Rattle.frame_classes.specs.Ways.{edges_word, is_either, own_if, ways_word}
 use Rattle.frame_classes.specs.Words.{spots_word}
 use Rattle.frame_classes.proofs.Zips.{common_complete, common_sound}
-use Rattle.rule_slots.specs.Early.{end_at}
+use Rattle.frame_slots.specs.rule_slots.Early.{end_at}
 use Rattle.frame_slots.proofs.Bits.{both_bits, common_bit, left_bit, no_bit, one_bit, right_bit}
 use Rattle.frame_slots.proofs.Spotting.{HasEdge}
 use Rattle.frame_slots.specs.Spots.{Spot, point_at}

@@ -22,7 +22,7 @@ use Rattle.frame_slots.specs.Spots.{IsBehind, Spot, point_at}
 use Rattle.frame_slots.specs.Spots.Spot.{On}
 use Rattle.frame_slots.specs.Words.{word_at_point}
 use Rattle.frame_slots.specs.declared.edge.EdgeWord.{EdgeWord}
-use Rattle.rule_window_values.specs.Kept.{own_blocks}
+use Rattle.frame_slots.specs.rule_window_values.Kept.{own_blocks}
 
 -- something with the question stands behind a suspend that has it
 pub record IsLate (f : Function) (touches : List (List ℕ)) (edges : List EdgeWord) (c : ℕ) (rows : List (List ℕ)) (avoided : List Point) : Type 0 where

@@ -26,13 +26,13 @@ use Rattle.frame_classes.specs.Words.{AreAliveRows, AreBehindRows, AreComing, Is
 use Rattle.frame_classes.specs.Words.IsAliveWord.{NoneEscapes, SomeEscape}
 use Rattle.frame_classes.specs.declared.chunk.Chunk.{Chunk}
 use Rattle.frame_classes.specs.declared.plan.Plan.{Plan}
-use Rattle.rule_slots.specs.Closed.{IsClosed}
+use Rattle.frame_slots.specs.rule_slots.Closed.{IsClosed}
 use Rattle.frame_slots.proofs.Bits.{both_bits, common_bit, left_bit, no_bit, one_bit, right_bit}
 use Rattle.frame_slots.specs.Spots.{IsUse, LeadsFrom, Spot, point_at}
 use Rattle.frame_slots.specs.Spots.Spot.{At, On}
 use Rattle.frame_slots.specs.Uses.{ends_of, starts_of}
 use Rattle.frame_slots.specs.Words.{word_at_point}
-use Rattle.rule_windows.specs.Sets.{IsAfterEnd}
+use Rattle.frame_slots.specs.rule_windows.Sets.{IsAfterEnd}
 
 -- ---- a function's rows
 

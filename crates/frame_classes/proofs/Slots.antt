@@ -22,7 +22,7 @@ use Rattle.frame_classes.specs.Classes.{Touches, parting}
 use Rattle.frame_classes.specs.Rows.{kept_rows, others, rows_word}
 use Rattle.frame_classes.specs.Words.{IsChunkOf, end_rows, parting_rows, touch_rows, unmarked_word}
 use Rattle.frame_classes.specs.declared.chunk.Chunk.{Chunk}
-use Rattle.rule_slots.specs.Early.{instr_count}
+use Rattle.frame_slots.specs.rule_slots.Early.{instr_count}
 use Rattle.frame_slots.proofs.Bits.{no_bit}
 use Rattle.frame_slots.proofs.Spotting.{HasEdge, edge_told, use_told}
 use Rattle.frame_slots.proofs.Telling.{escaped_told, marker_told}

@@ -4,7 +4,7 @@ use Rattle.ir_model.specs.declared.module.Function.{Function}
 use Rattle.ir_paths.specs.Paths.{Leads, has_point}
 use Rattle.ir_paths.specs.declared.point.Point.{Point}
 use Rattle.frame_slots.specs.Uses.{ends_of, starts_of}
-use Rattle.rule_windows.specs.Points.{begins}
+use Rattle.frame_slots.specs.rule_windows.Points.{begins}
 
 abbrev pub markers_of : Function → ℕ → List Point
 markers_of f slot = starts_of f slot ++ ends_of f slot

@@ -8,10 +8,10 @@ use Rattle.ir_paths.specs.Windows.{is_call_of, points_where}
 use Rattle.ir_paths.specs.declared.point.Point.{Point}
 use Rattle.frame_classes.specs.Alive.{MayBeAlive}
 use Rattle.frame_classes.specs.declared.class.SlotClass.{SlotClass}
-use Rattle.rule_slots.specs.Closed.{IsClosed}
+use Rattle.frame_slots.specs.rule_slots.Closed.{IsClosed}
 use Rattle.frame_slots.specs.Spots.{Spot, IsBehind, IsStart, IsUse, LeadsFrom, point_at}
 use Rattle.frame_slots.specs.Uses.{starts_of}
-use Rattle.rule_windows.specs.Sets.{IsAfterEnd}
+use Rattle.frame_slots.specs.rule_windows.Sets.{IsAfterEnd}
 
 abbrev pub suspends : Function → List Point
 suspends f = points_where (is_call_of Intrinsic.CoroSuspend) f

@@ -7,7 +7,7 @@ use Rattle.ir_model.specs.declared.module.Function.{Function}
 use Rattle.ir_paths.specs.Windows.{label_of_term}
 use Rattle.flow_reach.specs.declared.question.Passes.{Passes}
 use Rattle.frame_classes.specs.Rows.{passes_by, word_in}
-use Rattle.rule_slots.specs.Early.{end_at}
+use Rattle.frame_slots.specs.rule_slots.Early.{end_at}
 use Rattle.frame_slots.specs.Words.{word_at_point}
 use Rattle.frame_slots.specs.declared.edge.EdgeWord.{EdgeWord}
 

@@ -14,12 +14,12 @@ use Rattle.frame_classes.specs.Rows.{all_bits, block_words, call_rows, cleared, 
 use Rattle.frame_classes.specs.Ways.{coming, edges_word, leaving, ways_of, ways_word}
 use Rattle.frame_classes.specs.declared.chunk.Chunk.{Chunk}
 use Rattle.frame_classes.specs.declared.plan.Plan.{Plan}
-use Rattle.rule_slots.specs.Closed.{IsInSomeWindow}
+use Rattle.frame_slots.specs.rule_slots.Closed.{IsInSomeWindow}
 use Rattle.frame_slots.specs.Told.{AreAddressWords, AreSlotWords}
 use Rattle.frame_slots.specs.Markers.{mark_rows}
 use Rattle.frame_slots.specs.Words.{blocks_word, edge_words, marker_rows, name_word, phi_uses, use_rows}
 use Rattle.frame_slots.specs.declared.edge.EdgeWord.{EdgeWord}
-use Rattle.rule_windows.specs.Sets.{AreThose}
+use Rattle.frame_slots.specs.rule_windows.Sets.{AreThose}
 
 -- ---- what is found of a function once
 

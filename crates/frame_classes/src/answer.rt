@@ -10,7 +10,7 @@ use crate::class::SlotClass;
 use crate::frame::frame_word;
 use crate::plan::{Plan, plan_of};
 use crate::rows::word_in;
-use flow_facts::ramp_slots_of;
+use frame_slots::flow_facts_library::ramp_slots_of;
 use frame_slots::{chunk_of, slots_of};
 use ir_base::{Items, ValueId};
 use ir_model::Function;

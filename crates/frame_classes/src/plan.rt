@@ -12,22 +12,22 @@ ghost use Rattle.flow_reach.specs.Reached.{AreReachedAt, HaveShape};
 ghost use Rattle.frame_classes.specs.Rows.{all_bits, call_rows as rows_of_calls, kept_rows};
 ghost use Rattle.frame_classes.specs.Ways.{LeadToBlocks, coming, ways_of as ways_of_function};
 ghost use Rattle.frame_classes.specs.Words.{AreAfterRows, AreBehindRows, AreClosedRows, IsPlanOf, is_inside_any};
-ghost use Rattle.rule_slots.specs.Closed.{IsInSomeWindow};
-ghost use Rattle.rule_windows.specs.Sets.{AreThose};
+ghost use Rattle.frame_slots.specs.rule_slots.Closed.{IsInSomeWindow};
+ghost use Rattle.frame_slots.specs.rule_windows.Sets.{AreThose};
 
 use crate::rows::{Rows, block_words, call_rows, cleared, joined, passes_by, set_rows};
 use crate::ways::{edge_fronts, way_fronts, ways_of};
 use flow_blocks::{Graph, block_graph};
-use flow_facts::windows_of;
 use flow_points::PointGraph;
 use flow_reach::{Passes, reached_points};
+use frame_slots::flow_facts_library::windows_of;
+use frame_slots::rule_windows_library::{PointSet, instr_at, points_where};
 use frame_slots::{EdgeWord, Mark, PhiUse, mark_rows, phi_uses};
 use ir_base::{BlockId, Items, ValueId};
 use ir_calls::{CallOf, operand_of};
 use ir_model::{Function, Instr, Intrinsic, Operand};
 use ir_paths::{Point, Window};
 use rule_shape::end_block;
-use rule_windows::{PointSet, instr_at, points_where};
 use std::alloc::{AllocError, Global};
 
 /// What is found of a function once, for all its slots.

@@ -5,12 +5,12 @@ ghost use Rattle.flow_points.specs.Rows.{is_marked};
 ghost use Rattle.frame_classes.specs.Rows.{block_words as words_of_blocks, call_row as row_of_calls, call_rows as rows_of_calls, call_word as word_of_call, cleared as cleared_rows, common as common_rows, joined as joined_rows, kept_of, kept_rows, others as others_of, pass_by, passes_by as passes_of, row_at as row_of, row_word as word_of_row, rows_word as word_of_rows, set_row as row_of_set, set_rows as rows_of_set, touching, touching_rows, word_in as word_of, word_of_mark, zipped};
 
 use flow_reach::Pass;
+use frame_slots::rule_windows_library::PointSet;
 use ir_base::{BlockId, Items};
 use ir_calls::is_call_of;
 use ir_model::{Block, Function, Instr, Intrinsic};
 use ir_parts::next;
 use ir_paths::Point;
-use rule_windows::PointSet;
 use std::alloc::{AllocError, Global};
 
 /// Rows of words.

@@ -2,19 +2,19 @@
 
 ghost use Rattle.std.specs.Prelude.{◌≡◌, IfOk, slice_get};
 ghost use Rattle.ir_paths.specs.Windows.{label_in as label_in_cases, label_of_term as label_of};
-ghost use Rattle.run_step.specs.Tables.{HasPositions};
+ghost use Rattle.frame_slots.specs.run_step.Tables.{HasPositions};
 ghost use Rattle.frame_classes.specs.Ways.{edge_fronts as fronts_of_edges, edges_word as word_of_edges, fronts_from, is_either, own_if, way_of as way_of_block, ways_of as ways_of_blocks, ways_word as word_of_ways};
-ghost use Rattle.rule_slots.specs.Early.{end_at as end_of_block};
+ghost use Rattle.frame_slots.specs.rule_slots.Early.{end_at as end_of_block};
 ghost use Rattle.frame_slots.specs.Words.{word_at_point};
 
 use crate::rows::{Rows, row_at, word_in};
 use frame_slots::EdgeWord;
+use frame_slots::run_step_library::{position, positions_of};
 use ir_base::{BlockId, Items, ValueId};
 use ir_calls::is_number;
 use ir_model::{Block, Case, Function, Terminator};
 use ir_parts::next;
 use ir_paths::Point;
-use run_step::{position, positions_of};
 use std::alloc::{AllocError, Global};
 
 // ---- the ways

@@ -3,14 +3,14 @@ use Rattle.std.proofs.Common.{◌≡◌, ℕ, zero, suc, ◌+◌, ◌*◌, ◌/�
 use Rattle.std.specs.Prelude.{bit_and, bit_xor, option_map, slice_get, unwrap_or}
 use Rattle.std.proofs.lemmas.Bool.{cases_lt}
 use Rattle.flow_bits.specs.Bits.{HasBit}
-use Rattle.flow_blocks.specs.Words.{word_at}
+use Rattle.frame_classes.specs.flow_blocks.Words.{word_at}
 use Rattle.flow_solver.proofs.Lists.{listed_at}
 use Rattle.ir_model.specs.declared.module.Function.{Function}
 use Rattle.ir_paths.specs.Slots.{allocas_of}
 use Rattle.ir_paths.specs.declared.point.Point.{Point}
-use Rattle.flow_reach.proofs.Bits.{both_bits, bit_or_not, common_bit, flipped_off, flipped_on}
-use Rattle.flow_reach.specs.Reached.{word_at_point}
-use Rattle.flow_reach.specs.Rows.{all_bits}
+use Rattle.frame_classes.proofs.flow_reach.Bits.{both_bits, bit_or_not, common_bit, flipped_off, flipped_on}
+use Rattle.frame_classes.specs.flow_reach.Reached.{word_at_point}
+use Rattle.frame_classes.specs.flow_reach.Rows.{all_bits}
 use Rattle.frame_conflicts.proofs.Places.{map_some, some_map, word_of_some, word_some}
 use Rattle.frame_conflicts.specs.Conflicts.{IsUsedEarly}
 use Rattle.frame_conflicts.specs.Early.{AreEarly}

@@ -5,7 +5,7 @@ use Rattle.std.specs.Int.{bit_at}
 use Rattle.std.proofs.lemmas.Bool.{eqb-true, false≢true}
 use Rattle.std.proofs.lemmas.Option.{slice_get_within}
 use Rattle.flow_bits.specs.Bits.{HasBit}
-use Rattle.flow_blocks.specs.Words.{word_at}
+use Rattle.frame_classes.specs.flow_blocks.Words.{word_at}
 use Rattle.flow_solver.proofs.Lists.{listed_at, place_of, same_place}
 use Rattle.ir_model.specs.declared.instr.Instr.{Instr}
 use Rattle.ir_model.specs.declared.module.Function.{Function}
@@ -18,8 +18,8 @@ use Rattle.ir_paths.specs.Windows.{call_operand, instr_at, is_call_of}
 use Rattle.ir_paths.specs.declared.point.Point.{Point}
 use Rattle.flow_points.proofs.Neighbours.{IsBranch, IsInner, edge-cases}
 use Rattle.flow_points.proofs.Tests.{point-is}
-use Rattle.flow_reach.proofs.Ways.{branch_is}
-use Rattle.flow_reach.specs.Reached.{row_of}
+use Rattle.frame_classes.proofs.flow_reach.Ways.{branch_is}
+use Rattle.frame_classes.specs.flow_reach.Reached.{row_of}
 use Rattle.frame_conflicts.proofs.Frames.{place_in}
 use Rattle.frame_conflicts.proofs.Places.{in_chunk}
 use Rattle.frame_conflicts.specs.Conflicts.{AreAliveTogether, Conflict, ConflictAt, IsFrameSlotAt, IsUsedEarly}
@@ -32,8 +32,8 @@ use Rattle.frame_conflicts.specs.declared.facts.Chunk.{Chunk}
 use Rattle.frame_conflicts.specs.declared.facts.Known.{Known}
 use Rattle.frame_classes.specs.Alive.{MayBeAlive, markers_of}
 use Rattle.frame_classes.specs.Alive.MayBeAlive.{Unmarked as NoMarkers, Started as FromStart}
-use Rattle.frame_slots.proofs.Points.{where_sound}
-use Rattle.frame_slots.specs.Uses.{ends_of, is_marker_of, starts_of}
+use Rattle.frame_classes.proofs.frame_slots.Points.{where_sound}
+use Rattle.frame_classes.specs.frame_slots.Uses.{ends_of, is_marker_of, starts_of}
 
 -- ---- one point back
 

@@ -4,8 +4,8 @@ use Rattle.std.specs.Prelude.{bit_or, slice_get, if◌then◌else◌, ◌==◌}
 use Rattle.std.proofs.lemmas.Bool.{eqb-true, false≢true}
 use Rattle.std.proofs.lemmas.List.{length-map}
 use Rattle.flow_bits.specs.Bits.{HasBit}
-use Rattle.flow_blocks.proofs.Elements.{listed_append}
-use Rattle.flow_blocks.specs.Words.{word_at}
+use Rattle.frame_classes.proofs.flow_blocks.Elements.{listed_append}
+use Rattle.frame_classes.specs.flow_blocks.Words.{word_at}
 use Rattle.flow_solver.proofs.Lists.{listed_at, listed_front, place_of}
 use Rattle.flow_solver.specs.Paths.{IsListed}
 use Rattle.ir_model.specs.declared.instr.Instr.{Instr}
@@ -13,20 +13,20 @@ use Rattle.ir_model.specs.declared.module.Block.{Block}
 use Rattle.ir_model.specs.declared.module.Function.{Function}
 use Rattle.ir_paths.specs.declared.point.Point.{Point}
 use Rattle.flow_points.specs.Rows.{is_marked}
-use Rattle.flow_reach.proofs.Bits.{left_bit, no_bit, one_bit, right_bit}
-use Rattle.flow_reach.proofs.Ways.{listed_back}
-use Rattle.flow_reach.specs.Reached.{row_of}
+use Rattle.frame_classes.proofs.flow_reach.Bits.{left_bit, no_bit, one_bit, right_bit}
+use Rattle.frame_classes.proofs.flow_reach.Ways.{listed_back}
+use Rattle.frame_classes.specs.flow_reach.Reached.{row_of}
 use Rattle.frame_conflicts.specs.Conflicts.{IsUsedEarly}
 use Rattle.frame_conflicts.specs.Early.{AreEarly, early_edges, early_row, early_rows, word_if}
-use Rattle.rule_slots.specs.Early.{IsBeforeBegin, end_at}
-use Rattle.frame_slots.proofs.Spotting.{HasEdge, edge_told, use_told}
-use Rattle.frame_slots.specs.Spots.{IsUse, Spot, point_at}
-use Rattle.frame_slots.specs.Spots.Spot.{At, On}
-use Rattle.frame_slots.specs.Told.{AreAddressWords}
-use Rattle.frame_slots.specs.Words.{edge_words, phi_uses, use_row, use_rows, used, with_term}
-use Rattle.frame_slots.specs.declared.edge.EdgeWord.{EdgeWord}
-use Rattle.frame_slots.specs.declared.edge.PhiUse.{PhiUse}
-use Rattle.rule_windows.specs.Sets.{AreThose}
+use Rattle.frame_classes.specs.rule_slots.Early.{IsBeforeBegin, end_at}
+use Rattle.frame_classes.proofs.frame_slots.Spotting.{HasEdge, edge_told, use_told}
+use Rattle.frame_classes.specs.frame_slots.Spots.{IsUse, Spot, point_at}
+use Rattle.frame_classes.specs.frame_slots.Spots.Spot.{At, On}
+use Rattle.frame_classes.specs.frame_slots.Told.{AreAddressWords}
+use Rattle.frame_classes.specs.frame_slots.Words.{edge_words, phi_uses, use_row, use_rows, used, with_term}
+use Rattle.frame_classes.specs.frame_slots.declared.edge.EdgeWord.{EdgeWord}
+use Rattle.frame_classes.specs.frame_slots.declared.edge.PhiUse.{PhiUse}
+use Rattle.frame_classes.specs.rule_windows.Sets.{AreThose}
 
 -- ---- words at marked points
 

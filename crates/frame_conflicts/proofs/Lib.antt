@@ -1,3 +1,5 @@
+pub use Rattle.frame_classes.proofs as frame_classes
+pub use Rattle.frame_classes.proofs.frame_slots as frame_slots
 pub mod Order
 pub mod Places
 pub mod Rows

@@ -2,7 +2,7 @@
 use Rattle.std.proofs.Common.{◌≡◌, ◌≢◌, ℕ, zero, suc, ◌+◌, ◌-◌, ◌<◌, ◌≤◌, ◌⊎◌, Bool, true, false, ◌&&◌, List, [], ◌∷◌, ◌++◌, length, Some, None, Option, refl, sym, ap, ◌∙◌, subst, ⊎_elim, inl, inr, arith, append_assoc, length-append}
 use Rattle.std.specs.Prelude.{not, slice_get, if◌then◌else◌, ◌==◌}
 use Rattle.std.proofs.lemmas.Bool.{cases_eq, cases_lt, eq-eqb, eqb-true, false≢true}
-use Rattle.flow_blocks.proofs.Elements.{listed_append}
+use Rattle.frame_classes.proofs.flow_blocks.Elements.{listed_append}
 use Rattle.flow_solver.proofs.Lists.{listed_front, same_place}
 use Rattle.flow_solver.specs.Paths.{IsListed}
 use Rattle.ir_model.specs.declared.instr.Instr.{Instr}
@@ -17,11 +17,11 @@ use Rattle.flow_points.proofs.Neighbours.{next-inner}
 use Rattle.flow_points.proofs.Tests.{same_point-from}
 use Rattle.flow_points.specs.Reached.{IsReached}
 use Rattle.flow_points.specs.Rows.{is_marked}
-use Rattle.flow_reach.proofs.Ways.{listed_back}
-use Rattle.flow_reach.specs.Reached.{IsPointOf}
+use Rattle.frame_classes.proofs.flow_reach.Ways.{listed_back}
+use Rattle.frame_classes.specs.flow_reach.Reached.{IsPointOf}
 use Rattle.frame_conflicts.specs.Looked.{AreLooked, IsLookedBefore, IsOutside, block_looked, looked_blocks, looked_row, point_if}
-use Rattle.rule_windows.specs.Points.{ends}
-use Rattle.rule_windows.specs.Sets.{AreThose, IsAfterEnd}
+use Rattle.frame_classes.specs.rule_windows.Points.{ends}
+use Rattle.frame_classes.specs.rule_windows.Sets.{AreThose, IsAfterEnd}
 
 -- ---- one point
 

@@ -5,13 +5,13 @@ use Rattle.ir_model.specs.declared.instr.Instr.{Instr}
 use Rattle.ir_model.specs.declared.module.Block.{Block}
 use Rattle.ir_model.specs.declared.module.Function.{Function}
 use Rattle.ir_model.specs.declared.operand.Intrinsic.{Intrinsic}
-use Rattle.flow_reach.specs.declared.question.Pass.{Pass}
+use Rattle.frame_classes.specs.flow_reach.declared.question.Pass.{Pass}
 use Rattle.frame_conflicts.specs.Started.{marked_pass, marked_passes, marked_row, no_pass, pass_of, pass_row, pass_rows}
-use Rattle.frame_slots.proofs.Marking.{mark_tells}
-use Rattle.frame_slots.specs.Markers.{mark_of, mark_row, mark_rows, marker_word}
-use Rattle.frame_slots.specs.Words.{marked}
-use Rattle.frame_slots.specs.declared.markers.Mark.{Mark}
-use Rattle.frame_slots.specs.declared.markers.Marker.{Marker}
+use Rattle.frame_classes.proofs.frame_slots.Marking.{mark_tells}
+use Rattle.frame_classes.specs.frame_slots.Markers.{mark_of, mark_row, mark_rows, marker_word}
+use Rattle.frame_classes.specs.frame_slots.Words.{marked}
+use Rattle.frame_classes.specs.frame_slots.declared.markers.Mark.{Mark}
+use Rattle.frame_classes.specs.frame_slots.declared.markers.Marker.{Marker}
 
 abbrev both : ℕ → ℕ → Pass
 both a b = record { stops = a; begins = b }

@@ -6,10 +6,10 @@ use Rattle.std.proofs.lemmas.Bool.{cases_eq, cases_lt, eqb-true, false≢true}
 use Rattle.std.proofs.lemmas.List.{length-replicate, length-set}
 use Rattle.std.proofs.lemmas.Option.{slice_get_past}
 use Rattle.flow_bits.specs.Bits.{HasBit}
-use Rattle.flow_blocks.specs.Words.{word_at}
+use Rattle.frame_classes.specs.flow_blocks.Words.{word_at}
 use Rattle.flow_solver.proofs.Lists.{set_here, set_other}
 use Rattle.ir_paths.proofs.Search.{both, either}
-use Rattle.flow_reach.proofs.Bits.{left_bit, no_bit, one_bit, right_bit}
+use Rattle.frame_classes.proofs.flow_reach.Bits.{left_bit, no_bit, one_bit, right_bit}
 use Rattle.frame_conflicts.proofs.Places.{bit_within}
 use Rattle.frame_conflicts.specs.Meeting.{AreCovered, AreMeetings, AreMeetingsBefore, HaveMet, Meet, MeetBefore, are_of}
 

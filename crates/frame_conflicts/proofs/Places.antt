@@ -5,7 +5,7 @@ use Rattle.std.specs.Int.{bit_at}
 use Rattle.std.proofs.lemmas.Bool.{cases_lt, eqb-true, false≢true}
 use Rattle.std.proofs.lemmas.Option.{slice_get_within}
 use Rattle.flow_bits.specs.Bits.{HasBit}
-use Rattle.flow_blocks.specs.Words.{word_at}
+use Rattle.frame_classes.specs.flow_blocks.Words.{word_at}
 use Rattle.flow_solver.specs.Paths.{IsListed}
 use Rattle.ir_model.specs.declared.instr.Instr.{Instr}
 use Rattle.ir_model.specs.declared.module.Block.{Block}
@@ -14,8 +14,8 @@ use Rattle.ir_paths.proofs.Search.{either, or_left, or_right, same_point-itself,
 use Rattle.ir_paths.specs.Paths.{has_point, same_point}
 use Rattle.ir_paths.specs.Windows.{instr_at, instr_in}
 use Rattle.ir_paths.specs.declared.point.Point.{Point}
-use Rattle.flow_reach.proofs.Bits.{no_bit}
-use Rattle.flow_reach.specs.Reached.{IsPointOf}
+use Rattle.frame_classes.proofs.flow_reach.Bits.{no_bit}
+use Rattle.frame_classes.specs.flow_reach.Reached.{IsPointOf}
 
 pub no_some : {X : Type 0} (x : X) → None ≡ Some x → ⊥
 no_some x e = absurd (cc)

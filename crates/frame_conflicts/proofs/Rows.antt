@@ -9,11 +9,11 @@ use Rattle.ir_model.specs.declared.module.Block.{Block}
 use Rattle.ir_model.specs.declared.module.Function.{Function}
 use Rattle.ir_model.specs.declared.operand.Intrinsic.{Intrinsic}
 use Rattle.ir_paths.specs.declared.point.Point.{Point}
-use Rattle.flow_reach.proofs.Bits.{left_bit, no_bit, one_bit, right_bit}
-use Rattle.flow_reach.specs.Reached.{HaveShape, begins_at, row_of, stops_at, word_at_point}
-use Rattle.flow_reach.specs.declared.question.Pass.{Pass}
+use Rattle.frame_classes.proofs.flow_reach.Bits.{left_bit, no_bit, one_bit, right_bit}
+use Rattle.frame_classes.specs.flow_reach.Reached.{HaveShape, begins_at, row_of, stops_at, word_at_point}
+use Rattle.frame_classes.specs.flow_reach.declared.question.Pass.{Pass}
 use Rattle.frame_conflicts.specs.Started.{no_pass, pass_of, pass_row, pass_rows, row_word, rows_word}
-use Rattle.frame_slots.specs.Words.{marked, marker_row, marker_rows}
+use Rattle.frame_classes.specs.frame_slots.Words.{marked, marker_row, marker_rows}
 
 -- ---- the bits of all passes
 

@@ -5,8 +5,8 @@ use Rattle.std.proofs.lemmas.Bool.{eqb-true}
 use Rattle.std.proofs.lemmas.List.{length-map}
 use Rattle.std.proofs.lemmas.Option.{slice_get-get_or}
 use Rattle.flow_bits.specs.Bits.{HasBit}
-use Rattle.flow_blocks.specs.Words.{word_at}
-use Rattle.flow_reach.proofs.Bits.{no_bit}
+use Rattle.frame_classes.specs.flow_blocks.Words.{word_at}
+use Rattle.frame_classes.proofs.flow_reach.Bits.{no_bit}
 use Rattle.frame_conflicts.proofs.Meetings.{are_meetings}
 use Rattle.frame_conflicts.proofs.Places.{map_some, some_map, word_of_some, word_some}
 use Rattle.frame_conflicts.specs.Meeting.{AreMeetings, AreMeetingsBefore, Meet, spot_if, spots_from}

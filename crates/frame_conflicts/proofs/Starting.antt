@@ -10,20 +10,20 @@ use Rattle.ir_model.specs.declared.operand.Intrinsic.{Intrinsic}
 use Rattle.ir_paths.proofs.Search.{has_append, has_left, has_right}
 use Rattle.ir_paths.specs.Paths.{has_point}
 use Rattle.ir_paths.specs.declared.point.Point.{Point}
-use Rattle.flow_reach.proofs.Avoiding.{leads_reached, reached_from}
-use Rattle.flow_reach.proofs.Bits.{no_bit}
-use Rattle.flow_reach.specs.Reached.{AreAvoided, AreReachedAt, HaveShape, IsFrom, IsReached, begins_at, stops_at, word_at_point}
-use Rattle.flow_reach.specs.Reached.IsFrom.{FromBegin, FromFront}
-use Rattle.flow_reach.specs.declared.question.Pass.{Pass}
-use Rattle.flow_reach.specs.declared.question.Passes.{Passes}
+use Rattle.frame_classes.proofs.flow_reach.Avoiding.{leads_reached, reached_from}
+use Rattle.frame_classes.proofs.flow_reach.Bits.{no_bit}
+use Rattle.frame_classes.specs.flow_reach.Reached.{AreAvoided, AreReachedAt, HaveShape, IsFrom, IsReached, begins_at, stops_at, word_at_point}
+use Rattle.frame_classes.specs.flow_reach.Reached.IsFrom.{FromBegin, FromFront}
+use Rattle.frame_classes.specs.flow_reach.declared.question.Pass.{Pass}
+use Rattle.frame_classes.specs.flow_reach.declared.question.Passes.{Passes}
 use Rattle.frame_conflicts.proofs.Places.{none_has}
 use Rattle.frame_conflicts.proofs.Rows.{HasAt, begins_are, in_rows, of_rows, passes_long, stops_are}
 use Rattle.frame_conflicts.specs.Started.{AreStarted, HaveMarkers, IsStarted, pass_rows, rows_word}
 use Rattle.frame_classes.specs.Alive.{markers_of}
-use Rattle.frame_slots.proofs.Telling.{marker_told}
-use Rattle.frame_slots.specs.Told.{AreSlotWords}
-use Rattle.frame_slots.specs.Uses.{ends_of, starts_of}
-use Rattle.frame_slots.specs.Words.{marker_rows}
+use Rattle.frame_classes.proofs.frame_slots.Telling.{marker_told}
+use Rattle.frame_classes.specs.frame_slots.Told.{AreSlotWords}
+use Rattle.frame_classes.specs.frame_slots.Uses.{ends_of, starts_of}
+use Rattle.frame_classes.specs.frame_slots.Words.{marker_rows}
 
 module _ (f : Function) (slots words : List ℕ) (known : AreSlotWords slots words) where
   abbrev starts : List (List ℕ)

@@ -3,7 +3,7 @@ use Rattle.std.proofs.Common.{◌≡◌, ℕ, ◌+◌, ◌*◌, ◌/◌, ◌%◌
 use Rattle.std.specs.Prelude.{bit_or, bit_xor, slice_get, if◌then◌else◌}
 use Rattle.std.proofs.lemmas.Bool.{false≢true}
 use Rattle.flow_bits.specs.Bits.{HasBit}
-use Rattle.flow_blocks.specs.Words.{word_at}
+use Rattle.frame_classes.specs.flow_blocks.Words.{word_at}
 use Rattle.flow_solver.proofs.Lists.{listed_at, same_place}
 use Rattle.ir_model.specs.declared.module.Function.{Function}
 use Rattle.ir_model.specs.declared.operand.Intrinsic.{Intrinsic}
@@ -13,9 +13,9 @@ use Rattle.ir_paths.specs.Windows.{is_call_of}
 use Rattle.ir_paths.specs.declared.point.Point.{Point}
 use Rattle.flow_points.specs.Reached.{IsReached}
 use Rattle.flow_points.specs.Rows.{is_marked}
-use Rattle.flow_reach.proofs.Bits.{flipped_off, flipped_on, left_bit, one_bit, right_bit}
-use Rattle.flow_reach.specs.Reached.{IsPointOf, word_at_point}
-use Rattle.flow_reach.specs.Rows.{all_bits}
+use Rattle.frame_classes.proofs.flow_reach.Bits.{flipped_off, flipped_on, left_bit, one_bit, right_bit}
+use Rattle.frame_classes.specs.flow_reach.Reached.{IsPointOf, word_at_point}
+use Rattle.frame_classes.specs.flow_reach.Rows.{all_bits}
 use Rattle.frame_conflicts.proofs.Places.{in_chunk, instr_point, listed_has, map_some, same_chunk, some_map, word_of_some, word_some}
 use Rattle.frame_conflicts.specs.Conflicts.{AliveAt, IsFrameSlotAt}
 use Rattle.frame_conflicts.specs.Known.{IsFrameAt, chunk_slots}
@@ -24,9 +24,9 @@ use Rattle.frame_conflicts.specs.Suspended.{IsAliveAtSuspend, TellSlot, TellSusp
 use Rattle.frame_classes.specs.Alive.{MayBeAlive, markers_of}
 use Rattle.frame_classes.specs.Alive.MayBeAlive.{Unmarked, Started}
 use Rattle.frame_classes.specs.Classes.{suspends}
-use Rattle.frame_slots.proofs.Points.{where_sound}
-use Rattle.rule_windows.specs.Points.{begins}
-use Rattle.rule_windows.specs.Sets.{AreThose}
+use Rattle.frame_classes.proofs.frame_slots.Points.{where_sound}
+use Rattle.frame_classes.specs.rule_windows.Points.{begins}
+use Rattle.frame_classes.specs.rule_windows.Sets.{AreThose}
 
 module _ (f : Function) (slots : List ℕ) (rows : List (List ℕ)) (marked : ℕ) (behind : List (List Bool)) (started : AreStarted f slots rows) (markers : HaveMarkers f slots marked) (set : AreThose (IsReached f (begins f) []) behind) where
   module _ (p : Point) (at : IsPointOf f p) (c slot : ℕ) (lt : c < 64) (is : slice_get slots c ≡ Some slot) where

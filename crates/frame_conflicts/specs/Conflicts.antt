@@ -4,14 +4,14 @@ use Rattle.ir_model.specs.declared.module.Function.{Function}
 use Rattle.ir_paths.specs.Slots.{allocas_of}
 use Rattle.ir_paths.specs.Windows.{end_block}
 use Rattle.ir_paths.specs.declared.point.Point.{Point}
-use Rattle.flow_reach.specs.Reached.{IsPointOf}
+use Rattle.frame_classes.specs.flow_reach.Reached.{IsPointOf}
 use Rattle.frame_conflicts.specs.Pairs.{AreThePairs}
 use Rattle.frame_classes.specs.Alive.{MayBeAlive, markers_of}
 use Rattle.frame_classes.specs.Classes.{IsOf, suspends}
 use Rattle.frame_classes.specs.declared.class.SlotClass.{SlotClass}
-use Rattle.rule_slots.specs.Early.{IsBeforeBegin}
-use Rattle.frame_slots.specs.Spots.{Spot, IsUse, point_at}
-use Rattle.rule_windows.specs.Sets.{IsAfterEnd}
+use Rattle.frame_classes.specs.rule_slots.Early.{IsBeforeBegin}
+use Rattle.frame_classes.specs.frame_slots.Spots.{Spot, IsUse, point_at}
+use Rattle.frame_classes.specs.rule_windows.Sets.{IsAfterEnd}
 
 -- a use of the slot stands before begin
 pub record IsUsedEarly (f : Function) (slot : ℕ) : Type 0 where

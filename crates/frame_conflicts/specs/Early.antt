@@ -5,8 +5,8 @@ use Rattle.ir_model.specs.declared.module.Function.{Function}
 use Rattle.ir_paths.specs.declared.point.Point.{Point}
 use Rattle.flow_points.specs.Rows.{is_marked}
 use Rattle.frame_conflicts.specs.Conflicts.{IsUsedEarly}
-use Rattle.rule_slots.specs.Early.{end_at}
-use Rattle.frame_slots.specs.declared.edge.EdgeWord.{EdgeWord}
+use Rattle.frame_classes.specs.rule_slots.Early.{end_at}
+use Rattle.frame_classes.specs.frame_slots.declared.edge.EdgeWord.{EdgeWord}
 
 -- the word has the slots of a chunk that are used before begin
 pub record AreEarly (f : Function) (slots : List ℕ) (word : ℕ) : Type 0 where

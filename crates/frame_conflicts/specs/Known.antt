@@ -2,11 +2,11 @@
 use Rattle.std.specs.Prelude.{◌≡◌, ◌↔◌, ◌⊎◌, ◌<◌, ◌≤◌, ◌*◌, ◌/◌, ◌%◌, ◌==◌, ◌||◌, ℕ, Bool, true, false, not, Option, None, List, [], bit_and, drop, length, slice_get, take, unwrap_or, option_map, Some}
 use Rattle.std.specs.Int.{bit_at}
 use Rattle.flow_bits.specs.Bits.{HasBit}
-use Rattle.flow_blocks.specs.Words.{word_at}
+use Rattle.frame_classes.specs.flow_blocks.Words.{word_at}
 use Rattle.ir_model.specs.declared.module.Function.{Function}
 use Rattle.ir_paths.specs.Slots.{allocas_of}
 use Rattle.ir_paths.specs.declared.point.Point.{Point}
-use Rattle.flow_reach.specs.Reached.{row_of, word_at_point}
+use Rattle.frame_classes.specs.flow_reach.Reached.{row_of, word_at_point}
 use Rattle.frame_conflicts.specs.Conflicts.{IsFrameSlotAt, IsUsedEarly}
 use Rattle.frame_conflicts.specs.Looked.{AreLooked}
 use Rattle.frame_conflicts.specs.Meeting.{AreMeetings, spots_from}

@@ -8,8 +8,8 @@ use Rattle.ir_model.specs.declared.operand.Intrinsic.{Intrinsic}
 use Rattle.ir_paths.specs.Windows.{end_block, instr_at, is_call_of}
 use Rattle.ir_paths.specs.declared.point.Point.{Point}
 use Rattle.flow_points.specs.Rows.{is_marked}
-use Rattle.flow_reach.specs.Reached.{IsPointOf}
-use Rattle.rule_windows.specs.Sets.{IsAfterEnd}
+use Rattle.frame_classes.specs.flow_reach.Reached.{IsPointOf}
+use Rattle.frame_classes.specs.rule_windows.Sets.{IsAfterEnd}
 
 -- a point of the function outside the end block and all that it reaches
 pub record IsOutside (f : Function) (p : Point) : Type 0 where

@@ -1,7 +1,7 @@
 -- Who is alive with whom at the points looked at, by words.
 use Rattle.std.specs.Prelude.{◌≡◌, ◌↔◌, ◌⊎◌, ◌<◌, ◌+◌, ◌++◌, ◌∷◌, ℕ, Bool, List, [], length, if◌then◌else◌, ◌==◌, ◌&&◌, ◌||◌}
 use Rattle.flow_bits.specs.Bits.{HasBit}
-use Rattle.flow_blocks.specs.Words.{word_at}
+use Rattle.frame_classes.specs.flow_blocks.Words.{word_at}
 
 -- the words at one position have the two bits
 pub record Meet (one other : List ℕ) (c d : ℕ) : Type 0 where

@@ -7,14 +7,14 @@ use Rattle.ir_model.specs.declared.module.Function.{Function}
 use Rattle.ir_model.specs.declared.operand.Intrinsic.{Intrinsic}
 use Rattle.ir_paths.specs.Paths.{Leads, has_point}
 use Rattle.ir_paths.specs.declared.point.Point.{Point}
-use Rattle.flow_reach.specs.Reached.{IsPointOf, word_at_point}
-use Rattle.flow_reach.specs.declared.question.Pass.{Pass}
+use Rattle.frame_classes.specs.flow_reach.Reached.{IsPointOf, word_at_point}
+use Rattle.frame_classes.specs.flow_reach.declared.question.Pass.{Pass}
 use Rattle.frame_classes.specs.Alive.{markers_of}
-use Rattle.frame_slots.specs.Uses.{ends_of, starts_of}
-use Rattle.frame_slots.specs.Markers.{marker_word}
-use Rattle.frame_slots.specs.Words.{marked}
-use Rattle.frame_slots.specs.declared.markers.Mark.{Mark}
-use Rattle.frame_slots.specs.declared.markers.Marker.{Marker}
+use Rattle.frame_classes.specs.frame_slots.Uses.{ends_of, starts_of}
+use Rattle.frame_classes.specs.frame_slots.Markers.{marker_word}
+use Rattle.frame_classes.specs.frame_slots.Words.{marked}
+use Rattle.frame_classes.specs.frame_slots.declared.markers.Mark.{Mark}
+use Rattle.frame_classes.specs.frame_slots.declared.markers.Marker.{Marker}
 
 -- a path leads to the point from a start of the slot without an end of it between
 pub record IsStarted (f : Function) (slot : ℕ) (p : Point) : Type 0 where

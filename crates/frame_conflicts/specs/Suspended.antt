@@ -1,12 +1,12 @@
 -- Which slots may be alive at the suspends, by words.
 use Rattle.std.specs.Prelude.{◌≡◌, ◌↔◌, ◌<◌, ℕ, Bool, List, bit_or, bit_xor, slice_get, Some, if◌then◌else◌}
 use Rattle.flow_bits.specs.Bits.{HasBit}
-use Rattle.flow_blocks.specs.Words.{word_at}
+use Rattle.frame_classes.specs.flow_blocks.Words.{word_at}
 use Rattle.ir_model.specs.declared.module.Function.{Function}
 use Rattle.ir_paths.specs.declared.point.Point.{Point}
 use Rattle.flow_points.specs.Rows.{is_marked}
-use Rattle.flow_reach.specs.Reached.{word_at_point}
-use Rattle.flow_reach.specs.Rows.{all_bits}
+use Rattle.frame_classes.specs.flow_reach.Reached.{word_at_point}
+use Rattle.frame_classes.specs.flow_reach.Rows.{all_bits}
 use Rattle.frame_conflicts.specs.Conflicts.{AliveAt}
 use Rattle.frame_classes.specs.Alive.{MayBeAlive}
 use Rattle.frame_classes.specs.Classes.{suspends}

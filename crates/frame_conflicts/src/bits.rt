@@ -2,8 +2,8 @@
 
 ghost use Rattle.std.specs.Prelude.{◌≡◌, ◌<◌, ◌≤◌, ◌*◌, ◌+◌, ◌==◌, ℕ};
 ghost use Rattle.std.specs.Int.{bit_at};
-ghost use Rattle.flow_blocks.specs.Words.{word_at as word_of_node};
-ghost use Rattle.flow_reach.specs.Reached.{word_at_point as word_of_point};
+ghost use Rattle.frame_classes.specs.flow_blocks.Words.{word_at as word_of_node};
+ghost use Rattle.frame_classes.specs.flow_reach.Reached.{word_at_point as word_of_point};
 
 use ir_base::Items;
 use ir_paths::Point;

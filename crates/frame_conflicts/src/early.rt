@@ -3,19 +3,21 @@
 ghost use Rattle.std.specs.Prelude.{◌≡◌, ◌≤◌, IfOk, OnOk, length, map};
 ghost use Rattle.flow_points.specs.Reached.{IsGraphOf};
 ghost use Rattle.frame_conflicts.specs.Early.{AreEarly, early_edges as early_on_edges, early_row as early_in_row, early_rows as early_in_rows, word_if as word_where};
-ghost use Rattle.rule_slots.specs.Early.{IsBeforeBegin, end_at as end_of_block};
+ghost use Rattle.frame_classes.specs.rule_slots.Early.{IsBeforeBegin, end_at as end_of_block};
 ghost use Rattle.flow_points.specs.Rows.{is_marked};
-ghost use Rattle.frame_slots.specs.Words.{phi_uses as uses_of_phis, use_row as row_of_uses, used as used_by};
-ghost use Rattle.rule_windows.specs.Sets.{AreThose};
+ghost use Rattle.frame_classes.specs.frame_slots.Words.{phi_uses as uses_of_phis, use_row as row_of_uses, used as used_by};
+ghost use Rattle.frame_classes.specs.rule_windows.Sets.{AreThose};
 
 use flow_points::PointGraph;
-use frame_slots::{EdgeWord, PhiUse, address_words, edge_words, used, with_term};
+use frame_classes::frame_slots_library::{
+    EdgeWord, PhiUse, address_words, edge_words, used, with_term,
+};
+use frame_classes::rule_windows_library::{PointSet, points_where, without_begin};
 use ir_base::{BlockId, Items, ValueId};
 use ir_calls::CallOf;
 use ir_model::{Block, Function, Instr, Intrinsic};
 use ir_parts::next;
 use ir_paths::Point;
-use rule_windows::{PointSet, points_where, without_begin};
 use std::alloc::{AllocError, Global};
 
 /// The points to which a path from the entry leads without passing begin, and the entry.

@@ -1,30 +1,30 @@
 //! What is found once of the slots of a function.
 
 ghost use Rattle.std.specs.Prelude.{◌≡◌, ◌<◌, ◌≤◌, ◌/◌, ◌↔◌, ℕ, IfOk, IsTrue, length, map, slice_get};
-ghost use Rattle.flow_blocks.specs.Edges.{graph_of};
+ghost use Rattle.frame_classes.specs.flow_blocks.Edges.{graph_of};
 ghost use Rattle.ir_paths.specs.Slots.{allocas_of as slots_in};
 ghost use Rattle.frame_conflicts.specs.Known.{IsFrameAt, IsKnown, TellsChunk, AreChunks, is_frame_class as is_frame_by, seen_word as word_seen};
 ghost use Rattle.frame_conflicts.specs.Looked.{AreLooked};
 ghost use Rattle.frame_classes.specs.Classes.{AreClasses};
-ghost use Rattle.rule_slots.specs.Early.{IsBeforeBegin};
-ghost use Rattle.frame_slots.specs.Markers.{mark_rows as rows_of_marks};
-ghost use Rattle.frame_slots.specs.Words.{phi_uses as uses_of_phis};
-ghost use Rattle.rule_windows.specs.Sets.{AreThose};
+ghost use Rattle.frame_classes.specs.rule_slots.Early.{IsBeforeBegin};
+ghost use Rattle.frame_classes.specs.frame_slots.Markers.{mark_rows as rows_of_marks};
+ghost use Rattle.frame_classes.specs.frame_slots.Words.{phi_uses as uses_of_phis};
+ghost use Rattle.frame_classes.specs.rule_windows.Sets.{AreThose};
 
 use crate::bits::{chunks_of, word_at_point};
 use crate::early::{before_begin, early_word};
 use crate::looked::looked_points;
 use crate::spots::spots_of;
 use crate::started::started_slots;
-use flow_blocks::block_graph;
 use flow_points::PointGraph;
 use flow_solver::Graph;
 use frame_classes::SlotClass;
-use frame_slots::{Mark, PhiUse, chunk_of, mark_rows, phi_uses, slots_of};
+use frame_classes::flow_blocks_library::block_graph;
+use frame_classes::frame_slots_library::{Mark, PhiUse, chunk_of, mark_rows, phi_uses, slots_of};
+use frame_classes::rule_windows_library::PointSet;
 use ir_base::{Items, ValueId};
 use ir_model::Function;
 use ir_paths::Point;
-use rule_windows::PointSet;
 use std::alloc::{AllocError, Global};
 
 /// Of up to 64 slots those that have markers and aren't used before begin, and for each point looked at those of them that may

@@ -21,5 +21,7 @@ mod started;
 mod suspended;
 
 pub use answer::{alive_at, alive_by, conflicts, conflicts_by};
+pub use frame_classes as frame_classes_library;
+pub use frame_classes::rule_windows_library;
 pub use law::parts_stand_for_pairs;
 pub use parts::{SlotParts, parts_by};

@@ -5,13 +5,13 @@ ghost use Rattle.flow_points.specs.Reached.{IsGraphOf};
 ghost use Rattle.frame_conflicts.specs.Looked.{AreLooked, block_looked, looked_blocks, looked_row, point_if};
 
 use flow_points::PointGraph;
+use frame_classes::rule_shape_library::end_block;
+use frame_classes::rule_windows_library::{PointSet, points_where, reached_set};
 use ir_base::{BlockId, Items};
 use ir_calls::{CallOf, is_call_of};
 use ir_model::{Block, Function, Instr, Intrinsic};
 use ir_parts::next;
 use ir_paths::Point;
-use rule_shape::end_block;
-use rule_windows::{PointSet, points_where, reached_set};
 use std::alloc::{AllocError, Global};
 
 fn push_if(all: &mut Items<Point>, is_looked: bool, point: Point) -> Result<(), AllocError>

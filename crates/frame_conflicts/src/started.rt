@@ -1,13 +1,13 @@
 //! Where up to 64 slots may be alive from their starts on.
 
 ghost use Rattle.std.specs.Prelude.{◌≡◌, ◌≤◌, IfOk, length};
-ghost use Rattle.flow_blocks.specs.Edges.{graph_of};
-ghost use Rattle.frame_slots.specs.Markers.{mark_rows as rows_of_marks};
+ghost use Rattle.frame_classes.specs.flow_blocks.Edges.{graph_of};
+ghost use Rattle.frame_classes.specs.frame_slots.Markers.{mark_rows as rows_of_marks};
 ghost use Rattle.frame_conflicts.specs.Started.{AreStarted, HaveMarkers, marked_pass as pass_of_mark, marked_passes as passes_of_marks, marked_row as row_of_passes, pass_rows as rows_of_passes, row_word as word_of_row, rows_word as word_of_rows};
 
-use flow_reach::{Pass, Passes, reached_points};
 use flow_solver::Graph;
-use frame_slots::{Mark, Marker, marker_word, slot_words};
+use frame_classes::flow_reach_library::{Pass, Passes, reached_points};
+use frame_classes::frame_slots_library::{Mark, Marker, marker_word, slot_words};
 use ir_base::{Items, ValueId};
 use ir_model::Function;
 use std::alloc::{AllocError, Global};

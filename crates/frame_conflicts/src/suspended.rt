@@ -1,7 +1,7 @@
 //! Which slots may be alive at the suspends.
 
 ghost use Rattle.std.specs.Prelude.{◌≡◌, ◌<◌, ◌≤◌, ◌+◌, ◌*◌, ◌%◌, [], IfOk, OnOk, length, map, min};
-ghost use Rattle.flow_blocks.specs.Edges.{graph_of};
+ghost use Rattle.frame_classes.specs.flow_blocks.Edges.{graph_of};
 ghost use Rattle.ir_paths.specs.Slots.{allocas_of};
 ghost use Rattle.flow_points.specs.Reached.{IsReached};
 ghost use Rattle.frame_conflicts.specs.Conflicts.{AliveAt};
@@ -9,24 +9,24 @@ ghost use Rattle.frame_conflicts.specs.Known.{chunk_slots};
 ghost use Rattle.frame_conflicts.specs.Pairs.{AreUpTo};
 ghost use Rattle.frame_conflicts.specs.Suspended.{TellSlot, TellSuspends, alive_word as word_alive};
 ghost use Rattle.frame_classes.specs.Classes.{AreClasses, suspends as suspends_of};
-ghost use Rattle.frame_slots.specs.Markers.{mark_rows as rows_of_marks};
-ghost use Rattle.rule_windows.specs.Points.{begins};
-ghost use Rattle.rule_windows.specs.Sets.{AreThose};
+ghost use Rattle.frame_classes.specs.frame_slots.Markers.{mark_rows as rows_of_marks};
+ghost use Rattle.frame_classes.specs.rule_windows.Points.{begins};
+ghost use Rattle.frame_classes.specs.rule_windows.Sets.{AreThose};
 
 use crate::bits::{chunk_end, has_bit, word_at, word_at_point};
 use crate::facts::is_frame;
 use crate::pairs::push_if;
 use crate::started::{Started, started_slots};
-use flow_blocks::block_graph;
 use flow_points::PointGraph;
 use flow_solver::Graph;
 use frame_classes::SlotClass;
-use frame_slots::{Mark, chunk_of, mark_rows};
+use frame_classes::flow_blocks_library::block_graph;
+use frame_classes::frame_slots_library::{Mark, chunk_of, mark_rows};
+use frame_classes::rule_windows_library::{PointSet, points_where, reached_set};
 use ir_base::{Items, ValueId};
 use ir_calls::CallOf;
 use ir_model::{Function, Intrinsic};
 use ir_paths::Point;
-use rule_windows::{PointSet, points_where, reached_set};
 use std::alloc::{AllocError, Global};
 
 /// The slots that may be alive at a point: from a start of theirs on, or without markers from begin on.

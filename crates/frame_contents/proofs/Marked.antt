@@ -10,7 +10,7 @@ use Rattle.ir_model.specs.declared.module.Module.{Module}
 use Rattle.ir_model.specs.declared.module.Block.{Block}
 use Rattle.ir_model.specs.declared.module.Param.{Param}
 use Rattle.ir_paths.specs.Slots.{allocas_of, has_name, promise_of}
-use Rattle.frame_classes.specs.declared.class.SlotClass.{SlotClass}
+use Rattle.frame_conflicts.specs.frame_classes.declared.class.SlotClass.{SlotClass}
 
 or_false : (a : Bool) → (a || false) ≡ a
 or_false true = refl

@@ -14,8 +14,8 @@ use Rattle.frame_layout.specs.declared.laying.LayoutError.{LayoutError}
 use Rattle.ir_model.specs.declared.module.Function.{Function}
 use Rattle.ir_model.specs.declared.module.Module.{Module}
 use Rattle.frame_conflicts.specs.Conflicts.{AreAliveAt, AreConflicts}
-use Rattle.frame_classes.specs.Classes.{AreClasses}
-use Rattle.frame_classes.specs.declared.class.SlotClass.{SlotClass}
+use Rattle.frame_conflicts.specs.frame_classes.Classes.{AreClasses}
+use Rattle.frame_conflicts.specs.frame_classes.declared.class.SlotClass.{SlotClass}
 use Rattle.frame_crossing.specs.Crossing.{AreCrossing}
 
 -- ---- of one coroutine

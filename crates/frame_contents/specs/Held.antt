@@ -16,7 +16,7 @@ use Rattle.ir_model.specs.declared.operand.Intrinsic.{Intrinsic}
 use Rattle.ir_paths.specs.Slots.{allocas_of, has_name, promise_of}
 use Rattle.ir_paths.specs.Windows.{is_call_of, points_where}
 use Rattle.frame_contents.specs.declared.held.Holding.{Holding}
-use Rattle.frame_classes.specs.declared.class.SlotClass.{SlotClass}
+use Rattle.frame_conflicts.specs.frame_classes.declared.class.SlotClass.{SlotClass}
 use Rattle.ir_sizes.specs.Cut.{capped}
 
 -- ---- what is kept

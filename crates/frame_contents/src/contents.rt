@@ -5,12 +5,12 @@ ghost use Rattle.frame_contents.specs.Frames.{AreContents};
 
 use crate::held::{Holding, held_of};
 use crate::positions::positions_of;
-use frame_classes::{SlotClass, classes};
+use frame_conflicts::frame_classes_library::{SlotClass, classes};
 use frame_crossing::crossing;
+use frame_crossing::rule_shape_library::allocas_of;
 use ir_base::{Items, SuspendId, ValueId};
 use ir_model::Function;
 use ir_sizes::Sizes;
-use rule_shape::allocas_of;
 use std::alloc::{AllocError, Global};
 
 /// What the frame of a coroutine holds: the values that cross suspends, with these; the class of each alloca, in order of the

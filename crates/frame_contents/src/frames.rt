@@ -3,19 +3,19 @@
 ghost use Rattle.std.specs.Prelude.{◌≡◌, IfOk};
 ghost use Rattle.frame_contents.specs.Frames.{ArePositions, IfKnown, IsFrameOf, IsLaid, IsSharedBy};
 ghost use Rattle.ir_paths.specs.Slots.{allocas_of as allocas_of_function};
-ghost use Rattle.frame_classes.specs.Classes.{AreClasses};
+ghost use Rattle.frame_conflicts.specs.frame_classes.Classes.{AreClasses};
 
 use crate::fields::fields_of;
 use crate::held::{Holding, held_of};
 use crate::positions::{at_fields, both_at_fields, field_positions, positions_of, slot_positions};
-use frame_classes::{SlotClass, classes};
+use frame_conflicts::frame_classes_library::{SlotClass, classes};
 use frame_conflicts::{alive_by, parts_by};
 use frame_crossing::crossing;
+use frame_crossing::rule_shape_library::allocas_of;
 use frame_layout::{Field, Layout, LayoutError, lay_out_by, lay_out_plain};
 use ir_base::{FuncId, Items, SuspendId, ValueId};
 use ir_model::Function;
 use ir_sizes::Sizes;
-use rule_shape::allocas_of;
 use std::alloc::{AllocError, Global};
 
 /// The frame of a coroutine: what its fields keep, in order of the text; for each name of the function the position of its

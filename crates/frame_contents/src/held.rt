@@ -8,7 +8,7 @@ ghost use Rattle.ir_paths.specs.Slots.{allocas_of, promise_of as promise_of_func
 
 use crate::marks::{crossing_values, frame_slots, is_marked, marks_of};
 use crate::promise::promise_of;
-use frame_classes::SlotClass;
+use frame_conflicts::frame_classes_library::SlotClass;
 use frame_layout::FieldKind;
 use ir_base::{Items, SuspendId, ValueId};
 use ir_model::{Block, Function, Instr, IntWidth, IrType, Node, Param, Phi};

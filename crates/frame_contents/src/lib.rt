@@ -17,6 +17,7 @@ mod promise;
 mod report;
 
 pub use contents::{Contents, contents_of};
+pub use frame_conflicts::frame_classes_library;
 pub use frames::{CoroutineFrame, frame_of};
 pub use held::{Holding, result_size, value_size};
 pub use module_frames::{LayoutsError, layouts_of};

@@ -4,7 +4,7 @@ ghost use Rattle.std.specs.Prelude.{◌≡◌, ◌||◌, ◌==◌, ◌++◌, ◌
 ghost use Rattle.frame_contents.specs.Held.{crossing_values as values_of_pairs, frame_slots_from, is_frame as is_frame_class};
 ghost use Rattle.ir_paths.specs.Slots.{has_name};
 
-use frame_classes::SlotClass;
+use frame_conflicts::frame_classes_library::SlotClass;
 use ir_base::{SuspendId, ValueId};
 use std::alloc::{AllocError, Global};
 

@@ -5,10 +5,10 @@ ghost use Rattle.frame_contents.specs.Held.{suspend_count as count_of_suspends};
 ghost use Rattle.ir_paths.specs.Slots.{local_of, promise_of as promise_of_function};
 ghost use Rattle.ir_paths.specs.Windows.{call_operand};
 
+use frame_conflicts::rule_windows_library::{instr_at, points_where};
 use ir_base::ValueId;
 use ir_calls::{CallOf, operand_of};
 use ir_model::{Function, Instr, Intrinsic, Operand};
-use rule_windows::{instr_at, points_where};
 use std::alloc::{AllocError, Global};
 
 fn second_local(instr: &Instr) -> Option<ValueId>

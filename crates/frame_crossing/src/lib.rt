@@ -19,3 +19,4 @@ mod values;
 mod walk;
 
 pub use answer::crossing;
+pub use rule_shape as rule_shape_library;

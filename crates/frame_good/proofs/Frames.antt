@@ -19,8 +19,8 @@ use Rattle.ir_model.specs.declared.module.Function.{Function}
 use Rattle.ir_model.specs.declared.module.Module.{Module}
 use Rattle.ir_paths.specs.Slots.{allocas_of}
 use Rattle.ir_paths.specs.declared.point.Point.{Point}
-use Rattle.frame_classes.specs.Classes.{IsOf}
-use Rattle.frame_classes.specs.declared.class.SlotClass.{SlotClass}
+use Rattle.frame_contents.specs.frame_classes.Classes.{IsOf}
+use Rattle.frame_contents.specs.frame_classes.declared.class.SlotClass.{SlotClass}
 use Rattle.frame_crossing.specs.Crossing.{AreCrossed, CrossedBy, LeftOut, More, NoMore as NoSuspend, Nothing, Taken, suspends_of}
 use Rattle.frame_crossing.specs.Values.{values_of}
 

@@ -9,7 +9,7 @@ use Rattle.frame_layout.specs.declared.layout.Layout.{Layout}
 use Rattle.frame_good.specs.Good.{AreFit, IsGoodLayout}
 use Rattle.ir_model.specs.declared.module.Function.{Function}
 use Rattle.ir_model.specs.declared.module.Module.{Module}
-use Rattle.frame_conflicts.specs.Conflicts.{AreAliveAt, AreConflicts}
+use Rattle.frame_contents.specs.frame_conflicts.Conflicts.{AreAliveAt, AreConflicts}
 
 -- two fields conflict, by whatever lists name just the slots that may be alive at suspends and the slots that conflict
 abbrev pub AreInConflict : Function → Contents → ℕ → ℕ → Type 0

@@ -11,7 +11,7 @@ pub use Rattle.run_laws.specs.run_ints as run_ints
 pub use Rattle.run_laws.specs as run_laws
 pub use Rattle.run_laws.specs.run_memory as run_memory
 pub use Rattle.run_source.specs as run_source
-pub use Rattle.run_source_tables.specs as run_source_tables
+pub use Rattle.run_source.specs.run_source_tables as run_source_tables
 pub use Rattle.run_laws.specs.run_step as run_step
 pub use Rattle.text_names.specs as text_names
 pub mod facts

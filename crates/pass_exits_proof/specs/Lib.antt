@@ -30,7 +30,7 @@ pub use Rattle.pass_fetch_proof.specs.pass_copies as pass_copies
 pub use Rattle.pass_fetch_proof.specs.pass_distances as pass_distances
 pub use Rattle.pass_fetch_proof.specs.pass_early as pass_early
 pub use Rattle.pass_fetch_proof.specs.pass_edges as pass_edges
-pub use Rattle.pass_exits.specs as pass_exits
+pub use Rattle.pass_split.specs.pass_exits as pass_exits
 pub use Rattle.pass_fetch_proof.specs.pass_fetch as pass_fetch
 pub use Rattle.pass_fetch_proof.specs.pass_front as pass_front
 pub use Rattle.pass_fetch_proof.specs.pass_intrinsics as pass_intrinsics

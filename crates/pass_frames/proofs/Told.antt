@@ -11,7 +11,7 @@ use Rattle.frame_layout.specs.declared.layout.Layout.{Layout}
 use Rattle.pass_front.specs.Front.{with_front_allocas}
 use Rattle.ir_model.specs.declared.module.Function.{Function}
 use Rattle.ir_model.specs.declared.module.Module.{Module}
-use Rattle.frame_classes.specs.declared.class.SlotClass.{SlotClass}
+use Rattle.frame_contents.specs.frame_classes.declared.class.SlotClass.{SlotClass}
 use Rattle.pass_frames.specs.Framed.{AllFramed, AreBefore, AreFramed, Coroutine, IsFramedCoroutine, IsPushed, NoneYet, Other, begin_block, begin_of, celled, copied, kept_of, layout_at, offsets_of, offsets_with, placed}
 use Rattle.pass_frames.specs.Tables.{class_flags, label_flags, sizes_by_name}
 use Rattle.pass_cells.specs.Cells.{with_cells}

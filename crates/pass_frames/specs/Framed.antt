@@ -17,7 +17,7 @@ use Rattle.ir_model.specs.declared.module.Function.{Function}
 use Rattle.ir_model.specs.declared.module.Module.{Module}
 use Rattle.ir_model.specs.declared.operand.Callee.{Callee}
 use Rattle.ir_model.specs.declared.operand.Intrinsic.{Intrinsic}
-use Rattle.frame_classes.specs.declared.class.SlotClass.{SlotClass}
+use Rattle.frame_contents.specs.frame_classes.declared.class.SlotClass.{SlotClass}
 use Rattle.pass_frames.specs.Tables.{class_flags, label_flags, sizes_by_name, with_field_offsets, with_slot_offsets}
 use Rattle.pass_cells.specs.Cells.{with_cells}
 use Rattle.pass_cells.specs.Kept.{keeping_of}

@@ -6,7 +6,7 @@ use Rattle.frame_layout.specs.declared.layout.Layout.{Layout}
 use Rattle.ir_model.specs.declared.module.Block.{Block}
 use Rattle.ir_model.specs.declared.module.Function.{Function}
 use Rattle.ir_paths.specs.Slots.{allocas_of}
-use Rattle.frame_classes.specs.declared.class.SlotClass.{SlotClass}
+use Rattle.frame_contents.specs.frame_classes.declared.class.SlotClass.{SlotClass}
 use Rattle.pass_cells.specs.Links.{field_name}
 
 -- ---- classes

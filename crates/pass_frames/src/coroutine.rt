@@ -9,7 +9,7 @@ ghost use Rattle.pass_frames.specs.Tables.{label_flags as label_flags_of};
 use crate::before::{begin_block, blocks_before};
 use crate::offsets::offsets_of;
 use crate::tables::{class_flags, label_flags, sizes_by_name};
-use frame_classes::SlotClass;
+use frame_contents::frame_classes_library::SlotClass;
 use frame_contents::{Contents, contents_of};
 use frame_layout::Layout;
 use ir_base::{BlockId, Items, ValueId};

@@ -4,8 +4,8 @@ ghost use Rattle.std.specs.Prelude.{◌≡◌, IfOk, OnOk, false, replicate, sli
 ghost use Rattle.ir_paths.specs.Slots.{allocas_of as allocas_of_function};
 ghost use Rattle.pass_frames.specs.Tables.{class_flags, is_of, is_same_class, label_flags, sizes_by_name, with_label, with_labels, with_sizes, with_slot, with_slots};
 
-use frame_classes::SlotClass;
 use frame_contents::Holding;
+use frame_contents::frame_classes_library::SlotClass;
 use ir_base::{BlockId, Items, ValueId};
 use ir_model::Function;
 use ir_parts::next;

@@ -31,7 +31,7 @@ use Rattle.run_step.specs.Results.{and_then, found, ok_if}
 use Rattle.run_step.specs.Step.{block_of, deallocated, outcome_of, without_slots}
 use Rattle.run_step.specs.Values.{Env, pointer_to, truth_value, with_result}
 use Rattle.run_step.specs.declared.world.Slot.{Slot}
-use Rattle.run_source_tables.specs.Given.{Given, has_final, is_final, is_true}
+use Rattle.run_source.specs.run_source_tables.Given.{Given, has_final, is_final, is_true}
 
 -- ---- results in sequence
 

@@ -23,7 +23,7 @@ use Rattle.ir_model.specs.declared.module.Frame.{Frame}
 use Rattle.ir_model.specs.declared.module.Module.{Module}
 use Rattle.run_step.specs.Runs.{seen_of}
 use Rattle.run_step.specs.Step.{action_of, fetch}
-use Rattle.run_source_tables.specs.Given.{Given}
+use Rattle.run_source.specs.run_source_tables.Given.{Given}
 
 is_running : (o : Outcome) → IsRunning o → o ≡ Outcome.Running
 is_running Outcome.Running h = refl

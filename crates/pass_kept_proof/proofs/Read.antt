@@ -2,7 +2,7 @@
 use Rattle.std.proofs.Common.{◌≡◌, ◌⊎◌, inl, inr, ⊎_elim, ℕ, zero, suc, ◌+◌, Bool, true, false, List, [], ◌∷◌, ◌++◌, Option, Some, None, refl, sym, ap, subst, arith}
 use Rattle.std.specs.Prelude.{map, option_to_list, slice_get, ◌==◌, ◌||◌, if◌then◌else◌}
 use Rattle.std.specs.List.{list_any}
-use Rattle.rule_uses.specs.Uses.{local_of, locals_in, made_by_phis}
+use Rattle.frame_crossing.specs.rule_uses.Uses.{local_of, locals_in, made_by_phis}
 use Rattle.flow_solver.specs.Paths.{IsListed}
 use Rattle.ir_parts.specs.Contents.{arg_operands, ending_operands, instr_operands, result_of}
 use Rattle.ir_model.specs.Names.{is_local, position_of, same_intrinsic}

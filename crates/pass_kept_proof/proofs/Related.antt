@@ -20,7 +20,7 @@ use Rattle.ir_model.specs.declared.module.Function.{Function}
 use Rattle.run_step.specs.Results.{and_then, found, ok_if}
 use Rattle.run_step.specs.Step.{fetch}
 use Rattle.run_step.specs.Values.{Env, with_result}
-use Rattle.run_source_tables.specs.Given.{Given}
+use Rattle.run_source.specs.run_source_tables.Given.{Given}
 
 -- ---- which values an activation needs
 

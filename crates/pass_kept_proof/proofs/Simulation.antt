@@ -30,7 +30,7 @@ use Rattle.ir_paths.specs.declared.point.Point.{Point}
 use Rattle.run_step.specs.Results.{and_then, found}
 use Rattle.run_step.specs.Step.{Action, AtInstr, Coro, Deallocate, Done, Enter, Fetched, GoTo, NewSlot, Return, Stuck, action_of, fetch}
 use Rattle.run_step.specs.Values.{Env, arg_values, integer, nth}
-use Rattle.run_source_tables.specs.Given.{Given}
+use Rattle.run_source.specs.run_source_tables.Given.{Given}
 
 needs_from : (mode : Mode) (f : Function) (block at v : ℕ) → IsNeeded f v block at → Needs mode f block at v
 needs_from Mode.Resumed f block at v n = n

@@ -40,7 +40,7 @@ use Rattle.run_step.specs.Results.{and_then, found, ok_if}
 use Rattle.run_step.specs.Step.{Action, AtInstr, AtTerm, Coro, Deallocate, Done, Enter, Fetched, GoTo, NewSlot, Nowhere, Return, Stuck, Work, action_of, block_of, branch, deallocated, fetch, outcome_of, switch, term_action, without_slots}
 use Rattle.run_step.specs.Values.{Env, nth}
 use Rattle.run_step.specs.declared.world.Slot.{Slot}
-use Rattle.run_source_tables.specs.Given.{Given}
+use Rattle.run_source.specs.run_source_tables.Given.{Given}
 
 abbrev pub Stays : Given → Result State Cause → Type 0
 Stays g (Err cause) = Unit {0}

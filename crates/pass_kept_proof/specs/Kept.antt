@@ -7,7 +7,7 @@ use Rattle.ir_model.specs.declared.module.Module.{Module}
 use Rattle.ir_paths.specs.declared.point.Point.{Point}
 use Rattle.run_step.specs.Runs.{Seen, iterate, seen_of}
 use Rattle.run_step.specs.Values.{Env}
-use Rattle.run_source_tables.specs.Given.{Given}
+use Rattle.run_source.specs.run_source_tables.Given.{Given}
 
 -- which values of a coroutine, the function at a position, are handed on behind a suspend
 abbrev pub Keep : Type 0

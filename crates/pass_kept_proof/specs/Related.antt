@@ -12,7 +12,7 @@ use Rattle.ir_paths.specs.declared.point.Point.{Point}
 use Rattle.pass_kept_proof.specs.Needed.{IsNeeded, IsNeededBehind, IsReached}
 use Rattle.pass_kept_proof.specs.SuspendRules.{IsCallAt}
 use Rattle.run_step.specs.Values.{Env, value_in}
-use Rattle.run_source_tables.specs.Given.{Given}
+use Rattle.run_source.specs.run_source_tables.Given.{Given}
 
 -- ---- the same values
 

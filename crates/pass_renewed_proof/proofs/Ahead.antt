@@ -15,10 +15,10 @@ use Rattle.pass_kept_proof.specs.run_step.Step.{AtInstr, fetch, fetch_in, fetch_
 use Rattle.pass_renewed_proof.specs.Ahead.{IsNoStart, IsUsedAhead, IsUsedBefore, IsUsedBehind, WasUsed, enters, on_edge, passes, used}
 use Rattle.frame_classes.specs.Alive.{MayBeAlive}
 use Rattle.frame_classes.specs.Classes.{NeedsFrame, parting, suspends, Across, Alive, Away}
-use Rattle.rule_slots.specs.Early.{end_at, instr_count}
-use Rattle.frame_slots.specs.Spots.{At, Comes, IsBehind, IsStart, IsUse, LeadsFrom, On, OnEdge, Later, Spot, point_at}
+use Rattle.frame_classes.specs.rule_slots.Early.{end_at, instr_count}
+use Rattle.frame_classes.specs.frame_slots.Spots.{At, Comes, IsBehind, IsStart, IsUse, LeadsFrom, On, OnEdge, Later, Spot, point_at}
 use Rattle.pass_kept_proof.specs.rule_windows.Windows.{own_edges}
-use Rattle.rule_window_values.specs.Kept.{front}
+use Rattle.frame_classes.specs.rule_window_values.Kept.{front}
 
 -- ---- edges
 

@@ -21,11 +21,11 @@ use Rattle.pass_kept_proof.specs.ir_paths.Slots.{addresses_of, has_name, is_esca
 use Rattle.pass_kept_proof.specs.ir_paths.Windows.{IsInWindow, end_block, suspend_of}
 use Rattle.pass_kept_proof.specs.ir_paths.declared.point.Point.{Point}
 use Rattle.frame_classes.specs.Classes.{MeetsLater}
-use Rattle.frame_slots.specs.Spots.{IsUse, On, Spot}
+use Rattle.frame_classes.specs.frame_slots.Spots.{IsUse, On, Spot}
 use Rattle.pass_kept_proof.specs.Needed.{phis_give}
 use Rattle.pass_kept_proof.specs.SuspendRules.{IsCallAt}
 use Rattle.pass_kept_proof.specs.rule_uses.Uses.{local_of}
-use Rattle.rule_window_values.specs.Kept.{TakesFrom, phis_in}
+use Rattle.frame_classes.specs.rule_window_values.Kept.{TakesFrom, phis_in}
 use Rattle.pass_kept_proof.specs.run_source.declared.state.Activation.{Activation}
 use Rattle.pass_kept_proof.specs.run_source.declared.state.Mode.{Mode}
 use Rattle.pass_kept_proof.specs.run_source.declared.state.State.{State}

@@ -16,7 +16,7 @@ use Rattle.pass_kept_proof.specs.ir_model.declared.operand.Callee.{Callee}
 use Rattle.pass_kept_proof.specs.ir_paths.Slots.{exposes, is_escaped, is_in_args}
 use Rattle.pass_kept_proof.specs.ir_paths.Windows.{instr_in}
 use Rattle.pass_kept_proof.specs.ir_paths.declared.point.Point.{Point}
-use Rattle.frame_slots.specs.Spots.{At}
+use Rattle.frame_classes.specs.frame_slots.Spots.{At}
 use Rattle.pass_kept_proof.proofs.Same.{eq_itself, or_left, or_right}
 use Rattle.pass_kept_proof.specs.Needed.{reads_at}
 use Rattle.run_laws.specs.embedded.Related.{AreValues, HasNoSlot}

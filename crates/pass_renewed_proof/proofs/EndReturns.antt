@@ -7,7 +7,7 @@ use Rattle.pass_kept_proof.specs.ir_base.declared.cause.Cause.{Cause}
 use Rattle.pass_kept_proof.specs.ir_model.Names.{function_at}
 use Rattle.pass_kept_proof.specs.ir_model.declared.module.Function.{Function}
 use Rattle.pass_kept_proof.specs.ir_model.declared.module.Module.{Module}
-use Rattle.frame_slots.specs.Spots.{On}
+use Rattle.frame_classes.specs.frame_slots.Spots.{On}
 use Rattle.pass_kept_proof.specs.run_source.Source.{given_back, pop, return, returned}
 use Rattle.pass_kept_proof.specs.run_source.declared.state.Activation.{Activation}
 use Rattle.pass_kept_proof.specs.run_source.declared.state.State.{State}

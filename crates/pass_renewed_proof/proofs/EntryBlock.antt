@@ -16,7 +16,7 @@ use Rattle.pass_kept_proof.specs.ir_paths.Paths.{IsPath, entry_point, has_point,
 use Rattle.pass_kept_proof.specs.ir_paths.Slots.{has_name}
 use Rattle.pass_kept_proof.specs.ir_paths.Windows.{end_block, instr_in, is_call_of}
 use Rattle.pass_kept_proof.specs.ir_paths.declared.point.Point.{Point}
-use Rattle.frame_slots.proofs.Points.{where_sound}
+use Rattle.frame_classes.proofs.frame_slots.Points.{where_sound}
 use Rattle.pass_kept_proof.proofs.Same.{either, eq_itself, or_left, or_right, same_point_same}
 use Rattle.pass_kept_proof.specs.Needed.{BranchesTo}
 use Rattle.pass_kept_proof.specs.SuspendRules.{IsCallAt}

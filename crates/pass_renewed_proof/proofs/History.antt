@@ -22,8 +22,8 @@ use Rattle.pass_renewed_proof.specs.Ahead.{IsNoStart, IsUsedBefore}
 use Rattle.pass_renewed_proof.specs.SlotRules.{IsMarkerAt}
 use Rattle.frame_classes.specs.Alive.{MayBeAlive, Started, Unmarked}
 use Rattle.frame_classes.specs.Classes.{parting}
-use Rattle.frame_slots.proofs.Points.{where_sound}
-use Rattle.frame_slots.specs.Uses.{ends_of, is_marker_of}
+use Rattle.frame_classes.proofs.frame_slots.Points.{where_sound}
+use Rattle.frame_classes.specs.frame_slots.Uses.{ends_of, is_marker_of}
 
 -- ---- markers
 

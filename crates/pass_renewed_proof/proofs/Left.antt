@@ -21,8 +21,8 @@ use Rattle.pass_kept_proof.specs.run_step.Step.{AtInstr, fetch, fetch_in, fetch_
 use Rattle.pass_renewed_proof.proofs.Ahead.{get_within, leads_more, next_edge, not_in_either}
 use Rattle.pass_renewed_proof.specs.Ahead.{IsBehindSuspendCall}
 use Rattle.pass_renewed_proof.specs.Left.{AtEnd, AtSuspend, AtSwitch, Behind, Between, IsLeftBy, behind}
-use Rattle.rule_slots.specs.Closed.{IsClosed, IsInOneOf}
-use Rattle.frame_slots.proofs.Points.{where_complete}
+use Rattle.frame_classes.specs.rule_slots.Closed.{IsClosed, IsInOneOf}
+use Rattle.frame_classes.proofs.frame_slots.Points.{where_complete}
 use Rattle.pass_kept_proof.specs.rule_windows.Points.{ends}
 use Rattle.pass_kept_proof.specs.rule_windows.Sets.{IsAfterEnd}
 

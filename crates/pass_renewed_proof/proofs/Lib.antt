@@ -1,6 +1,6 @@
 -- What libraries below prove, for those above.
 pub use Rattle.flow_facts.proofs as flow_facts
-pub use Rattle.frame_slots.proofs as frame_slots
+pub use Rattle.frame_classes.proofs.frame_slots as frame_slots
 pub use Rattle.pass_kept_proof.proofs.ir_paths as ir_paths
 pub use Rattle.pass_kept_proof.proofs as pass_kept_proof
 pub use Rattle.pass_kept_proof.proofs.run_agreement as run_agreement

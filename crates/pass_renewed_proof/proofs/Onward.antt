@@ -13,8 +13,8 @@ use Rattle.pass_kept_proof.specs.ir_paths.Paths.{has_point, nexts}
 use Rattle.pass_kept_proof.specs.ir_paths.Windows.{end_block, is_call_of}
 use Rattle.pass_kept_proof.specs.ir_paths.declared.point.Point.{Point}
 use Rattle.frame_classes.specs.Classes.{suspends}
-use Rattle.frame_slots.proofs.Points.{where_sound}
-use Rattle.frame_slots.specs.Uses.{ends_of}
+use Rattle.frame_classes.proofs.frame_slots.Points.{where_sound}
+use Rattle.frame_classes.specs.frame_slots.Uses.{ends_of}
 use Rattle.pass_kept_proof.specs.SuspendRules.{IsCallAt}
 use Rattle.run_laws.specs.embedded.Related.{HasNoSlot}
 use Rattle.run_laws.specs.memory.Pointers.{Home, home_of}

@@ -8,7 +8,7 @@ use Rattle.pass_kept_proof.specs.ir_model.declared.module.Function.{Function}
 use Rattle.pass_kept_proof.specs.ir_model.declared.module.Module.{Module}
 use Rattle.pass_kept_proof.specs.ir_paths.Slots.{addresses_of, addresses_within, has_name, is_gep}
 use Rattle.pass_kept_proof.specs.ir_paths.Windows.{points_where}
-use Rattle.frame_slots.specs.Spots.{At, IsUse}
+use Rattle.frame_classes.specs.frame_slots.Spots.{At, IsUse}
 use Rattle.pass_kept_proof.proofs.Same.{eq_itself, or_left}
 use Rattle.run_laws.specs.changed.Changed.{Each}
 use Rattle.run_laws.specs.embedded.Refilled.{AreRefilled, OnlyRefills}

@@ -12,7 +12,7 @@ use Rattle.pass_kept_proof.specs.ir_model.declared.operand.Arg.{Arg}
 use Rattle.pass_kept_proof.specs.ir_model.declared.operand.Callee.{Callee}
 use Rattle.pass_kept_proof.specs.ir_model.declared.operand.Intrinsic.{Intrinsic}
 use Rattle.pass_kept_proof.specs.ir_paths.Paths.{has_point}
-use Rattle.frame_slots.specs.Uses.{ends_of}
+use Rattle.frame_classes.specs.frame_slots.Uses.{ends_of}
 use Rattle.run_laws.specs.memory.Pointers.{Home, IsValue, home_of}
 use Rattle.pass_kept_proof.specs.run_memory.Memory.{end, ended, owner_rights, start, started, with_block}
 use Rattle.pass_kept_proof.specs.run_memory.declared.block.MemoryBlock.{MemoryBlock}

@@ -9,7 +9,7 @@ use Rattle.pass_kept_proof.specs.ir_model.declared.module.Module.{Module}
 use Rattle.pass_kept_proof.specs.ir_paths.Slots.{is_escaped}
 use Rattle.pass_kept_proof.specs.ir_paths.declared.point.Point.{Point}
 use Rattle.frame_classes.specs.Classes.{NeedsFrame}
-use Rattle.frame_slots.specs.Spots.{IsUse, Spot}
+use Rattle.frame_classes.specs.frame_slots.Spots.{IsUse, Spot}
 use Rattle.run_laws.specs.memory.Pointers.{home_of}
 use Rattle.pass_kept_proof.specs.run_memory.declared.block.MemoryBlock.{MemoryBlock}
 use Rattle.pass_kept_proof.specs.run_source.declared.state.Activation.{Activation}

@@ -11,7 +11,7 @@ use Rattle.pass_kept_proof.specs.ir_model.declared.operand.Intrinsic.{Intrinsic}
 use Rattle.pass_kept_proof.specs.ir_paths.Paths.{has_point}
 use Rattle.pass_kept_proof.specs.ir_paths.Windows.{is_call_of}
 use Rattle.pass_kept_proof.specs.ir_paths.declared.point.Point.{Point}
-use Rattle.frame_slots.specs.Uses.{ends_of}
+use Rattle.frame_classes.specs.frame_slots.Uses.{ends_of}
 use Rattle.pass_kept_proof.specs.run_memory.declared.block.MemoryBlock.{MemoryBlock}
 use Rattle.pass_kept_proof.specs.run_source.State.{settled}
 use Rattle.pass_kept_proof.specs.run_source.declared.state.Activation.{Activation}

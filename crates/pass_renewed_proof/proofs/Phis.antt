@@ -17,11 +17,11 @@ use Rattle.pass_kept_proof.specs.ir_model.declared.operand.Intrinsic.{Intrinsic}
 use Rattle.pass_kept_proof.specs.ir_paths.Paths.{has_point}
 use Rattle.pass_kept_proof.specs.ir_paths.Slots.{is_in_args}
 use Rattle.pass_kept_proof.specs.ir_paths.declared.point.Point.{Point}
-use Rattle.frame_slots.specs.Uses.{ends_of}
+use Rattle.frame_classes.specs.frame_slots.Uses.{ends_of}
 use Rattle.pass_kept_proof.proofs.Same.{either, neither, or_left, or_right}
 use Rattle.pass_kept_proof.specs.Needed.{BranchesTo, phis_give}
 use Rattle.pass_kept_proof.specs.SuspendRules.{IsCallAt}
-use Rattle.rule_window_values.specs.Kept.{phis_in}
+use Rattle.frame_classes.specs.rule_window_values.Kept.{phis_in}
 use Rattle.run_laws.specs.embedded.Related.{AreValues}
 use Rattle.run_laws.specs.memory.Pointers.{Home, IsValue}
 use Rattle.pass_kept_proof.specs.run_memory.declared.pointer.Value.{Value}

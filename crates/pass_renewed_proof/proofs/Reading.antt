@@ -14,8 +14,8 @@ use Rattle.pass_kept_proof.specs.ir_model.declared.operand.Intrinsic.{Intrinsic}
 use Rattle.pass_kept_proof.specs.ir_paths.Slots.{addresses_of, has_name, is_in_args, occurs}
 use Rattle.pass_kept_proof.specs.ir_paths.Windows.{instr_in, operand_at}
 use Rattle.pass_kept_proof.specs.ir_paths.declared.point.Point.{Point}
-use Rattle.frame_slots.specs.Spots.{At, IsUse}
-use Rattle.frame_slots.specs.Uses.{ByInstr, ByTerm, UsesAt, is_no_use_in}
+use Rattle.frame_classes.specs.frame_slots.Spots.{At, IsUse}
+use Rattle.frame_classes.specs.frame_slots.Uses.{ByInstr, ByTerm, UsesAt, is_no_use_in}
 use Rattle.pass_kept_proof.proofs.Same.{or_left, or_right}
 use Rattle.pass_kept_proof.specs.Needed.{reads, reads_at, reads_intrinsic}
 use Rattle.run_laws.specs.embedded.Related.{HasNoSlot}

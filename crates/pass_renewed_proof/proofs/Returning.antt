@@ -18,7 +18,7 @@ use Rattle.pass_kept_proof.specs.run_source.declared.state.State.{State}
 use Rattle.pass_kept_proof.specs.run_step.Step.{Fetched, without_slots}
 use Rattle.pass_kept_proof.specs.run_step.Values.{pointer_to, value_in}
 use Rattle.pass_kept_proof.specs.run_step.declared.world.Slot.{Slot}
-use Rattle.frame_slots.specs.Spots.{Spot}
+use Rattle.frame_classes.specs.frame_slots.Spots.{Spot}
 use Rattle.pass_renewed_proof.proofs.Carried.{below_kept, instances_kept, same_func, slots_on}
 use Rattle.pass_renewed_proof.proofs.Departing.{AreLeft}
 use Rattle.pass_renewed_proof.proofs.DeadSlots.{IsUnseenIn, all_die, all_given, both_lists, killed_all, listed_dead}

@@ -18,7 +18,7 @@ use Rattle.pass_kept_proof.specs.ir_paths.Slots.{has_name, is_escaped, occurs_in
 use Rattle.pass_kept_proof.specs.ir_paths.Paths.{targets}
 use Rattle.pass_kept_proof.specs.ir_paths.Windows.{resume_label}
 use Rattle.pass_kept_proof.specs.ir_paths.declared.point.Point.{Point}
-use Rattle.frame_slots.specs.Spots.{At}
+use Rattle.frame_classes.specs.frame_slots.Spots.{At}
 use Rattle.pass_kept_proof.specs.Needed.{reads_at}
 use Rattle.run_laws.specs.embedded.Related.{HasNoSlot, moved_event}
 use Rattle.pass_kept_proof.specs.run_memory.Memory.{owner_rights}

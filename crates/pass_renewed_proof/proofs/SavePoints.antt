@@ -12,10 +12,10 @@ use Rattle.pass_kept_proof.specs.ir_paths.Windows.{IsInWindow, end_block, is_cal
 use Rattle.pass_kept_proof.specs.ir_paths.declared.point.Point.{Point}
 use Rattle.frame_classes.specs.Alive.{MayBeAlive}
 use Rattle.frame_classes.specs.Classes.{suspends}
-use Rattle.frame_slots.specs.Uses.{ends_of}
+use Rattle.frame_classes.specs.frame_slots.Uses.{ends_of}
 use Rattle.pass_kept_proof.proofs.Rules.{suspend_is_suspend}
 use Rattle.pass_kept_proof.specs.SuspendRules.{IsCallAt}
-use Rattle.rule_slots.specs.Closed.{IsClosed}
+use Rattle.frame_classes.specs.rule_slots.Closed.{IsClosed}
 use Rattle.pass_kept_proof.specs.rule_windows.Points.{ends}
 use Rattle.pass_kept_proof.specs.rule_windows.Sets.{IsAfterEnd, RunsOut}
 use Rattle.pass_kept_proof.specs.run_source.declared.state.Activation.{Activation}

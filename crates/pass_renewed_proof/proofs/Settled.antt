@@ -14,8 +14,8 @@ use Rattle.pass_kept_proof.specs.ir_model.declared.operand.Operand.{Operand}
 use Rattle.pass_kept_proof.specs.ir_paths.Paths.{has_point}
 use Rattle.pass_kept_proof.specs.ir_paths.declared.point.Point.{Point}
 use Rattle.frame_classes.specs.Classes.{NeedsFrame}
-use Rattle.frame_slots.specs.Spots.{At, IsUse}
-use Rattle.frame_slots.specs.Uses.{ends_of}
+use Rattle.frame_classes.specs.frame_slots.Spots.{At, IsUse}
+use Rattle.frame_classes.specs.frame_slots.Uses.{ends_of}
 use Rattle.run_laws.proofs.access.Blocks.{others_left}
 use Rattle.run_laws.specs.access.Accessed.{accessed}
 use Rattle.run_laws.specs.access.Changed.{ChangesOnly, IsFull, LeavesOthers}

@@ -15,10 +15,10 @@ use Rattle.pass_kept_proof.specs.ir_paths.Windows.{destroy_label, end_block, res
 use Rattle.pass_kept_proof.specs.ir_paths.declared.point.Point.{Point}
 use Rattle.frame_classes.proofs.Coming.{end_complete}
 use Rattle.frame_classes.specs.Classes.{MeetsLater, NeedsFrame}
-use Rattle.frame_slots.specs.Spots.{At, Comes, IsUse, Spot, point_at}
+use Rattle.frame_classes.specs.frame_slots.Spots.{At, Comes, IsUse, Spot, point_at}
 use Rattle.pass_kept_proof.proofs.Same.{either, same_point_same}
 use Rattle.pass_kept_proof.specs.SuspendRules.{IsCallAt}
-use Rattle.rule_slots.specs.Closed.{IsClosed}
+use Rattle.frame_classes.specs.rule_slots.Closed.{IsClosed}
 use Rattle.pass_kept_proof.specs.run_memory.declared.block.MemoryBlock.{MemoryBlock}
 use Rattle.pass_kept_proof.specs.run_source.declared.state.Activation.{Activation}
 use Rattle.pass_kept_proof.specs.run_source.declared.state.Instance.{Instance}

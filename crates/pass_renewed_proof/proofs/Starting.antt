@@ -17,10 +17,10 @@ use Rattle.pass_kept_proof.specs.ir_paths.Windows.{end_block}
 use Rattle.pass_kept_proof.specs.ir_paths.declared.point.Point.{Point}
 use Rattle.frame_classes.specs.Alive.{MayBeAlive, Started}
 use Rattle.frame_classes.specs.Classes.{NeedsFrame, parting}
-use Rattle.frame_slots.proofs.Points.{where_complete}
-use Rattle.frame_slots.specs.Spots.{Marked}
-use Rattle.frame_slots.specs.Uses.{starts_of}
-use Rattle.frame_slots.specs.Uses as uses
+use Rattle.frame_classes.proofs.frame_slots.Points.{where_complete}
+use Rattle.frame_classes.specs.frame_slots.Spots.{Marked}
+use Rattle.frame_classes.specs.frame_slots.Uses.{starts_of}
+use Rattle.frame_classes.specs.frame_slots.Uses as uses
 use Rattle.pass_kept_proof.proofs.Same.{eq_itself}
 use Rattle.run_laws.specs.memory.Pointers.{Home, home_of}
 use Rattle.pass_kept_proof.specs.run_memory.Memory.{owner_rights, start}

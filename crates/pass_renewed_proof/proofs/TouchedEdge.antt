@@ -11,8 +11,8 @@ use Rattle.pass_kept_proof.specs.ir_paths.Paths.{has_point}
 use Rattle.pass_kept_proof.specs.ir_paths.Slots.{is_escaped}
 use Rattle.pass_kept_proof.specs.ir_paths.declared.point.Point.{Point}
 use Rattle.frame_classes.specs.Classes.{NeedsFrame, parting}
-use Rattle.frame_slots.specs.Spots.{IsUse, LeadsFrom, Spot}
-use Rattle.frame_slots.specs.Uses.{ends_of}
+use Rattle.frame_classes.specs.frame_slots.Spots.{IsUse, LeadsFrom, Spot}
+use Rattle.frame_classes.specs.frame_slots.Uses.{ends_of}
 use Rattle.pass_kept_proof.specs.SuspendRules.{IsCallAt}
 use Rattle.pass_kept_proof.specs.run_source.declared.state.Activation.{Activation}
 use Rattle.pass_kept_proof.specs.run_source.declared.state.State.{State}

@@ -14,7 +14,7 @@ use Rattle.pass_kept_proof.specs.ir_model.declared.operand.Operand.{Operand}
 use Rattle.pass_kept_proof.specs.ir_paths.Slots.{is_escaped, is_in_args}
 use Rattle.pass_kept_proof.specs.ir_paths.declared.point.Point.{Point}
 use Rattle.frame_classes.specs.Classes.{NeedsFrame}
-use Rattle.frame_slots.specs.Spots.{IsUse, Spot}
+use Rattle.frame_classes.specs.frame_slots.Spots.{IsUse, Spot}
 use Rattle.pass_kept_proof.proofs.Same.{eq_itself, or_left, or_right}
 use Rattle.pass_kept_proof.specs.Needed.{reads_at}
 use Rattle.run_laws.proofs.embedded.Memories.{same_refills}

@@ -12,7 +12,7 @@ use Rattle.pass_kept_proof.specs.ir_model.declared.operand.Callee.{Callee}
 use Rattle.pass_kept_proof.specs.ir_model.declared.operand.Intrinsic.{Intrinsic}
 use Rattle.pass_kept_proof.specs.ir_paths.Windows.{operand_at, points_from, points_in}
 use Rattle.frame_classes.specs.Alive.{markers_of}
-use Rattle.frame_slots.specs.Uses as uses
+use Rattle.frame_classes.specs.frame_slots.Uses as uses
 use Rattle.pass_kept_proof.proofs.Same.{neither, or_left, or_right}
 use Rattle.pass_kept_proof.specs.run_step.Step.{has_markers, is_lifetime, is_marker_of}
 

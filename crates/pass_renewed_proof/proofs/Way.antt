@@ -15,9 +15,9 @@ use Rattle.pass_kept_proof.specs.ir_paths.Windows.{destroy_label, end_block, is_
 use Rattle.pass_kept_proof.specs.ir_paths.declared.point.Point.{Point}
 use Rattle.frame_classes.specs.Alive.{MayBeAlive, Started, Unmarked}
 use Rattle.frame_classes.specs.Classes.{Alive, Away, MeetsLater, NeedsFrame, parting, suspends}
-use Rattle.frame_slots.proofs.Points.{where_sound}
-use Rattle.frame_slots.specs.Spots.{At, Comes, IsBehind, IsStart, IsUse, Later, Spot, point_at}
-use Rattle.frame_slots.specs.Uses.{ends_of}
+use Rattle.frame_classes.proofs.frame_slots.Points.{where_sound}
+use Rattle.frame_classes.specs.frame_slots.Spots.{At, Comes, IsBehind, IsStart, IsUse, Later, Spot, point_at}
+use Rattle.frame_classes.specs.frame_slots.Uses.{ends_of}
 use Rattle.pass_kept_proof.proofs.Same.{either, same_point_same}
 use Rattle.pass_kept_proof.specs.Needed.{BranchesTo}
 use Rattle.pass_kept_proof.specs.SuspendRules.{IsCallAt, IsSwitched}

@@ -12,8 +12,8 @@ use Rattle.pass_kept_proof.specs.Needed.{BranchesTo}
 use Rattle.pass_kept_proof.specs.SuspendRules.{IsCallAt}
 use Rattle.pass_kept_proof.specs.run_step.Step.{AtInstr, fetch}
 use Rattle.frame_classes.specs.Classes.{parting}
-use Rattle.rule_slots.specs.Closed.{IsClosed}
-use Rattle.frame_slots.specs.Spots.{At, IsBehind, IsUse, LeadsFrom, On, Spot, point_at}
+use Rattle.frame_classes.specs.rule_slots.Closed.{IsClosed}
+use Rattle.frame_classes.specs.frame_slots.Spots.{At, IsBehind, IsUse, LeadsFrom, On, Spot, point_at}
 
 -- the point is no start of the slot, if that isn't escaped
 abbrev pub IsNoStart : Function → ℕ → Point → Type 0

@@ -4,12 +4,12 @@ pub use Rattle.flow_reach.specs as flow_reach
 pub use Rattle.pass_kept_proof.specs.flow_solver as flow_solver
 pub use Rattle.frame_classes.specs as frame_classes
 pub use Rattle.frame_layout.specs as frame_layout
-pub use Rattle.frame_slots.specs as frame_slots
+pub use Rattle.frame_classes.specs.frame_slots as frame_slots
 pub use Rattle.pass_kept_proof.specs.ir_base as ir_base
 pub use Rattle.pass_kept_proof.specs.ir_model as ir_model
 pub use Rattle.pass_kept_proof.specs.ir_paths as ir_paths
 pub use Rattle.pass_kept_proof.specs as pass_kept_proof
-pub use Rattle.rule_slots.specs as rule_slots
+pub use Rattle.frame_classes.specs.rule_slots as rule_slots
 pub use Rattle.pass_kept_proof.specs.rule_windows as rule_windows
 pub use Rattle.pass_kept_proof.specs.run_agreement as run_agreement
 pub use Rattle.run_framed.specs as run_framed

@@ -27,7 +27,7 @@ use Rattle.pass_renewed_proof.specs.Renewed.{Flags, Roots}
 use Rattle.pass_renewed_proof.specs.Steps.{given_at}
 use Rattle.frame_classes.specs.Classes.{IsOf, suspends}
 use Rattle.frame_classes.specs.declared.class.SlotClass.{SlotClass}
-use Rattle.rule_slots.specs.Closed.{IsClosed}
+use Rattle.frame_classes.specs.rule_slots.Closed.{IsClosed}
 use Rattle.pass_kept_proof.specs.rule_windows.Sets.{IsAfterEnd, RunsOut}
 
 -- ---- names

@@ -6,7 +6,7 @@ use Rattle.pass_kept_proof.specs.ir_paths.Slots.{end_points, is_escaped}
 use Rattle.pass_kept_proof.specs.ir_paths.declared.point.Point.{Point}
 use Rattle.frame_classes.specs.Alive.{MayBeAlive}
 use Rattle.frame_classes.specs.Classes.{parting, suspends}
-use Rattle.frame_slots.specs.Spots.{Comes}
+use Rattle.frame_classes.specs.frame_slots.Spots.{Comes}
 use Rattle.pass_renewed_proof.specs.Ahead.{WasUsed}
 use Rattle.pass_renewed_proof.specs.Left.{IsLeftBy}
 use Rattle.pass_kept_proof.specs.rule_windows.Windows.{own_edges}

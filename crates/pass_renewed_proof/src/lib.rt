@@ -73,7 +73,7 @@ ghost use Rattle.pass_kept_proof.specs.ir_paths.declared.point.Facts.{Facts as T
 ghost use Rattle.pass_kept_proof.specs.ir_paths.declared.point.Window.{Window as TheWindow};
 ghost use Rattle.pass_kept_proof.specs.SuspendRules.{IsCallAt};
 ghost use Rattle.pass_renewed_proof.specs.Left.{IsLeftBy, behind};
-ghost use Rattle.rule_slots.specs.Closed.{IsClosed};
+ghost use Rattle.frame_classes.specs.rule_slots.Closed.{IsClosed};
 ghost use Rattle.pass_kept_proof.specs.ir_paths.Paths.{Leads, entry_point, has_point};
 ghost use Rattle.pass_kept_proof.specs.ir_paths.Slots.{is_escaped};
 ghost use Rattle.pass_kept_proof.specs.ir_paths.Windows.{IsInWindow, end_block, leaves, suspend_of};
@@ -82,11 +82,11 @@ ghost use Rattle.pass_renewed_proof.specs.Ahead.{IsBehindSuspendCall, IsUsedAhea
 ghost use Rattle.pass_renewed_proof.specs.Ready.{IsPartPlaced, IsPlaced, IsUsing, Place, faded, shown_of, stood};
 ghost use Rattle.frame_classes.specs.Alive.{MayBeAlive};
 ghost use Rattle.frame_classes.specs.Classes.{NeedsFrame, parting, suspends};
-ghost use Rattle.frame_slots.specs.Spots.{IsBehind, IsStart, Spot};
+ghost use Rattle.frame_classes.specs.frame_slots.Spots.{IsBehind, IsStart, Spot};
 ghost use Rattle.pass_kept_proof.specs.rule_windows.Sets.{IsAfterEnd};
 ghost use Rattle.pass_kept_proof.specs.rule_windows.Windows.{own_edges};
-ghost use Rattle.frame_slots.specs.Spots.{At, IsUse, point_at};
-ghost use Rattle.frame_slots.specs.Uses.{ends_of};
+ghost use Rattle.frame_classes.specs.frame_slots.Spots.{At, IsUse, point_at};
+ghost use Rattle.frame_classes.specs.frame_slots.Uses.{ends_of};
 ghost use Rattle.pass_kept_proof.specs.ir_base.declared.outcome.Word.{Word};
 ghost use Rattle.pass_kept_proof.specs.ir_model.declared.module.Block.{Block as TheBlock};
 ghost use Rattle.pass_kept_proof.specs.ir_paths.Paths.{nexts};

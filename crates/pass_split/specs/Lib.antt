@@ -1,3 +1,4 @@
+pub use Rattle.pass_exits.specs as pass_exits
 pub mod Pieces
 pub mod Given
 pub mod Reached

@@ -14,7 +14,7 @@ use Rattle.ir_model.specs.declared.operand.Callee.{Callee}
 use Rattle.ir_paths.specs.Windows.{call_result}
 use Rattle.run_step.specs.Step.{AtInstr, instr_action}
 use Rattle.run_step.specs.Values.{arg_values}
-use Rattle.run_source_tables.specs.Lookups.{args_of}
+use Rattle.run_source.specs.run_source_tables.Lookups.{args_of}
 
 none-given : (g : FramedGiven) (s : State) (i : Instr) → ramp_of g.given.code i ≡ None → given_call g s (AtInstr i) ≡ None
 none-given g s (Instr.Call result must_tail ty (Callee.Named n) args) e = ap (enter_given g s result (arg_values g.given.code s.top.values args)) e

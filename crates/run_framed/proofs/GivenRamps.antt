@@ -9,7 +9,7 @@ use Rattle.run_framed.specs.declared.ramps.GivenRamp.{GivenRamp}
 use Rattle.ir_model.specs.Names.{first_where, noalloc_of, same_name}
 use Rattle.ir_model.specs.declared.module.Function.{Function}
 use Rattle.ir_model.specs.declared.module.Module.{Module}
-use Rattle.run_source_tables.proofs.Walks.{take-next}
+use Rattle.run_source.proofs.run_source_tables.Walks.{take-next}
 
 if-append : (b : Bool) (x : GivenRamp) (xs ys : List GivenRamp) → (if b then x ∷ (xs ++ ys) else xs ++ ys) ≡ (if b then x ∷ xs else xs) ++ ys
 if-append true x xs ys = refl

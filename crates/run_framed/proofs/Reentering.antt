@@ -14,7 +14,7 @@ use Rattle.run_framed.specs.FramedEffects.{bare}
 use Rattle.ir_model.specs.Names.{function_at}
 use Rattle.ir_paths.specs.declared.point.Point.{Point}
 use Rattle.run_step.specs.Values.{Env}
-use Rattle.run_source_tables.specs.Given.{Given}
+use Rattle.run_source.specs.run_source_tables.Given.{Given}
 
 -- the instances may be set before or behind
 set-behind : (g : FramedGiven) (s : State) (xs : List Instance) (from label : ℕ) (o : Option Point) → record (enter_after g s from label o) { instances = xs } ≡ enter_after g (record s { instances = xs }) from label o

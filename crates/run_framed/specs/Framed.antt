@@ -12,9 +12,9 @@ use Rattle.ir_base.specs.declared.name.Name.{Name}
 use Rattle.ir_base.specs.declared.outcome.Outcome.{Outcome}
 use Rattle.ir_base.specs.declared.outcome.Word.{Word}
 use Rattle.run_source.specs.Source.{Continues, act, begin, begin_at, begun, called, coro, end_of, enter_block, finish, first_state, is_live_at, push, release, resumed, suspend}
-use Rattle.run_source_tables.specs.Given.{is_true}
+use Rattle.run_source.specs.run_source_tables.Given.{is_true}
 use Rattle.run_source.specs.State.{began_at, frame_address_of, function_of, gives, instance_at, is_finished, last_where, or_undefined, own_frame, own_instance, settled, with_memory, with_slots, with_status, work_of}
-use Rattle.run_source_tables.specs.Given.{Given}
+use Rattle.run_source.specs.run_source_tables.Given.{Given}
 use Rattle.run_source.specs.declared.state.Instance.{Instance}
 use Rattle.run_source.specs.declared.state.Mode.{Mode}
 use Rattle.run_source.specs.declared.state.State.{State}

@@ -19,7 +19,7 @@ use Rattle.run_step.specs.Effects.{context}
 use Rattle.run_step.specs.Step.{Action, instr_action}
 use Rattle.run_step.specs.Values.{arg_values}
 use Rattle.run_step.specs.declared.effect.Effect.{Effect}
-use Rattle.run_source_tables.specs.Given.{Given}
+use Rattle.run_source.specs.run_source_tables.Given.{Given}
 
 -- what a program gives to the meaning
 abbrev pub framed_of : FramedProgram → FramedGiven

@@ -13,7 +13,7 @@ use ir_base::{FuncId, Items, Name};
 use ir_model::Module;
 use ir_paths::Facts;
 use ir_tables::{NameTable, find, table_of};
-use run_source_tables::SourceProgram;
+use run_source::run_source_tables_library::SourceProgram;
 use std::alloc::{AllocError, Global};
 
 /// A module as a source machine runs it, with the layouts of its coroutines' frames.

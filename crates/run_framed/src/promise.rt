@@ -14,7 +14,7 @@ use ir_model::Arg;
 use run_memory::{BlockId, Offset, Pointer, Value};
 use run_source::State;
 use run_source::promise::{frame_address_of, is_over};
-use run_source_tables::is_true_at;
+use run_source::run_source_tables_library::is_true_at;
 
 fn promise_of_frame(program: &FramedProgram, state: &State, p: Value) -> Result<Value, Cause>
     ensures { result ≡ framed_promise_of_frame (framed_of program.now) state.now p }

@@ -15,10 +15,10 @@ use run_memory::Value;
 use run_source::calls::push;
 use run_source::promise::frame_address_of;
 use run_source::resuming::{GoesOn, Sleeping, woken};
+use run_source::run_source_tables_library::{Sought, SourceProgram, first_point, result_at};
+use run_source::run_step_code_library::{enter_label, set_result};
 use run_source::{Mode, State};
-use run_source_tables::{Sought, SourceProgram, first_point, result_at};
 use run_step::Values;
-use run_step_code::{enter_label, set_result};
 use std::alloc::{AllocError, Global};
 
 fn is_alloca(instr: &Instr) -> bool

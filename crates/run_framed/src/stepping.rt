@@ -22,11 +22,11 @@ use ir_paths::Point;
 use run_memory::Value;
 use run_source::calls::{called, push};
 use run_source::frames::copied_values;
+use run_source::run_source_tables_library::{args_of, result_of};
+use run_source::run_step_code_library::{enter_label, execute, place_at, set_result, terminate};
 use run_source::stepping::alloca_own;
 use run_source::{Mode, State, Stop};
-use run_source_tables::{args_of, result_of};
 use run_step::{Program, Slot, Values, pointer_to};
-use run_step_code::{enter_label, execute, place_at, set_result, terminate};
 use std::alloc::{AllocError, Global};
 
 /// An alloca of a resumed activation behind which another one follows.

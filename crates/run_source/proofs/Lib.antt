@@ -1,3 +1,4 @@
+pub use Rattle.run_source_tables.proofs as run_source_tables
 pub mod OfCalls
 pub mod Acting
 pub mod Iterating

@@ -23,4 +23,6 @@ pub mod stepping;
 pub use effects::Stop;
 pub use machine::SourceMachine;
 pub use progress::Progress;
+pub use run_source_tables as run_source_tables_library;
+pub use run_step_code as run_step_code_library;
 pub use state::{Activation, Instance, Instances, Mode, Saved, State, Status};

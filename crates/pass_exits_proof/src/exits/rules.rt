@@ -8,11 +8,11 @@ ghost use Rattle.std.specs.Prelude.{◌≡◌, ℕ, None, Some, slice_get, true}
 ghost use Rattle.ir_model.specs.declared.instr.Terminator.{Terminator};
 ghost use Rattle.ir_model.specs.declared.module.Block.{Block};
 ghost use Rattle.ir_model.specs.declared.module.Function.{Function};
-ghost use Rattle.pass_exits.specs.Exits.{mark_of};
+ghost use Rattle.pass_split.specs.pass_exits.Exits.{mark_of};
 ghost use Rattle.pass_fetch_proof.specs.edges.rules.Phis.{ArePhisEnteredByJumps};
 ghost use Rattle.pass_fetch_proof.specs.rule_laws.rules.function_rules.Kept.{KeepsFunctionRules};
 ghost use Rattle.ir_model.specs.declared.module.Module.{Module};
-ghost use Rattle.pass_exits.specs.ExitBlocks.{with_exit_blocks};
+ghost use Rattle.pass_split.specs.pass_exits.ExitBlocks.{with_exit_blocks};
 ghost use Rattle.pass_fetch_proof.specs.rule_laws.rules.woven_rules.Pairs.{AreIncomingOnce};
 ghost use Rattle.pass_fetch_proof.specs.rule_shape.OneOfEach.{wrong_call};
 ghost use Rattle.pass_fetch_proof.specs.rule_shape.Switches.{wrong_switch};

@@ -2,7 +2,7 @@
 
 ghost use Rattle.ir_model.specs.declared.module.Function.{Function};
 ghost use Rattle.pass_fetch_proof.specs.rule_laws.rules.spelled.Spelled.{IsSpelledFunction};
-ghost use Rattle.pass_exits.specs.ExitBlocks.{with_exit_blocks};
+ghost use Rattle.pass_split.specs.pass_exits.ExitBlocks.{with_exit_blocks};
 
 /// And where edges that leave windows have blocks.
 pub fn exit_blocks_can_be_spelled()

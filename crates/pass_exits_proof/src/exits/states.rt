@@ -10,7 +10,7 @@ ghost use Rattle.ir_model.specs.declared.module.Function.{Function};
 ghost use Rattle.ir_model.specs.declared.module.Module.{Module};
 ghost use Rattle.pass_exits_proof.specs.exits.states.Exits.{KeepsExits, AreExitsKept, exits_split};
 ghost use Rattle.pass_fetch_proof.specs.run_states.moved_states.Moving.{IsMovedTo};
-ghost use Rattle.pass_exits.specs.ExitBlocks.{with_exit_blocks};
+ghost use Rattle.pass_split.specs.pass_exits.ExitBlocks.{with_exit_blocks};
 ghost use Rattle.pass_fetch_proof.specs.run_agreement.Agreements.{AgreesWithin};
 ghost use Rattle.pass_fetch_proof.specs.ir_base.declared.outcome.Word.{Word};
 ghost use Rattle.pass_fetch_proof.specs.ir_laws.facts.sound_states.Named.{AreLocalsNamed};

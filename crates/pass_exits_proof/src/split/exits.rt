@@ -11,7 +11,7 @@ ghost use Rattle.ir_model.specs.declared.module.Function.{Function};
 ghost use Rattle.ir_model.specs.declared.module.Module.{Module};
 ghost use Rattle.pass_exits_proof.specs.split.rules.Reached.{IsLedTo};
 ghost use Rattle.pass_fetch_proof.specs.rule_laws.frames.replaced.Splittable.{IsEndedFirst, may_cross};
-ghost use Rattle.pass_exits.specs.ExitBlocks.{with_exit_blocks};
+ghost use Rattle.pass_split.specs.pass_exits.ExitBlocks.{with_exit_blocks};
 ghost use Rattle.ir_model.specs.declared.module.Block.{Block};
 ghost use Rattle.pass_fetch_proof.specs.ir_paths.declared.point.Point.{Point};
 ghost use Rattle.pass_fetch_proof.specs.frame_crossing.Crossing.{suspends_of as suspend_points};

@@ -1,6 +1,6 @@
 use Rattle.std.proofs.Common.{◌≡◌, drop, map}
 use Rattle.frame_conflicts.specs.Early.{early_rows}
-use Rattle.frame_slots.specs.Words.{use_row}
+use Rattle.frame_classes.specs.frame_slots.Words.{use_row}
 use Rattle.frame_conflicts.proofs.early.early_blocks.Given as goal
 
 abbrev pub invariant-loop-block : goal.invariant-loop-block

@@ -1,6 +1,6 @@
 use Rattle.std.proofs.Common.{◌≡◌, drop, map}
 use Rattle.frame_conflicts.specs.Early.{early_row}
-use Rattle.frame_slots.specs.Words.{used}
+use Rattle.frame_classes.specs.frame_slots.Words.{used}
 use Rattle.frame_conflicts.proofs.early.early_instrs.Given as goal
 
 abbrev pub invariant-loop-instr : goal.invariant-loop-instr

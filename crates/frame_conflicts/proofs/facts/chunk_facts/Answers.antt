@@ -1,6 +1,6 @@
 use Rattle.std.proofs.Common.{◌∙◌, ap, refl}
 use Rattle.std.specs.Prelude.{bit_and, bit_xor}
-use Rattle.flow_reach.specs.Rows.{all_bits}
+use Rattle.frame_classes.specs.flow_reach.Rows.{all_bits}
 use Rattle.frame_conflicts.proofs.Chunks.{chunk_tells}
 use Rattle.frame_conflicts.specs.Meeting.{spots_from}
 use Rattle.frame_conflicts.proofs.facts.chunk_facts.Goals as goal

@@ -2,7 +2,7 @@ use Rattle.std.proofs.Common.{◌≡◌, ◌+◌, ◌∙◌, sym, subst, refl, t
 use Rattle.std.specs.Prelude.{bit_or, slice_set}
 use Rattle.std.specs.Int.{bit_at}
 use Rattle.std.proofs.lemmas.Bool.{eqb-true}
-use Rattle.flow_blocks.specs.Words.{word_at}
+use Rattle.frame_classes.specs.flow_blocks.Words.{word_at}
 use Rattle.frame_conflicts.specs.Meeting.{HaveMet}
 use Rattle.frame_conflicts.proofs.Meetings.{bit_met, bit_passed}
 use Rattle.frame_conflicts.proofs.Places.{bit_test, no_both}

@@ -10,7 +10,7 @@ use Rattle.ir_model.specs.declared.module.Module.{Module}
 use Rattle.ir_model.specs.declared.module.Param.{Param}
 use Rattle.pass_fetch_proof.specs.rule_names.Reserved.{part_name}
 use Rattle.pass_fetch_proof.specs.rule_laws.frames.same_names.Parts.{HasPart, HasPartsOf, HasSignature}
-use Rattle.pass_exits.specs.ExitBlocks.{with_exit_blocks}
+use Rattle.pass_split.specs.pass_exits.ExitBlocks.{with_exit_blocks}
 
 abbrev pub exited : Function → Function
 exited f = if f.coroutine then with_exit_blocks f else f

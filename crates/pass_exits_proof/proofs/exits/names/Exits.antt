@@ -7,8 +7,8 @@ use Rattle.std.proofs.lemmas.Fmt.{decimal_injective}
 use Rattle.std.proofs.lemmas.List.{append_cancel_left}
 use Rattle.pass_fetch_proof.specs.ir_base.declared.name.Name.{Name}
 use Rattle.ir_model.specs.Names.{numbered}
-use Rattle.pass_exits.specs.ExitBlocks.{exit_name, exit_names}
-use Rattle.pass_exits.specs.declared.exit.Exit.{Exit}
+use Rattle.pass_split.specs.pass_exits.ExitBlocks.{exit_name, exit_names}
+use Rattle.pass_split.specs.pass_exits.declared.exit.Exit.{Exit}
 use Rattle.pass_fetch_proof.specs.run_laws.changed.Changed.{Each}
 use Rattle.pass_fetch_proof.proofs.ir_laws.facts.Lists.{AreDifferent, IsNone}
 use Rattle.pass_fetch_proof.proofs.rule_laws.rules.names_apart.Numbered.{text_in}

@@ -4,9 +4,9 @@ use Rattle.pass_fetch_proof.proofs.rule_laws.frames.suspend_counts.Counted.{as_m
 use Rattle.pass_fetch_proof.specs.pass_intrinsics.Shapes.{suspends_of}
 use Rattle.ir_model.specs.declared.module.Block.{Block}
 use Rattle.ir_model.specs.declared.module.Function.{Function}
-use Rattle.pass_exits.specs.ExitBlocks.{blocks_by, exit_blocks, with_exit_blocks}
-use Rattle.pass_exits.specs.Exits.{block_exits}
-use Rattle.pass_exits.specs.declared.exit.Exit.{Exit}
+use Rattle.pass_split.specs.pass_exits.ExitBlocks.{blocks_by, exit_blocks, with_exit_blocks}
+use Rattle.pass_split.specs.pass_exits.Exits.{block_exits}
+use Rattle.pass_split.specs.pass_exits.declared.exit.Exit.{Exit}
 
 exits_alone : (n : ℕ) (es : List Exit) (bs : List Block) → total (exit_blocks n es ++ bs) ≡ total bs
 exits_alone n [] bs = refl

@@ -6,9 +6,9 @@ use Rattle.ir_model.specs.declared.instr.Case.{Case}
 use Rattle.ir_model.specs.declared.instr.Terminator.{Terminator}
 use Rattle.ir_model.specs.declared.module.Function.{Function}
 use Rattle.pass_fetch_proof.specs.ir_paths.Paths.{targets}
-use Rattle.pass_exits.specs.ExitBlocks.{after_exit, exit_cases, exit_label, exit_term}
-use Rattle.pass_exits.specs.Exits.{exit_to, exits_to, mark_of}
-use Rattle.pass_exits.specs.declared.exit.Exit.{Exit}
+use Rattle.pass_split.specs.pass_exits.ExitBlocks.{after_exit, exit_cases, exit_label, exit_term}
+use Rattle.pass_split.specs.pass_exits.Exits.{exit_to, exits_to, mark_of}
+use Rattle.pass_split.specs.pass_exits.declared.exit.Exit.{Exit}
 
 module _ (f : Function) (at from : ℕ) where
   -- the labels to which edges to these labels lead then; n is the next new label

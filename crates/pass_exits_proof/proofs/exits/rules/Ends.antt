@@ -11,9 +11,9 @@ use Rattle.pass_fetch_proof.specs.ir_paths.Windows.{end_block, is_call_of}
 use Rattle.pass_fetch_proof.proofs.ir_laws.facts.Lists.{place_end}
 use Rattle.pass_fetch_proof.specs.ir_laws.facts.expanded.Expansion.{expanded, place_of}
 use Rattle.pass_fetch_proof.specs.run_laws.changed.Changed.{Each}
-use Rattle.pass_exits.specs.ExitBlocks.{blocks_by, exit_block, exit_blocks, with_exit_blocks, with_exits}
-use Rattle.pass_exits.specs.Exits.{block_exits}
-use Rattle.pass_exits.specs.declared.exit.Exit.{Exit}
+use Rattle.pass_split.specs.pass_exits.ExitBlocks.{blocks_by, exit_block, exit_blocks, with_exit_blocks, with_exits}
+use Rattle.pass_split.specs.pass_exits.Exits.{block_exits}
+use Rattle.pass_split.specs.pass_exits.declared.exit.Exit.{Exit}
 use Rattle.pass_exits_proof.proofs.exits.rules.Places.{after, as_expansion, block_of, grow, length_placed, spot, unplaced, with_places}
 
 module _ (test : Block → Bool) (f : Function) (stays : (at n : ℕ) (b : Block) → test (with_exits f at n b) ≡ test b) (none : (n : ℕ) (e : Exit) → test (exit_block n e) ≡ false) where

@@ -7,7 +7,7 @@ use Rattle.ir_model.specs.declared.module.Block.{Block}
 use Rattle.ir_model.specs.declared.module.Function.{Function}
 use Rattle.ir_model.specs.declared.module.Module.{Module}
 use Rattle.pass_fetch_proof.specs.rule_laws.rules.replaced.Splittable.{AreBlocksBegun}
-use Rattle.pass_exits.specs.ExitBlocks.{with_exit_blocks}
+use Rattle.pass_split.specs.pass_exits.ExitBlocks.{with_exit_blocks}
 use Rattle.pass_fetch_proof.specs.rule_laws.rules.woven_rules.Pairs.{AreIncomingOnce}
 use Rattle.pass_fetch_proof.proofs.rule_laws.rules.threaded.Labels.{incoming_there}
 use Rattle.pass_exits_proof.proofs.exits.rules.Local.{calls_kept, depths_kept, known_kept, local_kept}

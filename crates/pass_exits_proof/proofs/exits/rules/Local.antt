@@ -40,7 +40,7 @@ use Rattle.pass_fetch_proof.specs.rule_types.Signatures.{calls_otherwise, first_
 use Rattle.pass_fetch_proof.specs.rule_values.Kinds.{value_kind}
 use Rattle.pass_fetch_proof.specs.rule_values.Values.{breaks_values, first_wrong_value}
 use Rattle.pass_fetch_proof.specs.rule_values.declared.kinds.Kind.{Kind}
-use Rattle.pass_exits.specs.ExitBlocks.{exit_term, with_exit_blocks}
+use Rattle.pass_split.specs.pass_exits.ExitBlocks.{exit_term, with_exit_blocks}
 use Rattle.pass_fetch_proof.proofs.rule_laws.rules.threaded.Carried.{Carries, carried, on_instrs}
 use Rattle.pass_fetch_proof.proofs.rule_laws.rules.threaded.Labels.{HasBlock, block_there, ending_known}
 use Rattle.pass_exits_proof.proofs.exits.rules.Noted.{kinds_same, sizes_same, values_same}

@@ -13,9 +13,9 @@ use Rattle.pass_fetch_proof.proofs.rule_laws.rules.function_rules.Tabled.{number
 use Rattle.ir_model.specs.declared.module.Block.{Block}
 use Rattle.ir_model.specs.declared.module.Function.{Function}
 use Rattle.pass_fetch_proof.specs.rule_names.Definitions.{first_twice}
-use Rattle.pass_exits.specs.ExitBlocks.{blocks_by, exit_blocks, exit_names, with_exit_blocks}
-use Rattle.pass_exits.specs.Exits.{block_exits, exits_by, exits_of}
-use Rattle.pass_exits.specs.declared.exit.Exit.{Exit}
+use Rattle.pass_split.specs.pass_exits.ExitBlocks.{blocks_by, exit_blocks, exit_names, with_exit_blocks}
+use Rattle.pass_split.specs.pass_exits.Exits.{block_exits, exits_by, exits_of}
+use Rattle.pass_split.specs.pass_exits.declared.exit.Exit.{Exit}
 
 -- the labels of a block's exits, before further numbers
 exits_woven : (n l : ℕ) (es : List Exit) (xs : List ℕ) (rest : List Block) → Woven (n + length es) xs l (row_of block_names rest) → Woven n xs l (row_of block_names (exit_blocks n es ++ rest))

@@ -9,9 +9,9 @@ use Rattle.pass_fetch_proof.specs.rule_locals.Markers.{block_size, slot_size}
 use Rattle.pass_fetch_proof.specs.ir_locals.Tables.{first_in, or_first}
 use Rattle.pass_fetch_proof.specs.rule_names.Known.{is_value}
 use Rattle.pass_fetch_proof.specs.rule_values.Kinds.{block_kind, param_kind, value_kind}
-use Rattle.pass_exits.specs.ExitBlocks.{blocks_by, exit_block, exit_blocks, with_exit_blocks, with_exits}
-use Rattle.pass_exits.specs.Exits.{block_exits}
-use Rattle.pass_exits.specs.declared.exit.Exit.{Exit}
+use Rattle.pass_split.specs.pass_exits.ExitBlocks.{blocks_by, exit_block, exit_blocks, with_exit_blocks, with_exits}
+use Rattle.pass_split.specs.pass_exits.Exits.{block_exits}
+use Rattle.pass_split.specs.pass_exits.declared.exit.Exit.{Exit}
 
 module _ {T : Type 0} (one : Block → ℕ → Option T) (v : ℕ) (f : Function) (stays : (at n : ℕ) (b : Block) → one (with_exits f at n b) v ≡ one b v) (none : (n : ℕ) (e : Exit) → one (exit_block n e) v ≡ None) where
   first_behind : (n : ℕ) (es : List Exit) (rest : List Block) → first_in one (exit_blocks n es ++ rest) v ≡ first_in one rest v

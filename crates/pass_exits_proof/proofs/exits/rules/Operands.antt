@@ -12,8 +12,8 @@ use Rattle.pass_fetch_proof.specs.rule_values.Fits.{fits_integer}
 use Rattle.pass_fetch_proof.specs.rule_values.Switches.{any_twice, bits_in, case_word, fits_case, fits_switch}
 use Rattle.pass_fetch_proof.specs.rule_values.Values.{fits_ending}
 use Rattle.pass_fetch_proof.specs.rule_values.declared.kinds.Kind.{Kind}
-use Rattle.pass_exits.specs.ExitBlocks.{after_exit, exit_cases, exit_term}
-use Rattle.pass_exits.specs.Exits.{mark_of}
+use Rattle.pass_split.specs.pass_exits.ExitBlocks.{after_exit, exit_cases, exit_term}
+use Rattle.pass_split.specs.pass_exits.Exits.{mark_of}
 
 module _ (f : Function) (at : ℕ) where
   abbrev behind : ℕ → ℕ → ℕ

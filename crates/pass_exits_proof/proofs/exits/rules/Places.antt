@@ -8,9 +8,9 @@ use Rattle.ir_model.specs.declared.module.Block.{Block}
 use Rattle.ir_model.specs.declared.module.Function.{Function}
 use Rattle.pass_fetch_proof.proofs.ir_laws.facts.Lists.{get_behind, get_expanded, get_front, none_past, place_beyond, place_next, place_unique}
 use Rattle.pass_fetch_proof.specs.ir_laws.facts.expanded.Expansion.{expanded, number_at, place_of}
-use Rattle.pass_exits.specs.ExitBlocks.{blocks_by, exit_block, exit_blocks, with_exit_blocks, with_exits}
-use Rattle.pass_exits.specs.Exits.{block_exits}
-use Rattle.pass_exits.specs.declared.exit.Exit.{Exit}
+use Rattle.pass_split.specs.pass_exits.ExitBlocks.{blocks_by, exit_block, exit_blocks, with_exit_blocks, with_exits}
+use Rattle.pass_split.specs.pass_exits.Exits.{block_exits}
+use Rattle.pass_split.specs.pass_exits.declared.exit.Exit.{Exit}
 
 -- ---- blocks with their positions; what a block becomes has none
 

@@ -16,9 +16,9 @@ use Rattle.ir_model.specs.declared.operand.Intrinsic.{Intrinsic}
 use Rattle.ir_model.specs.declared.operand.Operand.{Operand}
 use Rattle.pass_fetch_proof.specs.ir_paths.Paths.{entry_point}
 use Rattle.pass_fetch_proof.specs.ir_paths.Windows.{windows_of}
-use Rattle.pass_exits.specs.ExitBlocks.{after_exit, blocks_by, exit_blocks, exit_cases, exit_label, exit_term, with_exit_blocks, with_exits}
-use Rattle.pass_exits.specs.Exits.{block_exits, end_of, mark_from, mark_in, mark_of}
-use Rattle.pass_exits.specs.declared.exit.Exit.{Exit}
+use Rattle.pass_split.specs.pass_exits.ExitBlocks.{after_exit, blocks_by, exit_blocks, exit_cases, exit_label, exit_term, with_exit_blocks, with_exits}
+use Rattle.pass_split.specs.pass_exits.Exits.{block_exits, end_of, mark_from, mark_in, mark_of}
+use Rattle.pass_split.specs.pass_exits.declared.exit.Exit.{Exit}
 use Rattle.pass_fetch_proof.specs.rule_laws.rules.woven_shape.Calls.{call_at, calls_in, calls_of_block, default_on, first_named, is_shaping, joined, leads_block, second_named, shaping_call, shaping_calls, switched_to}
 use Rattle.pass_exits_proof.proofs.exits.rules.Operands.{ending_operands_same}
 use Rattle.pass_fetch_proof.proofs.edges.exit_rules.Shape.{suspend_is}

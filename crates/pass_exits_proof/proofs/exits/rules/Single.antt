@@ -17,7 +17,7 @@ use Rattle.pass_fetch_proof.specs.ir_paths.Paths.{IsPath, entry_point, has_point
 use Rattle.pass_fetch_proof.specs.ir_paths.Windows.{IsInWindow, leaves, windows_of}
 use Rattle.pass_fetch_proof.specs.ir_paths.declared.point.Point.{Point}
 use Rattle.pass_fetch_proof.specs.ir_paths.declared.point.Window.{Window}
-use Rattle.pass_exits.specs.Exits.{end_of, mark_from, mark_in, mark_of, number_of, or_else}
+use Rattle.pass_split.specs.pass_exits.Exits.{end_of, mark_from, mark_in, mark_of, number_of, or_else}
 use Rattle.pass_fetch_proof.proofs.ir_laws.facts.Truth.{first_no as none_first, not_below, second_no as none_second}
 use Rattle.pass_fetch_proof.proofs.rule_laws.rules.threaded.Single.{listed_leads}
 

@@ -21,9 +21,9 @@ use Rattle.ir_model.specs.declared.module.Function.{Function}
 use Rattle.ir_model.specs.declared.module.Module.{Module}
 use Rattle.pass_fetch_proof.specs.ir_paths.Paths.{targets}
 use Rattle.pass_fetch_proof.proofs.ir_laws.facts.Members.{at_each as each_at}
-use Rattle.pass_exits.specs.ExitBlocks.{after_exit, blocks_by, exit_block, exit_blocks, exit_label, exit_term, with_exit_blocks, with_exits}
-use Rattle.pass_exits.specs.Exits.{block_exits, mark_of}
-use Rattle.pass_exits.specs.declared.exit.Exit.{Exit}
+use Rattle.pass_split.specs.pass_exits.ExitBlocks.{after_exit, blocks_by, exit_block, exit_blocks, exit_label, exit_term, with_exit_blocks, with_exits}
+use Rattle.pass_split.specs.pass_exits.Exits.{block_exits, mark_of}
+use Rattle.pass_split.specs.pass_exits.declared.exit.Exit.{Exit}
 use Rattle.pass_fetch_proof.proofs.rule_laws.rules.threaded.Carried.{entry_same}
 use Rattle.pass_exits_proof.proofs.exits.rules.Cuts.{cut_labels, cut_targets, taken}
 use Rattle.pass_exits_proof.proofs.exits.rules.Places.{own_there, spot}

@@ -29,9 +29,9 @@ use Rattle.pass_fetch_proof.specs.ir_paths.Windows.{label_of_term}
 use Rattle.pass_fetch_proof.proofs.ir_laws.facts.Members.{at_each as each_at}
 use Rattle.pass_fetch_proof.specs.run_laws.changed.Changed.{Each as BelowAll, Each}
 use Rattle.pass_fetch_proof.specs.rule_laws.frames.replaced.Splittable.{HasOwnEdges, IsLedToBy}
-use Rattle.pass_exits.specs.ExitBlocks.{blocks_by, exit_blocks, with_exit_blocks, with_exits}
-use Rattle.pass_exits.specs.Exits.{block_exits, mark_of}
-use Rattle.pass_exits.specs.declared.exit.Exit.{Exit}
+use Rattle.pass_split.specs.pass_exits.ExitBlocks.{blocks_by, exit_blocks, with_exit_blocks, with_exits}
+use Rattle.pass_split.specs.pass_exits.Exits.{block_exits, mark_of}
+use Rattle.pass_split.specs.pass_exits.declared.exit.Exit.{Exit}
 use Rattle.pass_fetch_proof.proofs.ir_laws.paths.woven_rules.Unbroken.{each_listed, of_listed}
 use Rattle.pass_exits_proof.proofs.exits.rules.Places.{IsExit, IsOwn, home}
 use Rattle.pass_exits_proof.proofs.exits.rules.Shape.{AreFrom, all_from, first_from, rest_from, suspend_block, suspend_unmarked}

@@ -13,9 +13,9 @@ use Rattle.ir_model.specs.declared.module.Block.{Block}
 use Rattle.ir_model.specs.declared.module.Function.{Function}
 use Rattle.ir_model.specs.declared.module.Module.{Module}
 use Rattle.pass_fetch_proof.specs.ir_paths.Paths.{targets}
-use Rattle.pass_exits.specs.ExitBlocks.{exit_block, exit_term, with_exit_blocks}
-use Rattle.pass_exits.specs.Exits.{block_exits, mark_of}
-use Rattle.pass_exits.specs.declared.exit.Exit.{Exit}
+use Rattle.pass_split.specs.pass_exits.ExitBlocks.{exit_block, exit_term, with_exit_blocks}
+use Rattle.pass_split.specs.pass_exits.Exits.{block_exits, mark_of}
+use Rattle.pass_split.specs.pass_exits.declared.exit.Exit.{Exit}
 use Rattle.pass_exits_proof.proofs.exits.rules.Cuts.{Cut, IsMarked, IsTaken, cut_back, cut_forth, cut_targets, taken}
 use Rattle.pass_fetch_proof.proofs.rule_laws.rules.threaded.Labels.{HasBlock, target_there}
 use Rattle.pass_exits_proof.proofs.exits.rules.Names.{names_once}

@@ -6,7 +6,7 @@ use Rattle.pass_fetch_proof.specs.pass_intrinsics.Shapes.{shape_of}
 use Rattle.pass_fetch_proof.specs.pass_intrinsics.declared.shape.SuspendPoint.{SuspendPoint}
 use Rattle.ir_model.specs.declared.module.Function.{Function}
 use Rattle.pass_fetch_proof.specs.rule_laws.frames.replaced.Parted.{IsSmall}
-use Rattle.pass_exits.specs.ExitBlocks.{with_exit_blocks}
+use Rattle.pass_split.specs.pass_exits.ExitBlocks.{with_exit_blocks}
 use Rattle.pass_exits_proof.proofs.exits.rules.Suspends.{same_suspends}
 
 pub stays_small : (k : ℕ) (f : Function) (layout : Layout) → f.coroutine ≡ true → wrong_switch k f ≡ None → IsSmall (shape_of f layout) → IsSmall (shape_of (with_exit_blocks f) layout)

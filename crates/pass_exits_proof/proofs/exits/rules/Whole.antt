@@ -5,7 +5,7 @@ use Rattle.pass_fetch_proof.specs.rule_shape.Switches.{wrong_switch}
 use Rattle.ir_model.specs.Calls.{first_result}
 use Rattle.ir_model.specs.declared.module.Function.{Function}
 use Rattle.ir_model.specs.declared.operand.Intrinsic.{Intrinsic}
-use Rattle.pass_exits.specs.ExitBlocks.{with_exit_blocks}
+use Rattle.pass_split.specs.pass_exits.ExitBlocks.{with_exit_blocks}
 use Rattle.pass_fetch_proof.proofs.rule_laws.rules.woven_shape.Found.{made, not_begin, result_made}
 use Rattle.pass_fetch_proof.proofs.rule_laws.rules.woven_shape.OneOfEach.{wrong_call_same}
 use Rattle.pass_fetch_proof.proofs.rule_laws.rules.woven_shape.Switches.{wrong_switch_same}

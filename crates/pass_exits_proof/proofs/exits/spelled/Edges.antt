@@ -9,9 +9,9 @@ use Rattle.pass_fetch_proof.proofs.ir_laws.facts.Lists.{number_bytes, numbered_n
 use Rattle.pass_fetch_proof.specs.rule_laws.texts.spelled.Spelled.{IsSpelled}
 use Rattle.pass_fetch_proof.specs.rule_laws.rules.spelled.Spelled.{IsSpelledBlock, IsSpelledFunction}
 use Rattle.pass_fetch_proof.specs.run_laws.changed.Changed.{Each}
-use Rattle.pass_exits.specs.ExitBlocks.{blocks_by, exit_blocks, exit_names, mark_text, with_exit_blocks}
-use Rattle.pass_exits.specs.Exits.{block_exits, exits_of}
-use Rattle.pass_exits.specs.declared.exit.Exit.{Exit}
+use Rattle.pass_split.specs.pass_exits.ExitBlocks.{blocks_by, exit_blocks, exit_names, mark_text, with_exit_blocks}
+use Rattle.pass_split.specs.pass_exits.Exits.{block_exits, exits_of}
+use Rattle.pass_split.specs.pass_exits.declared.exit.Exit.{Exit}
 use Rattle.pass_exits_proof.proofs.exits.rules.Operands as exits
 
 -- ---- blocks on edges that leave windows

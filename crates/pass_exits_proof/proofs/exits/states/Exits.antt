@@ -35,9 +35,9 @@ use Rattle.pass_exits_proof.proofs.exits.states.Ways.{places_kept}
 use Rattle.pass_exits_proof.specs.exits.states.Exits.{AreExitsKept, KeepsExits, exit_function}
 use Rattle.pass_fetch_proof.specs.run_states.moved_states.Moving.{AllMove, Goes, IsMovedTo, KeepsKinds, Moving, StaysBehind, at_spot, saves_left}
 use Rattle.ir_model.specs.declared.instr.Case.{Case}
-use Rattle.pass_exits.specs.ExitBlocks.{blocks_by, exit_block, exit_blocks, exit_names, with_exit_blocks, with_exits}
-use Rattle.pass_exits.specs.Exits.{block_exits, exits_of}
-use Rattle.pass_exits.specs.declared.exit.Exit.{Exit}
+use Rattle.pass_split.specs.pass_exits.ExitBlocks.{blocks_by, exit_block, exit_blocks, exit_names, with_exit_blocks, with_exits}
+use Rattle.pass_split.specs.pass_exits.Exits.{block_exits, exits_of}
+use Rattle.pass_split.specs.pass_exits.declared.exit.Exit.{Exit}
 use Rattle.pass_exits_proof.proofs.exits.rules.Names.{names_length as names_count}
 
 -- ---- all blocks

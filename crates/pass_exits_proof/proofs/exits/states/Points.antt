@@ -16,9 +16,9 @@ use Rattle.pass_fetch_proof.specs.ir_paths.Windows.{call_result, instr_at, instr
 use Rattle.pass_fetch_proof.specs.ir_paths.declared.point.Point.{Point}
 use Rattle.pass_exits_proof.proofs.exits.rules.Places.{after, grow, none_there, own_there, spot, unplaced, with_places}
 use Rattle.pass_fetch_proof.specs.run_source_tables.Given.{has_final, is_final, is_final_call}
-use Rattle.pass_exits.specs.ExitBlocks.{blocks_by, exit_blocks, with_exit_blocks}
-use Rattle.pass_exits.specs.Exits.{block_exits}
-use Rattle.pass_exits.specs.declared.exit.Exit.{Exit}
+use Rattle.pass_split.specs.pass_exits.ExitBlocks.{blocks_by, exit_blocks, with_exit_blocks}
+use Rattle.pass_split.specs.pass_exits.Exits.{block_exits}
+use Rattle.pass_split.specs.pass_exits.declared.exit.Exit.{Exit}
 
 abbrev shift : ℕ → Point → Point
 shift c p = record { block = c + p.block; at = p.at }

@@ -31,8 +31,8 @@ use Rattle.pass_exits_proof.proofs.exits.states.Points.{moved, points_moved, sus
 use Rattle.pass_fetch_proof.proofs.rule_laws.rules.threading.Threading.{entry_has, entry_moved, is_between, moved_nexts, own_nexts, threads}
 use Rattle.pass_fetch_proof.proofs.edges.threads.Windows.{left_moved, none_left}
 use Rattle.pass_fetch_proof.specs.run_states.moved_states.Moving.{Goes, saves_left}
-use Rattle.pass_exits.specs.ExitBlocks.{after_exit, exit_cases, exit_term, with_exit_blocks}
-use Rattle.pass_exits.specs.Exits.{block_exits, exits_to, mark_of}
+use Rattle.pass_split.specs.pass_exits.ExitBlocks.{after_exit, exit_cases, exit_term, with_exit_blocks}
+use Rattle.pass_split.specs.pass_exits.Exits.{block_exits, exits_to, mark_of}
 
 -- ---- pairs
 

@@ -35,8 +35,8 @@ use Rattle.pass_exits_proof.specs.split.rules.Splittable.{IsSplittable}
 use Rattle.pass_fetch_proof.specs.frame_crossing.Crossing.{suspends_of as suspend_points}
 use Rattle.pass_fetch_proof.specs.frame_crossing.Paths.{IsDefinedBefore, IsNeededBehind, IsNeededFrom, IsOutside}
 use Rattle.pass_fetch_proof.specs.rule_values.Fits.{fits_kind}
-use Rattle.pass_exits.specs.ExitBlocks.{blocks_by, exit_blocks, exit_term, with_exit_blocks, with_exits}
-use Rattle.pass_exits.specs.Exits.{block_exits}
+use Rattle.pass_split.specs.pass_exits.ExitBlocks.{blocks_by, exit_blocks, exit_term, with_exit_blocks, with_exits}
+use Rattle.pass_split.specs.pass_exits.Exits.{block_exits}
 use Rattle.pass_fetch_proof.specs.pass_front.Front.{allocas_first, with_allocas_first}
 use Rattle.pass_fetch_proof.specs.ir_laws.paths.woven_rules.Pairs.{AreDifferent}
 use Rattle.pass_fetch_proof.proofs.rule_laws.frames.threaded.Crossing.{defined_home, needed_from_home}

@@ -7,7 +7,7 @@ use Rattle.pass_split.specs.Parts.{first_layout, layouts_after, marked_parts, pl
 use Rattle.pass_fetch_proof.specs.frame_layout.declared.layout.Layout.{Layout}
 use Rattle.ir_model.specs.declared.module.Function.{Function}
 use Rattle.ir_model.specs.declared.module.Module.{Module}
-use Rattle.pass_exits.specs.ExitBlocks.{with_exit_blocks}
+use Rattle.pass_split.specs.pass_exits.ExitBlocks.{with_exit_blocks}
 use Rattle.pass_fetch_proof.proofs.rule_laws.rules.same_names.Made.{all_names, made_names, part_suffixes}
 use Rattle.pass_fetch_proof.specs.rule_names.Reserved.{part_name}
 

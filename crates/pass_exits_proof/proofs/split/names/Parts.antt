@@ -28,7 +28,7 @@ use Rattle.pass_fetch_proof.proofs.rule_laws.rules.same_names.Spellings.{IsSuffi
 use Rattle.pass_fetch_proof.proofs.rule_laws.rules.same_names.Unreserved.{part_is_free}
 use Rattle.pass_fetch_proof.specs.rule_laws.frames.same_names.Parts.{HasPart, HasPartsOf, HasSignature}
 use Rattle.pass_fetch_proof.specs.ir_laws.facts.same_names.Short.{HaveShortNames}
-use Rattle.pass_exits.specs.ExitBlocks.{with_exit_blocks}
+use Rattle.pass_split.specs.pass_exits.ExitBlocks.{with_exit_blocks}
 use Rattle.pass_exits_proof.specs.split.names.Sources.{HasGivenParts}
 
 -- ---- where the functions that a function becomes stand

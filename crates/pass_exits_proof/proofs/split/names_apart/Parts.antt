@@ -4,8 +4,8 @@ use Rattle.std.specs.Prelude.{codes, slice_set}
 use Rattle.pass_fetch_proof.specs.ir_base.declared.name.Name.{Name}
 use Rattle.pass_split.specs.Parts.{back_name, begun_mark, done_mark, entry_mark, frame_mark, given_mark, index_mark, instr_names, mark_names, none_mark, pass_name, saved_name, slot_mark, suspend_names}
 use Rattle.ir_model.specs.Names.{numbered}
-use Rattle.pass_exits.specs.ExitBlocks.{exit_names}
-use Rattle.pass_exits.specs.declared.exit.Exit.{Exit}
+use Rattle.pass_split.specs.pass_exits.ExitBlocks.{exit_names}
+use Rattle.pass_split.specs.pass_exits.declared.exit.Exit.{Exit}
 use Rattle.pass_fetch_proof.proofs.ir_laws.facts.Members.{each_behind, each_turns, different_behind, different_set, each_both, each_set}
 use Rattle.pass_fetch_proof.specs.run_laws.changed.Changed.{Each}
 use Rattle.pass_fetch_proof.proofs.ir_laws.facts.Lists.{AreDifferent, tested, row, rows}

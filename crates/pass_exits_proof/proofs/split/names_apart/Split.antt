@@ -10,8 +10,8 @@ use Rattle.pass_fetch_proof.specs.pass_intrinsics.declared.shape.Part.{Part}
 use Rattle.pass_fetch_proof.specs.pass_intrinsics.declared.shape.Shape.{Shape}
 use Rattle.ir_model.specs.declared.module.Function.{Function}
 use Rattle.ir_model.specs.declared.module.Module.{Module}
-use Rattle.pass_exits.specs.ExitBlocks.{with_exit_blocks}
-use Rattle.pass_exits.specs.Exits.{exits_of}
+use Rattle.pass_split.specs.pass_exits.ExitBlocks.{with_exit_blocks}
+use Rattle.pass_split.specs.pass_exits.Exits.{exits_of}
 use Rattle.pass_fetch_proof.proofs.ir_laws.facts.Members.{at_each, each_behind}
 use Rattle.pass_fetch_proof.specs.run_laws.changed.Changed.{Each}
 use Rattle.pass_exits_proof.proofs.split.names_apart.Steps.{part_apart, part_longer, plain_apart}

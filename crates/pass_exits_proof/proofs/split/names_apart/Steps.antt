@@ -9,8 +9,8 @@ use Rattle.pass_split.specs.Parts.{frame_mark, instr_names, mark_names, suspend_
 use Rattle.pass_edges.specs.EdgeBlocks.{edge_names}
 use Rattle.pass_fetch_proof.specs.pass_fetch.Blocks.{numbered_names}
 use Rattle.pass_fetch_proof.specs.pass_cells.Cells.{with_own_names}
-use Rattle.pass_exits.specs.ExitBlocks.{exit_names}
-use Rattle.pass_exits.specs.declared.exit.Exit.{Exit}
+use Rattle.pass_split.specs.pass_exits.ExitBlocks.{exit_names}
+use Rattle.pass_split.specs.pass_exits.declared.exit.Exit.{Exit}
 use Rattle.pass_fetch_proof.proofs.ir_laws.facts.Lists.{AreDifferent, row, rows, rows_longer}
 use Rattle.pass_fetch_proof.proofs.ir_laws.facts.Members.{apart_from}
 use Rattle.pass_fetch_proof.proofs.rule_laws.rules.names_apart.Numbered.{are_right, digit_words, numbers_new, rows_new}

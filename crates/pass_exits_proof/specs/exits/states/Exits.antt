@@ -5,7 +5,7 @@ use Rattle.pass_fetch_proof.specs.edges.rules.Phis.{ArePhisEnteredByJumps}
 use Rattle.pass_fetch_proof.specs.rule_laws.rules.function_rules.Kept.{KeepsFunctionRules}
 use Rattle.ir_model.specs.declared.module.Function.{Function}
 use Rattle.ir_model.specs.declared.module.Module.{Module}
-use Rattle.pass_exits.specs.ExitBlocks.{with_exit_blocks}
+use Rattle.pass_split.specs.pass_exits.ExitBlocks.{with_exit_blocks}
 
 -- the edges of a coroutine that leave windows have blocks
 abbrev pub exit_function : Function → Function

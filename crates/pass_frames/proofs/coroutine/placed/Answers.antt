@@ -1,5 +1,5 @@
 use Rattle.std.proofs.Common.{ap, ◌∙◌, List}
-use Rattle.frame_classes.specs.declared.class.SlotClass.{SlotClass}
+use Rattle.frame_contents.specs.frame_classes.declared.class.SlotClass.{SlotClass}
 use Rattle.pass_frames.proofs.Told.{placed_by}
 use Rattle.pass_frames.specs.Tables.{class_flags}
 use Rattle.pass_frames.proofs.coroutine.placed.Goals as goal

@@ -7,7 +7,7 @@ use Rattle.pass_exits_proof.proofs.ir_laws.paths.crossing.Spots.{spot_first, spo
 use Rattle.pass_exits_proof.specs.ir_laws.facts.crossing.Crossed.{is_switch}
 use Rattle.pass_exits_proof.specs.rule_shape.OneOfEach.{wrong_call}
 use Rattle.pass_exits_proof.specs.rule_shape.Switches.{wrong_switch}
-use Rattle.pass_split.specs.Reached.{entry_of}
+use Rattle.pass_exits_proof.specs.pass_split.Reached.{entry_of}
 use Rattle.pass_exits_proof.proofs.ir_laws.facts.Lists.{get_within}
 use Rattle.pass_exits_proof.proofs.ir_laws.facts.Truth.{itself}
 use Rattle.pass_exits_proof.specs.ir_laws.facts.renamed.Regular.{passes}

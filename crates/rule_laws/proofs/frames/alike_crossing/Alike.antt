@@ -10,8 +10,8 @@ use Rattle.ir_laws.specs.ir_model.declared.module.Function.{Function}
 use Rattle.ir_laws.specs.ir_paths.Paths.{targets}
 use Rattle.ir_laws.specs.ir_paths.Windows.{destroy_label, end_block, resume_label}
 use Rattle.ir_laws.specs.run_step.Step.{Fetched, Nowhere, AtInstr, AtTerm, fetch}
-use Rattle.frame_crossing.specs.EdgeUses.{IsUsedOn}
-use Rattle.frame_crossing.specs.Paths.{BranchesTo, phis_at, used_by}
+use Rattle.frame_contents.specs.frame_crossing.EdgeUses.{IsUsedOn}
+use Rattle.frame_contents.specs.frame_crossing.Paths.{BranchesTo, phis_at, used_by}
 
 -- both make the value and use it, or neither does, and both lead on alike
 abbrev pub IsAlike : ℕ → Fetched → Fetched → Type 0

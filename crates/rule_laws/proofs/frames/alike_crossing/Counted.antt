@@ -13,7 +13,7 @@ use Rattle.ir_laws.proofs.facts.Members.{at_each as each_at}
 use Rattle.ir_laws.specs.run_laws.changed.Changed.{Each, result_of as made_by}
 use Rattle.ir_laws.specs.facts.expanded.Tokens.{IsNamedResult}
 use Rattle.ir_laws.specs.facts.sound_states.Named.{HasNamedLocals}
-use Rattle.frame_crossing.specs.Values.{values_of}
+use Rattle.frame_contents.specs.frame_crossing.Values.{values_of}
 
 pub same_results : (i : Instr) → result_of i ≡ made_by i
 same_results (Instr.Binary name op flags ty a b) = refl

@@ -8,15 +8,15 @@ use Rattle.ir_laws.specs.ir_model.declared.module.Function.{Function}
 use Rattle.ir_laws.specs.ir_paths.Windows.{destroy_label, resume_label}
 use Rattle.ir_laws.specs.ir_paths.declared.point.Point.{Point}
 use Rattle.ir_laws.specs.run_step.Step.{Fetched, AtInstr, fetch}
-use Rattle.frame_crossing.specs.Crossing.{AreCrossed, AreCrossing, CrossedBy, Crosses, suspends_of}
-use Rattle.frame_crossing.specs.Crossing.AreCrossed.{NoMore, Taken, LeftOut}
-use Rattle.frame_crossing.specs.Crossing.CrossedBy.{Nothing, More}
-use Rattle.frame_crossing.specs.EdgeUses.{IsUsedOn}
-use Rattle.frame_crossing.specs.Paths.{BranchesTo, IsDefinedBefore, IsNeeded, IsNeededBehind, IsNeededFrom, IsOutside, LeadsTo, phis_at, used_by}
-use Rattle.frame_crossing.specs.Paths.IsDefinedBefore.{ByParam, ByPhi, ByInstr}
-use Rattle.frame_crossing.specs.Paths.IsNeeded.{Use, Next, OnEdge, Across}
-use Rattle.frame_crossing.specs.Paths.LeadsTo.{There, Over, Along}
-use Rattle.frame_crossing.specs.Values.{values_of}
+use Rattle.frame_contents.specs.frame_crossing.Crossing.{AreCrossed, AreCrossing, CrossedBy, Crosses, suspends_of}
+use Rattle.frame_contents.specs.frame_crossing.Crossing.AreCrossed.{NoMore, Taken, LeftOut}
+use Rattle.frame_contents.specs.frame_crossing.Crossing.CrossedBy.{Nothing, More}
+use Rattle.frame_contents.specs.frame_crossing.EdgeUses.{IsUsedOn}
+use Rattle.frame_contents.specs.frame_crossing.Paths.{BranchesTo, IsDefinedBefore, IsNeeded, IsNeededBehind, IsNeededFrom, IsOutside, LeadsTo, phis_at, used_by}
+use Rattle.frame_contents.specs.frame_crossing.Paths.IsDefinedBefore.{ByParam, ByPhi, ByInstr}
+use Rattle.frame_contents.specs.frame_crossing.Paths.IsNeeded.{Use, Next, OnEdge, Across}
+use Rattle.frame_contents.specs.frame_crossing.Paths.LeadsTo.{There, Over, Along}
+use Rattle.frame_contents.specs.frame_crossing.Values.{values_of}
 
 outside_of : (g : Function) (v b x : ℕ) → IsNeeded g v b x → IsOutside g b
 outside_of g v _ _ (Use b x out u) = out

@@ -10,7 +10,7 @@ use Rattle.ir_laws.specs.ir_model.declared.module.Block.{Block}
 use Rattle.ir_laws.specs.ir_model.declared.module.Function.{Function}
 use Rattle.ir_laws.specs.ir_model.declared.module.Param.{Param}
 use Rattle.ir_laws.specs.ir_paths.Slots.{has_name}
-use Rattle.frame_crossing.specs.Values.{all_defined, blocks_defined, distinct, instrs_defined, is_apart, is_token, params_defined, phis_defined, result_unless, unless, values_of, with_new}
+use Rattle.frame_contents.specs.frame_crossing.Values.{all_defined, blocks_defined, distinct, instrs_defined, is_apart, is_token, params_defined, phis_defined, result_unless, unless, values_of, with_new}
 
 module _ (P : ℕ → Type 0) where
   abbrev pub Hold : List ℕ → Type 0

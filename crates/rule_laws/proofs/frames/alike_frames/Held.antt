@@ -16,10 +16,10 @@ use Rattle.ir_laws.proofs.ir_paths.Search.{either, eq_from}
 use Rattle.ir_laws.specs.ir_paths.Slots.{has_name, promise_of}
 use Rattle.ir_laws.proofs.facts.Members.{each_joined as each_append}
 use Rattle.ir_laws.specs.run_laws.changed.Changed.{Each}
-use Rattle.frame_crossing.specs.Crossing.{AreCrossed, AreCrossing, CrossedBy, suspends_of}
-use Rattle.frame_crossing.specs.Crossing.AreCrossed.{NoMore, Taken, LeftOut}
-use Rattle.frame_crossing.specs.Crossing.CrossedBy.{Nothing, More}
-use Rattle.frame_crossing.specs.Values.{values_of}
+use Rattle.frame_contents.specs.frame_crossing.Crossing.{AreCrossed, AreCrossing, CrossedBy, suspends_of}
+use Rattle.frame_contents.specs.frame_crossing.Crossing.AreCrossed.{NoMore, Taken, LeftOut}
+use Rattle.frame_contents.specs.frame_crossing.Crossing.CrossedBy.{Nothing, More}
+use Rattle.frame_contents.specs.frame_crossing.Values.{values_of}
 
 -- ---- names of what is held
 

@@ -16,10 +16,10 @@ use Rattle.frame_layout.specs.declared.laying.LayoutError.{LayoutError}
 use Rattle.ir_laws.specs.ir_model.declared.module.Function.{Function}
 use Rattle.ir_laws.specs.ir_model.declared.module.Module.{Module}
 use Rattle.ir_laws.specs.ir_paths.Slots.{allocas_of}
-use Rattle.frame_conflicts.specs.Conflicts.{AreAliveAt, AreConflicts}
-use Rattle.frame_classes.specs.Classes.{AreClasses}
-use Rattle.frame_classes.specs.declared.class.SlotClass.{SlotClass}
-use Rattle.frame_crossing.specs.Crossing.{AreCrossing}
+use Rattle.frame_contents.specs.frame_conflicts.Conflicts.{AreAliveAt, AreConflicts}
+use Rattle.frame_contents.specs.frame_classes.Classes.{AreClasses}
+use Rattle.frame_contents.specs.frame_classes.declared.class.SlotClass.{SlotClass}
+use Rattle.frame_contents.specs.frame_crossing.Crossing.{AreCrossing}
 
 -- the frames of two functions of two modules hold the same
 pub record HoldAlike (m k : Module) (f g : Function) : Type 0 where

@@ -11,11 +11,11 @@ use Rattle.ir_laws.proofs.ir_paths.Search.{Has}
 use Rattle.ir_laws.specs.ir_paths.Paths.{has_point}
 use Rattle.ir_laws.specs.ir_paths.Slots.{allocas_of, is_escaped}
 use Rattle.ir_laws.specs.ir_paths.declared.point.Point.{Point}
-use Rattle.frame_classes.specs.Classes.{AreClasses, IsAliveAcross, IsOf, IsUsedAcross, IsUsedAway, MeetsLater, NeedsFrame, Touches, parting, suspends}
-use Rattle.frame_classes.specs.Classes.NeedsFrame.{Promise, Away, Across, Alive}
-use Rattle.frame_classes.specs.declared.class.SlotClass.{SlotClass}
-use Rattle.rule_slots.specs.Closed.{IsClosed}
-use Rattle.frame_slots.specs.Spots.{IsBehind, LeadsFrom, Spot, point_at}
+use Rattle.frame_contents.specs.frame_classes.Classes.{AreClasses, IsAliveAcross, IsOf, IsUsedAcross, IsUsedAway, MeetsLater, NeedsFrame, Touches, parting, suspends}
+use Rattle.frame_contents.specs.frame_classes.Classes.NeedsFrame.{Promise, Away, Across, Alive}
+use Rattle.frame_contents.specs.frame_classes.declared.class.SlotClass.{SlotClass}
+use Rattle.rule_all.specs.rule_slots.Closed.{IsClosed}
+use Rattle.frame_contents.specs.frame_slots.Spots.{IsBehind, LeadsFrom, Spot, point_at}
 
 module _ (f g : Function) (front back : Point → Point) (Name : ℕ → Type 0) (alike : AreSlotsAlike f g front back Name) where
   abbrev moved : Spot → Spot
@@ -46,14 +46,14 @@ module _ (f g : Function) (front back : Point → Point) (Name : ℕ → Type 0)
 
   closed_forth : (s : Spot) → IsClosed f (point_at f s) → IsClosed g (point_at g (moved s))
   closed_forth s (inl a) = inl (after_forth f g front back Name alike (point_at f s) (point_at g (moved s)) (inr (point_moved f g front back Name alike s)) a)
-  closed_forth s (inr w) = inr (subst (λ (x : Point). Rattle.rule_slots.specs.Closed.IsInSomeWindow g x) (sym (point_moved f g front back Name alike s)) ((alike.windows (point_at f s)).0 w))
+  closed_forth s (inr w) = inr (subst (λ (x : Point). Rattle.rule_all.specs.rule_slots.Closed.IsInSomeWindow g x) (sym (point_moved f g front back Name alike s)) ((alike.windows (point_at f s)).0 w))
 
   closed_home : (s : Spot) (t : Spot) → t ≡ moved s → IsClosed g (point_at g t) → IsClosed f (point_at f s)
   closed_home s t e h = on (subst (λ (u : Spot). IsClosed g (point_at g u)) e h)
     where
       on : IsClosed g (point_at g (moved s)) → IsClosed f (point_at f s)
       on (inl a) = inl (after_home f g front back Name alike (point_at f s) (point_at g (moved s)) (inr (point_moved f g front back Name alike s)) a)
-      on (inr w) = inr ((alike.windows (point_at f s)).1 (subst (λ (x : Point). Rattle.rule_slots.specs.Closed.IsInSomeWindow g x) (point_moved f g front back Name alike s) w))
+      on (inr w) = inr ((alike.windows (point_at f s)).1 (subst (λ (x : Point). Rattle.rule_all.specs.rule_slots.Closed.IsInSomeWindow g x) (point_moved f g front back Name alike s) w))
 
   -- ---- used away
 

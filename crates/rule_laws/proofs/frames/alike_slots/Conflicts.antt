@@ -14,12 +14,12 @@ use Rattle.ir_laws.specs.ir_paths.Paths.{Leads, has_point, same_point}
 use Rattle.ir_laws.specs.ir_paths.Slots.{allocas_of}
 use Rattle.ir_laws.specs.ir_paths.declared.point.Point.{Point}
 use Rattle.flow_points.specs.Reached.{IsReached}
-use Rattle.frame_conflicts.specs.Conflicts.{AliveAt, AreAliveAt, AreAliveTogether, AreConflicts, Conflict, ConflictAt, IsFrameSlotAt, IsUsedEarly}
-use Rattle.frame_conflicts.specs.Conflicts.Conflict.{Unmarked, Early, Together}
-use Rattle.frame_classes.specs.Classes.{suspends}
-use Rattle.frame_classes.specs.declared.class.SlotClass.{SlotClass}
-use Rattle.rule_slots.specs.Early.{IsBeforeBegin}
-use Rattle.frame_slots.specs.Spots.{Comes, point_at}
+use Rattle.frame_contents.specs.frame_conflicts.Conflicts.{AliveAt, AreAliveAt, AreAliveTogether, AreConflicts, Conflict, ConflictAt, IsFrameSlotAt, IsUsedEarly}
+use Rattle.frame_contents.specs.frame_conflicts.Conflicts.Conflict.{Unmarked, Early, Together}
+use Rattle.frame_contents.specs.frame_classes.Classes.{suspends}
+use Rattle.frame_contents.specs.frame_classes.declared.class.SlotClass.{SlotClass}
+use Rattle.rule_all.specs.rule_slots.Early.{IsBeforeBegin}
+use Rattle.frame_contents.specs.frame_slots.Spots.{Comes, point_at}
 use Rattle.rule_windows.specs.Points.{begins, entry}
 
 only_one : (y x : Point) → Has (y ∷ []) x → x ≡ y

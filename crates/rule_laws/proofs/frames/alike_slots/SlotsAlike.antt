@@ -11,15 +11,15 @@ use Rattle.ir_laws.specs.ir_paths.Slots.{IsRampSlot, addresses_of, allocas_of, e
 use Rattle.ir_laws.specs.ir_paths.Windows.{destroy_label, end_block, resume_label}
 use Rattle.ir_laws.specs.ir_paths.declared.point.Point.{Point}
 use Rattle.flow_reach.specs.Reached.{IsPointOf}
-use Rattle.frame_classes.specs.Alive.{MayBeAlive, markers_of}
-use Rattle.frame_classes.specs.Alive.MayBeAlive.{Unmarked, Started}
-use Rattle.frame_classes.specs.Classes.{suspends}
-use Rattle.rule_slots.specs.Closed.{IsInSomeWindow}
-use Rattle.rule_slots.specs.Early.{end_at}
-use Rattle.frame_slots.specs.Uses.{UsesAt, ends_of, starts_of}
+use Rattle.frame_contents.specs.frame_classes.Alive.{MayBeAlive, markers_of}
+use Rattle.frame_contents.specs.frame_classes.Alive.MayBeAlive.{Unmarked, Started}
+use Rattle.frame_contents.specs.frame_classes.Classes.{suspends}
+use Rattle.rule_all.specs.rule_slots.Closed.{IsInSomeWindow}
+use Rattle.rule_all.specs.rule_slots.Early.{end_at}
+use Rattle.frame_contents.specs.frame_slots.Uses.{UsesAt, ends_of, starts_of}
 use Rattle.rule_windows.specs.Points.{begins, ends}
 use Rattle.rule_windows.specs.Sets.{IsAfterEnd}
-use Rattle.rule_window_values.specs.Kept.{TakesFrom}
+use Rattle.rule_all.specs.rule_window_values.Kept.{TakesFrom}
 use Rattle.ir_laws.proofs.paths.alike_slots.SlotsAlike.{AreLone}
 
 -- a use in g stands at the back of a point

@@ -13,13 +13,13 @@ use Rattle.ir_laws.specs.ir_paths.Paths.{entry_point, has_point}
 use Rattle.ir_laws.specs.ir_paths.Slots.{addresses_of, end_points, has_name}
 use Rattle.ir_laws.specs.ir_paths.Windows.{destroy_label, resume_label}
 use Rattle.ir_laws.specs.ir_paths.declared.point.Point.{Point}
-use Rattle.frame_slots.specs.Spots.{Comes, IsBehind, IsStart, IsUse, LeadsFrom, Spot, UsesIn, point_at}
-use Rattle.frame_slots.specs.Spots.IsBehind.{OnEdge, Later}
-use Rattle.frame_slots.specs.Spots.IsStart.{Marked}
-use Rattle.frame_slots.specs.Spots.Spot.{At, On}
-use Rattle.frame_slots.specs.Uses.{starts_of}
+use Rattle.frame_contents.specs.frame_slots.Spots.{Comes, IsBehind, IsStart, IsUse, LeadsFrom, Spot, UsesIn, point_at}
+use Rattle.frame_contents.specs.frame_slots.Spots.IsBehind.{OnEdge, Later}
+use Rattle.frame_contents.specs.frame_slots.Spots.IsStart.{Marked}
+use Rattle.frame_contents.specs.frame_slots.Spots.Spot.{At, On}
+use Rattle.frame_contents.specs.frame_slots.Uses.{starts_of}
 use Rattle.rule_windows.specs.Windows.{own_edges}
-use Rattle.rule_window_values.specs.Kept.{own_blocks}
+use Rattle.rule_all.specs.rule_window_values.Kept.{own_blocks}
 
 -- what stands at a point stands at its back, and on edges all stay
 abbrev pub moved_spot : (Point → Point) → Spot → Spot

@@ -6,7 +6,7 @@ use Rattle.ir_laws.proofs.ir_paths.Search.{Has, leads-more}
 use Rattle.ir_laws.specs.ir_paths.Paths.{Leads, has_point, nexts, same_point}
 use Rattle.ir_laws.specs.ir_paths.declared.point.Point.{Point}
 use Rattle.ir_laws.proofs.paths.expanded.Strands.{IsLedTo as IsOnWay, ahead_home, from_front as on_from_front, leads_forth, leads_home as ways_home}
-use Rattle.frame_slots.specs.Spots.{Comes}
+use Rattle.frame_contents.specs.frame_slots.Spots.{Comes}
 pub use Rattle.ir_laws.proofs.paths.expanded.Strands.{IsOnlyNext}
 use Rattle.ir_laws.specs.paths.expanded.Avoided.{AreAvoided}
 use Rattle.ir_laws.proofs.paths.alike_slots.Strands.{AreCarried, AreStrands, IsOpen, leads_at}

@@ -7,7 +7,7 @@ use Rattle.ir_laws.specs.ir_model.declared.module.Function.{Function}
 use Rattle.ir_laws.specs.ir_paths.Paths.{has_point}
 use Rattle.ir_laws.specs.ir_paths.Windows.{instr_at, points_where}
 use Rattle.ir_laws.specs.ir_paths.declared.point.Point.{Point}
-use Rattle.frame_slots.proofs.Points.{where_complete}
+use Rattle.frame_contents.proofs.frame_slots.Points.{where_complete}
 
 pub where_is : (t : Instr → Bool) (f : Function) (p : Point) → has_point (points_where t f) p ≡ passes t (instr_at f p)
 where_is t f p = on (passes t (instr_at f p)) refl

@@ -13,7 +13,7 @@ use Rattle.ir_laws.specs.ir_paths.Paths.{has_point, same_point}
 use Rattle.ir_laws.specs.ir_paths.Windows.{IsInWindow, is_call_of, points_where, suspend_of}
 use Rattle.ir_laws.specs.ir_paths.declared.point.Point.{Point}
 use Rattle.ir_laws.proofs.facts.Truth.{same_truth}
-use Rattle.rule_slots.specs.Closed.{IsInOneOf, IsInSomeWindow}
+use Rattle.rule_all.specs.rule_slots.Closed.{IsInOneOf, IsInSomeWindow}
 
 -- the point is in the window of a save with its suspend
 pub record IsIn (f : Function) (p : Point) : Type 0 where

@@ -27,7 +27,7 @@ use Rattle.rule_laws.specs.rules.replaced.Splittable.{AreBegun, AreBlocksBegun}
 use Rattle.rule_laws.specs.frames.replaced.Splittable.{HasOwnEdges, IsLedToBy}
 use Rattle.ir_laws.specs.facts.replaced.Splittable.{asks_begin}
 use Rattle.ir_laws.specs.run_laws.changed.Changed.{Each}
-use Rattle.frame_crossing.proofs.Blocks.{edge_is_out}
+use Rattle.frame_contents.proofs.frame_crossing.Blocks.{edge_is_out}
 use Rattle.ir_laws.proofs.paths.woven_rules.Unbroken.{of_listed}
 use Rattle.rule_laws.proofs.rules.woven_rules.ValueKinds.{made_grows}
 use Rattle.rule_laws.proofs.rules.edges.Entered.{has_listed as listed_has}

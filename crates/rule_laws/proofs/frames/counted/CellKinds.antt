@@ -17,7 +17,7 @@ use Rattle.ir_laws.specs.ir_model.declared.operand.Arg.{Arg}
 use Rattle.ir_laws.specs.ir_model.declared.operand.Callee.{Callee}
 use Rattle.ir_laws.specs.ir_model.declared.operand.Intrinsic.{Intrinsic}
 use Rattle.ir_laws.specs.ir_paths.Windows.{is_call_of}
-use Rattle.frame_crossing.specs.Values.{is_apart, is_token}
+use Rattle.frame_contents.specs.frame_crossing.Values.{is_apart, is_token}
 use Rattle.rule_types.specs.Signatures.{are_wanted, calls_otherwise}
 use Rattle.rule_types.specs.Wants.{intrinsic_params, is_token as is_token_type}
 use Rattle.rule_values.specs.Fits.{fits, fits_arg, fits_scalar, is_integer, is_scalar}

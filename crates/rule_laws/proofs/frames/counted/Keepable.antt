@@ -9,7 +9,7 @@ use Rattle.ir_laws.specs.ir_model.declared.instr.Phi.{Phi}
 use Rattle.ir_laws.specs.ir_model.declared.module.Block.{Block}
 use Rattle.ir_laws.specs.ir_model.declared.module.Param.{Param}
 use Rattle.ir_laws.specs.ir_paths.Slots.{has_name}
-use Rattle.frame_crossing.specs.Values.{blocks_defined, distinct, instrs_defined, is_apart, is_token, params_defined, phis_defined, result_unless, unless, with_new}
+use Rattle.frame_contents.specs.frame_crossing.Values.{blocks_defined, distinct, instrs_defined, is_apart, is_token, params_defined, phis_defined, result_unless, unless, with_new}
 use Rattle.ir_laws.proofs.facts.Lists.{FoundParam, FoundPhi}
 
 pub record FoundInstr (is : List Instr) (v : ℕ) : Type 0 where

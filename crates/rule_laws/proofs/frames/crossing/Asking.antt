@@ -20,7 +20,7 @@ use Rattle.ir_laws.specs.ir_model.declared.operand.Callee.{Callee}
 use Rattle.ir_laws.specs.ir_model.declared.operand.Intrinsic.{Intrinsic}
 use Rattle.ir_laws.specs.ir_paths.Windows.{is_call_of, label_of_term}
 use Rattle.ir_laws.specs.ir_paths.declared.point.Point.{Point}
-use Rattle.frame_crossing.specs.Crossing.{AreCrossed, CrossedBy, LeftOut, More, NoMore, Nothing, Taken, suspends_of}
+use Rattle.frame_contents.specs.frame_crossing.Crossing.{AreCrossed, CrossedBy, LeftOut, More, NoMore, Nothing, Taken, suspends_of}
 
 -- ---- pairs are of values
 

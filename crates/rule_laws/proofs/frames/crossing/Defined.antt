@@ -36,10 +36,10 @@ use Rattle.ir_laws.specs.ir_paths.Windows.{destroy_label, instr_at, instr_in, is
 use Rattle.ir_laws.specs.ir_paths.declared.point.Point.{Point}
 use Rattle.ir_laws.specs.run_step.Step.{AtInstr, AtTerm, Fetched}
 use Rattle.ir_laws.specs.run_laws.changed.Changed.{Each}
-use Rattle.frame_crossing.specs.Crossing.{suspends_of}
-use Rattle.frame_crossing.specs.EdgeUses.{IsUsedOn, edge_use, incoming_uses, phis_uses, uses_by}
-use Rattle.frame_crossing.specs.Paths.{Across, BranchesTo, ByParam, ByPhi, IsDefinedBefore, IsNeeded, IsNeededBehind, IsNeededFrom, LeadsTo, Next, OnEdge, Use, phis_at, phis_in, used_by}
-use Rattle.frame_crossing.specs.declared.edge_use.EdgeUse.{EdgeUse}
+use Rattle.frame_contents.specs.frame_crossing.Crossing.{suspends_of}
+use Rattle.frame_contents.specs.frame_crossing.EdgeUses.{IsUsedOn, edge_use, incoming_uses, phis_uses, uses_by}
+use Rattle.frame_contents.specs.frame_crossing.Paths.{Across, BranchesTo, ByParam, ByPhi, IsDefinedBefore, IsNeeded, IsNeededBehind, IsNeededFrom, LeadsTo, Next, OnEdge, Use, phis_at, phis_in, used_by}
+use Rattle.frame_contents.specs.frame_crossing.declared.edge_use.EdgeUse.{EdgeUse}
 
 -- ---- where a switch leads
 

@@ -14,7 +14,7 @@ use Rattle.ir_laws.specs.ir_model.declared.module.Function.{Function}
 use Rattle.ir_laws.specs.ir_model.declared.module.Module.{Module}
 use Rattle.ir_laws.specs.ir_paths.Paths.{targets}
 use Rattle.ir_laws.specs.run_step.Step.{fetch, fetch_in, fetch_or}
-use Rattle.frame_crossing.specs.Paths.{BranchesTo}
+use Rattle.frame_contents.specs.frame_crossing.Paths.{BranchesTo}
 use Rattle.rule_laws.proofs.rules.edges.Entered.{has_listed as listed_has}
 use Rattle.rule_laws.proofs.rules.known_labels.Rules.{labels_spelt as labels_same}
 

@@ -18,8 +18,8 @@ use Rattle.ir_laws.specs.ir_paths.Paths.{targets}
 use Rattle.ir_laws.specs.ir_paths.Windows.{destroy_label, end_block, resume_label}
 use Rattle.ir_laws.specs.ir_paths.declared.point.Point.{Point}
 use Rattle.ir_laws.specs.run_step.Step.{AtInstr, AtTerm, Fetched, fetch}
-use Rattle.frame_crossing.specs.EdgeUses.{IsUsedOn}
-use Rattle.frame_crossing.specs.Paths.{Across, BranchesTo, IsNeeded, IsNeededBehind, IsNeededFrom, IsOutside, Next, OnEdge, Use, phis_at, phis_in, used_by}
+use Rattle.frame_contents.specs.frame_crossing.EdgeUses.{IsUsedOn}
+use Rattle.frame_contents.specs.frame_crossing.Paths.{Across, BranchesTo, IsNeeded, IsNeededBehind, IsNeededFrom, IsOutside, Next, OnEdge, Use, phis_at, phis_in, used_by}
 
 -- what a terminator uses, and where it leads
 pub record IsTermLike (kept : ℕ → Type 0) (v : ℕ) (t u : Terminator) : Type 0 where

@@ -28,9 +28,9 @@ use Rattle.ir_laws.specs.ir_paths.Windows.{destroy_label, resume_label}
 use Rattle.ir_laws.specs.ir_paths.declared.point.Point.{Point}
 use Rattle.ir_laws.specs.run_step.Step.{AtInstr, AtTerm, Fetched}
 use Rattle.ir_laws.specs.run_laws.changed.Changed.{Each}
-use Rattle.frame_crossing.specs.EdgeUses.{IsUsedOn, blocks_uses, edge_use, incoming_uses, phis_uses, uses_by}
-use Rattle.frame_crossing.specs.Paths.{Across, BranchesTo, IsNeeded, IsNeededBehind, IsNeededFrom, Next, OnEdge, Use, phis_at, phis_in, used_by}
-use Rattle.frame_crossing.specs.declared.edge_use.EdgeUse.{EdgeUse}
+use Rattle.frame_contents.specs.frame_crossing.EdgeUses.{IsUsedOn, blocks_uses, edge_use, incoming_uses, phis_uses, uses_by}
+use Rattle.frame_contents.specs.frame_crossing.Paths.{Across, BranchesTo, IsNeeded, IsNeededBehind, IsNeededFrom, Next, OnEdge, Use, phis_at, phis_in, used_by}
+use Rattle.frame_contents.specs.frame_crossing.declared.edge_use.EdgeUse.{EdgeUse}
 use Rattle.rule_values.specs.Kinds.{value_kind}
 use Rattle.rule_values.specs.declared.kinds.Kind.{Kind}
 use Rattle.rule_laws.proofs.rules.woven_rules.Operands.{instr_pairs, term_pairs}

@@ -19,7 +19,7 @@ use Rattle.ir_laws.specs.ir_model.declared.module.Function.{Function}
 use Rattle.ir_laws.specs.ir_paths.Paths.{targets}
 use Rattle.ir_laws.specs.ir_paths.Windows.{points_from, points_in, points_where}
 use Rattle.ir_laws.specs.ir_paths.declared.point.Point.{Point}
-use Rattle.frame_crossing.specs.Paths.{Along, BranchesTo, ByInstr, ByParam, ByPhi, IsDefinedBefore, LeadsTo, Over, There, phis_in}
+use Rattle.frame_contents.specs.frame_crossing.Paths.{Along, BranchesTo, ByInstr, ByParam, ByPhi, IsDefinedBefore, LeadsTo, Over, There, phis_in}
 
 -- ---- points that pass a test
 

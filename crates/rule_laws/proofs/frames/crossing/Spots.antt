@@ -4,7 +4,7 @@ use Rattle.std.specs.Prelude.{None, slice_get}
 use Rattle.ir_laws.specs.flow_solver.Paths.{IsListed}
 use Rattle.ir_laws.specs.ir_model.declared.module.Function.{Function}
 use Rattle.ir_laws.specs.run_step.Step.{AtInstr, Fetched, Nowhere}
-use Rattle.frame_crossing.specs.Paths.{Across, BranchesTo, IsNeeded, Next, OnEdge, Use, used_by}
+use Rattle.frame_contents.specs.frame_crossing.Paths.{Across, BranchesTo, IsNeeded, Next, OnEdge, Use, used_by}
 use Rattle.ir_laws.proofs.paths.crossing.Spots.{nowhere}
 
 -- nothing is needed where nothing stands

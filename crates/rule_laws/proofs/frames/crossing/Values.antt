@@ -18,7 +18,7 @@ use Rattle.ir_laws.specs.ir_model.declared.operand.Intrinsic.{Intrinsic}
 use Rattle.ir_laws.specs.ir_model.declared.operand.Operand.{Operand}
 use Rattle.ir_laws.specs.ir_paths.Slots.{has_name}
 use Rattle.ir_laws.specs.ir_paths.Windows.{is_call_of}
-use Rattle.frame_crossing.specs.Values.{all_defined, blocks_defined, distinct, instrs_defined, is_apart, is_token, is_token_result, params_defined, phis_defined, result_unless, unless, values_of, with_new}
+use Rattle.frame_contents.specs.frame_crossing.Values.{all_defined, blocks_defined, distinct, instrs_defined, is_apart, is_token, is_token_result, params_defined, phis_defined, result_unless, unless, values_of, with_new}
 use Rattle.rule_laws.specs.rules.woven_rules.Blocks.{AreWoven, AreWovenBlocks, Done, Gone, IsWoven, Kept, NoBlock, OneBlock, Put, Remain, Stays, Unpromised}
 use Rattle.ir_laws.specs.facts.woven_rules.Pairs.{Empty, Pair, Pairwise}
 use Rattle.rule_laws.specs.rules.woven_rules.Parts.{Alloca, Binary, Call, CalleeStays, Cast, Direct, Gep, Icmp, Indirect, InstrStays, Load, PhiStays, Select, Store}

@@ -15,7 +15,7 @@ use Rattle.ir_laws.specs.ir_model.declared.module.Function.{Function}
 use Rattle.ir_laws.specs.ir_model.declared.module.Module.{Module}
 use Rattle.ir_laws.specs.ir_paths.Windows.{instr_at, instr_in}
 use Rattle.ir_laws.specs.ir_paths.declared.point.Point.{Point}
-use Rattle.frame_crossing.specs.Values.{all_defined, blocks_defined, is_apart, params_defined, values_of}
+use Rattle.frame_contents.specs.frame_crossing.Values.{all_defined, blocks_defined, is_apart, params_defined, values_of}
 
 module _ (m : Module) (k : ℕ) (f : Function) (rules : KeepsFunctionRules m k f) (v : ℕ) (p : Point) (i : Instr) (here : instr_at f p ≡ Some i) (makes : result_of i ≡ Some v) (apart : is_apart i ≡ true) where
   abbrev point : ℕ → ℕ → Point

@@ -16,8 +16,8 @@ use Rattle.ir_laws.specs.ir_paths.Paths.{targets}
 use Rattle.ir_laws.specs.ir_paths.Windows.{end_block}
 use Rattle.ir_laws.specs.run_step.Step.{AtInstr, AtTerm, Fetched, fetch}
 use Rattle.ir_laws.specs.run_laws.changed.Changed.{Each}
-use Rattle.frame_crossing.specs.EdgeUses.{IsUsedOn}
-use Rattle.frame_crossing.specs.Paths.{Across, BranchesTo, IsNeeded, IsNeededFrom, IsOutside, Next, OnEdge, Use, phis_at, used_by}
+use Rattle.frame_contents.specs.frame_crossing.EdgeUses.{IsUsedOn}
+use Rattle.frame_contents.specs.frame_crossing.Paths.{Across, BranchesTo, IsNeeded, IsNeededFrom, IsOutside, Next, OnEdge, Use, phis_at, used_by}
 
 -- Others are put in that neither use nor make the value, and others go that don't make it; those that stay use it only where they did.
 pub data Follows (v : ℕ) : List Instr → List Instr → Type 0 where

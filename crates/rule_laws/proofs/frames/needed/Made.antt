@@ -18,7 +18,7 @@ use Rattle.ir_laws.specs.ir_model.declared.operand.Callee.{Callee}
 use Rattle.ir_laws.specs.ir_model.declared.operand.Intrinsic.{Intrinsic}
 use Rattle.ir_laws.specs.ir_paths.Windows.{is_call_of}
 use Rattle.rule_locals.specs.Markers.{made_size}
-use Rattle.frame_crossing.specs.Values.{blocks_defined, instrs_defined, is_apart, is_token, is_token_result, params_defined, phis_defined, result_unless, unless}
+use Rattle.frame_contents.specs.frame_crossing.Values.{blocks_defined, instrs_defined, is_apart, is_token, is_token_result, params_defined, phis_defined, result_unless, unless}
 use Rattle.rule_values.specs.Fits.{fits_kind}
 use Rattle.rule_values.specs.Kinds.{call_kind, instr_kind, kind_if, kind_of, result_kind}
 use Rattle.rule_values.specs.declared.kinds.Kind.{Kind}

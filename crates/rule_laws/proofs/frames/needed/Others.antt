@@ -17,7 +17,7 @@ use Rattle.ir_laws.specs.ir_paths.declared.point.Point.{Point}
 use Rattle.rule_laws.proofs.frames.needed.Apart.{apart_no_value}
 use Rattle.rule_laws.proofs.rules.shape.Begin.{begin_result}
 use Rattle.rule_laws.proofs.rules.shape.Stands.{begin_stands}
-use Rattle.frame_crossing.specs.Values.{is_apart, is_token_result, values_of}
+use Rattle.frame_contents.specs.frame_crossing.Values.{is_apart, is_token_result, values_of}
 use Rattle.ir_laws.proofs.facts.Truth.{or_true}
 
 -- an alloca, or begin

@@ -23,7 +23,7 @@ use Rattle.ir_laws.specs.ir_paths.Windows.{end_block, instr_at, instr_in, is_cal
 use Rattle.ir_laws.specs.ir_paths.declared.point.Point.{Point}
 use Rattle.ir_laws.specs.run_step.Step.{AtInstr, Nowhere, fetch, fetch_in, fetch_or}
 use Rattle.flow_points.proofs.Neighbours.{next-inner, next-term}
-use Rattle.frame_crossing.specs.Paths.{Along, BranchesTo, IsOutside, LeadsTo, Over, There}
+use Rattle.frame_contents.specs.frame_crossing.Paths.{Along, BranchesTo, IsOutside, LeadsTo, Over, There}
 use Rattle.rule_windows.specs.Outside.{ends_with_it, needs_begin}
 use Rattle.rule_windows.specs.Points.{begins, ends, entry}
 use Rattle.rule_windows.specs.Sets.{IsAfterEnd, IsWithoutBegin, RunsOut}

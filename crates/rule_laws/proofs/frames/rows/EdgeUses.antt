@@ -10,8 +10,8 @@ use Rattle.ir_laws.specs.ir_model.declared.instr.Phi.{Phi}
 use Rattle.ir_laws.specs.ir_model.declared.module.Block.{Block}
 use Rattle.ir_laws.specs.ir_model.declared.module.Function.{Function}
 use Rattle.ir_laws.specs.ir_model.declared.operand.Operand.{Operand}
-use Rattle.frame_crossing.specs.EdgeUses.{IsUsedOn, blocks_uses, edge_use, incoming_uses, phis_uses, uses_by}
-use Rattle.frame_crossing.specs.declared.edge_use.EdgeUse.{EdgeUse}
+use Rattle.frame_contents.specs.frame_crossing.EdgeUses.{IsUsedOn, blocks_uses, edge_use, incoming_uses, phis_uses, uses_by}
+use Rattle.frame_contents.specs.frame_crossing.declared.edge_use.EdgeUse.{EdgeUse}
 use Rattle.ir_laws.proofs.facts.Numbers.{IsTakenBy}
 
 module _ (h : Function) (v from : ℕ) where

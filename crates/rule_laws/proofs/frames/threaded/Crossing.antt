@@ -8,10 +8,10 @@ use Rattle.ir_laws.specs.ir_model.Names.{position_of}
 use Rattle.ir_laws.specs.ir_model.declared.module.Block.{Block}
 use Rattle.ir_laws.specs.ir_model.declared.module.Function.{Function}
 use Rattle.ir_laws.specs.run_step.Step.{AtInstr, Nowhere, fetch, fetch_in}
-use Rattle.frame_crossing.specs.EdgeUses.{IsUsedOn}
-use Rattle.frame_crossing.specs.Paths.{BranchesTo, IsDefinedBefore, IsNeeded, IsNeededFrom, IsOutside, phis_at, phis_in, used_by}
-use Rattle.frame_crossing.specs.Paths.IsDefinedBefore.{ByInstr, ByParam, ByPhi}
-use Rattle.frame_crossing.specs.Paths.IsNeeded.{Across, Next, OnEdge, Use}
+use Rattle.frame_contents.specs.frame_crossing.EdgeUses.{IsUsedOn}
+use Rattle.frame_contents.specs.frame_crossing.Paths.{BranchesTo, IsDefinedBefore, IsNeeded, IsNeededFrom, IsOutside, phis_at, phis_in, used_by}
+use Rattle.frame_contents.specs.frame_crossing.Paths.IsDefinedBefore.{ByInstr, ByParam, ByPhi}
+use Rattle.frame_contents.specs.frame_crossing.Paths.IsNeeded.{Across, Next, OnEdge, Use}
 use Rattle.rule_laws.proofs.frames.threaded.Standing.{IsBranch, branch_home, instr_home, leads_home, no_instr, no_use, only_target, phis_over, phis_own, stand_alike, used_same}
 use Rattle.ir_laws.proofs.paths.threaded.Threads.{IsBlockOver, IsMovedBlock, IsOver, Moves}
 use Rattle.rule_laws.proofs.rules.threaded.Threads.{IsThreaded}

@@ -10,8 +10,8 @@ use Rattle.ir_laws.specs.ir_model.declared.module.Block.{Block}
 use Rattle.ir_laws.specs.ir_model.declared.module.Function.{Function}
 use Rattle.ir_laws.specs.ir_paths.Paths.{targets}
 use Rattle.ir_laws.specs.run_step.Step.{AtInstr, AtTerm, Fetched, Nowhere, fetch, fetch_in, fetch_or}
-use Rattle.frame_crossing.specs.Paths.{BranchesTo, LeadsTo, phis_at, phis_in, used_by}
-use Rattle.frame_crossing.specs.Paths.LeadsTo.{Along, Over, There}
+use Rattle.frame_contents.specs.frame_crossing.Paths.{BranchesTo, LeadsTo, phis_at, phis_in, used_by}
+use Rattle.frame_contents.specs.frame_crossing.Paths.LeadsTo.{Along, Over, There}
 use Rattle.ir_laws.proofs.paths.threaded.Threads.{IsOver, IsWay, Moves}
 use Rattle.rule_laws.proofs.rules.threaded.Threads.{IsThreaded}
 

@@ -24,8 +24,8 @@ use Rattle.ir_laws.specs.ir_paths.declared.point.Point.{Point}
 use Rattle.rule_laws.specs.frames.needed.Crossed.{AreFramesUnneeded}
 use Rattle.rule_laws.specs.rules.unused.Unused.{AreFramesUnused, is_other, names_value}
 use Rattle.ir_laws.specs.run_step.Step.{fetch, fetch_in, fetch_or}
-use Rattle.frame_crossing.specs.EdgeUses.{IsUsedOn}
-use Rattle.frame_crossing.specs.Paths.{Across, IsNeeded, IsNeededBehind, IsNeededFrom, Next, OnEdge, Use, used_by}
+use Rattle.frame_contents.specs.frame_crossing.EdgeUses.{IsUsedOn}
+use Rattle.frame_contents.specs.frame_crossing.Paths.{Across, IsNeeded, IsNeededBehind, IsNeededFrom, Next, OnEdge, Use, used_by}
 
 module _ (k : ℕ) (g : Function) (v : ℕ) (none : first_part (names_value v) (parts_of k g) ≡ None) where
   abbrev Free : Place × Part → Type 0

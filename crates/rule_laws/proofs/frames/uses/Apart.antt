@@ -23,9 +23,9 @@ use Rattle.ir_laws.specs.run_step.Step.{AtInstr, fetch, fetch_in, fetch_or}
 use Rattle.ir_laws.proofs.facts.Lists.{label_found}
 use Rattle.ir_laws.proofs.paths.uses.Paths.{there_listed}
 use Rattle.rule_laws.proofs.rules.uses.Switched.{IsSwitched, is_switch_then, not_in_instr, not_in_phi, not_switched_on, suspend_result}
-use Rattle.frame_crossing.specs.EdgeUses.{IsUsedOn, edge_use, incoming_uses, phis_uses, uses_by}
-use Rattle.frame_crossing.specs.Paths.{Across, IsNeeded, IsNeededBehind, IsNeededFrom, Next, OnEdge, Use, phis_at, phis_in, used_by}
-use Rattle.frame_crossing.specs.declared.edge_use.EdgeUse.{EdgeUse}
+use Rattle.frame_contents.specs.frame_crossing.EdgeUses.{IsUsedOn, edge_use, incoming_uses, phis_uses, uses_by}
+use Rattle.frame_contents.specs.frame_crossing.Paths.{Across, IsNeeded, IsNeededBehind, IsNeededFrom, Next, OnEdge, Use, phis_at, phis_in, used_by}
+use Rattle.frame_contents.specs.frame_crossing.declared.edge_use.EdgeUse.{EdgeUse}
 
 -- ---- where a use stands
 

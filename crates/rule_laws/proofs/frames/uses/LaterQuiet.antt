@@ -25,8 +25,8 @@ use Rattle.ir_laws.specs.run_step.Step.{Fetched, fetch}
 use Rattle.rule_laws.proofs.frames.uses.Lowering.{ComesBy, OfBegin, OfGiven, OfOperand}
 use Rattle.rule_laws.proofs.frames.uses.PhiEdges.{phi_source, used_on}
 use Rattle.rule_laws.proofs.frames.uses.Quiet.{IsQuiet}
-use Rattle.frame_crossing.specs.EdgeUses.{IsUsedOn}
-use Rattle.frame_crossing.specs.Paths.{Across, BranchesTo, IsNeeded, Next, OnEdge, Use, phis_at, phis_in, used_by}
+use Rattle.frame_contents.specs.frame_crossing.EdgeUses.{IsUsedOn}
+use Rattle.frame_contents.specs.frame_crossing.Paths.{Across, BranchesTo, IsNeeded, Next, OnEdge, Use, phis_at, phis_in, used_by}
 
 get_there : (xs ys : List Instr) (y : Instr) → slice_get (xs ++ y ∷ ys) (length xs) ≡ Some y
 get_there [] ys y = refl

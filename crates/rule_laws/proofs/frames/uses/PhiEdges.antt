@@ -23,7 +23,7 @@ use Rattle.rule_names.specs.Definitions.{first_twice}
 use Rattle.ir_laws.proofs.paths.edges.Lists.{from_filtered}
 use Rattle.ir_laws.proofs.paths.uses.Paths.{from_mapped, place_of}
 use Rattle.ir_laws.proofs.paths.replaced.Known.{listed_mapped, of_listed}
-use Rattle.frame_crossing.specs.EdgeUses.{IsUsedOn, blocks_uses, edge_use, incoming_uses, phis_uses, uses_by}
+use Rattle.frame_contents.specs.frame_crossing.EdgeUses.{IsUsedOn, blocks_uses, edge_use, incoming_uses, phis_uses, uses_by}
 use Rattle.rule_laws.proofs.rules.edges.Entered.{listed_has as has_listed}
 use Rattle.rule_laws.proofs.rules.known_labels.Rules.{labels_spelt as labels_same}
 

@@ -24,7 +24,7 @@ use Rattle.ir_laws.specs.ir_paths.Windows.{IsInWindow, end_block, instr_at, inst
 use Rattle.ir_laws.specs.ir_paths.declared.point.Point.{Point}
 use Rattle.ir_laws.specs.run_laws.changed.Changed.{Each}
 use Rattle.rule_windows.specs.Windows.{Between, Call, NotOne, ends_window_at}
-use Rattle.rule_window_values.specs.Kept.{AtSuspend, BreaksValue, ByInstr, ByPhi, InBlock, Inside, IsFirstKept, IsFrontIn, IsKept, IsMadeIn, IsUsedBehind, Next, OnEdge, Own, ReachesBehind, TakesFrom, front, own_blocks, phi_results, phis_in}
+use Rattle.rule_all.specs.rule_window_values.Kept.{AtSuspend, BreaksValue, ByInstr, ByPhi, InBlock, Inside, IsFirstKept, IsFrontIn, IsKept, IsMadeIn, IsUsedBehind, Next, OnEdge, Own, ReachesBehind, TakesFrom, front, own_blocks, phi_results, phis_in}
 use Rattle.ir_laws.proofs.paths.woven_rules.Unbroken.{each_listed as each_of}
 
 -- ---- the rule, by saves and values

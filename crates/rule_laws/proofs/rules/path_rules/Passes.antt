@@ -10,11 +10,11 @@ use Rattle.rule_all.specs.Refused.{IsRefused}
 use Rattle.ir_laws.specs.ir_model.declared.module.Function.{Function}
 use Rattle.ir_laws.specs.ir_model.declared.module.Module.{Module}
 use Rattle.rule_names.specs.declared.stage.Stage.{Stage}
-use Rattle.rule_slots.specs.Early.{IsFirstEarly}
-use Rattle.rule_slots.specs.Marked.{IsFirstMarked}
+use Rattle.rule_all.specs.rule_slots.Early.{IsFirstEarly}
+use Rattle.rule_all.specs.rule_slots.Marked.{IsFirstMarked}
 use Rattle.rule_windows.specs.Outside.{IsFirstOutside}
 use Rattle.rule_windows.specs.Windows.{IsFirstWindow}
-use Rattle.rule_window_values.specs.Kept.{IsFirstKept}
+use Rattle.rule_all.specs.rule_window_values.Kept.{IsFirstKept}
 
 pub accepted_shape : (m : Module) → IsRefused Stage.Source m None → (k : ℕ) (f : Function) → slice_get m.functions k ≡ Some f → KeepsShape k f
 accepted_shape m accepted k f there = (breaks_none m k f accepted there).shape

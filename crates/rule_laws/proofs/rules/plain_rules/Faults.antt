@@ -12,13 +12,13 @@ use Rattle.rule_all.specs.declared.faults.PathFaults.{PathFaults}
 use Rattle.ir_laws.specs.ir_model.declared.module.Function.{Function}
 use Rattle.ir_laws.specs.ir_model.declared.operand.Intrinsic.{Intrinsic}
 use Rattle.ir_laws.specs.ir_paths.Windows.{is_call_of, points_where}
-use Rattle.rule_slots.specs.Early.{BreaksEarly}
-use Rattle.rule_slots.specs.Marked.{BreaksMarked}
+use Rattle.rule_all.specs.rule_slots.Early.{BreaksEarly}
+use Rattle.rule_all.specs.rule_slots.Marked.{BreaksMarked}
 use Rattle.rule_windows.specs.First.{IsFirst}
 use Rattle.rule_windows.specs.Outside.{BreaksOutside}
 use Rattle.rule_windows.specs.Points.{place_of}
 use Rattle.rule_windows.specs.Windows.{BreaksSave}
-use Rattle.rule_window_values.specs.Kept.{BreaksValue}
+use Rattle.rule_all.specs.rule_window_values.Kept.{BreaksValue}
 
 -- what nothing breaks has no first fault
 nowhere : {A : Type 0} (Breaks : A → Type 0) (place : A → Place) → ((x : A) → Breaks x → ⊥) → (xs : List A) → IsFirst Breaks place xs None

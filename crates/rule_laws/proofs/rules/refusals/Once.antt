@@ -16,13 +16,13 @@ use Rattle.ir_laws.specs.ir_model.declared.operand.Intrinsic.{Intrinsic}
 use Rattle.ir_laws.specs.ir_paths.Windows.{is_call_of, points_where}
 use Rattle.rule_modules.specs.declared.order.Refusal.{Refusal}
 use Rattle.rule_names.specs.declared.stage.Stage.{Stage}
-use Rattle.rule_slots.specs.Early.{BreaksEarly}
-use Rattle.rule_slots.specs.Marked.{BreaksMarked}
+use Rattle.rule_all.specs.rule_slots.Early.{BreaksEarly}
+use Rattle.rule_all.specs.rule_slots.Marked.{BreaksMarked}
 use Rattle.rule_windows.specs.First.{IsFirst}
 use Rattle.rule_windows.specs.Outside.{BreaksOutside}
 use Rattle.rule_windows.specs.Points.{place_of}
 use Rattle.rule_windows.specs.Windows.{BreaksSave}
-use Rattle.rule_window_values.specs.Kept.{BreaksValue}
+use Rattle.rule_all.specs.rule_window_values.Kept.{BreaksValue}
 
 -- ---- the first of some things
 

@@ -13,7 +13,7 @@ use Rattle.ir_laws.specs.ir_model.declared.operand.Arg.{Arg}
 use Rattle.ir_laws.specs.ir_model.declared.operand.Callee.{Callee}
 use Rattle.ir_laws.specs.ir_model.declared.operand.Intrinsic.{Intrinsic}
 use Rattle.ir_laws.specs.ir_model.declared.operand.Operand.{Operand}
-use Rattle.rule_slots.specs.Early.{other_uses}
+use Rattle.rule_all.specs.rule_slots.Early.{other_uses}
 use Rattle.ir_laws.specs.run_laws.changed.Changed.{Each}
 use Rattle.rule_types.specs.Signatures.{are_wanted, calls_otherwise, is_result}
 use Rattle.rule_types.specs.Wants.{any, intrinsic_params, intrinsic_result, is_basic, meets, want}

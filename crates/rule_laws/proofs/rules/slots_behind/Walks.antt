@@ -20,8 +20,8 @@ use Rattle.ir_laws.specs.ir_paths.declared.point.Point.{Point}
 use Rattle.flow_points.proofs.Neighbours.{next-inner}
 use Rattle.flow_points.specs.Reached.{IsReached}
 use Rattle.flow_reach.proofs.Ways.{edge_leaves}
-use Rattle.rule_slots.specs.Early.{IsBeforeBegin, end_at, instr_count}
-use Rattle.frame_crossing.proofs.Blocks.{as_result, behind_result}
+use Rattle.rule_all.specs.rule_slots.Early.{IsBeforeBegin, end_at, instr_count}
+use Rattle.frame_contents.proofs.frame_crossing.Blocks.{as_result, behind_result}
 use Rattle.rule_windows.specs.Points.{begins, entry}
 
 -- whatever calls begin makes its value

@@ -26,7 +26,7 @@ use Rattle.ir_laws.specs.ir_paths.Windows.{end_block, instr_at, instr_in, is_cal
 use Rattle.ir_laws.specs.ir_paths.declared.point.Point.{Point}
 use Rattle.ir_laws.specs.run_step.Step.{Fetched, fetch, incoming_from, label_of, phis_of}
 use Rattle.ir_laws.specs.run_laws.changed.Changed.{Each, operands_of, operands_of_term, result_of}
-use Rattle.rule_window_values.specs.Kept.{InBlock, IsUsedBehind, Next as NextBlock, OnEdge as OnOwnEdge, Own, ReachesBehind, TakesFrom, own_blocks, phis_in}
+use Rattle.rule_all.specs.rule_window_values.Kept.{InBlock, IsUsedBehind, Next as NextBlock, OnEdge as OnOwnEdge, Own, ReachesBehind, TakesFrom, own_blocks, phis_in}
 use Rattle.ir_laws.proofs.paths.source_rules.Behind.{each_listed}
 
 -- ---- phis on the suspend's own edges

@@ -34,7 +34,7 @@ use Rattle.rule_types.specs.Signatures.{other_types}
 use Rattle.rule_values.specs.Initials.{wrong_initials}
 use Rattle.rule_windows.specs.Outside.{IsFirstOutside}
 use Rattle.rule_windows.specs.Windows.{IsFirstWindow}
-use Rattle.rule_window_values.specs.Kept.{IsFirstKept}
+use Rattle.rule_all.specs.rule_window_values.Kept.{IsFirstKept}
 use Rattle.rule_laws.proofs.rules.local_rules.Rules.{second_out as second_placed}
 use Rattle.rule_laws.proofs.rules.local_rules.Sources.{of_functions}
 

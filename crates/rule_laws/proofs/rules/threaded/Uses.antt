@@ -21,7 +21,7 @@ use Rattle.ir_laws.specs.ir_model.declared.operand.Operand.{Operand}
 use Rattle.ir_laws.specs.ir_paths.Paths.{targets}
 use Rattle.rule_laws.specs.rules.replaced.Splittable.{AreBegun, AreBlocksBegun}
 use Rattle.ir_laws.specs.run_laws.changed.Changed.{Each}
-use Rattle.frame_crossing.proofs.Blocks.{edge_is_out, target_is_edge}
+use Rattle.frame_contents.proofs.frame_crossing.Blocks.{edge_is_out, target_is_edge}
 use Rattle.ir_laws.proofs.paths.threaded.Threads.{IsBlockOver, IsMovedBlock, IsOver, Moves, between, ended}
 use Rattle.rule_laws.proofs.rules.threaded.Threads.{IsThreaded}
 

@@ -9,9 +9,9 @@ use Rattle.ir_laws.specs.ir_model.declared.module.Block.{Block}
 use Rattle.ir_laws.specs.ir_model.declared.module.Function.{Function}
 use Rattle.ir_laws.specs.ir_paths.Windows.{destroy_label, instr_at, resume_label}
 use Rattle.ir_laws.specs.ir_paths.declared.point.Point.{Point}
-use Rattle.frame_crossing.specs.Crossing.{suspends_of}
-use Rattle.frame_crossing.specs.Paths.{IsNeededBehind, phis_at}
-use Rattle.frame_crossing.specs.Values.{values_of}
+use Rattle.frame_contents.specs.frame_crossing.Crossing.{suspends_of}
+use Rattle.frame_contents.specs.frame_crossing.Paths.{IsNeededBehind, phis_at}
+use Rattle.frame_contents.specs.frame_crossing.Values.{values_of}
 use Rattle.ir_laws.specs.facts.crossing.Crossed.{is_switch}
 
 -- A suspend is the last instruction of its block, which ends in a switch; its resume and destroy edges lead to blocks without phis, and

@@ -7,8 +7,8 @@ use Rattle.ir_laws.specs.ir_model.declared.module.Function.{Function}
 use Rattle.ir_laws.specs.ir_model.declared.operand.Intrinsic.{Intrinsic}
 use Rattle.ir_laws.specs.ir_paths.Windows.{instr_at, is_call_of}
 use Rattle.ir_laws.specs.ir_paths.declared.point.Point.{Point}
-use Rattle.frame_crossing.specs.Crossing.{suspends_of}
-use Rattle.frame_crossing.specs.Paths.{IsNeededBehind}
+use Rattle.frame_contents.specs.frame_crossing.Crossing.{suspends_of}
+use Rattle.frame_contents.specs.frame_crossing.Paths.{IsNeededBehind}
 
 -- no value of coro.frame is needed behind a suspend
 abbrev pub AreFramesUnneeded : Function → Type 0

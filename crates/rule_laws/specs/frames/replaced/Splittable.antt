@@ -15,7 +15,7 @@ use Rattle.ir_laws.specs.ir_model.declared.module.Module.{Module}
 use Rattle.ir_laws.specs.ir_model.declared.operand.Intrinsic.{Intrinsic}
 use Rattle.ir_laws.specs.ir_paths.Paths.{targets}
 use Rattle.rule_locals.specs.Markers.{slot_size}
-use Rattle.frame_crossing.specs.Paths.{IsOutside}
+use Rattle.frame_contents.specs.frame_crossing.Paths.{IsOutside}
 use Rattle.rule_values.specs.Fits.{fits_kind}
 use Rattle.rule_values.specs.Kinds.{value_kind}
 

@@ -4,14 +4,14 @@ use Rattle.std.specs.List.{list_all}
 use Rattle.std.specs.Prelude.{IsFalse, IsTrue, count_by, find, map, not, slice_get, ◌&&◌, ◌||◌, ◌==◌, if◌then◌else◌}
 use Rattle.rule_laws.specs.rule_shape.Uses.{uses_of}
 use Rattle.rule_laws.specs.rule_phis.Operands.{same_operand}
-use Rattle.elide_shape.specs.Calls.{only_call, value_at}
-use Rattle.elide_shape.specs.Edges.{edges_into, edges_of, jumps_to, ways_in, ways_on}
-use Rattle.elide_shape.specs.Frames.{is_frame, rets_give_frame}
-use Rattle.elide_shape.specs.Frees.{are_released, are_sides, are_sides_at, frees_of, is_release_block, is_released, is_released_by, is_released_in, is_tested_next, releases, sides_of}
-use Rattle.elide_shape.specs.Guard.{allocated_in, are_blocks, begins_with, guards_at, guards_by, is_guard, is_guard_to, is_guarded, is_memory_phi, is_used_once, joins, joins_value, takes_second, value_if_sized}
-use Rattle.elide_shape.specs.Phis.{gives_same, phis_of, same_given}
-use Rattle.elide_shape.specs.declared.calls.Dealing.{Dealing}
-use Rattle.elide_shape.specs.declared.edges.Edge.{Edge}
+use Rattle.elide_sites.specs.elide_shape.Calls.{only_call, value_at}
+use Rattle.elide_sites.specs.elide_shape.Edges.{edges_into, edges_of, jumps_to, ways_in, ways_on}
+use Rattle.elide_sites.specs.elide_shape.Frames.{is_frame, rets_give_frame}
+use Rattle.elide_sites.specs.elide_shape.Frees.{are_released, are_sides, are_sides_at, frees_of, is_release_block, is_released, is_released_by, is_released_in, is_tested_next, releases, sides_of}
+use Rattle.elide_sites.specs.elide_shape.Guard.{allocated_in, are_blocks, begins_with, guards_at, guards_by, is_guard, is_guard_to, is_guarded, is_memory_phi, is_used_once, joins, joins_value, takes_second, value_if_sized}
+use Rattle.elide_sites.specs.elide_shape.Phis.{gives_same, phis_of, same_given}
+use Rattle.elide_sites.specs.elide_shape.declared.calls.Dealing.{Dealing}
+use Rattle.elide_sites.specs.elide_shape.declared.edges.Edge.{Edge}
 use Rattle.elide_sites.specs.Destroyed.{FreesWhenDestroyed, IsLed, IsOn, has_at, is_free, is_stop, passes, starts}
 use Rattle.elide_sites.specs.Destroyed.IsLed.{Start, Step}
 use Rattle.elide_sites.specs.Elidable.{IsElidable}

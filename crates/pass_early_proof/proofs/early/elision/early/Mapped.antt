@@ -10,12 +10,12 @@ use Rattle.rule_laws.proofs.ir_laws.facts.Truth.{equal_numbers}
 use Rattle.run_states.proofs.renamed.Modules.{length_same}
 use Rattle.pass_early_proof.proofs.early.elision.early.Alike.{AreAlike, AreBlocksAlike, AreNextAlike, IsBlockAlike, IsCallAlike, IsFreeAlike, IsPhiAlike}
 use Rattle.rule_laws.proofs.ir_laws.paths.alike_functions.Lists.{each_where}
-use Rattle.elide_shape.specs.Calls.{deals_by, gives_size, is_other, is_size_value, is_without_phis, one_other, only_call, passing}
-use Rattle.elide_shape.specs.Edges.{edges_by, edges_of, edges_out, jumps_to, ways_on}
-use Rattle.elide_shape.specs.Frames.{rets_give_frame}
-use Rattle.elide_shape.specs.Frees.{releases, sides_of}
-use Rattle.elide_shape.specs.Guard.{takes_second, value_if_sized}
-use Rattle.elide_shape.specs.declared.calls.Dealing.{Dealing}
+use Rattle.elide_sites.specs.elide_shape.Calls.{deals_by, gives_size, is_other, is_size_value, is_without_phis, one_other, only_call, passing}
+use Rattle.elide_sites.specs.elide_shape.Edges.{edges_by, edges_of, edges_out, jumps_to, ways_on}
+use Rattle.elide_sites.specs.elide_shape.Frames.{rets_give_frame}
+use Rattle.elide_sites.specs.elide_shape.Frees.{releases, sides_of}
+use Rattle.elide_sites.specs.elide_shape.Guard.{takes_second, value_if_sized}
+use Rattle.elide_sites.specs.elide_shape.declared.calls.Dealing.{Dealing}
 use Rattle.elide_sites.specs.Destroyed.{has_at, has_in, is_free, is_stop}
 use Rattle.rule_laws.specs.ir_parts.Contents.{ending_operands, instr_operands}
 use Rattle.ir_model.specs.Names.{intrinsic_number, is_local, position_of, same_intrinsic}

@@ -13,11 +13,11 @@ use Rattle.pass_early_proof.proofs.early.elision.early.Alike.{IsPhiAlike, elidab
 use Rattle.rule_laws.proofs.ir_laws.facts.Lists.{map_none}
 use Rattle.pass_early_proof.proofs.early.elision.early.Mapped.{IsChange, change_alike}
 use Rattle.pass_early.specs.BeginName.{begin_name, if_unnamed, named_block, named_instr, with_begin_name}
-use Rattle.elide_shape.specs.Calls.{deals_by, gives_size, is_size_value}
-use Rattle.elide_shape.specs.Frames.{all_from, frame_value, is_frame, returns_frame}
-use Rattle.elide_shape.specs.Frees.{is_null_test, not_null_first, sides_of}
-use Rattle.elide_shape.specs.Edges.{ways_on}
-use Rattle.elide_shape.specs.Phis.{given, is_given, same_given}
+use Rattle.elide_sites.specs.elide_shape.Calls.{deals_by, gives_size, is_size_value}
+use Rattle.elide_sites.specs.elide_shape.Frames.{all_from, frame_value, is_frame, returns_frame}
+use Rattle.elide_sites.specs.elide_shape.Frees.{is_null_test, not_null_first, sides_of}
+use Rattle.elide_sites.specs.elide_shape.Edges.{ways_on}
+use Rattle.elide_sites.specs.elide_shape.Phis.{given, is_given, same_given}
 use Rattle.elide_sites.specs.Elidable.{IsElidable}
 use Rattle.rule_laws.specs.ir_parts.Contents.{instr_operands}
 use Rattle.ir_model.specs.Calls.{first_result, first_result_by, first_result_in, result_of_call}

@@ -22,13 +22,13 @@ use Rattle.pass_early.specs.Renaming.{is_renamed, renamed, renamed_arg, renamed_
 use Rattle.pass_early.specs.declared.renaming.Renaming.{Renaming}
 use Rattle.pass_early_proof.proofs.early.source_rules.Makers.{begin_of, renamed_frame}
 use Rattle.rule_laws.specs.rule_phis.Operands.{same_operand}
-use Rattle.elide_shape.specs.Calls.{deals_by, gives_size, is_size_call, is_size_value, is_the_result}
-use Rattle.elide_shape.specs.Edges.{jumps_to, ways_on}
-use Rattle.elide_shape.specs.Frames.{all_from, frame_value, frame_values, is_frame, is_frame_call, local_if, returns_frame}
-use Rattle.elide_shape.specs.Frees.{is_null_test, not_null_first, sides_of}
-use Rattle.elide_shape.specs.Guard.{is_memory_phi}
-use Rattle.elide_shape.specs.Phis.{given, gives_same, is_given, same_given, same_value}
-use Rattle.elide_shape.specs.declared.calls.Dealing.{Dealing}
+use Rattle.elide_sites.specs.elide_shape.Calls.{deals_by, gives_size, is_size_call, is_size_value, is_the_result}
+use Rattle.elide_sites.specs.elide_shape.Edges.{jumps_to, ways_on}
+use Rattle.elide_sites.specs.elide_shape.Frames.{all_from, frame_value, frame_values, is_frame, is_frame_call, local_if, returns_frame}
+use Rattle.elide_sites.specs.elide_shape.Frees.{is_null_test, not_null_first, sides_of}
+use Rattle.elide_sites.specs.elide_shape.Guard.{is_memory_phi}
+use Rattle.elide_sites.specs.elide_shape.Phis.{given, gives_same, is_given, same_given, same_value}
+use Rattle.elide_sites.specs.elide_shape.declared.calls.Dealing.{Dealing}
 use Rattle.elide_sites.specs.Elidable.{IsElidable}
 use Rattle.rule_laws.specs.ir_parts.Contents.{arg_operands, ending_operands, instr_operands}
 use Rattle.ir_model.specs.Calls.{first_result, result_of_call}

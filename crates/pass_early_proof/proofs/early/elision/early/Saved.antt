@@ -13,13 +13,13 @@ use Rattle.rule_laws.proofs.ir_laws.facts.Lists.{count_both, count_cons, found, 
 use Rattle.rule_laws.proofs.ir_laws.paths.alike_functions.Lists.{each_where}
 use Rattle.pass_early_proof.proofs.early.elision.early.Named.{call_made, each_at, each_by, made_named}
 use Rattle.pass_early.specs.Early.{save_call, saved}
-use Rattle.elide_shape.specs.Calls.{deals_by, gives_size, is_other, is_size_value, is_without_phis, one_other, only_call, passing}
-use Rattle.elide_shape.specs.Edges.{edges_by, edges_of, edges_out, jumps_to, ways_on}
-use Rattle.elide_shape.specs.Frames.{all_from, frame_value, is_frame, returns_frame}
-use Rattle.elide_shape.specs.Frees.{is_null_test, not_null_first, releases, sides_of}
-use Rattle.elide_shape.specs.Guard.{takes_second, value_if_sized}
-use Rattle.elide_shape.specs.Phis.{given, is_given, same_given}
-use Rattle.elide_shape.specs.declared.calls.Dealing.{Dealing}
+use Rattle.elide_sites.specs.elide_shape.Calls.{deals_by, gives_size, is_other, is_size_value, is_without_phis, one_other, only_call, passing}
+use Rattle.elide_sites.specs.elide_shape.Edges.{edges_by, edges_of, edges_out, jumps_to, ways_on}
+use Rattle.elide_sites.specs.elide_shape.Frames.{all_from, frame_value, is_frame, returns_frame}
+use Rattle.elide_sites.specs.elide_shape.Frees.{is_null_test, not_null_first, releases, sides_of}
+use Rattle.elide_sites.specs.elide_shape.Guard.{takes_second, value_if_sized}
+use Rattle.elide_sites.specs.elide_shape.Phis.{given, is_given, same_given}
+use Rattle.elide_sites.specs.elide_shape.declared.calls.Dealing.{Dealing}
 use Rattle.elide_sites.specs.Destroyed.{has_at, has_in, is_free, is_stop}
 use Rattle.elide_sites.specs.Elidable.{IsElidable}
 use Rattle.rule_laws.specs.ir_parts.Contents.{ending_operands, instr_operands}
