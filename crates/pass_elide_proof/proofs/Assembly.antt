@@ -62,8 +62,7 @@ ones step (suc n) s = let rest = ones step n (step s) in omega (arith, rest)
 
 module _ (e : Elision) (source : Module) (most : ℕ) (is : IsElisionOf e source most)
     (waits : (func : ℕ) → WaitsBehind (function_in e func) (e.shape func)) (entry : ℕ) (args : List Word)
-    (start : AreRelated e (framed_after e entry args 0) (elided_after e entry args 0))
-    (knows : KnowsSteps e entry args) where
+    (Keeps : State → State → Type 0) (knows : KnowsSteps e entry args Keeps) where
   abbrev A : Machine State
   A = uncounted (framed_run e entry args)
 
@@ -82,13 +81,23 @@ module _ (e : Elision) (source : Module) (most : ℕ) (is : IsElisionOf e source
   abbrev cost : State → ℕ
   cost t = 1
 
+  -- the stronger relation holds, or both runs are over
+  abbrev K : State → State → Type 0
+  K s t = Keeps s t ⊎ HaveReturned s t
+
   -- both runs come to the states
   record Along (c : ℕ) (s t : State) : Type 0 where
     first : ℕ
     second : ℕ
     comes : s ≡ framed_after e entry args first
     other : t ≡ elided_after e entry args second
-    related : R s t
+    keeps : K s t
+
+  along_related : (c : ℕ) (s t : State) → Along c s t → R s t
+  along_related c s t a =
+      subst (λ (p : State × State). R p.0 p.1) (λ j. (sym a.comes j, sym a.other j))
+      (⊎_elim (λ k. inl (knows.related a.first a.second k)) (λ over. inr over)
+      (subst (λ (p : State × State). K p.0 p.1) (λ j. (a.comes j, a.other j)) a.keeps))
 
   near : (s t : State) → R s t → V s t
   near s t r = (0, omega arith, inl (t, r, refl))
@@ -107,7 +116,7 @@ module _ (e : Elision) (source : Module) (most : ℕ) (is : IsElisionOf e source
   abbrev Advances : ℕ → State → State → Type 0
   Advances c s t = AdvanceBy A price B cost Along V (waiting_left e) c s t
 
-  module _ (n m : ℕ) (r : AreRelated e (framed_after e entry args n) (elided_after e entry args m))
+  module _ (n m : ℕ) (keeps : Keeps (framed_after e entry args n) (elided_after e entry args m))
       (runs : (framed_after e entry args n).outcome ≡ Outcome.Running)
       (fine : IsFine (framed_step (framed e) (framed_after e entry args n)).outcome) where
     abbrev s : State
@@ -116,15 +125,15 @@ module _ (e : Elision) (source : Module) (most : ℕ) (is : IsElisionOf e source
     abbrev t : State
     t = elided_after e entry args m
 
-    k : IsKnownStep e (framed_after e entry args n) (elided_after e entry args m) r.beside
-    k = knows.known n m r runs fine
+    k : IsKnownStep e (framed_after e entry args n) (elided_after e entry args m) (knows.related n m keeps).beside
+    k = knows.known n m keeps runs fine
 
     abbrev steps : ℕ
-    steps = steps_of e s t r.beside k
+    steps = steps_of e s t (knows.related n m keeps).beside k
 
     few : steps ≤ 1 + most
     few =
-        let low = few_steps e s t r.beside k in
+        let low = few_steps e s t (knows.related n m keeps).beside k in
         let allocas = few_allocas (length (function_in e s.top.func).names)
         (function_frames (rooms e s.top.func) (function_in e s.top.func)) in
         let frames = is.few s.top.func in
@@ -133,24 +142,24 @@ module _ (e : Elision) (source : Module) (most : ℕ) (is : IsElisionOf e source
     paid : (c : ℕ) → cost_from B.step cost steps t + 0 ≤ price s + c
     paid c = let all = ones B.step steps t in let low = few in omega (arith, all, low)
 
-    goes : (k : IsKnownStep e s t r.beside)
-        → (0 < steps_of e s t r.beside k) ⊎ (waiting_left e (framed_step (framed e) s) < waiting_left e s)
-    goes (IsKnownStep.Waiting at) = inr (waiting_falls e s t (waits s.top.func) r.beside at)
+    goes : (k : IsKnownStep e s t (knows.related n m keeps).beside)
+        → (0 < steps_of e s t (knows.related n m keeps).beside k) ⊎ (waiting_left e (framed_step (framed e) s) < waiting_left e s)
+    goes (IsKnownStep.Waiting at) = inr (waiting_falls e s t (waits s.top.func) (knows.related n m keeps).beside at)
     goes (IsKnownStep.Going at) = inl (omega arith)
     goes (IsKnownStep.Fronting at place) = inl (omega arith)
     goes (IsKnownStep.Standing at place) = inl (omega arith)
 
-    passes : (k : IsKnownStep e s t r.beside) → (i : ℕ) → 0 < i → i < steps_of e s t r.beside k
-        → steps_of e s t r.beside k ≤ 1 + most → IsPassed A B V s (iterate B.step i t)
+    passes : (k : IsKnownStep e s t (knows.related n m keeps).beside) → (i : ℕ) → 0 < i → i < steps_of e s t (knows.related n m keeps).beside k
+        → steps_of e s t (knows.related n m keeps).beside k ≤ 1 + most → IsPassed A B V s (iterate B.step i t)
     passes (IsKnownStep.Waiting at) i low high all = absurd (omega (arith, high))
     passes (IsKnownStep.Going at) i low high all = absurd (omega (arith, low, high))
     passes (IsKnownStep.Standing at place) i low high all = absurd (omega (arith, low, high))
     passes (IsKnownStep.Fronting at place) i low high all =
-        let way = fronts_pass e s t r.beside at i (omega (arith, high)) in
+        let way = fronts_pass e s t (knows.related n m keeps).beside at i (omega (arith, high)) in
         record {
           runs = way.0;
-          events = ap (map (seen_event e.code)) (way.1 ∙ (r.beside.world.events ∙ same_events s.world.events));
-          holds = (i, omega (arith, high, all), inl (t, inl r, refl));
+          events = ap (map (seen_event e.code)) (way.1 ∙ ((knows.related n m keeps).beside.world.events ∙ same_events s.world.events));
+          holds = (i, omega (arith, high, all), inl (t, inl (knows.related n m keeps), refl));
         }
 
     advances_at : (c : ℕ) → Advances c s t
@@ -165,32 +174,32 @@ module _ (e : Elision) (source : Module) (most : ℕ) (is : IsElisionOf e source
         second = m + steps;
         comes = sym (iterate-add A.step n 1 A.start);
         other = sym (iterate-add B.step m steps B.start);
-        related = ⊎_elim (λ beside. inl (knows.kept n m r runs fine k beside)) (λ over. inr over)
-            (followed e s t r.beside fine k);
+        keeps = ⊎_elim (λ beside. inl (knows.kept n m keeps runs fine k beside)) (λ over. inr over)
+            (followed e s t (knows.related n m keeps).beside fine k);
       };
     }
 
   advances : (c : ℕ) (s t : State) → Along c s t → IsRunning s.outcome → IsFine (framed_step (framed e) s).outcome
       → Advances c s t
   advances c s t k runs fine =
-      subst (λ (p : State × State). R p.0 p.1 → IsRunning p.0.outcome → IsFine (framed_step (framed e) p.0).outcome
-      → Advances c p.0 p.1) (λ j. (sym k.comes j, sym k.other j)) (at_once k.first k.second) k.related runs fine
+      subst (λ (p : State × State). K p.0 p.1 → IsRunning p.0.outcome → IsFine (framed_step (framed e) p.0).outcome
+      → Advances c p.0 p.1) (λ j. (sym k.comes j, sym k.other j)) (at_once k.first k.second) k.keeps runs fine
     where
-      at_once : (n m : ℕ) → R (framed_after e entry args n) (elided_after e entry args m)
+      at_once : (n m : ℕ) → K (framed_after e entry args n) (elided_after e entry args m)
           → IsRunning (framed_after e entry args n).outcome
           → IsFine (framed_step (framed e) (framed_after e entry args n)).outcome
           → Advances c (framed_after e entry args n) (elided_after e entry args m)
-      at_once n m (inl r) runs fine =
-          advances_at n m r (running_is (framed_after e entry args n).outcome runs) fine c
+      at_once n m (inl keeps) runs fine =
+          advances_at n m keeps (running_is (framed_after e entry args n).outcome runs) fine c
       at_once n m (inr over) runs fine =
           absurd (returned_over (framed_after e entry args n).outcome over.returned runs)
 
   simulates : SimulatesBy A price B cost Along V (waiting_left e)
   simulates = record {
-    begin = record { first = 0; second = 0; comes = refl; other = refl; related = inl start };
-    same = λ c s t k. shows s t k.related;
+    begin = record { first = 0; second = 0; comes = refl; other = refl; keeps = inl knows.start };
+    same = λ c s t k. shows s t (along_related c s t k);
     counts = λ c s t k. refl;
-    holds = λ c s t k. near s t k.related;
+    holds = λ c s t k. near s t (along_related c s t k);
     advance = advances;
     stays_a = framed_stays (framed e);
     stays_b = framed_stays (elided e);
@@ -199,6 +208,6 @@ module _ (e : Elision) (source : Module) (most : ℕ) (is : IsElisionOf e source
   pub assembled : AgreesBy (AreRelatedOrOver e) (IsNear (elided_run e entry args) (1 + most) (AreRelatedOrOver e))
       (uncounted (framed_run e entry args)) (λ s. 1 + most) (uncounted (elided_run e entry args)) (λ t. 1)
   assembled =
-      weaken_by (λ s t. (c : ℕ) × Along c s t) V R V A price price B cost cost (λ s t k. k.1.related) (λ s t v. v)
+      weaken_by (λ s t. (c : ℕ) × Along c s t) V R V A price price B cost cost (λ s t k. along_related k.0 s t k.1) (λ s t v. v)
       (λ n fine. omega arith) (λ n. omega arith)
       (lockstep_by A price B cost Along V (waiting_left e) simulates)

@@ -77,8 +77,7 @@ related_count e s t r none =
 
 module _ (e : Elision) (source : Module) (most : ℕ) (is : IsElisionOf e source most)
     (waits : (func : ℕ) → WaitsBehind (function_in e func) (e.shape func)) (entry : ℕ) (args : List Word)
-    (start : AreRelated e (framed_after e entry args 0) (elided_after e entry args 0))
-    (knows : KnowsSteps e entry args) where
+    (Keeps : State → State → Type 0) (knows : KnowsSteps e entry args Keeps) where
   counted_by : (s t : State) → AreRelatedOrOver e s t → IsReturned s.outcome → s.below ≡ []
       → (s.world.allocs ≡ capped (t.world.allocs + given_frames t)) × (t.outcome ≡ s.outcome)
   counted_by s t (inl r) over none = (related_count e s t r none, r.beside.outcome)
@@ -86,7 +85,7 @@ module _ (e : Elision) (source : Module) (most : ℕ) (is : IsElisionOf e source
 
   pub loses : LosesCalls (framed_run e entry args) (elided_run e entry args)
   loses i j ours theirs =
-      let found = (assembled e source most is waits entry args start knows).forward i
+      let found = (assembled e source most is waits entry args Keeps knows).forward i
       (returned_fine (framed_after e entry args i).outcome ours) in
       let k = found.steps in
       let counted = counted_by (framed_after e entry args i) (elided_after e entry args k) found.related ours

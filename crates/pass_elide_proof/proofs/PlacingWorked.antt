@@ -152,7 +152,7 @@ the_question = record {
   meets = record { label = 5; stands = refl; leads = refl };
   waits = refl;
   aside = refl;
-  instrs = in_allocates;
+  instrs = λ way. in_allocates;
   allocation = 1;
   allocator = malloc_call;
   there = refl;

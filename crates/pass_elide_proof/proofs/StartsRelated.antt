@@ -1,6 +1,8 @@
 -- Where both runs start nothing has begun, so all that is related besides holds.
 use Rattle.std.proofs.Common.{◌≡◌, ◌<◌, ℕ, List, false, length}
 use Rattle.std.specs.Prelude.{◌^◌, Some, slice_get}
+use Rattle.pass_elide_proof.proofs.CallersLinks.{links_first}
+use Rattle.pass_elide_proof.proofs.PlacingStarts.{first_passed}
 use Rattle.pass_elide_proof.proofs.Starts.{starts}
 use Rattle.pass_elide_proof.specs.Elision.{Elision, elided_code, function_in}
 use Rattle.pass_elide_proof.specs.Statement.{AreRelated}
@@ -25,4 +27,6 @@ starts_related e entry args plain stands small = record {
   };
   freed = λ number x y there after given over. absurd (cc);
   renewed = λ number block offset x y c there after stands none mode same start. absurd (cc);
+  passed = first_passed e entry args;
+  called = links_first e (elided_code e) entry args;
 }

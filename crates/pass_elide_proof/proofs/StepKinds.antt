@@ -3,7 +3,7 @@ use Rattle.std.proofs.Common.{◌≡◌, ◌+◌, ◌≤◌, inl, inr, ℕ, zero
 use Rattle.pass_elide_proof.proofs.AgainSteps.{allocas_again_stay_beside}
 use Rattle.pass_elide_proof.proofs.Allocated.{waits as allocation_waits}
 use Rattle.pass_elide_proof.proofs.AskingSteps.{asking_goes}
-use Rattle.pass_elide_proof.proofs.AsideSteps.{loads_go}
+use Rattle.pass_elide_proof.proofs.AsideSteps.{addresses_go, loads_go}
 use Rattle.pass_elide_proof.proofs.Begins.{begin_beside}
 use Rattle.pass_elide_proof.proofs.Calls.{calls_beside}
 use Rattle.pass_elide_proof.proofs.Constants.{asked_beside, constant_beside}
@@ -87,6 +87,7 @@ accompanied e s t r fine (IsAccompanied.FreedAside k label at x) = frees_aside e
 accompanied e s t r fine (IsAccompanied.FreedStraight k label at same) = frees_straight e s t r k label at same
 accompanied e s t r fine (IsAccompanied.Loads u v align ty cell loaded at) =
     loads_go e s t r u v align ty cell loaded at
+accompanied e s t r fine (IsAccompanied.Addresses u v base distance at) = addresses_go e s t r u v base distance at
 accompanied e s t r fine (IsAccompanied.AllocaAgain name ty align from label next front at) =
     allocas_again_stay_beside e s t name ty align from label next r front at
 accompanied e s t r fine (IsAccompanied.LastAlloca name ty align from label front at) =

@@ -24,21 +24,26 @@ framed_after e entry args n = state_at (framed_run e entry args) n
 abbrev pub elided_after : Elision → ℕ → List Word → ℕ → State
 elided_after e entry args n = state_at (elided_run e entry args) n
 
--- From related states each step that isn't undefined is of a known kind. Behind it the states are related again, if
--- they stand beside each other.
-pub record KnowsSteps (e : Elision) (entry : ℕ) (args : List Word) : Type 0 where
-  pub known : (n m : ℕ) (r : AreRelated e (framed_after e entry args n) (elided_after e entry args m))
+-- A relation that implies the one of the simulation holds at the start. From states of which it holds each step that
+-- isn't undefined is of a known kind. Behind it the relation holds again, if the states stand beside each other.
+pub record KnowsSteps (e : Elision) (entry : ℕ) (args : List Word) (Keeps : State → State → Type 0) : Type 0 where
+  pub related : (n m : ℕ) → Keeps (framed_after e entry args n) (elided_after e entry args m)
+      → AreRelated e (framed_after e entry args n) (elided_after e entry args m)
+  pub start : Keeps (framed_after e entry args 0) (elided_after e entry args 0)
+  pub known : (n m : ℕ) (k : Keeps (framed_after e entry args n) (elided_after e entry args m))
       → (framed_after e entry args n).outcome ≡ Outcome.Running
       → IsFine (framed_step (framed e) (framed_after e entry args n)).outcome
-      → IsKnownStep e (framed_after e entry args n) (elided_after e entry args m) r.beside
-  pub kept : (n m : ℕ) (r : AreRelated e (framed_after e entry args n) (elided_after e entry args m))
+      → IsKnownStep e (framed_after e entry args n) (elided_after e entry args m) (related n m k).beside
+  pub kept : (n m : ℕ) (k : Keeps (framed_after e entry args n) (elided_after e entry args m))
       → (framed_after e entry args n).outcome ≡ Outcome.Running
       → IsFine (framed_step (framed e) (framed_after e entry args n)).outcome
-      → (k : IsKnownStep e (framed_after e entry args n) (elided_after e entry args m) r.beside)
+      → (place : IsKnownStep e (framed_after e entry args n) (elided_after e entry args m) (related n m k).beside)
       → AreElided e (framed_step (framed e) (framed_after e entry args n)) (iterate (framed_step (elided e))
-      (steps_of e (framed_after e entry args n) (elided_after e entry args m) r.beside k) (elided_after e entry args m))
-      → AreRelated e (framed_step (framed e) (framed_after e entry args n)) (iterate (framed_step (elided e))
-      (steps_of e (framed_after e entry args n) (elided_after e entry args m) r.beside k) (elided_after e entry args m))
+      (steps_of e (framed_after e entry args n) (elided_after e entry args m) (related n m k).beside place)
+      (elided_after e entry args m))
+      → Keeps (framed_step (framed e) (framed_after e entry args n)) (iterate (framed_step (elided e))
+      (steps_of e (framed_after e entry args n) (elided_after e entry args m) (related n m k).beside place)
+      (elided_after e entry args m))
 
 -- ---- how long the second run waits
 

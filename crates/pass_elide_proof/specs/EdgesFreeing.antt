@@ -6,7 +6,7 @@ use Rattle.pass_elide_proof.specs.Edges.{GivesNone, IsEntering, IsHeldOn, phis_a
 use Rattle.pass_elide_proof.specs.Elision.{Elision, Shape, elided, framed, function_in, rooms}
 use Rattle.pass_elide_proof.specs.Match.{IsAtEnd, is_given_mode, sides, was_given}
 use Rattle.pass_elide_proof.specs.Places.{front_at, instrs_of}
-use Rattle.pass_elide_proof.specs.Shapes.{AreSameLoads, JumpsTo}
+use Rattle.pass_elide_proof.specs.Shapes.{AreSameFetches, JumpsTo}
 use Rattle.pass_proofs.specs.ir_model.Names.{position_of}
 use Rattle.pass_proofs.specs.ir_model.declared.instr.Instr.{Instr}
 use Rattle.pass_proofs.specs.ir_model.declared.instr.Terminator.{Terminator}
@@ -18,14 +18,14 @@ use Rattle.pass_proofs.specs.run_source.Source.{left_windows}
 use Rattle.pass_proofs.specs.run_source.declared.state.State.{State}
 use Rattle.pass_proofs.specs.run_step.Step.{AtTerm, fetch}
 
--- Behind the block that frees and beside it stand two blocks of as many loads, which lead to the same block.
+-- Behind the block that frees and beside it stand two blocks of as many fetches, which lead to the same block.
 pub record FreesAside (f : Function) (x : Shape) (after beside : ℕ) : Type 0 where
   pub ends : ℕ
   pub aside : x.aside after ≡ Some beside
   pub joins : JumpsTo f after ends
   pub meets : JumpsTo f beside ends
   pub loads : (k : ℕ) (i j : Instr) → slice_get (instrs_of f after) k ≡ Some i
-      → slice_get (instrs_of f beside) k ≡ Some j → AreSameLoads i j
+      → slice_get (instrs_of f beside) k ≡ Some j → AreSameFetches i j
   pub many : length (instrs_of f after) ≡ length (instrs_of f beside)
   pub is_loaded : (k v : ℕ) (i : Instr) → slice_get (instrs_of f after) k ≡ Some i → result_of i ≡ Some v
       → x.passed v ≡ true

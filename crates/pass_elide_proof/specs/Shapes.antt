@@ -1,12 +1,13 @@
 -- What the shape of a coroutine says of its code, where its frame may be given. The source's sentences on callees
 -- (`IsElidable`) have this form behind the passes that build frames.
-use Rattle.std.specs.Prelude.{◌≡◌, ◌≢◌, ◌⊎◌, ◌<◌, ◌≤◌, ℕ, true, length, slice_get, Some, None}
+use Rattle.std.specs.Prelude.{◌≡◌, ◌≢◌, ◌⊎◌, ◌<◌, ◌≤◌, ℕ, true, false, List, [], ◌∷◌, length, pos, slice_get, Some, None}
 use Rattle.elide_shape.specs.Calls.{deals_by, is_size_call}
 use Rattle.elide_shape.specs.declared.calls.Dealing.{Dealing}
 use Rattle.pass_elide_proof.specs.Elision.{Shape}
 use Rattle.pass_elide_proof.specs.Places.{instrs_of}
 use Rattle.pass_proofs.specs.ir_model.Names.{position_of}
-use Rattle.pass_proofs.specs.ir_model.Ty.{Ty}
+use Rattle.pass_proofs.specs.flow_blocks.Reach.{IsReached as IsReachedBlock}
+use Rattle.pass_proofs.specs.ir_model.Ty.{Ty, int}
 use Rattle.pass_proofs.specs.ir_model.declared.instr.Instr.{Instr}
 use Rattle.pass_proofs.specs.ir_model.declared.instr.Terminator.{Terminator}
 use Rattle.pass_proofs.specs.ir_model.declared.module.Function.{Function}
@@ -30,13 +31,20 @@ pub data IsKeptLoad : Instr → Type 0 where
 abbrev pub IsAllocating : Instr → Type 0
 IsAllocating i = (is_size_call i ≡ true) ⊎ ((deals_by Dealing.Allocates i ≡ true) ⊎ IsKeptLoad i)
 
--- loads of the same kept values, into names of their own
-pub data AreSameLoads : Instr → Instr → Type 0 where
-  Loads : (u v align : ℕ) (ty : Ty) (cell : Operand) → AreSameLoads (Instr.Load u ty cell align)
+-- the address so many bytes behind that of a name, as weavings of frames fetch that of a slot
+abbrev pub slot_address : (name base distance : ℕ) → Instr
+slot_address name base distance =
+    Instr.Gep name false (int 8) (Operand.Local base)
+    (record { ty = int 64; value = Operand.Number (pos distance) } ∷ [])
+
+-- loads of the same kept values, or addresses of the same slots, into names of their own
+pub data AreSameFetches : Instr → Instr → Type 0 where
+  Loads : (u v align : ℕ) (ty : Ty) (cell : Operand) → AreSameFetches (Instr.Load u ty cell align)
       (Instr.Load v ty cell align)
+  Addresses : (u v base distance : ℕ) → AreSameFetches (slot_address u base distance) (slot_address v base distance)
 
 -- coro.alloc is asked at the end of one block, from which the allocator's block and another one are entered. Behind the
--- allocator's block and beside it stand two blocks of as many loads. They lead to the block that begins.
+-- allocator's block and beside it stand two blocks of as many fetches. They lead to the block that begins.
 pub record AsksForFrame (f : Function) (x : Shape) : Type 0 where
   pub asks : ℕ
   pub allocates : ℕ
@@ -54,7 +62,9 @@ pub record AsksForFrame (f : Function) (x : Shape) : Type 0 where
   pub meets : JumpsTo f beside begins
   pub waits : x.waits allocates ≡ Some asks
   pub aside : x.aside after ≡ Some beside
-  pub instrs : (k : ℕ) (i : Instr) → slice_get (instrs_of f allocates) k ≡ Some i → IsAllocating i
+  -- where no path leads weavings may leave anything
+  pub instrs : IsReachedBlock f (0 ∷ []) [] allocates → (k : ℕ) (i : Instr)
+      → slice_get (instrs_of f allocates) k ≡ Some i → IsAllocating i
   pub allocation : ℕ
   pub allocator : Instr
   pub there : slice_get (instrs_of f allocates) allocation ≡ Some allocator
@@ -62,7 +72,7 @@ pub record AsksForFrame (f : Function) (x : Shape) : Type 0 where
   pub once : (k : ℕ) (i : Instr) → slice_get (instrs_of f allocates) k ≡ Some i
       → deals_by Dealing.Allocates i ≡ true → k ≡ allocation
   pub loads : (k : ℕ) (i j : Instr) → slice_get (instrs_of f after) k ≡ Some i
-      → slice_get (instrs_of f beside) k ≡ Some j → AreSameLoads i j
+      → slice_get (instrs_of f beside) k ≡ Some j → AreSameFetches i j
   pub many : length (instrs_of f after) ≡ length (instrs_of f beside)
   -- the block is held from the allocator's call to begin
   pub block : ℕ

@@ -4,10 +4,12 @@ use Rattle.elide_sites.specs.Destroyed.{FreesWhenDestroyed, IsOn}
 use Rattle.elide_sites.specs.Sites.{AreSites, callee_in}
 use Rattle.elide_sites.specs.declared.destroyed.Way.{Way}
 use Rattle.pass_elide.specs.Elided.{function_frames}
+use Rattle.pass_elide_proof.specs.CallersStack.{AreCalled}
 use Rattle.pass_elide_proof.specs.Counts.{LosesCalls, uncounted}
 use Rattle.pass_elide_proof.specs.Elision.{Elision, elided, elided_code, function_in, rooms}
 use Rattle.pass_elide_proof.specs.Invariant.{DoGivenFramesLive, HaveCallers, IsCalledIn, IsDestroying, IsSiteOf}
 use Rattle.pass_elide_proof.specs.Match.{AreElided}
+use Rattle.pass_elide_proof.specs.PlacingStates.{HavePassedBy}
 use Rattle.pass_elide_proof.specs.Returning.{HaveReturned}
 use Rattle.pass_elide_proof.specs.Shapes.{AsksForFrame}
 use Rattle.pass_proofs.specs.ir_base.declared.outcome.Word.{Word}
@@ -39,6 +41,9 @@ pub record AreRelated (e : Elision) (s t : State) : Type 0 where
   pub renewed : (number block offset : ℕ) (x y : Instance) (c : Activation) → slice_get s.instances number ≡ Some x
       → slice_get t.instances number ≡ Some y → Contains (t.top ∷ t.below) c → c.instance ≡ None
       → c.mode ≡ Mode.GivenRamp (address_in block offset) → y.block ≡ block → y.start ≡ offset → x.freed ≡ true
+  -- the second run is in no block that allocates or frees a given frame, and has what its calls gave
+  pub passed : HavePassedBy e t
+  pub called : AreCalled e t
 
 -- They are related, or both runs are over: behind the entry's return its allocas are dead.
 abbrev pub AreRelatedOrOver : Elision → State → State → Type 0

@@ -2,7 +2,7 @@
 use Rattle.std.specs.Prelude.{◌≡◌, ◌+◌, ◌⊎◌, ℕ, Bool, List, [], Option, Some, length, slice_get}
 use Rattle.pass_elide_proof.specs.Again.{IsAtAllocaAgain, IsAtLastAlloca}
 use Rattle.pass_elide_proof.specs.Allocating.{IsAtAllocation}
-use Rattle.pass_elide_proof.specs.Asides.{IsAtLoads}
+use Rattle.pass_elide_proof.specs.Asides.{IsAtAddresses, IsAtLoads}
 use Rattle.pass_elide_proof.specs.Asked.{IsAtAsking}
 use Rattle.pass_elide_proof.specs.Beginning.{IsAtBegin, IsAtGivenBegin}
 use Rattle.pass_elide_proof.specs.Both.{IsAtConstant, IsAtAsking as AsksForMemory, standing_at}
@@ -101,6 +101,7 @@ pub data IsAccompanied (e : Elision) (s t : State) (r : AreElided e s t) : Type 
       → IsAtFreed e s t k label → k.after ≡ k.beside → IsAccompanied e s t r
   Loads : (u v align : ℕ) (ty : Ty) (cell : Operand) (loaded : Value) → IsAtLoads e s t u v align ty cell loaded
       → IsAccompanied e s t r
+  Addresses : (u v base distance : ℕ) → IsAtAddresses e s t u v base distance → IsAccompanied e s t r
   AllocaAgain : (name : ℕ) (ty : Ty) (align from label : ℕ) (next : Point)
       → t.top.at ≡ front_at (rooms e s.top.func) (function_in e s.top.func) s.top.block s.top.at
       → IsAtAllocaAgain e s t name ty align from label next → IsAccompanied e s t r

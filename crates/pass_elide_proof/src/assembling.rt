@@ -1,7 +1,7 @@
 //! Steps that are followed make runs that agree.
 
 ghost use Rattle.std.specs.Prelude.{List, Some, false, length, slice_get, ◌<◌, ◌^◌, ◌≡◌, ℕ};
-ghost use Rattle.pass_elide_proof.specs.Assembling.{KnowsSteps, WaitsBehind, elided_after, framed_after};
+ghost use Rattle.pass_elide_proof.specs.Assembling.{KnowsSteps, WaitsBehind};
 ghost use Rattle.pass_elide_proof.specs.Elision.{Elision, elided_code, function_in};
 ghost use Rattle.pass_elide_proof.specs.Statement.{AreRelated, ElisionKeepsStates, ElisionLosesCalls, IsElisionOf};
 ghost use Rattle.pass_proofs.specs.ir_base.declared.outcome.Word.{Word};
@@ -19,14 +19,12 @@ pub fn known_steps_keep_states()
     ensures states { (e : Elision) (source : Module) (most : ℕ) → IsElisionOf e source most
         → ((func : ℕ) → WaitsBehind (function_in e func) (e.shape func))
         → ((entry : ℕ) (args : List Word) → (function_in e entry).coroutine ≡ false
-        → AreRelated e (framed_after e entry args 0) (elided_after e entry args 0))
-        → ((entry : ℕ) (args : List Word) → (function_in e entry).coroutine ≡ false → KnowsSteps e entry args)
+        → KnowsSteps e entry args (AreRelated e))
         → ElisionKeepsStates e most }
     ensures calls { (e : Elision) (source : Module) (most : ℕ) → IsElisionOf e source most
         → ((func : ℕ) → WaitsBehind (function_in e func) (e.shape func))
         → ((entry : ℕ) (args : List Word) → (function_in e entry).coroutine ≡ false
-        → AreRelated e (framed_after e entry args 0) (elided_after e entry args 0))
-        → ((entry : ℕ) (args : List Word) → (function_in e entry).coroutine ≡ false → KnowsSteps e entry args)
+        → KnowsSteps e entry args (AreRelated e))
         → ElisionLosesCalls e }
 {}
 

@@ -2,7 +2,7 @@
 
 ghost use Rattle.std.specs.Prelude.{Bool, List, Option, ℕ};
 ghost use Rattle.pass_elide_proof.specs.Again.{IsAtAllocaAgain, IsAtLastAlloca};
-ghost use Rattle.pass_elide_proof.specs.Asides.{IsAtLoads};
+ghost use Rattle.pass_elide_proof.specs.Asides.{IsAtAddresses, IsAtLoads};
 ghost use Rattle.pass_elide_proof.specs.Asked.{IsAtAsking};
 ghost use Rattle.pass_elide_proof.specs.Elision.{Elision, elided, framed};
 ghost use Rattle.pass_elide_proof.specs.Making.{IsAtAlloca, IsAtAllocator};
@@ -55,11 +55,14 @@ pub fn changed_blocks_stay_beside()
         → AreElided e (framed_step (framed e) s) (framed_step (elided e) t) }
 {}
 
-/// Where one block stands aside of the other, each run loads a kept value into a name of its own. The blocks still
-/// stand so afterwards, and what both have made stands for each other.
+/// Where one block stands aside of the other, each run loads a kept value into a name of its own, or makes a slot's
+/// address. The blocks still stand so afterwards, and what both have made stands for each other.
 pub fn loads_stay_aside()
-    ensures { (e : Elision) (s t : State) (u v align : ℕ) (ty : Ty) (cell : Operand) (loaded : Value)
+    ensures loads { (e : Elision) (s t : State) (u v align : ℕ) (ty : Ty) (cell : Operand) (loaded : Value)
         → AreElided e s t → IsAtLoads e s t u v align ty cell loaded
+        → AreElided e (framed_step (framed e) s) (framed_step (elided e) t) }
+    ensures addresses { (e : Elision) (s t : State) (u v base distance : ℕ) → AreElided e s t
+        → IsAtAddresses e s t u v base distance
         → AreElided e (framed_step (framed e) s) (framed_step (elided e) t) }
 {}
 
