@@ -1,0 +1,10 @@
+pub mod Acting
+pub mod ReadyPlaces
+pub mod Fronting
+pub mod Coroutines
+pub mod Besides
+pub mod Apart
+pub mod Asides
+pub mod Whole
+pub mod FirstStates
+pub mod WorkedMore
