@@ -221,9 +221,10 @@ module _ (e : Elision) (keeps : KeepsPlaces e) (more : KeepsMore e) (s t : State
       (load (frame_rights (framed e) s.instances) s.world.memory
       (address (operand_value e.code s.top.values ptr cell)) (access_of ty) align) acts.0 acts.1 in
       IsAccompanied.Loads u v align ty cell loaded.value (record {
-        place = side (Instr.Load u ty cell align) (Instr.Load v ty cell align) u v there other refl refl refl refl refl;
-        reads = λ name is. reads_alike (Instr.Load u ty cell align) (Instr.Load v ty cell align) u v there other refl refl
-            refl refl refl refl name is;
+        place = side (Instr.Load u ty cell align) (Instr.Load v ty cell align) u v there other refl refl refl refl
+            refl;
+        reads = λ name is. reads_alike (Instr.Load u ty cell align) (Instr.Load v ty cell align) u v there other refl
+            refl refl refl refl refl name is;
         aligned = loaded.aligned;
         bytes = (keeps.instrs s.top.func).bytes s.top.block s.top.at (Instr.Load u ty cell align)
             (instr_there f s.top.block s.top.at (Instr.Load u ty cell align) there);
@@ -233,8 +234,8 @@ module _ (e : Elision) (keeps : KeepsPlaces e) (more : KeepsMore e) (s t : State
       IsAccompanied.Addresses u v base distance (record {
         place = side (slot_address u base distance) (slot_address v base distance) u v there other refl refl refl refl
             refl;
-        reads = λ name is. reads_alike (slot_address u base distance) (slot_address v base distance) u v there other refl
-            refl refl refl refl refl name
+        reads = λ name is. reads_alike (slot_address u base distance) (slot_address v base distance) u v there other
+            refl refl refl refl refl refl name
             (λ l. is l || is_in_args name (record { ty = int 64; value = Operand.Number (pos distance) } ∷ []));
       })
 

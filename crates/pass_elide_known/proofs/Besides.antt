@@ -177,7 +177,8 @@ module _ (e : Elision) (keeps : KeepsPlaces e) (more : KeepsMore e) (s t : State
 
     made : (own : List Slot) → t.top.slots ≡ map (moved_slot r.beside.homes) s.top.slots ++ own
         → HasAllocas e r.beside.homes r.beside.hides (sides s t) s.top t.top own
-        → length t.top.slots ≡ length s.top.slots + length (allocas_ahead (rooms e s.top.func) (function_in e s.top.func))
+        → length t.top.slots
+        ≡ length s.top.slots + length (allocas_ahead (rooms e s.top.func) (function_in e s.top.func))
     made own slots allocas =
         let long = length-append (map (moved_slot r.beside.homes) s.top.slots) own in
         let same = map_long (moved_slot r.beside.homes) s.top.slots in

@@ -273,7 +273,8 @@ module _ (e : Elision) (keeps : KeepsPlaces e) (s : State) (known : IsKnownFrame
         ≡ AtInstr (Instr.Call result must_tail ty (Callee.Intrinsic Intrinsic.CoroDone) args) → IsReadyFor e s u r
     done_ready there =
         IsReadyFor.Looks result must_tail ty args giving.front
-        (done_place e keeps s u (front_at (rooms e s.top.func) f s.top.block s.top.at) r.beside giving.passed result must_tail ty args made
+        (done_place e keeps s u (front_at (rooms e s.top.func) f s.top.block s.top.at) r.beside giving.passed result
+        must_tail ty args made
         (at_instr (Instr.Call result must_tail ty (Callee.Intrinsic Intrinsic.CoroDone) args) there)
         known.known.instances)
 
@@ -281,7 +282,8 @@ module _ (e : Elision) (keeps : KeepsPlaces e) (s : State) (known : IsKnownFrame
         ≡ AtInstr (Instr.Call result must_tail ty (Callee.Intrinsic Intrinsic.CoroPromise) args) → IsReadyFor e s u r
     promise_ready there =
         IsReadyFor.Promise result must_tail ty args giving.front
-        (promise_place e keeps s u (front_at (rooms e s.top.func) f s.top.block s.top.at) r.beside giving.passed result must_tail ty args made
+        (promise_place e keeps s u (front_at (rooms e s.top.func) f s.top.block s.top.at) r.beside giving.passed result
+        must_tail ty args made
         (at_instr (Instr.Call result must_tail ty (Callee.Intrinsic Intrinsic.CoroPromise) args) there) giving.sound)
 
     pub resume_ready : fetch (function_of (framed e).given s) s.top.block s.top.at

@@ -1,5 +1,5 @@
--- What each state of the framed run has, and each one of the run that gives frames, so that each instruction's step is of
--- a known kind.
+-- What each state of the framed run has, and each one of the run that gives frames, so that each instruction's step is
+-- of a known kind.
 use Rattle.std.specs.Prelude.{◌≡◌, ◌<◌, ◌^◌, ℕ, Bool, true, false, List, [], ◌∷◌, slice_get, Some, None, Option}
 use Rattle.elide_shape.specs.Calls.{deals}
 use Rattle.elide_shape.specs.declared.calls.Dealing.{Dealing}
