@@ -1,0 +1,13 @@
+pub mod Choosing
+pub mod Staying
+pub mod Alike
+pub mod Fronts
+pub mod Freed
+pub mod Beside
+pub mod Waits
+pub mod Rets
+pub mod Known
+pub mod EdgesApart
+pub mod Starts
+pub mod Bare
+pub mod Worked

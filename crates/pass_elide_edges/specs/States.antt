@@ -1,0 +1,61 @@
+-- What is known of both states where the framed run stands at the end of a block.
+use Rattle.std.specs.Prelude.{◌≡◌, ◌≢◌, ℕ, Bool, true, false, []}
+use Rattle.pass_elide_edges.specs.Keeping.{HasEdge}
+use Rattle.pass_elide_proof.specs.EdgesFreeing.{FreesAside, FreesFrame}
+use Rattle.pass_elide_proof.specs.Elision.{Elision, Shape, elided_code, framed, function_in}
+use Rattle.pass_elide_proof.specs.Match.{Sides, is_given_mode, was_given}
+use Rattle.pass_elide_proof.specs.OwnSlots.{CountsSlots}
+use Rattle.pass_elide_proof.specs.PlacingStates.{IsKnownState}
+use Rattle.pass_elide_proof.specs.Shapes.{AsksForFrame}
+use Rattle.pass_elide_proof.specs.Sound.{IsSoundState}
+use Rattle.pass_proofs.specs.ir_model.Names.{function_at, position_of}
+use Rattle.pass_proofs.specs.ir_model.declared.module.Function.{Function}
+use Rattle.pass_proofs.specs.ir_model.declared.module.Module.{Module}
+use Rattle.pass_proofs.specs.run_source.declared.state.Activation.{Activation}
+use Rattle.pass_proofs.specs.run_source.declared.state.State.{State}
+use Rattle.run_slots.specs.Slots.{IsSlottedState}
+
+-- ---- one state
+
+-- an activation of a function that is no coroutine has no slots at its first place
+pub record StartsBare (m : Module) (s : State) : Type 0 where
+  pub slots : (function_at m s.top.func).coroutine ≡ false → s.top.block ≡ 0 → s.top.at ≡ 0 → s.top.slots ≡ []
+
+-- no edge leads to an entry block
+abbrev pub EntersNoStart : Module → Type 0
+EntersNoStart m =
+    (func block label : ℕ) → HasEdge (function_at m func) block label
+    → position_of (function_at m func) label ≢ 0
+
+-- of the framed run
+pub record EndsFramed (e : Elision) (s : State) : Type 0 where
+  pub known : IsKnownState e.code s
+  pub sound : IsSoundState (framed e) s
+  pub slotted : IsSlottedState s
+
+-- of the run that gives frames
+pub record EndsElided (e : Elision) (t : State) : Type 0 where
+  pub known : IsKnownState (elided_code e) t
+  pub slots : CountsSlots t
+  pub bare : StartsBare (elided_code e) t
+
+-- ---- two activations
+
+-- Where a frame is allocated or freed in the framed run alone, activations are in blocks of their own only as the
+-- relation says. The framed run's is in the first block.
+pub record ApartIn (f : Function) (x : Shape) (ramp given : Bool) (block other : ℕ) : Type 0 where
+  -- beside a ramp that was given its frame the framed one isn't in the block that passes by the allocator's
+  pub beside : ramp ≡ true → (k : AsksForFrame f x) → block ≢ k.beside
+  -- nor is that ramp in the block behind the allocator's
+  pub after : ramp ≡ true → (k : AsksForFrame f x) → other ≢ k.after
+  -- other activations aren't in these two blocks at once
+  pub asked : ramp ≡ false → (k : AsksForFrame f x) → block ≡ k.after → other ≢ k.beside
+  -- beside one whose frame was given the framed one isn't in the block beside that which frees
+  pub tested : given ≡ true → (q : FreesFrame f x) → FreesAside f x q.after q.beside → block ≢ q.beside
+  -- nor is that one in the block behind that which frees
+  pub freed : given ≡ true → (q : FreesFrame f x) → FreesAside f x q.after q.beside → other ≢ q.after
+
+-- so two activations stand
+abbrev pub StandApart : Elision → Sides → Activation → Activation → Type 0
+StandApart e d a c =
+    ApartIn (function_in e a.func) (e.shape a.func) (is_given_mode c.mode) (was_given d c) a.block c.block

@@ -1,0 +1,44 @@
+//! Behind ends of blocks activations are in blocks of their own only as the relation says.
+
+ghost use Rattle.pass_elide_edges.specs.Keeping.{EntersAlone, HasEdge};
+ghost use Rattle.pass_elide_edges.specs.States.{ApartIn, StandApart};
+ghost use Rattle.pass_elide_proof.specs.Elision.{Elision, Shape, framed, function_in};
+ghost use Rattle.pass_elide_proof.specs.Match.{is_given_mode, sides, was_given};
+ghost use Rattle.pass_elide_proof.specs.Statement.{AreRelated};
+ghost use Rattle.pass_proofs.specs.ir_base.declared.outcome.Outcome.{Outcome};
+ghost use Rattle.pass_proofs.specs.ir_model.Names.{position_of};
+ghost use Rattle.pass_proofs.specs.ir_model.declared.instr.Case.{Case};
+ghost use Rattle.pass_proofs.specs.ir_model.declared.instr.Terminator.{Terminator};
+ghost use Rattle.pass_proofs.specs.ir_model.declared.module.Function.{Function};
+ghost use Rattle.pass_proofs.specs.ir_model.declared.operand.Arg.{Arg};
+ghost use Rattle.pass_proofs.specs.run_agreement.Machines.{IsFine};
+ghost use Rattle.pass_proofs.specs.run_framed.Framed.{framed_context, framed_step};
+ghost use Rattle.pass_proofs.specs.run_source.State.{function_of, work_of};
+ghost use Rattle.pass_proofs.specs.run_source.declared.state.State.{State};
+ghost use Rattle.pass_proofs.specs.run_step.Step.{AtTerm, GoTo, fetch, term_action};
+ghost use Rattle.std.specs.Prelude.{Bool, List, false, ◌≡◌, ◌⊎◌, ℕ};
+
+/// The framed run goes over an edge, and the activation of the other one stays in its block or takes an edge too. The
+/// two are in blocks of their own then only as the relation says, as they were before.
+pub fn edges_keep_apart()
+    ensures { (e : Elision) (s t : State) (term : Terminator) (label block : ℕ) → AreRelated e s t
+        → StandApart e (sides s t) s.top t.top → EntersAlone (function_in e s.top.func) (e.shape s.top.func)
+        → s.outcome ≡ Outcome.Running → IsFine (framed_step (framed e) s).outcome
+        → fetch (function_of (framed e).given s) s.top.block s.top.at ≡ AtTerm term
+        → term_action (framed_context (framed e) s) (work_of s) term ≡ GoTo label
+        → (block ≡ t.top.block)
+        ⊎ ((other : ℕ) × (HasEdge (function_in e s.top.func) t.top.block other)
+        × (block ≡ position_of (function_in e s.top.func) other))
+        → ApartIn (function_in e s.top.func) (e.shape s.top.func) (is_given_mode t.top.mode)
+        (was_given (sides s t) t.top) (position_of (function_in e s.top.func) label) block }
+{}
+
+/// Where a function is entered they are in no block of their own, nor at a label behind a suspend.
+pub fn entries_keep_apart()
+    ensures entry { (f : Function) (x : Shape) (ramp given : Bool) → EntersAlone f x
+        → ApartIn f x ramp given 0 0 }
+    ensures switch { (f : Function) (x : Shape) (given : Bool) (block label : ℕ) (edge : HasEdge f block label)
+        (arg : Arg) (default : ℕ) (cases : List Case) → EntersAlone f x
+        → edge.term ≡ Terminator.Switch arg default cases
+        → ApartIn f x false given (position_of f label) (position_of f label) }
+{}

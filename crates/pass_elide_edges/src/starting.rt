@@ -1,0 +1,48 @@
+//! Where runs start, and in the worked module, what the ends of blocks ask holds.
+
+ghost use Rattle.pass_elide_edges.specs.Keeping.{EntersAlone, KeepsEnds};
+ghost use Rattle.pass_elide_edges.specs.States.{EndsElided, EndsFramed, EntersNoStart, StandApart, StartsBare};
+ghost use Rattle.pass_elide_proof.specs.Elision.{Elision, elided_code, function_in};
+ghost use Rattle.pass_elide_proof.specs.Match.{sides};
+ghost use Rattle.pass_elide_proof.specs.Placing.{KeepsPlaces};
+ghost use Rattle.pass_elide_proof.specs.PlacingStates.{BeginsInCoroutines, IsKnownState};
+ghost use Rattle.pass_elide_proof.specs.Worked.{the_elision};
+ghost use Rattle.pass_proofs.specs.ir_base.declared.outcome.Outcome.{Outcome};
+ghost use Rattle.pass_proofs.specs.ir_base.declared.outcome.Word.{Word};
+ghost use Rattle.pass_proofs.specs.run_agreement.Machines.{IsFine};
+ghost use Rattle.pass_proofs.specs.run_framed.Framed.{FramedGiven, framed_state_at, framed_step};
+ghost use Rattle.pass_proofs.specs.run_source.Source.{first_state};
+ghost use Rattle.pass_proofs.specs.run_source.declared.state.State.{State};
+ghost use Rattle.std.specs.Prelude.{List, false, ◌≡◌, ℕ};
+
+/// The states in which both runs start have what ends of blocks ask of states. The entry is no coroutine, so it has no
+/// block beside another one.
+pub fn runs_start_at_known_ends()
+    ensures framed { (e : Elision) (entry : ℕ) (args : List Word) → KeepsPlaces e
+        → (function_in e entry).coroutine ≡ false → EndsFramed e (first_state e.code entry args) }
+    ensures elided { (e : Elision) (entry : ℕ) (args : List Word) → KeepsPlaces e
+        → (function_in e entry).coroutine ≡ false → EndsElided e (first_state (elided_code e) entry args) }
+    ensures apart { (e : Elision) (entry : ℕ) (args : List Word) → KeepsPlaces e
+        → (function_in e entry).coroutine ≡ false
+        → StandApart e (sides (first_state e.code entry args) (first_state (elided_code e) entry args))
+        (first_state e.code entry args).top (first_state (elided_code e) entry args).top }
+{}
+
+/// An activation of a function that is no coroutine has no slots at its first place, where no edge leads back. So it is
+/// behind each step that isn't undefined. Elided functions have the edges that framed ones have.
+pub fn activations_start_bare()
+    ensures step { (g : FramedGiven) (s : State) → EntersNoStart g.given.code → IsKnownState g.given.code s
+        → s.outcome ≡ Outcome.Running → IsFine (framed_step g s).outcome
+        → StartsBare g.given.code (framed_step g s) }
+    ensures runs { (g : FramedGiven) (entry : ℕ) (args : List Word) (n : ℕ) → EntersNoStart g.given.code
+        → BeginsInCoroutines g.given.code → IsFine (framed_state_at g entry args n).outcome
+        → StartsBare g.given.code (framed_state_at g entry args n) }
+    ensures elided { (e : Elision) → EntersNoStart e.code → EntersNoStart (elided_code e) }
+{}
+
+/// The worked module keeps what ends of its blocks ask.
+#[tactic(none)]
+pub fn the_worked_module_keeps_ends()
+    ensures ends { KeepsEnds the_elision }
+    ensures alone { (func : ℕ) → EntersAlone (function_in the_elision func) (the_elision.shape func) }
+{}
