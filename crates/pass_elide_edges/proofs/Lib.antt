@@ -10,4 +10,5 @@ pub mod Known
 pub mod EdgesApart
 pub mod Starts
 pub mod Bare
+pub mod Runs
 pub mod Worked

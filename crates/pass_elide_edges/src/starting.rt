@@ -2,10 +2,11 @@
 
 ghost use Rattle.pass_elide_edges.specs.Keeping.{EntersAlone, KeepsEnds};
 ghost use Rattle.pass_elide_edges.specs.States.{EndsElided, EndsFramed, EntersNoStart, StandApart, StartsBare};
-ghost use Rattle.pass_elide_proof.specs.Elision.{Elision, elided_code, function_in};
+ghost use Rattle.pass_elide_proof.specs.Elision.{Elision, elided_code, framed, function_in};
 ghost use Rattle.pass_elide_proof.specs.Match.{sides};
 ghost use Rattle.pass_elide_proof.specs.Placing.{KeepsPlaces};
 ghost use Rattle.pass_elide_proof.specs.PlacingStates.{BeginsInCoroutines, IsKnownState};
+ghost use Rattle.pass_elide_proof.specs.Sound.{NestsNone};
 ghost use Rattle.pass_elide_proof.specs.Worked.{the_elision};
 ghost use Rattle.pass_proofs.specs.ir_base.declared.outcome.Outcome.{Outcome};
 ghost use Rattle.pass_proofs.specs.ir_base.declared.outcome.Word.{Word};
@@ -26,6 +27,12 @@ pub fn runs_start_at_known_ends()
         → (function_in e entry).coroutine ≡ false
         → StandApart e (sides (first_state e.code entry args) (first_state (elided_code e) entry args))
         (first_state e.code entry args).top (first_state (elided_code e) entry args).top }
+{}
+
+/// In each state of the framed run it holds too, where no frame has room for another one.
+pub fn framed_runs_have_known_ends()
+    ensures { (e : Elision) (entry : ℕ) (args : List Word) (n : ℕ) → KeepsPlaces e → NestsNone (framed e)
+        → EndsFramed e (framed_state_at (framed e) entry args n) }
 {}
 
 /// An activation of a function that is no coroutine has no slots at its first place, where no edge leads back. So it is
