@@ -10,5 +10,6 @@ pub mod Known
 pub mod EdgesApart
 pub mod Starts
 pub mod Bare
+pub mod Begins
 pub mod Runs
 pub mod Worked

@@ -2,7 +2,7 @@
 
 ghost use Rattle.pass_elide_edges.specs.Keeping.{EntersAlone, KeepsEnds};
 ghost use Rattle.pass_elide_edges.specs.States.{EndsElided, EndsFramed, EntersNoStart, StandApart, StartsBare};
-ghost use Rattle.pass_elide_proof.specs.Elision.{Elision, elided_code, framed, function_in};
+ghost use Rattle.pass_elide_proof.specs.Elision.{Elision, elided, elided_code, framed, function_in};
 ghost use Rattle.pass_elide_proof.specs.Match.{sides};
 ghost use Rattle.pass_elide_proof.specs.Placing.{KeepsPlaces};
 ghost use Rattle.pass_elide_proof.specs.PlacingStates.{BeginsInCoroutines, IsKnownState};
@@ -33,6 +33,14 @@ pub fn runs_start_at_known_ends()
 pub fn framed_runs_have_known_ends()
     ensures { (e : Elision) (entry : ℕ) (args : List Word) (n : ℕ) → KeepsPlaces e → NestsNone (framed e)
         → EndsFramed e (framed_state_at (framed e) entry args n) }
+{}
+
+/// In elided modules coro.begin stands in coroutines too. So in each state of the run that gives frames activations have
+/// as many values as their functions have names.
+pub fn elided_runs_are_known()
+    ensures begins { (e : Elision) → KeepsPlaces e → BeginsInCoroutines (elided_code e) }
+    ensures runs { (e : Elision) (entry : ℕ) (args : List Word) (n : ℕ) → KeepsPlaces e
+        → IsKnownState (elided_code e) (framed_state_at (elided e) entry args n) }
 {}
 
 /// An activation of a function that is no coroutine has no slots at its first place, where no edge leads back. So it is
