@@ -117,7 +117,8 @@ module _ (g : FramedGiven) where
     enters_by (AtInstr i) none acts =
         by_truth (is_entering i)
         (λ enters. record { instr = i; is = refl; calls = instr_enters i none acts enters })
-        (λ stays. absurd (never_enters (action_of c w (AtInstr i)) func vs result must_tail acts (instr_none c w i stays)))
+        (λ stays. absurd (never_enters (action_of c w (AtInstr i)) func vs result must_tail acts
+        (instr_none c w i stays)))
 
   -- ---- an instruction that calls an intrinsic
 

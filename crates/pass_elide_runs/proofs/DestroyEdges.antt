@@ -51,10 +51,11 @@ module _ (e : Elision) (keeps : KeepsPlaces e) (switches : AllHaveSwitches e.cod
           (destroyed_too (function_at (elided_code e) x.coroutine)
           (position_of (function_at (elided_code e) x.coroutine)
           (destroy_label (function_at (elided_code e) x.coroutine) q))
-          (destroys_on_way (elided e).given t.instances (elided_switched e keeps switched) sound number x q values there
-          status))
+          (destroys_on_way (elided e).given t.instances (elided_switched e keeps switched) sound number x q values
+          there status))
       by false is =
           let c = (subst (IsSoundStatus (elided e).given x.coroutine) status
           (sound_there (elided e).given t.instances sound number x there)).1 in
-          absurd (fetched_none (function_at (elided_code e) x.coroutine) (elided_none e keeps x.coroutine is) q.block q.at
+          absurd (fetched_none (function_at (elided_code e) x.coroutine)
+          (elided_none e keeps x.coroutine is) q.block q.at
           c.instr c.stands (suspend_own c.instr c.is))

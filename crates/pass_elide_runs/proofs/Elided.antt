@@ -148,7 +148,8 @@ module _ (e : Elision) (keeps : KeepsPlaces e) where
           ((keeps.instrs func).own block k result must_tail ty j args at own) plain)
 
       by : (i : Instr) → slice_get (instrs_of (function_in e func) block) k ≡ Some i → calls_own i ≡ false
-      by (Instr.Call result must_tail ty (Callee.Intrinsic j) args) at = on j result must_tail ty args (is_own j) refl at
+      by (Instr.Call result must_tail ty (Callee.Intrinsic j) args) at =
+          on j result must_tail ty args (is_own j) refl at
       by _ at = refl
 
   -- a function that is no coroutine has no such call in the elided module either

@@ -118,7 +118,8 @@ module _ (g : FramedGiven) (fits : ℕ → Mode → Value → Type 0) (calls : I
     IsOther a = (k : Intrinsic) (args : List Arg) (result : Option ℕ) → calls k → a ≡ Coro k args result → ⊥
 
     on_other : (s : State) (a : Action) (acts : ActsBy g s a) → IsOther a → (i : Instr) → acts.here ≡ AtInstr i
-        → (values : Env) → ((v : ℕ) → (result_of i ≡ Some v → ⊥) → value_in values v ≡ value_in s.top.values v) → (v : ℕ)
+        → (values : Env) → ((v : ℕ) → (result_of i ≡ Some v → ⊥) → value_in values v ≡ value_in s.top.values v) →
+        (v : ℕ)
         → IsGivenBy calls (function_at m s.top.func) v → value_in values v ≡ value_in s.top.values v
     on_other s a acts other i is values keeps v given =
         keeps v (λ gives.
@@ -191,11 +192,13 @@ module _ (g : FramedGiven) (fits : ℕ → Mode → Value → Type 0) (calls : I
         by None = h n given
         by (Some r) =
             ⊎_elim (λ is. here r is)
-            (λ other. subst Fit (sym (set_elsewhere s.top.values r n v.0 (λ e. other (sym e)))) (h n given)) (cases_eq n r)
+            (λ other. subst Fit (sym (set_elsewhere s.top.values r n v.0 (λ e. other (sym e)))) (h n given))
+            (cases_eq n r)
 
     -- ---- activations
 
-    called_has : (func : ℕ) (args : List Value) (result : Option ℕ) (mode : Mode) → Has (called m func args result mode)
+    called_has : (func : ℕ) (args : List Value) (result : Option ℕ) (mode : Mode) → Has
+        (called m func args result mode)
     called_has func args result mode n given = inl (entry_poison (function_at m func) args n given.params)
 
     phis_keep : (a : Activation) (block from : ℕ) (mode : Mode)
@@ -217,7 +220,8 @@ module _ (g : FramedGiven) (fits : ℕ → Mode → Value → Type 0) (calls : I
         inl (reentry_poison (function_at m x.coroutine) (frame_address_of x) n given.begins)
     woken_has s i x p label None n given =
         inl
-        (phis_elsewhere m env (label_of (slice_get f.blocks p.block)) (phis_of (slice_get f.blocks (position_of f label)))
+        (phis_elsewhere m env (label_of (slice_get f.blocks p.block)) (phis_of (slice_get f.blocks
+        (position_of f label)))
         env n (given.phis (position_of f label))
         ∙ reentry_poison f (frame_address_of x) n given.begins)
       where
@@ -288,10 +292,12 @@ module _ (g : FramedGiven) (fits : ℕ → Mode → Value → Type 0) (calls : I
             on : (v : Value) → fits s.top.func s.top.mode v → fits s.top.func Mode.Resumed v
             on v fit = later s.top.func from label v (subst (λ (k : Mode). fits s.top.func k v) is fit)
 
-            after : (o : Option Point) → On (enter_after g (with_slots (settled s w) (slot ∷ s.top.slots)) from label o)
+            after : (o : Option Point) → On (enter_after g (with_slots (settled s w)
+                (slot ∷ s.top.slots)) from label o)
             after (Some p) = (
               (λ n given.
-                  subst (λ (k : Mode). (value_in w.values n ≡ Value.Poison) ⊎ fits s.top.func k (value_in w.values n)) is
+                  subst (λ (k : Mode). (value_in w.values n ≡ Value.Poison) ⊎ fits s.top.func k
+                  (value_in w.values n)) is
                   (after_slot n given)),
               h.1,
             )
@@ -331,7 +337,8 @@ module _ (g : FramedGiven) (fits : ℕ → Mode → Value → Type 0) (calls : I
                 (coro_result g s j args result acts i.instr i.is ∙ is)) in
                 let j_is = same k.0 k.1 k.2
                 (sym acts.acts ∙ (ap (action_of (framed_context g s) (work_of s)) i.is ∙ k.4)) in
-                coro_given s (gives s result v) runs step fine j args result acts (subst calls (sym j_is) k.3) h.0 n given
+                coro_given s (gives s result v) runs step fine j args result acts (subst calls
+                (sym j_is) k.3) h.0 n given
     given_stays s _ runs step fine q h (LeadsTo.Passes j args result acts) = (h.0, h.1)
     given_stays s _ runs step fine q h (LeadsTo.Begins args result mem memory block start acts alone taken) =
         (coro_other s Intrinsic.CoroBegin args result acts apart.0 mem h.0, h.1)
@@ -347,7 +354,8 @@ module _ (g : FramedGiven) (fits : ℕ → Mode → Value → Type 0) (calls : I
     given_stays s _ runs step fine q h (LeadsTo.Wakes j args result y label acts sleeps) =
         after (alloca_from (function_at m y.instance.coroutine) 0)
       where
-        after : (o : Option Point) → On (enter_after g (woken_at g s y.number y.instance y.suspend) y.suspend.block label o)
+        after : (o : Option Point)
+            → On (enter_after g (woken_at g s y.number y.instance y.suspend) y.suspend.block label o)
         after None = (woken_has s y.number y.instance y.suspend label None, (h.0, h.1))
         after (Some p) = (woken_has s y.number y.instance y.suspend label (Some p), (h.0, h.1))
     given_stays s _ runs step fine q h (LeadsTo.EndsRamp args result acts ramp) =
@@ -365,7 +373,10 @@ module _ (g : FramedGiven) (fits : ℕ → Mode → Value → Type 0) (calls : I
         (λ j. (sym k.top j, sym k.below j)) h)
     given_stays s _ runs step fine q h (LeadsTo.Deallocates p memory acts dead) =
         let k = gone_stack s (instance_at s.instances p) in
-        subst (λ (p : Activation × List Activation). Each (HasGiven fits calls m) (record p.0 { at = p.0.at + 1 } ∷ p.1))
+        subst (λ (p : Activation × List Activation). Each (HasGiven fits calls m) (record p.0 {
+          at =
+              p.0.at + 1;
+        } ∷ p.1))
         (λ j. (sym k.top j, sym k.below j)) (h.0, h.1)
     given_stays s _ runs step fine q h (LeadsTo.GoesTo label acts none) = (
       phis_keep s.top (position_of (function_of g.given s) label)

@@ -33,7 +33,8 @@ pub state_reached : (g : FramedGiven) → AllHaveSwitches g.given.code → (entr
     → IsReachedState g.given (framed_state_at g entry args n)
 state_reached g switches entry args n =
     subst (IsReachedState g.given)
-    (sym (same_runs (framed_step g) (step_of (framed_hooks g)) (framed_steps g) n (first_state g.given.code entry args)))
+    (sym (same_runs (framed_step g) (step_of (framed_hooks g)) (framed_steps g) n
+    (first_state g.given.code entry args)))
     (states_reached (framed_hooks g) switches (framed_keeps g) entry args n)
 
 -- ---- by paths to points

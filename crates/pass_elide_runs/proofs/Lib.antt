@@ -13,6 +13,7 @@ pub mod Allocas
 pub mod KnownModes
 pub mod TillEnd
 pub mod OwnEnds
+pub mod NotLeft
 pub mod WakesBy
 pub mod NewSlots
 pub mod SlotsKept

@@ -47,7 +47,8 @@ ended_kind x = by (is_killed x.life)
 
 stack_of : (o : Option MemoryBlock) (x : MemoryBlock) → o ≡ Some x
     → option_map_or (λ (y : MemoryBlock). same_kind y.kind Kind.Stack) o false ≡ same_kind x.kind Kind.Stack
-stack_of o x is = ap (λ (q : Option MemoryBlock). option_map_or (λ (y : MemoryBlock). same_kind y.kind Kind.Stack) q false) is
+stack_of o x is =
+    ap (λ (q : Option MemoryBlock). option_map_or (λ (y : MemoryBlock). same_kind y.kind Kind.Stack) q false) is
 
 module _ (c : Context) (w : Work) where
   abbrev Makes : Fetched → Action → Type 0
@@ -114,7 +115,8 @@ module _ (c : Context) (w : Work) where
           else fresh w.world.memory size align (alloca_kind c.function))
       on false = omega (arith, long)
       on true =
-          let same = changed_many (fresh w.world.memory size align (alloca_kind c.function)) (length w.world.memory) ended
+          let same = changed_many (fresh w.world.memory size align (alloca_kind c.function))
+          (length w.world.memory) ended
           in
           omega (arith, long, same)
 

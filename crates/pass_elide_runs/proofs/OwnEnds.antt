@@ -26,7 +26,8 @@ module _ (m : Module) (s : State) (goes : GoOnTillEnd m s) (runs : s.outcome ≡
   -- where no path leads to the place from the end
   pub own_goes : (IsAfterEnd f here → ⊥) → (x : Instance) → instance_in s.instances s.top.instance ≡ Some x
       → is_finished x.status ≡ false
-  own_goes before x at = by_truth (is_finished x.status) (λ fin. absurd (before (on s.top.instance refl at fin))) (λ e. e)
+  own_goes before x at =
+      by_truth (is_finished x.status) (λ fin. absurd (before (on s.top.instance refl at fin))) (λ e. e)
     where
       on : (o : Option ℕ) → s.top.instance ≡ o → instance_in s.instances o ≡ Some x → is_finished x.status ≡ true
           → IsAfterEnd f here

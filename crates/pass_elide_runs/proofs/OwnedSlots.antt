@@ -99,7 +99,8 @@ module _ (s : State) (slotted : IsSlottedState s) where
     kind_is : (z : Slot) (x : MemoryBlock) → slice_get s.world.memory z.block ≡ Some x
         → is_stack_block s.world.memory z.block ≡ false → same_kind x.kind Kind.Stack ≡ false
     kind_is z x at none =
-        sym (ap (λ (o : Option MemoryBlock). option_map_or (λ (y : MemoryBlock). same_kind y.kind Kind.Stack) o false) at)
+        sym (ap (λ (o : Option MemoryBlock). option_map_or (λ
+        (y : MemoryBlock). same_kind y.kind Kind.Stack) o false) at)
         ∙ none
 
     all_own : HasPlainAllocas e s.top.func → (zs : List Slot)

@@ -55,7 +55,8 @@ module _ (g : FramedGiven) (P Q : State → Type 0)
       let here = subst (λ (u : State). IsFine u.outcome) same fine in
       let before = fine_before g (framed_state_at g entry args n) here in
       subst P (sym same)
-      (step_keeps (framed_state_at g entry args n) (known n before) (runs_keep_by entry args first known n before) here)
+      (step_keeps (framed_state_at g entry args n) (known n before)
+      (runs_keep_by entry args first known n before) here)
 
 -- where it is enough to know where the step leads
 pub runs_keep : (g : FramedGiven) (P Q : State → Type 0)

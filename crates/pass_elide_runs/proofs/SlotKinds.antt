@@ -151,7 +151,8 @@ module _ (g : FramedGiven) where
       keeps = kinds_slots s.world.memory s.top.slots
   came s v u (Comes.Back k) h =
       subst On (sym k.is) (
-        act_stays m s.world.memory (returned s).world.memory keeps k.caller (given_back k.caller s.top.result v) refl refl
+        act_stays m s.world.memory (returned s).world.memory keeps k.caller
+            (given_back k.caller s.top.result v) refl refl
             rest.0,
         acts_stay m s.world.memory (returned s).world.memory keeps k.rest rest.1,
       )
@@ -244,7 +245,8 @@ module _ (g : FramedGiven) where
   kinds_stay s _ runs q h (LeadsTo.Wakes i args result y label acts sleeps) =
       after (alloca_from (function_at m y.instance.coroutine) 0)
     where
-      after : (o : Option Point) → On (enter_after g (woken_at g s y.number y.instance y.suspend) y.suspend.block label o)
+      after : (o : Option Point)
+          → On (enter_after g (woken_at g s y.number y.instance y.suspend) y.suspend.block label o)
       after None = ((λ is. tt), (h.0, h.1))
       after (Some p) = ((λ is. tt), (h.0, h.1))
   kinds_stay s _ runs q h (LeadsTo.EndsRamp args result acts ramp) =
@@ -266,7 +268,8 @@ module _ (g : FramedGiven) where
   kinds_stay s _ runs q h (LeadsTo.GoesTo label acts none) =
       onward s (enter_block g.given s label) (same_memory s) refl refl refl h
   kinds_stay s _ runs q h (LeadsTo.Leaves label w ws i x acts leaves own may) =
-      onward s (enter_block g.given (with_left (with_status s i x Status.Running) false) label) (same_memory s) refl refl
+      onward s (enter_block g.given (with_left (with_status s i x Status.Running) false) label)
+      (same_memory s) refl refl
       refl h
   kinds_stay s _ runs q h (LeadsTo.Returns v u acts back) = came s v u (comes s v u back) h
 

@@ -133,7 +133,8 @@ module _ (g : FramedGiven) (firsts : (func : ℕ) → AllocasFirst (function_at 
       (λ is. none (coro_result g s j args result acts k.instr k.is ∙ is))) h
 
   -- it goes on without a result
-  coro_next : (s : State) (j : Intrinsic) (args : List Arg) (result : Option ℕ) (acts : ActsBy g s (Coro j args result))
+  coro_next : (s : State) (j : Intrinsic) (args : List Arg) (result : Option ℕ) (acts : ActsBy g s
+      (Coro j args result))
       → (left : Bool) → Has s.top → Has (record s.top { at = s.top.at + 1; has_left = left })
   coro_next s j args result acts left h =
       let k = instr_of g s (Coro j args result) acts refl in
@@ -374,7 +375,8 @@ module _ (g : FramedGiven) (firsts : (func : ℕ) → AllocasFirst (function_at 
   -- the same activations
   stays : (s t : State) → SameStack s t → On s → On t
   stays s t k h =
-      subst (λ (p : Activation × List Activation). Each (HasItsSlots m) (p.0 ∷ p.1)) (λ j. (sym k.top j, sym k.below j)) h
+      subst (λ (p : Activation × List Activation). Each (HasItsSlots m) (p.0 ∷ p.1)) (λ j.
+      (sym k.top j, sym k.below j)) h
 
   pub slots_stay : (s u : State) → s.outcome ≡ Outcome.Running → framed_step g s ≡ u → IsFine u.outcome
       → IsLongState s → HaveItsSlots m s → LeadsTo g s u → HaveItsSlots m u
@@ -406,14 +408,16 @@ module _ (g : FramedGiven) (firsts : (func : ℕ) → AllocasFirst (function_at 
               first : (o : Option Point) → alloca_from (function_of g.given s) (s.top.at + 1) ≡ o
                   → Has (enter_after g (with_slots (settled s w) (slot ∷ s.top.slots)) from label o).top
               first o eo =
-                  subst (λ (o : Option Point). Has (enter_after g (with_slots (settled s w) (slot ∷ s.top.slots)) from label
+                  subst (λ (o : Option Point). Has (enter_after g (with_slots (settled s w)
+                  (slot ∷ s.top.slots)) from label
                   o).top) eo (slot_has s w slot acts q.known h.0 (Mode.Entering from label) is)
           after (Some p) eo = (first (Some p) eo, h.1)
             where
               first : (o : Option Point) → alloca_from (function_of g.given s) (s.top.at + 1) ≡ o
                   → Has (enter_after g (with_slots (settled s w) (slot ∷ s.top.slots)) from label o).top
               first o eo =
-                  subst (λ (o : Option Point). Has (enter_after g (with_slots (settled s w) (slot ∷ s.top.slots)) from label
+                  subst (λ (o : Option Point). Has (enter_after g (with_slots (settled s w)
+                  (slot ∷ s.top.slots)) from label
                   o).top) eo (slot_has s w slot acts q.known h.0 (Mode.Entering from label) is)
   slots_stay s _ runs step fine q all (LeadsTo.Enters func args result must_tail acts) now =
       let h = all runs in
@@ -430,7 +434,11 @@ module _ (g : FramedGiven) (firsts : (func : ℕ) → AllocasFirst (function_at 
       let h = all runs in
       let vs = arg_values m s.top.values args in (
         called_has func vs result (Mode.GivenRamp (last_value vs)) (λ e. absurd (cc)) (λ from label e. absurd (cc)),
-        (waits s (Instr.Call result calls.must_tail calls.ty (Callee.Named calls.name) args) calls.there refl h.0, h.1),
+        (
+          waits s (Instr.Call result calls.must_tail calls.ty
+              (Callee.Named calls.name) args) calls.there refl h.0,
+          h.1,
+        ),
       )
   slots_stay s _ runs step fine q all (LeadsTo.Answers j args result v acts) now =
       let h = all runs in (coro_on s j args result acts v s.top.instance s.top.has_left h.0, h.1)
@@ -534,7 +542,8 @@ module _ (g : FramedGiven) (firsts : (func : ℕ) → AllocasFirst (function_at 
       let i = instr_of g s (Deallocate p) acts refl in
       subst (λ (p : Activation × List Activation). Each (HasItsSlots m) (record p.0 { at = p.0.at + 1 } ∷ p.1))
       (λ j. (sym k.top j, sym k.below j)) (
-        on s (Deallocate p) acts (λ no. no) i.instr i.is s.top.values s.top.instance s.top.has_left (λ v none. refl) h.0,
+        on s (Deallocate p) acts (λ no. no) i.instr i.is s.top.values s.top.instance s.top.has_left
+            (λ v none. refl) h.0,
         h.1,
       )
   slots_stay s _ runs step fine q all (LeadsTo.GoesTo label acts none) now =

@@ -159,7 +159,8 @@ module _ (m : Module) (a : Activation) where
       where
         apart : slot.alloca ≡ name → ⊥
         apart same =
-            let one = names.once place name 0 a.at (Instr.Alloca slot.alloca ty align) al own_alloca.there (ap Some same)
+            let one = names.once place name 0 a.at (Instr.Alloca slot.alloca ty align) al own_alloca.there
+            (ap Some same)
             in
             let at = one.1 in
             omega (arith, at, lt)

@@ -89,7 +89,8 @@ module _ (m : Module) where
     over = λ i y own' at' stays fin.
         let number : n ≡ i = same n i (sym own ∙ own') in
         let instance : x ≡ y = one x y (sym at ∙ (ap (slice_get xs) number ∙ at')) in
-        absurd (not_both (is_finished y.status) fin (ap (λ (z : Instance). is_finished z.status) (sym instance) ∙ goes));
+        absurd (not_both (is_finished y.status) fin (ap (λ (z : Instance). is_finished z.status)
+        (sym instance) ∙ goes));
   }
     where
       same : (a b : ℕ) → Some a ≡ Some b → a ≡ b
@@ -110,7 +111,10 @@ module _ (m : Module) where
       never i e = cc
 
   -- with other values
-  with_values : (xs : List Instance) (a : Activation) (values : Env) → Goes xs a → Goes xs (record a { values = values })
+  with_values : (xs : List Instance) (a : Activation) (values : Env) → Goes xs a → Goes xs (record a {
+    values =
+        values;
+  })
   with_values xs a values h = record { over = h.over }
 
   -- ---- instances change

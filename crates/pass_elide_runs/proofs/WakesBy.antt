@@ -80,7 +80,8 @@ module _ (g : FramedGiven) (s : State) where
       let same = if_ok (is_none s.top.instance) Cause.Begin s first.0 first.1 in
       let second = then_ok (begin_at g.given first.0 mem Kind.Allocator) _ u first.2 in
       ap (λ (z : State). z.below) (sym (ok_same (gives second.0 result mem) u second.2))
-      ∙ begun_at mem Kind.Allocator second.0 (ap (λ (v : State). begin_at g.given v mem Kind.Allocator) same.1 ∙ second.1)
+      ∙ begun_at mem Kind.Allocator second.0 (ap (λ (v : State). begin_at g.given v mem Kind.Allocator) same.1
+      ∙ second.1)
 
   given_begin : (result : Option ℕ) (frame : Value) (u : State) → begin_given g s result frame ≡ Ok u
       → u.below ≡ s.below
@@ -175,14 +176,23 @@ module _ (g : FramedGiven) (s : State) where
   resumes : (p : Value) (u : State) → resume g.given (continue_framed g) s p ≡ Ok u → IsWoken u
   resumes p u h =
       let first = then_ok (sleeper_at s p) _ u h in
-      let same = if_ok (not (is_final (function_at g.given.code first.0.instance.coroutine) first.0.suspend)) Cause.State
+      let same = if_ok (not (is_final (function_at g.given.code first.0.instance.coroutine) first.0.suspend))
+      Cause.State
       _ u first.2 in
       record { from = p; sleeper = first.0; sleeps = first.1; label = _; is = sym same.1; at = inl refl }
 
   destroys : (p : Value) (u : State) → destroy g.given (continue_framed g) s p ≡ Ok u → IsWoken u
   destroys p u h =
       let first = then_ok (sleeper_at s p) _ u h in
-      record { from = p; sleeper = first.0; sleeps = first.1; label = _; is = sym (ok_same _ u first.2); at = inr refl }
+      record {
+        from =
+            p;
+        sleeper = first.0;
+        sleeps = first.1;
+        label = _;
+        is = sym (ok_same _ u first.2);
+        at = inr refl;
+      }
 
   by_coro : (j : Intrinsic) (args : List Arg) (result : Option ℕ) (u : State)
       → framed_coro g s j args (vs args) result ≡ Ok u → IsShort s u ⊎ IsWoken u
@@ -191,10 +201,14 @@ module _ (g : FramedGiven) (s : State) where
   by_coro Intrinsic.CoroAlloc args result u h = inl (same_short s _ u refl (ok_same _ u h))
   by_coro Intrinsic.CoroBegin args result u h = inl (short_of u (any_begin result (nth (vs args) 1) s.top.mode u h))
   by_coro Intrinsic.CoroFree args result u h =
-      inl (same_short s _ u (changed_stack s (λ x. record x { released = true }) (own_instance s)).below (ok_same _ u h))
+      inl (same_short s _ u (changed_stack s (λ x. record x {
+        released =
+            true;
+      }) (own_instance s)).below (ok_same _ u h))
   by_coro Intrinsic.CoroEnd args result u h = inl (ends_short result s.top.mode u h)
   by_coro Intrinsic.CoroPromise args result u h =
-      let first = then_ok (framed_promise g s (nth (vs args) 0) (operand_at args 2)) (λ v. Ok (gives s result v)) u h in
+      let first = then_ok (framed_promise g s (nth (vs args) 0) (operand_at args 2)) (λ v. Ok
+      (gives s result v)) u h in
       inl (same_short s (gives s result first.0) u refl (ok_same _ u first.2))
   by_coro Intrinsic.CoroId args result u h = inl (same_short s _ u refl (ok_same _ u h))
   by_coro Intrinsic.CoroSizeI32 args result u h = inl (same_short s _ u refl (ok_same _ u h))
