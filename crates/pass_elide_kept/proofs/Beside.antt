@@ -1,0 +1,39 @@
+-- What of two states beside each other is looked at where the second run makes a step.
+use Rattle.std.proofs.Common.{◌≡◌, ◌≤◌, ℕ, Bool, List, length}
+use Rattle.pass_elide_proof.specs.Calling.{AreReady}
+use Rattle.pass_elide_proof.specs.Elision.{Elision}
+use Rattle.pass_elide_proof.specs.Match.{AreBelow, AreElided, Sides, sides as both_sides}
+use Rattle.pass_proofs.specs.run_laws.memory.Pointers.{Home}
+use Rattle.pass_proofs.specs.run_source.declared.state.State.{State}
+
+-- what of the two states is looked at
+pub record HasBeside (e : Elision) (s t : State) : Type 0 where
+  pub func : t.top.func ≡ s.top.func
+  pub result : t.top.result ≡ s.top.result
+  pub room : length s.top.values ≤ length t.top.values
+  pub homes : List Home
+  pub hides : ℕ → Bool
+  pub sides : Sides
+  pub below : AreBelow e homes hides sides s.below t.below
+
+pub of_beside : (e : Elision) (s t : State) → AreElided e s t → HasBeside e s t
+of_beside e s t r = record {
+  func = r.top.func;
+  result = r.top.result;
+  room = r.top.values.room;
+  homes = r.homes;
+  hides = r.hides;
+  sides = both_sides s t;
+  below = r.below;
+}
+
+pub of_ready : (e : Elision) (s t : State) → AreReady e s t → HasBeside e s t
+of_ready e s t r = record {
+  func = r.beside.top.func;
+  result = r.beside.top.result;
+  room = r.beside.top.values.room;
+  homes = r.beside.homes;
+  hides = r.beside.hides;
+  sides = both_sides s t;
+  below = r.beside.below;
+}

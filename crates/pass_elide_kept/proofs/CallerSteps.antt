@@ -1,0 +1,37 @@
+-- Callers of instances are on the stack where the framed run makes a step of a known kind.
+use Rattle.std.proofs.Common.{ℕ}
+use Rattle.pass_elide_kept.specs.Modules.{KeepsHandlesAndEnds}
+use Rattle.pass_elide_kept.specs.Runs.{IsKeptFramed, IsKeptGiving}
+use Rattle.pass_elide_proof.proofs.FrontsMade.{fronts_keep}
+use Rattle.pass_elide_proof.specs.CallersStack.{AreCalled}
+use Rattle.pass_elide_proof.specs.Elision.{Elision, elided, framed}
+use Rattle.pass_elide_proof.specs.Invariant.{HaveCallers}
+use Rattle.pass_elide_proof.specs.Match.{AreElided}
+use Rattle.pass_elide_proof.specs.Placing.{KeepsPlaces}
+use Rattle.pass_elide_proof.specs.Stepping.{IsKnownStep, steps_of}
+use Rattle.pass_proofs.specs.run_agreement.Machines.{IsFine, iterate}
+use Rattle.pass_proofs.specs.run_framed.Framed.{framed_step}
+use Rattle.pass_proofs.specs.run_source.declared.state.State.{State}
+use Rattle.pass_elide_kept.proofs.Stepped.{steps_keep}
+use Rattle.pass_elide_kept.proofs.Fronted.{fronts_known}
+use Rattle.pass_elide_kept.proofs.KnownCalls.{stays_known}
+use Rattle.pass_elide_kept.proofs.KeptCallers.{callers_stay}
+
+module _ (e : Elision) (places : KeepsPlaces e) (keeps : KeepsHandlesAndEnds e) (s t : State)
+    (ours : IsKeptFramed e s)
+    (theirs : (n : ℕ) → IsKeptGiving e (iterate (framed_step (elided e)) n t)) (r : AreElided e s t)
+    (fine : IsFine (framed_step (framed e) s).outcome) where
+  -- together with what activations have by their calls
+  abbrev AreBoth : State → Type 0
+  AreBoth u = AreCalled e u × HaveCallers e u
+
+  pub known_steps_hold : AreCalled e t → HaveCallers e t → (k : IsKnownStep e s t r)
+      → AreElided e (framed_step (framed e) s) (iterate (framed_step (elided e)) (steps_of e s t r k) t)
+      → HaveCallers e (iterate (framed_step (elided e)) (steps_of e s t r k) t)
+  known_steps_hold called h k next =
+      (steps_keep e places keeps s t ours theirs r fine AreBoth (called, h)
+      (λ at here. (fronts_known e s t r at here.0, fronts_keep e s t r at here.1))
+      (λ u k here. (
+        stays_known e places keeps s u ours.known k.beside here.0 k.takes,
+        callers_stay e places keeps s u k.giving k.slots k.blocks here.0 here.1 k.takes,
+      )) k next).1

@@ -1,0 +1,4 @@
+pub mod Modules
+pub mod Runs
+pub mod Steps
+pub mod Kept

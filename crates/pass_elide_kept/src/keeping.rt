@@ -1,0 +1,46 @@
+//! What is kept behind each step of a known kind: activations pass by what allocates and frees given frames, have what
+//! their calls gave, and callers of instances stay on the stack.
+
+ghost use Rattle.std.specs.Prelude.{ℕ};
+ghost use Rattle.pass_elide_kept.specs.Modules.{KeepsHandlesAndEnds};
+ghost use Rattle.pass_elide_kept.specs.Runs.{IsKeptFramed, IsKeptGiving};
+ghost use Rattle.pass_elide_proof.specs.CallersStack.{AreCalled};
+ghost use Rattle.pass_elide_proof.specs.Elision.{Elision, elided, framed};
+ghost use Rattle.pass_elide_proof.specs.Invariant.{HaveCallers};
+ghost use Rattle.pass_elide_proof.specs.Match.{AreElided};
+ghost use Rattle.pass_elide_proof.specs.Placing.{KeepsPlaces};
+ghost use Rattle.pass_elide_proof.specs.PlacingStates.{HavePassedBy};
+ghost use Rattle.pass_elide_proof.specs.Stepping.{IsKnownStep, steps_of};
+ghost use Rattle.pass_proofs.specs.run_agreement.Machines.{IsFine, iterate};
+ghost use Rattle.pass_proofs.specs.run_framed.Framed.{framed_step};
+ghost use Rattle.pass_proofs.specs.run_source.declared.state.State.{State};
+
+/// Behind a step of a known kind no activation whose frame was given is in a block that allocates or frees it. Such a
+/// block is entered by one edge, which the run that gives frames doesn't take.
+pub fn known_steps_pass_by()
+    ensures { (e : Elision) → KeepsPlaces e → KeepsHandlesAndEnds e → (s t : State) → IsKeptFramed e s
+        → ((n : ℕ) → IsKeptGiving e (iterate (framed_step (elided e)) n t)) → (r : AreElided e s t)
+        → IsFine (framed_step (framed e) s).outcome → HavePassedBy e t → (k : IsKnownStep e s t r)
+        → AreElided e (framed_step (framed e) s) (iterate (framed_step (elided e)) (steps_of e s t r k) t)
+        → HavePassedBy e (iterate (framed_step (elided e)) (steps_of e s t r k) t) }
+{}
+
+/// Activations have what their calls gave. No instruction but begin gives begin's name, and a call of a function is no
+/// begin.
+pub fn known_steps_keep_calls()
+    ensures { (e : Elision) → KeepsPlaces e → KeepsHandlesAndEnds e → (s t : State) → IsKeptFramed e s
+        → ((n : ℕ) → IsKeptGiving e (iterate (framed_step (elided e)) n t)) → (r : AreElided e s t)
+        → IsFine (framed_step (framed e) s).outcome → AreCalled e t → (k : IsKnownStep e s t r)
+        → AreElided e (framed_step (framed e) s) (iterate (framed_step (elided e)) (steps_of e s t r k) t)
+        → AreCalled e (iterate (framed_step (elided e)) (steps_of e s t r k) t) }
+{}
+
+/// Callers of given instances that aren't Finished are on the stack. A coroutine that is never given its frame may
+/// save on a path from a destroy edge, since it has no such instance.
+pub fn known_steps_keep_callers()
+    ensures { (e : Elision) → KeepsPlaces e → KeepsHandlesAndEnds e → (s t : State) → IsKeptFramed e s
+        → ((n : ℕ) → IsKeptGiving e (iterate (framed_step (elided e)) n t)) → (r : AreElided e s t)
+        → IsFine (framed_step (framed e) s).outcome → AreCalled e t → HaveCallers e t → (k : IsKnownStep e s t r)
+        → AreElided e (framed_step (framed e) s) (iterate (framed_step (elided e)) (steps_of e s t r k) t)
+        → HaveCallers e (iterate (framed_step (elided e)) (steps_of e s t r k) t) }
+{}
