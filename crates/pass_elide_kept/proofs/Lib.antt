@@ -20,4 +20,14 @@ mod Stepped
 mod PassedSteps
 mod CalledSteps
 mod CallerSteps
+mod Keepers
+mod StaysFreed
+mod KeptBack
 mod WorkedModule
+mod KeptRows
+mod KeptEdges
+mod KeptPushed
+mod KeptSites
+mod KeptOther
+mod KeptPopped
+mod KeptEnds
