@@ -172,9 +172,9 @@ module _ (e : Elision) (keeps : KeepsPlaces e) (more : KeepsMore e) (s t : State
   pub suspend_known : At Intrinsic.CoroSuspend → IsKnownStep e s t r.beside
   suspend_known there =
       IsKnownStep.Going (IsAccompanied.Suspend result must_tail ty args
-      (suspend_place e keeps s t func r.passed.0
-      (may_save (coroutine Intrinsic.CoroSuspend there refl)
-      (known.suspends result must_tail ty args (here Intrinsic.CoroSuspend there))) result must_tail ty args
+      (suspend_place e keeps s t func r.passed.0 result must_tail ty args
+      (λ none. may_save (coroutine Intrinsic.CoroSuspend there refl)
+      (known.suspends result must_tail ty args (here Intrinsic.CoroSuspend there) none))
       (place Intrinsic.CoroSuspend there)))
 
   -- ---- begins

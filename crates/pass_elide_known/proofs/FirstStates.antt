@@ -58,7 +58,7 @@ module _ (e : Elision) (keeps : KeepsPlaces e) (more : KeepsMore e) (entry : ℕ
     resumed = λ mode alone. absurd (cc);
     entering = λ from label mode. absurd (cc);
     saves = λ result must_tail ty values there x is. absurd (cc);
-    suspends = λ result must_tail ty values there x is. absurd (cc);
+    suspends = λ result must_tail ty values there none x is. absurd (cc);
     ends = λ result must_tail ty values there stays x is. absurd (cc);
     own = λ result must_tail ty values there mode. absurd (cc);
     small = small;

@@ -26,7 +26,8 @@ use Rattle.pass_proofs.specs.ir_model.declared.operand.Allocator.{Allocator}
 use Rattle.pass_proofs.specs.ir_model.declared.operand.Arg.{Arg}
 use Rattle.pass_proofs.specs.ir_model.declared.operand.Callee.{Callee}
 use Rattle.pass_proofs.specs.ir_model.declared.operand.Intrinsic.{Intrinsic}
-use Rattle.pass_proofs.specs.ir_paths.Windows.{is_call_of}
+use Rattle.pass_proofs.specs.ir_model.declared.operand.Operand.{Operand}
+use Rattle.pass_proofs.specs.ir_paths.Windows.{is_call_of, operand_at}
 use Rattle.pass_proofs.specs.run_laws.changed.Changed.{Each}
 use Rattle.pass_proofs.specs.run_memory.declared.pointer.Value.{Value}
 use Rattle.pass_proofs.specs.run_source.State.{is_finished}
@@ -97,9 +98,10 @@ pub record IsKnownFramed (e : Elision) (s : State) : Type 0 where
   -- an instance that is saved isn't Finished
   pub saves : (result : Option ℕ) (must_tail : Bool) (ty : Option Ty) (args : List Arg)
       → StandsAtOne e s (Instr.Call result must_tail ty (Callee.Intrinsic Intrinsic.CoroSave) args) → OwnGoesOn s
-  -- nor is one that comes to a suspend
+  -- nor is one that a suspend saves, which has no token
   pub suspends : (result : Option ℕ) (must_tail : Bool) (ty : Option Ty) (args : List Arg)
-      → StandsAtOne e s (Instr.Call result must_tail ty (Callee.Intrinsic Intrinsic.CoroSuspend) args) → OwnGoesOn s
+      → StandsAtOne e s (Instr.Call result must_tail ty (Callee.Intrinsic Intrinsic.CoroSuspend) args)
+      → operand_at args 0 ≡ Operand.None → OwnGoesOn s
   -- nor is that of an activation which comes to the end and hasn't left
   pub ends : (result : Option ℕ) (must_tail : Bool) (ty : Option Ty) (args : List Arg)
       → StandsAtOne e s (Instr.Call result must_tail ty (Callee.Intrinsic Intrinsic.CoroEnd) args)

@@ -20,6 +20,8 @@ use Rattle.pass_proofs.specs.ir_model.declared.module.Function.{Function}
 use Rattle.pass_proofs.specs.ir_model.declared.operand.Arg.{Arg}
 use Rattle.pass_proofs.specs.ir_model.declared.operand.Callee.{Callee}
 use Rattle.pass_proofs.specs.ir_model.declared.operand.Intrinsic.{Intrinsic}
+use Rattle.pass_proofs.specs.ir_model.declared.operand.Operand.{Operand}
+use Rattle.pass_proofs.specs.ir_paths.Windows.{operand_at}
 use Rattle.pass_proofs.specs.run_framed.Framed.{is_given}
 use Rattle.pass_proofs.specs.run_source.declared.state.Instance.{Instance}
 use Rattle.pass_proofs.specs.run_source.declared.state.State.{State}
@@ -174,9 +176,11 @@ module _ (e : Elision) (keeps : KeepsPlaces e) (s t : State) (func : t.top.func 
       may = may;
     }
 
-    pub suspend_place : AreAtIntrinsic e s t Intrinsic.CoroSuspend result must_tail ty args
+  module _ (result : Option ℕ) (must_tail : Bool) (ty : Option Ty) (args : List Arg) where
+    pub suspend_place : (operand_at args 0 ≡ Operand.None → MaySave e s)
+        → AreAtIntrinsic e s t Intrinsic.CoroSuspend result must_tail ty args
         → IsAtSuspend e s t result must_tail ty args
-    suspend_place at = record {
+    suspend_place may at = record {
       call = call_place e keeps s t func Intrinsic.CoroSuspend result must_tail ty args at refl;
       holds = holds_on e keeps s t func Intrinsic.CoroSuspend result must_tail ty args at refl by refl;
       plain = plain_name e keeps s t func Intrinsic.CoroSuspend result must_tail ty args at refl refl refl;

@@ -351,7 +351,8 @@ module _ (e : Elision) (s t : State) (result : Option ℕ) (must_tail : Bool) (t
         at.plain (sides s t)) (name_held e s t result at.holds v s.top.has_left) (name_kept e s t result at.holds),
   )
 
-  module _ (own : HasOwn s) (y : Instance) (second : slice_get t.instances own.number ≡ Some y) where
+  module _ (may : MaySave e s) (own : HasOwn s) (y : Instance)
+      (second : slice_get t.instances own.number ≡ Some y) where
     abbrev left_s : State
     left_s = with_instance s own.number (saved_as s (point_of s) (point_of s) own.instance)
 
@@ -362,7 +363,7 @@ module _ (e : Elision) (s t : State) (result : Option ℕ) (must_tail : Bool) (t
     holds_too = record { holds = at.holds.holds; kept = at.holds.kept }
 
     same : point_of t ≡ point_of s
-    same = same_point e s t r at.may its_place (point_of s) own
+    same = same_point e s t r may its_place (point_of s) own
 
     both_saved : AreElided e left_s left_t
         → (z : State) × (q : State) × (suspend s result Operand.None ≡ Ok z)
@@ -371,9 +372,9 @@ module _ (e : Elision) (s t : State) (result : Option ℕ) (must_tail : Bool) (t
       gives (with_left left_s true) result v,
       gives (with_left left_t true) result v,
       ap (λ (x : Result State Cause). and_then x (λ (z : State). Ok (gives z result v)))
-          (saves_first e s t r at.may its_place (point_of s) own y second),
+          (saves_first e s t r may its_place (point_of s) own y second),
       ap (λ (x : Result State Cause). and_then x (λ (z : State). Ok (gives z result v)))
-          (ap (save_for t (point_of t)) same ∙ saves_second e s t r at.may its_place (point_of s) own y second),
+          (ap (save_for t (point_of t)) same ∙ saves_second e s t r may its_place (point_of s) own y second),
       left_beside e left_s left_t h result v v true true refl
           (record { block = its_place.block; own = its_place.own; starts = its_place.starts })
           (sets_same e s t h.homes Intrinsic.CoroSuspend result result must_tail ty args at.call v refl (λ n set. set)
@@ -381,8 +382,8 @@ module _ (e : Elision) (s t : State) (result : Option ℕ) (must_tail : Bool) (t
           (name_kept e left_s left_t result holds_too),
     )
 
-  saves_itself : Goes Operand.None
-  saves_itself q h = by (after (save_for s (point_of s) (point_of s)) h)
+  saves_itself : MaySave e s → Goes Operand.None
+  saves_itself may q h = by (after (save_for s (point_of s) (point_of s)) h)
     where
       after : (o : Result State Cause) → and_then o (λ (z : State). Ok (gives z result v)) ≡ Ok q
           → (z : State) × (o ≡ Ok z)
@@ -394,21 +395,21 @@ module _ (e : Elision) (s t : State) (result : Option ℕ) (must_tail : Bool) (t
           × (suspend t result Operand.None ≡ Ok w) × AreElided e z w
       by z =
           let own = has_own s z.0 (point_of s) (point_of s) z.1 in
-          let y = twin e s t r at.may its_place (point_of s) own in
-          both_saved own y.0 y.1 (beside e s t r at.may its_place (point_of s) own y.0 y.1)
+          let y = twin e s t r may its_place (point_of s) own in
+          both_saved may own y.0 y.1 (beside e s t r may its_place (point_of s) own y.0 y.1)
 
-  goes_so : (o : Operand) → Goes o
-  goes_so Operand.None = saves_itself
-  goes_so (Operand.Local n) = by_token (Operand.Local n) refl refl
-  goes_so (Operand.Global n) = by_token (Operand.Global n) refl refl
-  goes_so (Operand.Number z) = by_token (Operand.Number z) refl refl
-  goes_so Operand.True = by_token Operand.True refl refl
-  goes_so Operand.False = by_token Operand.False refl refl
-  goes_so Operand.Null = by_token Operand.Null refl refl
-  goes_so Operand.Poison = by_token Operand.Poison refl refl
+  goes_so : (o : Operand) → operand_at args 0 ≡ o → Goes o
+  goes_so Operand.None is = saves_itself (at.may is)
+  goes_so (Operand.Local n) is = by_token (Operand.Local n) refl refl
+  goes_so (Operand.Global n) is = by_token (Operand.Global n) refl refl
+  goes_so (Operand.Number z) is = by_token (Operand.Number z) refl refl
+  goes_so Operand.True is = by_token Operand.True refl refl
+  goes_so Operand.False is = by_token Operand.False refl refl
+  goes_so Operand.Null is = by_token Operand.Null refl refl
+  goes_so Operand.Poison is = by_token Operand.Poison refl refl
 
   pub suspend_beside : AreElided e (framed_step (framed e) s) (framed_step (elided e) t)
   suspend_beside =
       let goes = goes_on e s t Intrinsic.CoroSuspend result must_tail ty args r at.call fine in
-      let k = goes_so (operand_at args 0) goes.0 goes.1 in
+      let k = goes_so (operand_at args 0) refl goes.0 goes.1 in
       both_step e s t Intrinsic.CoroSuspend result must_tail ty args r at.call k.0 k.1 k.2 k.3 k.4

@@ -7,6 +7,8 @@ use Rattle.pass_elide_proof.specs.Match.{instance_in}
 use Rattle.pass_proofs.specs.ir_model.Ty.{Ty}
 use Rattle.pass_proofs.specs.ir_model.declared.operand.Arg.{Arg}
 use Rattle.pass_proofs.specs.ir_model.declared.operand.Intrinsic.{Intrinsic}
+use Rattle.pass_proofs.specs.ir_model.declared.operand.Operand.{Operand}
+use Rattle.pass_proofs.specs.ir_paths.Windows.{operand_at}
 use Rattle.pass_proofs.specs.run_source.State.{is_finished}
 use Rattle.pass_proofs.specs.run_source.declared.state.Instance.{Instance}
 use Rattle.pass_proofs.specs.run_source.declared.state.State.{State}
@@ -24,10 +26,11 @@ pub record IsAtSave (e : Elision) (s t : State) (result : Option ℕ) (must_tail
   pub holds : HoldsOn e s t result
   pub may : MaySave e s
 
--- coro.suspend, which saves itself where it has no token
+-- coro.suspend, which saves itself where it has no token. Behind a save the instance may have been resumed and be
+-- Finished.
 pub record IsAtSuspend (e : Elision) (s t : State) (result : Option ℕ) (must_tail : Bool) (ty : Option Ty)
     (args : List Arg) : Type 0 where
   pub call : AreAtCall e s t Intrinsic.CoroSuspend result must_tail ty args
   pub holds : HoldsOn e s t result
   pub plain : (v : ℕ) → result ≡ Some v → IsPlainName (e.shape s.top.func) v
-  pub may : MaySave e s
+  pub may : operand_at args 0 ≡ Operand.None → MaySave e s

@@ -115,7 +115,8 @@ pub fn intrinsic_places_are_known()
         → AreAtIntrinsic e s t Intrinsic.CoroSave result must_tail ty args
         → IsAtSave e s t result must_tail ty args }
     ensures suspend { (e : Elision) (s t : State) (result : Option ℕ) (must_tail : Bool) (ty : Option Ty)
-        (args : List Arg) → AreElided e s t → KeepsPlaces e → PassesBy e t t.top → MaySave e s
+        (args : List Arg) → AreElided e s t → KeepsPlaces e → PassesBy e t t.top
+        → (operand_at args 0 ≡ Operand.None → MaySave e s)
         → AreAtIntrinsic e s t Intrinsic.CoroSuspend result must_tail ty args
         → IsAtSuspend e s t result must_tail ty args }
 {}

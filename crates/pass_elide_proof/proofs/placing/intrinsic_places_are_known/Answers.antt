@@ -23,4 +23,4 @@ returns-clause-save c = λ e s t result must_tail ty args r keeps by may at.
 
 pub returns-clause-suspend : goal.returns-clause-suspend
 returns-clause-suspend c = λ e s t result must_tail ty args r keeps by may at.
-    suspend_place e keeps s t r.top.func by may result must_tail ty args at
+    suspend_place e keeps s t r.top.func by result must_tail ty args may at
