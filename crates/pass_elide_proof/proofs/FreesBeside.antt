@@ -13,6 +13,7 @@ use Rattle.pass_elide_proof.proofs.GoesOn.{StandsReady, both_go, instr_there}
 use Rattle.pass_elide_proof.proofs.LastFound.{began_in, found_from, found_there}
 use Rattle.pass_elide_proof.proofs.LeftWindows.{set_instances, there_is}
 use Rattle.pass_elide_proof.proofs.Sized.{stepped}
+use Rattle.pass_elide_proof.specs.Both.{standing_at}
 use Rattle.pass_elide_proof.specs.Elision.{Elision, elided, elided_code, framed, function_in, function_in_elided, rooms}
 use Rattle.pass_elide_proof.specs.Ending.{IsAtFreeBeside}
 use Rattle.pass_elide_proof.specs.Match.{AreElided, AreInstances, AreStatuses, Ends, IsFreedAs, IsNoGivenFrame, Runs, Sleeps, sides}
@@ -108,10 +109,13 @@ started b = Value.Ptr (Pointer.At b start)
 
 -- ---- the block
 
-module _ (e : Elision) (s t : State) (r : AreElided e s t) (ready : StandsReady e s.top t.top)
-    (starts : (i : ℕ) (y : Instance) → slice_get t.instances i ≡ Some y → y.start ≡ 0) (b : ℕ)
+module _ (e : Elision) (s t : State) (front : ℕ) (r : AreElided e s (standing_at t front))
+    (ready : StandsReady e s.top t.top) (starts : (i : ℕ) (y : Instance) → slice_get t.instances i ≡ Some y → y.start ≡ 0) (b : ℕ)
     (seen : (home_of r.homes b).is_seen ≡ true) (own : IsNoGivenFrame (sides s t) b) (after : State)
     (goes : deallocate s (started b) ≡ Ok after) where
+  abbrev w : State
+  w = standing_at t front
+
   abbrev m : List MemoryBlock
   m = s.world.memory
 
@@ -153,8 +157,8 @@ module _ (e : Elision) (s t : State) (r : AreElided e s t) (ready : StandsReady 
     apart i y z here beside given same =
         lit (is_given n z) given (not_given z same (starts i z beside))
 
-    died : AreElided e (with_memory s (killed m b)) (with_memory t (killed n k))
-    died = both_die e s t r b k x mate.1 it.1 (shown_if b seen) own mate.2 mate.3 apart
+    died : AreElided e (with_memory s (killed m b)) (with_memory (standing_at t front) (killed n k))
+    died = both_die e s w r b k x mate.1 it.1 (shown_if b seen) own mate.2 mate.3 apart
 
     -- the same instances begin there
     begins : (j : ℕ) (y z : Instance) → slice_get s.instances j ≡ Some y → slice_get t.instances j ≡ Some z
@@ -174,7 +178,7 @@ module _ (e : Elision) (s t : State) (r : AreElided e s t) (ready : StandsReady 
             let home = (r.instances j y z here beside).home in
             let is = ap (λ (q : Home). q.is_seen) home in
             let same : y.block ≡ b
-            = only e s t r b k x mate.1 it.1 (shown_if b seen) own mate.2 mate.3 apart y.block
+            = only e s w r b k x mate.1 it.1 (shown_if b seen) own mate.2 mate.3 apart y.block
             (within_if y.block is) (shown_if y.block is) (ap (λ (q : Home). q.block) home ∙ block) in
             (λ i. (same i == b) && ((r.instances j y z here beside).whole i == 0))
             ∙ ap (λ (c : Bool). c && true) (itself b)
@@ -193,7 +197,7 @@ module _ (e : Elision) (s t : State) (r : AreElided e s t) (ready : StandsReady 
           ∙ (ap (is_unkilled Kind.Allocator) (sym it.1) ∙ h.unkilled))
           (ap is_owned mate.3 ∙ (ap is_owned (sym it.1) ∙ h.unowned)),
       subst (λ (v : State). AreElided e v (next (with_memory t (killed n k)))) h.is
-          (both_go e (with_memory s (killed m b)) (with_memory t (killed n k)) died ready),
+          (both_go e (with_memory s (killed m b)) (with_memory t (killed n k)) front died ready),
     )
 
     -- ---- an instance of a number does
@@ -227,8 +231,8 @@ module _ (e : Elision) (s t : State) (r : AreElided e s t) (ready : StandsReady 
           (next (with_memory (record t { instances = ys }) (killed n k)))
       freed_both =
           both_go e (with_memory (record s { instances = xs }) (killed m b))
-          (with_memory (record t { instances = ys }) (killed n k))
-          (instances_change e (with_memory s (killed m b)) (with_memory t (killed n k)) died xs ys
+          (with_memory (record t { instances = ys }) (killed n k)) front
+          (instances_change e (with_memory s (killed m b)) (with_memory (standing_at t front) (killed n k)) died xs ys
           (set_frames s.instances j y (record y { freed = true }) here
           (record { coroutine = refl; block = refl; start = refl }))
           (set_frames t.instances j z (record z { freed = true }) beside

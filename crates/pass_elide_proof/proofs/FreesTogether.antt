@@ -9,6 +9,7 @@ use Rattle.pass_elide_proof.proofs.FreedAlone.{at_call, deallocates}
 use Rattle.pass_elide_proof.proofs.FreesBeside.{first_stands, frees_both, start, started}
 use Rattle.pass_elide_proof.proofs.GoesOn.{StandsReady, both_go, instr_there}
 use Rattle.pass_elide_proof.proofs.Sized.{stepped}
+use Rattle.pass_elide_proof.specs.Both.{standing_at}
 use Rattle.pass_elide_proof.specs.Elision.{Elision, elided, elided_code, framed, function_in, function_in_elided, rooms}
 use Rattle.pass_elide_proof.specs.Ending.{IsAtFreeBeside}
 use Rattle.pass_elide_proof.specs.Match.{AreElided}
@@ -45,7 +46,7 @@ same_given : (v w : State) → given_state v ≡ given_state w → v ≡ w
 same_given v w e = cc
 
 module _ (e : Elision) (s t : State) (a : Allocator) (result : Option ℕ) (must_tail : Bool) (ty : Option Ty)
-    (args : List Arg) (r : AreElided e s t) (at : IsAtFreeBeside e s t a result must_tail ty args) where
+    (args : List Arg) (front : ℕ) (r : AreElided e s (standing_at t front)) (at : IsAtFreeBeside e s t a result must_tail ty args) where
   abbrev f : ℕ
   f = s.top.func
 
@@ -65,7 +66,7 @@ module _ (e : Elision) (s t : State) (a : Allocator) (result : Option ℕ) (must
       (first_stands r.homes e.code (elided_code e) s.top.values t.top.values args
       (λ k. subst (λ (v : Value). IsValue r.homes (operand_value e.code s.top.values k (operand_at args 0)) v)
       (sym (same_operand e t.top.values k (operand_at args 0)))
-      (operand_stands e s t r (operand_at args 0) at.alike k)))
+      (operand_stands e s (standing_at t front) r (operand_at args 0) at.alike k)))
 
   ready : StandsReady e s.top t.top
   ready = record { beside = at.beside; stands = at.stands; made = at.made; holds = at.holds }
@@ -79,7 +80,7 @@ module _ (e : Elision) (s t : State) (a : Allocator) (result : Option ℕ) (must
       let k = kills (if_let_go s (instance_at s.instances (Value.Ptr (Pointer.At b o)))) b o at.after goes in
       let zero_bits : o.bits ≡ 0 = equal_numbers o.bits 0 k.start in
       let begins : o ≡ start = λ i. record { bits = zero_bits i } in
-      let f = frees_both e s t r ready at.starts b h.0 (at.own b o is) at.after
+      let f = frees_both e s t front r ready at.starts b h.0 (at.own b o is) at.after
       (ap (λ (x : Offset). deallocate s (Value.Ptr (Pointer.At b x))) (sym begins) ∙ goes) in (
         f.0,
         ap (deallocate t) h.1
@@ -94,7 +95,7 @@ module _ (e : Elision) (s t : State) (a : Allocator) (result : Option ℕ) (must
   by_value (Value.Ptr Pointer.Null) u h is goes = (
     next t,
     ap (deallocate t) h.1,
-    subst (λ (v : State). AreElided e v (next t)) (same_given (next s) at.after goes) (both_go e s t r ready),
+    subst (λ (v : State). AreElided e v (next t)) (same_given (next s) at.after goes) (both_go e s t front r ready),
   )
   by_value (Value.Ptr (Pointer.Func k)) u h is goes = absurd (cc)
   by_value (Value.Ptr (Pointer.At b o)) u h is goes = at_block b o u h is goes

@@ -5,6 +5,7 @@ use Rattle.pass_elide.specs.Elided.{function_frames}
 use Rattle.pass_elide_proof.proofs.EdgeBare.{held_same}
 use Rattle.pass_elide_proof.proofs.EdgeValues.{all_made, each_kept}
 use Rattle.pass_elide_proof.proofs.TopMoved.{SameHeld, moved}
+use Rattle.pass_elide_proof.specs.Both.{standing_at}
 use Rattle.pass_elide_proof.specs.Elision.{Elision, function_in, rooms}
 use Rattle.pass_elide_proof.specs.Match.{AreElided, AreReleased, Beside, HasAllocas, IsAt, held_name, is_given_mode, sides, was_given}
 use Rattle.pass_elide_proof.specs.Places.{Rooms, allocas_ahead, front_at, instrs_in, instrs_of, own_at}
@@ -50,7 +51,12 @@ pub record StandsReady (e : Elision) (a c : Activation) : Type 0 where
   pub made : length c.slots ≡ length a.slots + length (allocas_ahead (rooms e a.func) (function_in e a.func))
   pub holds : (e.shape a.func).holds a.block (a.at + 1) ≡ (e.shape a.func).holds a.block a.at
 
-module _ (e : Elision) (s t : State) (r : AreElided e s t) (at : StandsReady e s.top t.top) where
+-- but for that it may stand anywhere
+module _ (e : Elision) (s t : State) (front : ℕ) (r : AreElided e s (standing_at t front))
+    (at : StandsReady e s.top t.top) where
+  abbrev w : State
+  w = standing_at t front
+
   abbrev f : ℕ
   f = s.top.func
 
@@ -66,14 +72,14 @@ module _ (e : Elision) (s t : State) (r : AreElided e s t) (at : StandsReady e s
       (ap (λ (n : ℕ). n + 1) at.stands
       ∙ sym (front_next (rooms e f) (function_in e f) s.top.block s.top.at (s.top.at + 1) refl))
 
-  still : AreReleased (e.shape f) (sides s t) s.top t.top → AreReleased (e.shape f) (sides s t) a c
+  still : AreReleased (e.shape f) (sides s t) s.top (standing_at t front).top → AreReleased (e.shape f) (sides s t) a c
   still h = record { freed = h.freed; tested = h.tested }
 
   allocas : HasAllocas e r.homes r.hides (sides s t) a c r.top.own
   allocas =
-      let h = all_made e s t r at.made in
+      let h = all_made e s w r at.made in
       inr (
-        each_kept r.homes r.hides (sides s t) t.top c r.top.own (length (function_in e f).names) (λ v le. refl)
+        each_kept r.homes r.hides (sides s t) (standing_at t front).top c r.top.own (length (function_in e f).names) (λ v le. refl)
             (length (function_in e f).names) (function_frames (rooms e f) (function_in e f)) (omega arith) h.0,
         h.1,
       )
@@ -86,6 +92,6 @@ module _ (e : Elision) (s t : State) (r : AreElided e s t) (at : StandsReady e s
 
   pub both_go : AreElided e (next s) (next t)
   both_go =
-      moved e s t r s.top.block (s.top.at + 1) s.top.values s.top.has_left t.top.block (t.top.at + 1) t.top.values
+      moved e s w r s.top.block (s.top.at + 1) s.top.values s.top.has_left t.top.block (t.top.at + 1) t.top.values
       t.top.has_left r.top.has_left place (record { each = r.top.values.each; room = r.top.values.room }) r.top.asked
       (λ given. still (r.top.released given)) allocas (held (is_given_mode t.top.mode))

@@ -75,7 +75,7 @@ accompanied e s t r fine (IsAccompanied.NullTest name pred a b at) = test_beside
 accompanied e s t r fine (IsAccompanied.FreeOfNull a result must_tail ty args at) =
     null_beside e s t a result must_tail ty args r at
 accompanied e s t r fine (IsAccompanied.FreeBeside a result must_tail ty args at) =
-    frees_together e s t a result must_tail ty args r at
+    frees_together e s t a result must_tail ty args t.top.at r at
 accompanied e s t r fine (IsAccompanied.Save result must_tail ty args at) =
     save_beside e s t result must_tail ty args r fine at
 accompanied e s t r fine (IsAccompanied.Suspend result must_tail ty args at) =
@@ -111,6 +111,8 @@ ready e s u r fine (IsReadyFor.Marker j result must_tail ty args at) =
     inl (marker_goes e s u _ r.beside result must_tail ty args r.many j at)
 ready e s u r fine (IsReadyFor.Deallocation a result must_tail ty args memory at) =
     inl (deallocation_goes e s u _ r.beside result must_tail ty args memory r.many a at)
+ready e s u r fine (IsReadyFor.FreeBeside a result must_tail ty args at) =
+    inl (frees_together e s u a result must_tail ty args _ r.beside at)
 ready e s u r fine (IsReadyFor.Asking j result must_tail ty args at) =
     inl (asking_goes e s u _ r.beside r.many result must_tail ty args j at.asks at.own)
 ready e s u r fine (IsReadyFor.Looks result must_tail ty args callers at) =

@@ -125,6 +125,8 @@ pub data IsReadyFor (e : Elision) (s u : State) (r : AreReady e s u) : Type 0 wh
       → IsAtMarker e s u j result must_tail ty args → IsReadyFor e s u r
   Deallocation : (a : Allocator) (result : Option ℕ) (must_tail : Bool) (ty : Option Ty) (args : List Arg)
       (memory : List MemoryBlock) → IsAtDeallocation e s u a result must_tail ty args memory → IsReadyFor e s u r
+  FreeBeside : (a : Allocator) (result : Option ℕ) (must_tail : Bool) (ty : Option Ty) (args : List Arg)
+      → IsAtFreeBeside e s u a result must_tail ty args → IsReadyFor e s u r
   Asking : (j : Intrinsic) (result : Option ℕ) (must_tail : Bool) (ty : Option Ty) (args : List Arg)
       → IsAtAsking e s u j result must_tail ty args → IsReadyFor e s u r
   Looks : (result : Option ℕ) (must_tail : Bool) (ty : Option Ty) (args : List Arg)
