@@ -1,14 +1,13 @@
 -- Both runs stand beside each other at a deallocation, at a comparison, or at an alloca.
-use Rattle.std.proofs.Common.{◌≡◌, ◌+◌, ◌⊎◌, ◌∙◌, ℕ, Bool, true, false, List, [], ◌∷◌, Option, Ok, ap, arith, inl, inr, length, length-append, map, refl, subst, sym, ◌||◌, ◌&&◌, ◌++◌}
+use Rattle.std.proofs.Common.{◌≡◌, ◌+◌, ◌⊎◌, ◌∙◌, ℕ, Bool, true, false, List, [], ◌∷◌, Option, Ok, ap, inl, inr, refl, subst, sym, ◌||◌, ◌&&◌}
 use Rattle.std.specs.Prelude.{None, Some, is_some, slice_get}
 use Rattle.elide_shape.specs.Calls.{deals}
 use Rattle.elide_shape.specs.declared.calls.Dealing.{Dealing}
 use Rattle.pass_elide_known.proofs.Acting.{next_ok}
 use Rattle.pass_elide_known.proofs.Fronting.{known_there, none_ahead, ready_standing}
-use Rattle.pass_elide_known.proofs.ReadyPlaces.{alloca_ready, none_differs, ordinary_ready, or_given}
+use Rattle.pass_elide_known.proofs.ReadyPlaces.{alloca_ready, free_ready, none_differs, ordinary_ready, or_given}
 use Rattle.pass_elide_known.specs.Keeping.{KeepsMore, KeepsPhi, TakesPlain}
-use Rattle.pass_elide_known.specs.States.{IsKnownFramed, IsKnownGiving}
-use Rattle.pass_elide_proof.proofs.EdgeValues.{map_long}
+use Rattle.pass_elide_known.specs.States.{IsKnownFramed, IsKnownGiving, IsReadyGiving}
 use Rattle.pass_elide_proof.proofs.Facts.{not_both}
 use Rattle.pass_elide_proof.proofs.FreedAlone.{deallocates}
 use Rattle.pass_elide_proof.proofs.FrontsMade.{own_is_front}
@@ -18,11 +17,11 @@ use Rattle.pass_elide_proof.proofs.PlacingFacts.{by_truth, holds_over, no_frames
 use Rattle.pass_elide_proof.proofs.PlacingFrames.{frees_place}
 use Rattle.pass_elide_proof.proofs.PlacingLooks.{again_place}
 use Rattle.pass_elide_proof.proofs.PlacingOwn.{never_frees, never_waits, own_of}
-use Rattle.pass_elide_proof.proofs.ReleasedBeside.{freed_own}
+use Rattle.pass_elide_proof.specs.Calling.{AreReady}
 use Rattle.pass_elide_proof.specs.Edges.{IsAlike, IsPhiAlike, label_from, phis_at}
 use Rattle.pass_elide_proof.specs.Elision.{Elision, Shape, differs_in, framed, function_in, no_shape, rooms}
 use Rattle.pass_elide_proof.specs.Making.{IsNotEntering}
-use Rattle.pass_elide_proof.specs.Match.{HasAllocas, is_given_mode, sides, was_given}
+use Rattle.pass_elide_proof.specs.Match.{is_given_mode, sides, was_given}
 use Rattle.pass_elide_proof.specs.Places.{allocas_ahead, front_at, instrs_of, own_at}
 use Rattle.pass_elide_proof.specs.Placing.{HasShape, KeepsPlaces, ReadsPlain}
 use Rattle.pass_elide_proof.specs.PlacingStates.{AreAtInstr}
@@ -47,7 +46,6 @@ use Rattle.pass_proofs.specs.ir_paths.declared.point.Point.{Point}
 use Rattle.pass_proofs.specs.run_agreement.Machines.{IsFine}
 use Rattle.pass_proofs.specs.run_framed.Framed.{alloca_from, framed_next, framed_step}
 use Rattle.pass_proofs.specs.run_laws.changed.Changed.{Each}
-use Rattle.pass_proofs.specs.run_laws.embedded.Deaths.{moved_slot}
 use Rattle.pass_proofs.specs.run_memory.declared.pointer.Value.{Value}
 use Rattle.pass_proofs.specs.run_source.Source.{deallocate}
 use Rattle.pass_proofs.specs.run_source.State.{function_of}
@@ -55,7 +53,6 @@ use Rattle.pass_proofs.specs.run_source.declared.state.Mode.{Mode}
 use Rattle.pass_proofs.specs.run_source.declared.state.State.{State}
 use Rattle.pass_proofs.specs.run_step.Step.{AtInstr, fetch}
 use Rattle.pass_proofs.specs.run_step.Values.{Env, address, arg_values, nth, operand_value, value_in}
-use Rattle.pass_proofs.specs.run_step.declared.world.Slot.{Slot}
 
 -- ---- operands
 
@@ -101,6 +98,12 @@ tested_shape : (e : Elision) (func name : ℕ) → is_some ((e.shape func).teste
 tested_shape e func name is (inl none) =
     absurd (not_both (is_some ((e.shape func).tested name)) is (ap (λ (x : Shape). is_some (x.tested name)) none))
 tested_shape e func name is (inr k) = k
+
+freed_shape : (e : Elision) (func name : ℕ) → (e.shape func).freed name ≡ true
+    → (e.shape func ≡ no_shape) ⊎ HasShape e func → HasShape e func
+freed_shape e func name is (inl none) =
+    absurd (not_both ((e.shape func).freed name) is (ap (λ (x : Shape). x.freed name) none))
+freed_shape e func name is (inr k) = k
 
 some_of : {A : Type 0} (o : Option A) → is_some o ≡ true → (a : A) × (o ≡ Some a)
 some_of None h = absurd (cc)
@@ -169,100 +172,58 @@ module _ (e : Elision) (keeps : KeepsPlaces e) (more : KeepsMore e) (s t : State
           stands = stands;
         }))
 
-    -- nothing stands in front of it, but at most allocas that have been made
-    no_front : s.top.block ≡ 0 → s.top.at ≡ 0 → allocas_ahead (rooms e s.top.func) (function_in e s.top.func) ≡ []
-    no_front first start =
-        more.unfreed s.top.func (Instr.Call result must_tail ty (Callee.Allocator a) args)
-        ((λ j. slice_get (instrs_of f (sym first j)) (sym start j)) ∙ here) frees
-
-    made : (own : List Slot) → t.top.slots ≡ map (moved_slot r.beside.homes) s.top.slots ++ own
-        → HasAllocas e r.beside.homes r.beside.hides (sides s t) s.top t.top own
-        → length t.top.slots
-        ≡ length s.top.slots + length (allocas_ahead (rooms e s.top.func) (function_in e s.top.func))
-    made own slots allocas =
-        let long = length-append (map (moved_slot r.beside.homes) s.top.slots) own in
-        let same = map_long (moved_slot r.beside.homes) s.top.slots in
-        let whole = ap length slots in
-        let some : length own ≡ length (allocas_ahead (rooms e s.top.func) (function_in e s.top.func)) = by allocas in
-        omega (arith, long, same, whole, some)
-      where
-        by : HasAllocas e r.beside.homes r.beside.hides (sides s t) s.top t.top own
-            → length own ≡ length (allocas_ahead (rooms e s.top.func) (function_in e s.top.func))
-        by (inl start) = ap length start.2 ∙ sym (ap length (no_front start.0 start.1))
-        by (inr all) = all.1
-
-    beside : IsAlike e s t (operand_at args 0) → IsKnownStep e s t r.beside
+    beside : ((u : State) → AreReady e s u → IsReadyGiving e s u → IsAlike e s u (operand_at args 0))
+        → IsKnownStep e s t r.beside
     beside alike =
-        IsKnownStep.Going (IsAccompanied.FreeBeside a result must_tail ty args (record {
-          runs = runs;
-          frees = frees;
-          there = there;
-          beside = block;
-          stands = own_here no_front;
-          made = made r.beside.top.own r.beside.top.slots r.beside.top.allocas;
-          room = no_room e keeps s.top.func s.top.block s.top.at call refl;
-          alike = alike;
-          own = freed_own e s t a result must_tail ty args r.beside known.released known.slotted giving.freeing
-              (record { frees = frees; there = there; alike = alike; after = next.0; goes = goes });
-          starts = giving.sound.blocks.starts;
-          holds = holds_over e s.top.func s.top.block s.top.at call here refl (frees_other a frees)
-              (keeps.shapes s.top.func);
-          after = next.0;
-          goes = goes;
-        }))
+        known_there e keeps more s t r known giving runs call there block stands (λ u ready giving'.
+        free_ready e keeps s known runs fine u ready giving' a result must_tail ty args frees (frees_other a frees)
+        there (alike u ready giving'))
 
     read : (v : ℕ) → operand_at args 0 ≡ Operand.Local v → ReadsPlain x s.top.block call v
     read v is = (keeps.instrs s.top.func).takes s.top.block s.top.at v call here (first_read args v is)
 
     -- it is no name that coro.free gave
-    plain_operand : ((v : ℕ) → operand_at args 0 ≡ Operand.Local v → x.freed v ≡ false)
-        → IsAlike e s t (operand_at args 0)
-    plain_operand other v is =
+    plain_operand : ((v : ℕ) → operand_at args 0 ≡ Operand.Local v → x.freed v ≡ false) → (u : State)
+        → AreReady e s u → IsReadyGiving e s u → IsAlike e s u (operand_at args 0)
+    plain_operand other u ready giving' =
+        λ v is.
         let k = read v is in
-        quiet x ramp given v k.need
-        (λ h. k.made refl (never_waits e keeps s t func block r.passed.0 h)) (other v is) k.tested
-        (λ h. k.passed (never_frees e keeps s t func block r.passed.0 h))
+        quiet x (is_given_mode u.top.mode) (was_given (sides s u) u.top) v k.need
+        (λ h. k.made refl (never_waits e keeps s u ready.beside.top.func ready.block giving'.passed h)) (other v is)
+        k.tested (λ h. k.passed (never_frees e keeps s u ready.beside.top.func ready.block giving'.passed h))
 
-    by_operand : given ≡ true → (o : Operand) → operand_at args 0 ≡ o → IsKnownStep e s t r.beside
-    by_operand was (Operand.Local name) is =
-        by_truth (x.freed name) (λ yes. of_null name is yes was)
-        (λ no. beside (plain_operand (λ v e'. ap x.freed (one name v (sym is ∙ e')) ∙ no)))
-      where
-        one : (n v : ℕ) → Operand.Local n ≡ Operand.Local v → v ≡ n
-        one n v q = cc
-    by_operand was (Operand.Global n) is = beside (λ v e'. absurd (never v (sym is ∙ e')))
-      where
-        never : (v : ℕ) → Operand.Global n ≡ Operand.Local v → ⊥
-        never v q = cc
-    by_operand was (Operand.Number z) is = beside (λ v e'. absurd (never v (sym is ∙ e')))
-      where
-        never : (v : ℕ) → Operand.Number z ≡ Operand.Local v → ⊥
-        never v q = cc
-    by_operand was Operand.True is = beside (λ v e'. absurd (never v (sym is ∙ e')))
-      where
-        never : (v : ℕ) → Operand.True ≡ Operand.Local v → ⊥
-        never v q = cc
-    by_operand was Operand.False is = beside (λ v e'. absurd (never v (sym is ∙ e')))
-      where
-        never : (v : ℕ) → Operand.False ≡ Operand.Local v → ⊥
-        never v q = cc
-    by_operand was Operand.Null is = beside (λ v e'. absurd (never v (sym is ∙ e')))
-      where
-        never : (v : ℕ) → Operand.Null ≡ Operand.Local v → ⊥
-        never v q = cc
-    by_operand was Operand.None is = beside (λ v e'. absurd (never v (sym is ∙ e')))
-      where
-        never : (v : ℕ) → Operand.None ≡ Operand.Local v → ⊥
-        never v q = cc
-    by_operand was Operand.Poison is = beside (λ v e'. absurd (never v (sym is ∙ e')))
-      where
-        never : (v : ℕ) → Operand.Poison ≡ Operand.Local v → ⊥
-        never v q = cc
+    -- a name that coro.free gives is one of a coroutine, in front of which no allocas are put
+    of_frame : (name : ℕ) → operand_at args 0 ≡ Operand.Local name → x.freed name ≡ true → IsKnownStep e s t r.beside
+    of_frame name is freed =
+        by_truth given (of_null name is freed)
+        (λ other. IsKnownStep.Standing (behind_place e keeps s t block stands
+        (λ first start. none_ahead e keeps more s t r known giving runs call there block stands
+        (freed_shape e s.top.func name freed (keeps.shapes s.top.func)).coroutine))
+        (λ ready. free_ready e keeps s known runs fine t ready
+        (ready_standing e keeps more s t r known giving runs call there block stands ready) a result must_tail ty args
+        frees (frees_other a frees) there (λ v local. none_differs x ramp given v (or_given ramp _ other) other)))
+
+    no_local : (o : Operand) → operand_at args 0 ≡ o → ((v : ℕ) → o ≡ Operand.Local v → ⊥)
+        → IsKnownStep e s t r.beside
+    no_local o is never = beside (plain_operand (λ v local. absurd (never v (sym is ∙ local))))
+
+    one_local : (n v : ℕ) → Operand.Local n ≡ Operand.Local v → v ≡ n
+    one_local n v q = cc
+
+    by_operand : (o : Operand) → operand_at args 0 ≡ o → IsKnownStep e s t r.beside
+    by_operand (Operand.Local name) is =
+        by_truth (x.freed name) (of_frame name is)
+        (λ no. beside (plain_operand (λ v local. ap x.freed (one_local name v (sym is ∙ local)) ∙ no)))
+    by_operand (Operand.Global n) is = no_local (Operand.Global n) is (λ v q. cc)
+    by_operand (Operand.Number z) is = no_local (Operand.Number z) is (λ v q. cc)
+    by_operand Operand.True is = no_local Operand.True is (λ v q. cc)
+    by_operand Operand.False is = no_local Operand.False is (λ v q. cc)
+    by_operand Operand.Null is = no_local Operand.Null is (λ v q. cc)
+    by_operand Operand.None is = no_local Operand.None is (λ v q. cc)
+    by_operand Operand.Poison is = no_local Operand.Poison is (λ v q. cc)
 
     pub deallocation_known : IsKnownStep e s t r.beside
-    deallocation_known =
-        by_truth given (λ was. by_operand was (operand_at args 0) refl)
-        (λ other. beside (λ v is. none_differs x ramp given v (or_given ramp _ other) other))
+    deallocation_known = by_operand (operand_at args 0) refl
 
   -- ---- comparisons
 

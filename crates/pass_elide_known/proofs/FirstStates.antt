@@ -76,7 +76,7 @@ module _ (e : Elision) (keeps : KeepsPlaces e) (more : KeepsMore e) (entry : ℕ
     own = counted_own (first_state (elided_code e) entry args) (start_counts (elided_code e) entry args);
     shapes = first_shapes e entry args;
     blocks = λ number y is. absurd (cc);
-    freeing = λ number y is given. absurd (cc);
+    callees = (λ number y is. absurd (cc), (λ frame is. absurd (cc), tt));
     called = λ c below is. absurd (cc);
     first = λ is block at. refl;
     aside = λ k is. absurd (no_aside k.after k.beside k.aside);

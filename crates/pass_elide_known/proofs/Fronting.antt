@@ -13,6 +13,8 @@ use Rattle.pass_elide_proof.proofs.Modules.{finds_alike}
 use Rattle.pass_elide_proof.proofs.OwnPlaces.{instr_there}
 use Rattle.pass_elide_proof.proofs.PlacingEntered.{behind_place, unput}
 use Rattle.pass_elide_proof.proofs.PlacingFacts.{by_truth, no_frames, no_room}
+use Rattle.pass_elide_proof.proofs.ReleasedCallees.{callees_stay}
+use Rattle.pass_elide_proof.proofs.ReleasedRooms.{callees_hold}
 use Rattle.pass_elide_proof.proofs.SoundSteps.{step_sound}
 use Rattle.pass_elide_proof.proofs.Stacks.{called_under, given_on}
 use Rattle.pass_elide_proof.proofs.Standing.{has_code}
@@ -22,6 +24,7 @@ use Rattle.pass_elide_proof.specs.Invariant.{Calling, Destroying, HasCaller, Hav
 use Rattle.pass_elide_proof.specs.Match.{AreModes, Given, Same, instance_in, is_given_mode, sides, was_given}
 use Rattle.pass_elide_proof.specs.Places.{allocas_ahead, elided_instr, front_at, instrs_of, name_at, own_at}
 use Rattle.pass_elide_proof.specs.Placing.{KeepsPlaces}
+use Rattle.pass_elide_proof.specs.Releasing.{AreOfCallees, IsFreeing}
 use Rattle.pass_elide_proof.specs.Sound.{IsSoundState}
 use Rattle.pass_elide_proof.specs.Statement.{AreRelated}
 use Rattle.pass_elide_proof.specs.Stepping.{IsKnownStep, IsReadyFor, fronted}
@@ -107,6 +110,13 @@ sound_on e more (suc n) t h =
     sound_on e more n (framed_step (elided e) t)
     (step_sound (elided e) (knows_allocas (elided_code e) e.layouts.coroutines e.answers) more.nests t h)
 
+callees_on : (e : Elision) (keeps : KeepsPlaces e) (more : KeepsMore e) (n : ℕ) (t : State)
+    → AreOfCallees (IsFreeing e) t → AreOfCallees (IsFreeing e) (iterate (framed_step (elided e)) n t)
+callees_on e keeps more zero t h = h
+callees_on e keeps more (suc n) t h =
+    callees_on e keeps more n (framed_step (elided e) t)
+    (callees_stay (elided e) (IsFreeing e) (callees_hold (IsFreeing e) e keeps.ungiven more.frees) t h)
+
 -- ---- where both stand beside each other
 
 module _ (e : Elision) (keeps : KeepsPlaces e) (more : KeepsMore e) (s t : State) (r : AreRelated e s t)
@@ -154,6 +164,7 @@ module _ (e : Elision) (keeps : KeepsPlaces e) (more : KeepsMore e) (s t : State
     ready_standing = record {
       passed = r.passed.0;
       sound = giving.sound;
+      callees = giving.callees;
       callers = r.callers;
       front = subst (λ (n : ℕ). HaveCallers e (record t { top = record t.top { at = n } })) stands r.callers;
       marks = λ j result must_tail ty args marker at.
@@ -238,6 +249,7 @@ module _ (e : Elision) (keeps : KeepsPlaces e) (more : KeepsMore e) (s t : State
           frees = λ h. absurd (not_both (was_given (sides u u) u.top) h (none_given e u u u_mode u_instance));
         };
         sound = sound_on e more (length is) t giving.sound;
+        callees = callees_on e keeps more (length is) t giving.callees;
         callers = callers;
         front = callers_anywhere e u
             (no_caller e u.top s.top.func ready.beside.top.func (ready.block ∙ first) u_at positive u.world.memory)

@@ -1,21 +1,25 @@
 -- Places at which the run that gives frames has executed what is put in front: each instruction is of a known kind
 -- there that isn't one of coroutines alone, and no deallocation.
-use Rattle.std.proofs.Common.{◌≡◌, ◌+◌, ◌⊎◌, ◌∙◌, ℕ, Bool, true, false, List, [], ◌∷◌, Option, Ok, ap, arith, inl, inr, length, refl, subst, sym, if◌then◌else◌}
+use Rattle.std.proofs.Common.{◌≡◌, ◌+◌, ◌⊎◌, ◌∙◌, ℕ, Bool, true, false, List, [], ◌∷◌, Option, Ok, ap, arith, inl, inr, length, length-append, map, refl, subst, sym, if◌then◌else◌}
 use Rattle.std.specs.Prelude.{None, Some, slice_get}
 use Rattle.elide_shape.specs.Calls.{deals}
 use Rattle.elide_shape.specs.declared.calls.Dealing.{Dealing}
 use Rattle.pass_elide.specs.declared.given.GivenFrame.{GivenFrame}
-use Rattle.pass_elide_known.proofs.Acting.{IsDoing, act_ok, calls_through, declared_doing, doing_done, instr_doing, ordinary_of, word_taken}
+use Rattle.pass_elide_known.proofs.Acting.{IsDoing, act_ok, calls_through, declared_doing, doing_done, instr_doing, next_ok, ordinary_of, word_taken}
 use Rattle.pass_elide_known.specs.Keeping.{is_marker, is_ordinary}
 use Rattle.pass_elide_known.specs.States.{IsKnownFramed, IsReadyGiving}
+use Rattle.pass_elide_proof.proofs.EdgeValues.{map_long}
 use Rattle.pass_elide_proof.proofs.Facts.{not_both}
+use Rattle.pass_elide_proof.proofs.FreedAlone.{deallocates}
 use Rattle.pass_elide_proof.proofs.OwnPlaces.{instr_there}
 use Rattle.pass_elide_proof.proofs.PlacingEntered.{local_place, named_place, site_place, unput, waking_place}
-use Rattle.pass_elide_proof.proofs.PlacingFacts.{gives_result, no_ramp, no_room}
+use Rattle.pass_elide_proof.proofs.PlacingFacts.{gives_result, holds_over, no_ramp, no_room}
 use Rattle.pass_elide_proof.proofs.PlacingKinds.{alloca_place, allocator_place, asking_place, ordinary}
 use Rattle.pass_elide_proof.proofs.PlacingLooks.{done_place, marker_place, promise_place}
 use Rattle.pass_elide_proof.specs.Asked.{asks_same}
-use Rattle.pass_elide_proof.specs.Calling.{AreReady}
+use Rattle.pass_elide_proof.proofs.ReleasedBeside.{freed_own}
+use Rattle.pass_elide_proof.specs.Calling.{AreReady, at_front}
+use Rattle.pass_elide_proof.specs.Edges.{IsAlike}
 use Rattle.pass_elide_proof.specs.Elision.{Elision, Shape, differs_in, framed, function_in, rooms}
 use Rattle.pass_elide_proof.specs.Making.{IsNotEntering}
 use Rattle.pass_elide_proof.specs.Marking.{first_operand}
@@ -35,14 +39,17 @@ use Rattle.pass_proofs.specs.ir_model.declared.operand.Allocator.{Allocator}
 use Rattle.pass_proofs.specs.ir_model.declared.operand.Arg.{Arg}
 use Rattle.pass_proofs.specs.ir_model.declared.operand.Callee.{Callee}
 use Rattle.pass_proofs.specs.ir_model.declared.operand.Intrinsic.{Intrinsic}
+use Rattle.pass_proofs.specs.ir_paths.Windows.{operand_at}
 use Rattle.pass_proofs.specs.run_agreement.Machines.{IsFine}
-use Rattle.pass_proofs.specs.run_framed.Framed.{framed_act, framed_context, framed_step}
+use Rattle.pass_proofs.specs.run_framed.Framed.{framed_act, framed_context, framed_next, framed_step}
+use Rattle.pass_proofs.specs.run_laws.embedded.Deaths.{moved_slot}
 use Rattle.pass_proofs.specs.run_laws.embedded.Related.{HasNoSlot}
 use Rattle.pass_proofs.specs.run_memory.declared.pointer.Value.{Value}
+use Rattle.pass_proofs.specs.run_source.Source.{deallocate}
 use Rattle.pass_proofs.specs.run_source.State.{function_of, work_of}
 use Rattle.pass_proofs.specs.run_source.declared.state.State.{State}
 use Rattle.pass_proofs.specs.run_step.Step.{AtInstr, Coro, Done, Work, action_of, block_of, fetch, named_call}
-use Rattle.pass_proofs.specs.run_step.Values.{arg_values, value_in}
+use Rattle.pass_proofs.specs.run_step.Values.{address, arg_values, nth, value_in}
 
 none_of : {A : Type 0} (xs : List A) → length xs ≡ 0 → xs ≡ []
 none_of [] h = refl
@@ -345,3 +352,49 @@ module _ (e : Elision) (keeps : KeepsPlaces e) (s : State) (known : IsKnownFrame
     waking_ready Intrinsic.CoroDestroy there is = destroy_ready there
     waking_ready _ there (inl is) = absurd (cc)
     waking_ready _ there (inr is) = absurd (cc)
+
+  -- ---- deallocations
+
+  module _ (a : Allocator) (result : Option ℕ) (must_tail : Bool) (ty : Option Ty) (args : List Arg)
+      (frees : deals Dealing.Frees a ≡ true) (other : deals Dealing.Allocates a ≡ false)
+      (there : fetch (function_of (framed e).given s) s.top.block s.top.at
+      ≡ AtInstr (Instr.Call result must_tail ty (Callee.Allocator a) args)) where
+    abbrev freeing : Instr
+    freeing = Instr.Call result must_tail ty (Callee.Allocator a) args
+
+    next : (v : State) × (framed_next (framed e) s (AtInstr freeing) ≡ Ok v)
+    next = next_ok e keeps s runs fine freeing there
+
+    goes : deallocate s (address (nth (arg_values e.code s.top.values args) 0)) ≡ Ok next.0
+    goes = sym (deallocates (framed e) s a result must_tail ty args frees) ∙ next.1
+
+    many_slots : length u.top.slots
+        ≡ length s.top.slots + length (allocas_ahead (rooms e s.top.func) (function_in e s.top.func))
+    many_slots =
+        let long = length-append (map (moved_slot r.beside.homes) s.top.slots) r.beside.top.own in
+        let same = map_long (moved_slot r.beside.homes) s.top.slots in
+        let whole = ap length r.beside.top.slots in
+        let some = r.many in
+        omega (arith, long, same, whole, some)
+
+    -- both free what stands for the same, in which no frame lies that was given
+    pub free_ready : IsAlike e s u (operand_at args 0) → IsReadyFor e s u r
+    free_ready alike =
+        IsReadyFor.FreeBeside a result must_tail ty args (record {
+          runs = runs;
+          frees = frees;
+          there = there;
+          beside = r.block;
+          stands = r.at;
+          made = many_slots;
+          room = no_room e keeps s.top.func s.top.block s.top.at freeing refl;
+          alike = alike;
+          own = freed_own e s (at_front e s u) a result must_tail ty args r.beside known.released known.slotted
+              (λ number y at given. (giving.callees.0 number y at).1 given)
+              (record { frees = frees; there = there; alike = alike; after = next.0; goes = goes });
+          starts = giving.sound.blocks.starts;
+          holds = holds_over e s.top.func s.top.block s.top.at freeing
+              (instr_there f s.top.block s.top.at freeing there) refl other (keeps.shapes s.top.func);
+          after = next.0;
+          goes = goes;
+        })

@@ -1,29 +1,30 @@
 -- The worked module keeps more.
-use Rattle.std.proofs.Common.{◌≡◌, ◌∙◌, ℕ, zero, suc, Bool, false, List, [], ◌∷◌, ap, arith, cond, inr, length, refl, subst, sym, if◌then◌else◌, ◌==◌}
+use Rattle.std.proofs.Common.{◌≡◌, ◌+◌, ◌∙◌, ℕ, zero, suc, Bool, false, List, [], ◌∷◌, ap, arith, cond, inr, length, refl, subst, sym, if◌then◌else◌, ◌==◌}
 use Rattle.std.proofs.lemmas.Bool.{ltb-true}
 use Rattle.std.specs.Prelude.{None, Some, codes, pos, slice_get, unwrap_or}
-use Rattle.elide_shape.specs.Calls.{deals_by}
-use Rattle.elide_shape.specs.declared.calls.Dealing.{Dealing}
 use Rattle.pass_elide_known.specs.Keeping.{KeepsAside, KeepsMore, KeepsPhi, TakesPlain, is_marker}
-use Rattle.pass_elide_proof.proofs.Facts.{not_both, some_none}
+use Rattle.pass_elide_proof.proofs.Facts.{some_none}
 use Rattle.pass_elide_proof.proofs.PlacingFacts.{by_truth}
-use Rattle.pass_elide_proof.proofs.PlacingWorked.{shape_none}
+use Rattle.pass_elide_proof.proofs.PlacingWorked.{shape_none, worked_keeps}
+use Rattle.pass_elide_proof.proofs.ReleasedWorked.{worked_frees}
 use Rattle.pass_elide_proof.specs.Edges.{label_from, phis_at}
-use Rattle.pass_elide_proof.specs.Elision.{Shape, framed, function_in}
-use Rattle.pass_elide_proof.specs.Places.{instrs_of}
+use Rattle.pass_elide_proof.specs.Elision.{Shape, framed, function_in, rooms}
+use Rattle.pass_elide_proof.specs.Places.{instrs_of, phi_count, room_at}
+use Rattle.pass_elide_proof.specs.Releasing.{HoldsOfRooms, IsFreeing}
 use Rattle.pass_elide_proof.specs.Sound.{NestsNone}
 use Rattle.pass_elide_proof.specs.Worked.{aside_of, the_elision, the_shape}
 use Rattle.pass_proofs.proofs.ir_laws.facts.Truth.{equal_numbers}
 use Rattle.pass_proofs.specs.frame_layout.declared.layout.Layout.{Layout}
 use Rattle.pass_proofs.specs.frame_layout.declared.layout.PlacedField.{PlacedField}
 use Rattle.pass_proofs.specs.ir_base.declared.name.Name.{Name}
+use Rattle.pass_proofs.specs.ir_model.Names.{noalloc_of}
 use Rattle.pass_proofs.specs.ir_model.Ty.{int, ptr}
 use Rattle.pass_proofs.specs.ir_model.declared.instr.Incoming.{Incoming}
 use Rattle.pass_proofs.specs.ir_model.declared.instr.Instr.{Instr}
 use Rattle.pass_proofs.specs.ir_model.declared.module.Function.{Function}
 use Rattle.pass_proofs.specs.ir_model.declared.operand.Callee.{Callee}
 use Rattle.pass_proofs.specs.ir_model.declared.operand.Operand.{Operand}
-use Rattle.pass_proofs.specs.run_framed.Framed.{is_frame_kind, no_layout}
+use Rattle.pass_proofs.specs.run_framed.Framed.{given_ramp, is_frame_kind, no_layout}
 use Rattle.pass_proofs.specs.run_laws.changed.Changed.{Each}
 use Rattle.pass_proofs.specs.run_step.Step.{incoming_from}
 
@@ -176,11 +177,24 @@ unmarked zero i is = let same : first_alloca ≡ i = cc in sym (ap is_marker sam
 unmarked (suc zero) i is = let same : first_call ≡ i = cc in sym (ap is_marker same)
 unmarked (suc (suc n)) i is = absurd (cc)
 
-unfreed : (func : ℕ) (i : Instr) → slice_get (instrs_of (function_in the_elision func) 0) 0 ≡ Some i
-    → deals_by Dealing.Frees i ≡ false
-unfreed zero i is = let same : first_alloca ≡ i = cc in sym (ap (deals_by Dealing.Frees) same)
-unfreed (suc zero) i is = let same : first_call ≡ i = cc in sym (ap (deals_by Dealing.Frees) same)
-unfreed (suc (suc n)) i is = absurd (cc)
+-- ---- rooms
+
+frees : HoldsOfRooms (IsFreeing the_elision) the_elision
+frees zero block at callee result must_tail ty n args r there room is =
+    absurd (some_none (room_at (rooms the_elision 0) the_coroutine block at
+    (Instr.Call result must_tail ty (Callee.Named n) args)) r room
+    ((worked_keeps.wakes 0 refl).none block (phi_count the_coroutine block + at)
+    (Instr.Call result must_tail ty (Callee.Named n) args)))
+frees (suc zero) zero zero callee result must_tail ty n args r there room is =
+    let one : Name.Text (codes "g") ≡ n = cc in
+    let ramp : Some 0 ≡ Some callee = ap (λ (m : Name). given_ramp the_elision.code (noalloc_of m)) one ∙ is in
+    let same : 0 ≡ callee = cc in
+    subst (IsFreeing the_elision) same worked_frees
+frees (suc zero) zero (suc zero) callee result must_tail ty n args r there room is = absurd (cc)
+frees (suc zero) zero (suc (suc zero)) callee result must_tail ty n args r there room is = absurd (cc)
+frees (suc zero) zero (suc (suc (suc k))) callee result must_tail ty n args r there room is = absurd (cc)
+frees (suc zero) (suc block) at callee result must_tail ty n args r there room is = absurd (cc)
+frees (suc (suc k)) block at callee result must_tail ty n args r there room is = absurd (cc)
 
 -- ---- layouts
 
@@ -208,6 +222,6 @@ worked_more = record {
   asides = asides;
   phis = λ func block at to i there suspends. phis func (label_from (function_in the_elision func) block) to;
   unmarked = unmarked;
-  unfreed = λ func i is frees. absurd (not_both (deals_by Dealing.Frees i) frees (unfreed func i is));
+  frees = frees;
   nests = nests;
 }

@@ -4,9 +4,10 @@ use Rattle.elide_shape.specs.Calls.{deals_by}
 use Rattle.elide_shape.specs.declared.calls.Dealing.{Dealing}
 use Rattle.pass_elide_proof.specs.Edges.{IsNoAnswer, label_from, phis_at}
 use Rattle.pass_elide_proof.specs.EdgesFreeing.{FreesFrame}
-use Rattle.pass_elide_proof.specs.Elision.{Elision, Shape, framed, function_in, rooms}
+use Rattle.pass_elide_proof.specs.Elision.{Elision, Shape, framed, function_in}
 use Rattle.pass_elide_proof.specs.NullTests.{AreWithNull}
-use Rattle.pass_elide_proof.specs.Places.{allocas_ahead, instrs_of}
+use Rattle.pass_elide_proof.specs.Places.{instrs_of}
+use Rattle.pass_elide_proof.specs.Releasing.{HoldsOfRooms, IsFreeing}
 use Rattle.pass_elide_proof.specs.Shapes.{AreSameFetches, AsksForFrame}
 use Rattle.pass_elide_proof.specs.Sound.{NestsNone}
 use Rattle.pass_proofs.specs.flow_blocks.Reach.{IsReached as IsReachedBlock}
@@ -136,8 +137,7 @@ pub record KeepsMore (e : Elision) : Type 0 where
   -- no function begins with a marker, which stands behind its alloca
   pub unmarked : (func : ℕ) (i : Instr) → slice_get (instrs_of (function_in e func) 0) 0 ≡ Some i
       → is_marker i ≡ false
-  -- no function that gives frames begins with a deallocation
-  pub unfreed : (func : ℕ) (i : Instr) → slice_get (instrs_of (function_in e func) 0) 0 ≡ Some i
-      → deals_by Dealing.Frees i ≡ true → allocas_ahead (rooms e func) (function_in e func) ≡ []
+  -- a coroutine whose calls give its frame hands what coro.free gives to a deallocator at once
+  pub frees : HoldsOfRooms (IsFreeing e) e
   -- no frame has room for another one
   pub nests : NestsNone (framed e)

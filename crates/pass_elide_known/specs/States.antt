@@ -13,7 +13,7 @@ use Rattle.pass_elide_proof.specs.Marking.{HoldsNoFrame, first_operand, second_o
 use Rattle.pass_elide_proof.specs.Match.{frame_size, instance_in, is_given_mode}
 use Rattle.pass_elide_proof.specs.Places.{instrs_of}
 use Rattle.pass_elide_proof.specs.PlacingStates.{HaveShapes, IsCalledBy, IsKnownState, PassesBy}
-use Rattle.pass_elide_proof.specs.Releasing.{GivenFreeAtOnce, HaveReleased}
+use Rattle.pass_elide_proof.specs.Releasing.{AreOfCallees, HaveReleased, IsFreeing}
 use Rattle.pass_elide_proof.specs.Returning.{HaveOwnSlots}
 use Rattle.pass_elide_proof.specs.Shapes.{AsksForFrame}
 use Rattle.pass_elide_proof.specs.Sound.{IsSoundState}
@@ -133,7 +133,8 @@ pub record IsKnownGiving (e : Elision) (t : State) : Type 0 where
   pub own : HaveOwnSlots t
   pub shapes : HaveShapes e t
   pub blocks : HaveBlocks t
-  pub freeing : GivenFreeAtOnce e t
+  -- each frame that was given is of a coroutine that frees at once
+  pub callees : AreOfCallees (IsFreeing e) t
   -- the topmost activation is of the function that the call of the one below it calls
   pub called : (c : Activation) (below : List Activation) → t.below ≡ c ∷ below → IsCalledBy e t.top c
   -- a function that has just been entered has no slots
@@ -153,6 +154,7 @@ pub record IsKnownGiving (e : Elision) (t : State) : Type 0 where
 pub record IsReadyGiving (e : Elision) (s u : State) : Type 0 where
   pub passed : PassesBy e u u.top
   pub sound : IsSoundState (elided e) u
+  pub callees : AreOfCallees (IsFreeing e) u
   pub callers : HaveCallers e u
   pub front : HaveCallers e (at_front e s u)
   pub marks : (j : Intrinsic) (result : Option ℕ) (must_tail : Bool) (ty : Option Ty) (args : List Arg)
