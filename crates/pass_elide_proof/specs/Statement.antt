@@ -26,6 +26,7 @@ use Rattle.pass_proofs.specs.run_source.declared.state.Instance.{Instance}
 use Rattle.pass_proofs.specs.run_source.declared.state.Mode.{Mode}
 use Rattle.pass_proofs.specs.run_source.declared.state.State.{State}
 use Rattle.pass_proofs.specs.run_states.moved_states.Beside.{framed_machine}
+use Rattle.run_types.specs.States.{AreArguments}
 use Rattle.std.specs.List.{Contains}
 
 -- ---- the relation of the simulation
@@ -70,21 +71,26 @@ framed_run e entry args = framed_machine e.code e.layouts entry args e.answers
 abbrev pub elided_run : Elision → ℕ → List Word → Machine State
 elided_run e entry args = framed_machine (elided_code e) e.layouts entry args e.answers
 
+-- An entry is called: a function that is no coroutine, with words that fit its parameters.
+pub record IsEntryCall (e : Elision) (entry : ℕ) (args : List Word) : Type 0 where
+  pub plain : (function_in e entry).coroutine ≡ false
+  pub fits : AreArguments e.code entry args
+
 -- The runs agree by prices of at most one step and one for each site of a function.
 abbrev pub ElisionKeepsStates : Elision → ℕ → Type 0
 ElisionKeepsStates e most =
-    (entry : ℕ) (args : List Word) → (function_in e entry).coroutine ≡ false
+    (entry : ℕ) (args : List Word) → IsEntryCall e entry args
     → AgreesBy (AreRelatedOrOver e) (IsNear (elided_run e entry args) (1 + most) (AreRelatedOrOver e))
     (uncounted (framed_run e entry args)) (λ s. 1 + most) (uncounted (elided_run e entry args)) (λ t. 1)
 
 -- The second makes fewer allocator calls by the calls that it executes without allocation.
 abbrev pub ElisionLosesCalls : Elision → Type 0
 ElisionLosesCalls e =
-    (entry : ℕ) (args : List Word) → (function_in e entry).coroutine ≡ false
+    (entry : ℕ) (args : List Word) → IsEntryCall e entry args
     → LosesCalls (framed_run e entry args) (elided_run e entry args)
 
 -- Each frame that is given lives as long as its instance isn't Finished.
 abbrev pub ElisionKeepsFrames : Elision → Type 0
 ElisionKeepsFrames e =
-    (entry : ℕ) (args : List Word) → (function_in e entry).coroutine ≡ false
+    (entry : ℕ) (args : List Word) → IsEntryCall e entry args
     → DoGivenFramesLive (elided e) entry args
