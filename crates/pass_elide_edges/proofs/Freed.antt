@@ -18,7 +18,7 @@ use Rattle.pass_elide_proof.specs.Match.{AreElided}
 use Rattle.pass_elide_proof.specs.OwnSlots.{CountsSlots, HaveNoSlots}
 use Rattle.pass_elide_proof.specs.Places.{allocas_ahead}
 use Rattle.pass_elide_proof.specs.Returning.{AreFreed, HaveOwnSlots}
-use Rattle.pass_elide_proof.specs.Stepping.{fronted}
+use Rattle.pass_elide_proof.specs.Stepping.{IsKnownStep, fronted, steps_of}
 use Rattle.pass_proofs.proofs.ir_laws.facts.Lists.{get_before}
 use Rattle.pass_proofs.specs.ir_base.declared.outcome.Outcome.{Outcome}
 use Rattle.pass_proofs.specs.ir_model.Names.{numbered}
@@ -97,15 +97,21 @@ module _ (e : Elision) (s t : State) (r : AreElided e s t) (at : IsAtFront e s t
 
   -- ---- slots
 
-  none_on : (i : ℕ) → i < length is → HaveNoSlots (iterate (framed_step (elided e)) i t)
-  none_on i lt =
+  none_on : (i : ℕ) → i ≤ length is → HaveNoSlots (iterate (framed_step (elided e)) i t)
+  none_on i le =
       let way = on_the_way (elided e) t runs at.mode plain (length own.names)
       (function_frames (rooms e s.top.func) own) t.world.memory t.top.values t.top.slots t.top.at stand at.aligned
-      unmarked i (omega (arith, lt)) in
+      unmarked i le in
       subst HaveNoSlots (sym way.is) (no_slots e s t r)
 
   pub fronts_own : CountsSlots t → HaveOwnSlots (fronted e s t)
-  fronts_own h = counted_own (fronted e s t) (counts_on (elided e) (length is) t none_on h)
+  fronts_own h =
+      counted_own (fronted e s t) (counts_on (elided e) (length is) t (λ i lt. none_on i (omega (arith, lt))) h)
+
+  -- and one step further
+  pub fronts_counted : CountsSlots t → CountsSlots (iterate (framed_step (elided e))
+      (length (allocas_ahead (rooms e s.top.func) (function_in e s.top.func)) + 1) t)
+  fronts_counted h = counts_on (elided e) (length is + 1) t (λ i lt. none_on i (omega (arith, lt))) h
 
   -- ---- callers
 
@@ -135,3 +141,12 @@ module _ (e : Elision) (s t : State) (r : AreElided e s t) (at : IsAtFront e s t
           (called_under e t.world.memory y number t.top u.top t.below
           (record { func = refl; block = refl; result = refl; mode = refl; instance = refl; has_left = refl })
           (no_caller y number) called))
+
+-- ---- behind a step of a known kind
+
+pub slots_counted : (e : Elision) (s t : State) (r : AreElided e s t) (k : IsKnownStep e s t r) → CountsSlots t
+    → CountsSlots (iterate (framed_step (elided e)) (steps_of e s t r k) t)
+slots_counted e s t r (IsKnownStep.Waiting at) h = h
+slots_counted e s t r (IsKnownStep.Going at) h = step_counts (elided e) t (no_slots e s t r) h
+slots_counted e s t r (IsKnownStep.Fronting at place) h = fronts_counted e s t r at h
+slots_counted e s t r (IsKnownStep.Standing at place) h = step_counts (elided e) t (no_slots e s t r) h

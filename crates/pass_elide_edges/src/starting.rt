@@ -3,14 +3,16 @@
 ghost use Rattle.pass_elide_edges.specs.Keeping.{EntersAlone, KeepsEnds};
 ghost use Rattle.pass_elide_edges.specs.States.{EndsElided, EndsFramed, EntersNoStart, StandApart, StartsBare};
 ghost use Rattle.pass_elide_proof.specs.Elision.{Elision, elided, elided_code, framed, function_in};
-ghost use Rattle.pass_elide_proof.specs.Match.{sides};
+ghost use Rattle.pass_elide_proof.specs.Match.{AreElided, sides};
+ghost use Rattle.pass_elide_proof.specs.OwnSlots.{CountsSlots};
 ghost use Rattle.pass_elide_proof.specs.Placing.{KeepsPlaces};
 ghost use Rattle.pass_elide_proof.specs.PlacingStates.{BeginsInCoroutines, IsKnownState};
 ghost use Rattle.pass_elide_proof.specs.Sound.{NestsNone};
+ghost use Rattle.pass_elide_proof.specs.Stepping.{IsKnownStep, steps_of};
 ghost use Rattle.pass_elide_proof.specs.Worked.{the_elision};
 ghost use Rattle.pass_proofs.specs.ir_base.declared.outcome.Outcome.{Outcome};
 ghost use Rattle.pass_proofs.specs.ir_base.declared.outcome.Word.{Word};
-ghost use Rattle.pass_proofs.specs.run_agreement.Machines.{IsFine};
+ghost use Rattle.pass_proofs.specs.run_agreement.Machines.{IsFine, iterate};
 ghost use Rattle.pass_proofs.specs.run_framed.Framed.{FramedGiven, framed_state_at, framed_step};
 ghost use Rattle.pass_proofs.specs.run_source.Source.{first_state};
 ghost use Rattle.pass_proofs.specs.run_source.declared.state.State.{State};
@@ -41,6 +43,12 @@ pub fn elided_runs_are_known()
     ensures begins { (e : Elision) → KeepsPlaces e → BeginsInCoroutines (elided_code e) }
     ensures runs { (e : Elision) (entry : ℕ) (args : List Word) (n : ℕ) → KeepsPlaces e
         → IsKnownState (elided_code e) (framed_state_at (elided e) entry args n) }
+{}
+
+/// Behind a step of a known kind slots of the run that gives frames have blocks of their own still.
+pub fn slots_stay_counted()
+    ensures { (e : Elision) (s t : State) (r : AreElided e s t) (k : IsKnownStep e s t r) → CountsSlots t
+        → CountsSlots (iterate (framed_step (elided e)) (steps_of e s t r k) t) }
 {}
 
 /// An activation of a function that is no coroutine has no slots at its first place, where no edge leads back. So it is
