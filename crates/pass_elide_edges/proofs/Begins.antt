@@ -120,7 +120,8 @@ module _ (e : Elision) (keeps : KeepsPlaces e) (func : ℕ) (plain : (function_i
       (elided_blocks (rooms e func) 0 (length f.names) f.blocks))
   elided_calm =
       front_calm (allocas_ahead (rooms e func) f) (elided_blocks (rooms e func) 0 (length f.names) f.blocks)
-      (allocas_calm (length f.names) (function_frames (rooms e func) f)) (blocks_calm (rooms e func) 0 (length f.names) f.blocks framed_calm)
+      (allocas_calm (length f.names) (function_frames (rooms e func) f))
+      (blocks_calm (rooms e func) 0 (length f.names) f.blocks framed_calm)
 
   same_blocks : h.blocks ≡ with_front (allocas_ahead (rooms e func) f)
       (elided_blocks (rooms e func) 0 (length f.names) f.blocks)

@@ -13,3 +13,4 @@ pub mod Bare
 pub mod Begins
 pub mod Runs
 pub mod Worked
+pub mod Freeing

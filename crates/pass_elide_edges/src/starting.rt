@@ -1,7 +1,9 @@
 //! Where runs start, and in the worked module, what the ends of blocks ask holds.
 
-ghost use Rattle.pass_elide_edges.specs.Keeping.{EntersAlone, KeepsEnds};
+ghost use Rattle.pass_elide_edges.specs.Keeping.{EntersAlone, KeepsEnds, KeepsFreeing};
 ghost use Rattle.pass_elide_edges.specs.States.{EndsElided, EndsFramed, EntersNoStart, StandApart, StartsBare};
+ghost use Rattle.pass_elide_edges.specs.WorkedFreeing.{freeing_function, freeing_shape};
+ghost use Rattle.pass_elide_proof.specs.EdgesFreeing.{FreesFrame};
 ghost use Rattle.pass_elide_proof.specs.Elision.{Elision, elided, elided_code, framed, function_in};
 ghost use Rattle.pass_elide_proof.specs.Match.{AreElided, sides};
 ghost use Rattle.pass_elide_proof.specs.OwnSlots.{CountsSlots};
@@ -37,8 +39,8 @@ pub fn framed_runs_have_known_ends()
         → EndsFramed e (framed_state_at (framed e) entry args n) }
 {}
 
-/// In elided modules coro.begin stands in coroutines too. So in each state of the run that gives frames activations have
-/// as many values as their functions have names.
+/// In elided modules coro.begin stands in coroutines too. So in each state of the run that gives frames activations
+/// have as many values as their functions have names.
 pub fn elided_runs_are_known()
     ensures begins { (e : Elision) → KeepsPlaces e → BeginsInCoroutines (elided_code e) }
     ensures runs { (e : Elision) (entry : ℕ) (args : List Word) (n : ℕ) → KeepsPlaces e
@@ -68,4 +70,12 @@ pub fn activations_start_bare()
 pub fn the_worked_module_keeps_ends()
     ensures ends { KeepsEnds the_elision }
     ensures alone { (func : ℕ) → EntersAlone (function_in the_elision func) (the_elision.shape func) }
+{}
+
+/// A worked function that tests what is to be freed for null keeps what is asked there. Behind the block that frees and
+/// beside it stand blocks on edges.
+#[tactic(none)]
+pub fn the_worked_function_keeps_freeing()
+    ensures { (q : FreesFrame freeing_function freeing_shape)
+        × KeepsFreeing freeing_function freeing_shape q }
 {}
