@@ -24,3 +24,4 @@ pub mod OwnedSlots
 pub mod Small
 pub mod GivenNames
 pub mod SizeNames
+pub mod KnownRuns

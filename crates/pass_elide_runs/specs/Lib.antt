@@ -6,3 +6,4 @@ pub mod Slots
 pub mod Kinds
 pub mod Marks
 pub mod Names
+pub mod Keeps

@@ -25,7 +25,8 @@ pub fn activations_are_made_by_calls()
         → HaveCallsBelow g.given.code (framed_state_at g entry args n) }
 {}
 
-/// So in the run that gives frames, what is right above the caller at a site is of the function that the site calls.
+/// So in the run that gives frames, what is right above the caller at a site is of the function that the site
+/// calls.
 pub fn sites_call_what_is_above()
     ensures { (e : Elision) (entry : ℕ) (args : List Word) (n : ℕ) → KeepsPlaces e
         → IsFine (framed_state_at (elided e) entry args n).outcome → (c : Activation) (below : List Activation)

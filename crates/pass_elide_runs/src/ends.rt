@@ -19,9 +19,8 @@ ghost use Rattle.run_hooks.specs.Hooks.{Hooks};
 ghost use Rattle.run_hooks.specs.Reached.{AllHaveSwitches};
 ghost use Rattle.std.specs.Prelude.{List, Some, false, ◌≡◌, ℕ};
 
-/// The instance of an activation that hasn't left is Finished only where a path leads to the place from the
-/// end. A ramp
-/// goes on there.
+/// The instance of an activation that hasn't left is Finished only where a path leads to the place from the end. A
+/// ramp goes on there.
 pub fn instances_go_on_till_the_end()
     ensures { (g : FramedGiven) (entry : ℕ) (args : List Word) (n : ℕ) → AllHaveSwitches g.given.code
         → (function_at g.given.code entry).coroutine ≡ false → IsFine (framed_state_at g entry args n).outcome

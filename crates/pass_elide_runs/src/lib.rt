@@ -3,6 +3,7 @@
 
 pub mod calls;
 pub mod ends;
+pub mod known;
 pub mod modes;
 pub mod shapes;
 pub mod sizes;

@@ -12,8 +12,7 @@ ghost use Rattle.run_hooks.specs.Reached.{AllHaveSwitches, IsReachedState};
 ghost use Rattle.std.specs.Prelude.{List, false, ◌≡◌, ℕ};
 
 /// An activation of a coroutine is in a mode of coroutines, and one that was resumed has an instance. While it
-/// executes
-/// its allocas it stands at one of them, and goes on from a suspend.
+/// executes its allocas it stands at one of them, and goes on from a suspend.
 pub fn modes_are_known()
     ensures step { (g : FramedGiven) (s u : State) → s.outcome ≡ Outcome.Running → IsReachedState g.given s
         → KnowModes g.given.code s → LeadsTo g s u → KnowModes g.given.code u }

@@ -10,9 +10,8 @@ ghost use Rattle.pass_proofs.specs.run_framed.Framed.{framed_state_at, framed_st
 ghost use Rattle.pass_proofs.specs.run_source.declared.state.State.{State};
 ghost use Rattle.std.specs.Prelude.{List, ℕ};
 
-/// A ramp that was given its frame, and an instance whose frame was given, is of a function that has a shape.
-/// Each frame
-/// lies in a block that there is.
+/// A ramp that was given its frame, and an instance whose frame was given, is of a function that has a shape. Each
+/// frame lies in a block that there is.
 pub fn given_frames_are_of_shapes()
     ensures step { (e : Elision) (t : State) → KeepsPlaces e → AreOfCallees (HasShape e) t
         → AreOfCallees (HasShape e) (framed_step (elided e) t) }

@@ -21,9 +21,8 @@ ghost use Rattle.run_hooks.specs.Reached.{AllHaveSwitches};
 ghost use Rattle.run_slots.specs.Slots.{IsSlottedState};
 ghost use Rattle.std.specs.Prelude.{List, [], true, ◌≡◌, ℕ};
 
-/// In each state of a framed run an activation has a slot for each alloca that it has passed, and no others.
-/// The names of
-/// these have the addresses of their slots. One that was resumed doesn't come back to the entry block.
+/// In each state of a framed run an activation has a slot for each alloca that it has passed, and no others. The
+/// names of these have the addresses of their slots. One that was resumed doesn't come back to the entry block.
 pub fn activations_have_their_slots()
     ensures { (g : FramedGiven) (entry : ℕ) (args : List Word) (n : ℕ)
         → ((func : ℕ) → AllocasFirst (function_at g.given.code func)) → KnowsAllocas g
@@ -32,8 +31,8 @@ pub fn activations_have_their_slots()
         → HaveItsSlots g.given.code (framed_state_at g entry args n) }
 {}
 
-/// So it is in the run that gives frames. Where calls give frames, allocas stand in entry blocks as in the
-/// framed form.
+/// So it is in the run that gives frames. Where calls give frames, allocas stand in entry blocks as in the framed
+/// form.
 pub fn giving_activations_have_their_slots()
     ensures allocas { (e : Elision) (func : ℕ) → AllocasFirst (function_in e func)
         → AllocasFirst (function_at (elided_code e) func) }

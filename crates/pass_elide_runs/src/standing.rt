@@ -17,9 +17,8 @@ pub fn elided_modules_have_switches()
         → AreSwitched (function_at (elided_code e) func) }
 {}
 
-/// In each state of a framed run a path leads to the block of each activation, and to a label that it is about
-/// to enter.
-/// The run that gives frames has the same blocks and edges.
+/// In each state of a framed run a path leads to the block of each activation, and to a label that it is about to
+/// enter. The run that gives frames has the same blocks and edges.
 pub fn activations_stand_where_paths_lead()
     ensures runs { (g : FramedGiven) (entry : ℕ) (args : List Word) (n : ℕ) → AllHaveSwitches g.given.code
         → StandWhereLed g.given.code (framed_state_at g entry args n) }
