@@ -78,7 +78,8 @@ module _ (e : Elision) (keeps : KeepsPlaces e) (k : KeepsRuns e) where
     wakes = giving_wakes e keeps k.switches k.switched entry args n;
   }
 
-module _ (e : Elision) (k : KeepsRuns e) (s : State) (knows : KnowsFramed e s) (runs : s.outcome ≡ Outcome.Running) where
+module _ (e : Elision) (k : KeepsRuns e) (s : State) (knows : KnowsFramed e s)
+    (runs : s.outcome ≡ Outcome.Running) where
   -- the instance that is saved isn't Finished
   pub saved_goes : IsCallAt Intrinsic.CoroSave (function_in e s.top.func) (point_in s.top) → (x : Instance)
       → instance_in s.instances s.top.instance ≡ Some x → is_finished x.status ≡ false
