@@ -31,3 +31,4 @@ mod KeptSites
 mod KeptOther
 mod KeptPopped
 mod KeptEnds
+mod KeptBegins
