@@ -3,7 +3,7 @@
 use Rattle.std.proofs.Common.{◌≡◌, ◌⊎◌, ◌∙◌, ◌∷◌, [], ap, inl, inr, Bool, false, length, List, not, Ok, Option, refl, subst, sym, true, ℕ}
 use Rattle.std.specs.Prelude.{None, Some, negsuc, slice_get}
 use Rattle.elide_sites.specs.Sites.{is_destroy_of}
-use Rattle.pass_elide_kept.specs.Steps.{SavesAt, StandsAtCall}
+use Rattle.pass_elide_kept.specs.Steps.{GoesStill, SavesAt, StandsAtCall}
 use Rattle.pass_elide_proof.proofs.Callees.{called_at}
 use Rattle.pass_elide_proof.proofs.CallersCoros.{gives_keep, then_keep}
 use Rattle.pass_elide_proof.proofs.CallersEdges.{status_was}
@@ -94,7 +94,7 @@ module _ (e : Elision) (memory : List MemoryBlock) (y : Instance) (number : ℕ)
 
 -- ---- a save
 
-module _ (e : Elision) (t : State) (m : SavesAt e t) (h : HaveCallers e t)
+module _ (e : Elision) (t : State) (inside : (function_in e t.top.func).coroutine ≡ true) (h : HaveCallers e t)
     (calm : (number : ℕ) (y : Instance) → slice_get t.instances number ≡ Some y → is_given t.world.memory y ≡ true
     → IsDestroying e y number t.top → ⊥) where
   abbrev asleep : Point → Point → Instance → Instance
@@ -122,7 +122,7 @@ module _ (e : Elision) (t : State) (m : SavesAt e t) (h : HaveCallers e t)
         (λ j. (sym memory j, sym below j))
         (called_as e x y number old.coroutine old.block old.start t.world.memory [] (u.top ∷ t.below)
         (called_instead e t.world.memory x number t.top u.top func result mode instance
-        (λ k. not_both (function_in e t.top.func).coroutine m.inside k.site.plain)
+        (λ k. not_both (function_in e t.top.func).coroutine inside k.site.plain)
         (calm number x old.there given_then) t.below
         (h.each number x old.there given_then (old.going going))));
     last = last_as e t.instances u.instances was t.world.memory u.world.memory
@@ -133,12 +133,12 @@ module _ (e : Elision) (t : State) (m : SavesAt e t) (h : HaveCallers e t)
         (given_on e t.instances t.top u.top t.below result mode instance h.ramps));
   }
 
-  was_awake : (save suspend : Point) (x : ℕ × Instance) → own_instance t ≡ Some x → (number : ℕ) (y : Instance)
-      → slice_get (after save suspend x).instances number ≡ Some y → WasBefore t.instances number y
-  was_awake save suspend x own =
+  was_awake : (save suspend : Point) (x : ℕ × Instance) → own_instance t ≡ Some x → GoesStill t → (number : ℕ)
+      (y : Instance) → slice_get (after save suspend x).instances number ≡ Some y → WasBefore t.instances number y
+  was_awake save suspend x own goes =
       let own_is = own_there t x.0 x.1 own in
       status_was t.instances x.0 x.1 (asleep save suspend x.1) own_is.1 refl refl refl
-      (λ going. m.goes x.1 (ap (instance_in t.instances) own_is.0 ∙ own_is.1))
+      (λ going. goes x.1 (ap (instance_in t.instances) own_is.0 ∙ own_is.1))
 
   save_goes : (save suspend : Point) (f : State → State)
       → ((x : ℕ × Instance) → own_instance t ≡ Some x → HaveCallers e (f (after save suspend x)))
@@ -156,13 +156,13 @@ module _ (e : Elision) (t : State) (m : SavesAt e t) (h : HaveCallers e t)
       on None own = tt
       on (Some x) own = by x own (not x.1.freed)
 
-  save_keeps : Keep e (save (elided e).given t)
-  save_keeps =
+  save_keeps : GoesStill t → Keep e (save (elided e).given t)
+  save_keeps goes =
       then_keep e (found Cause.State (suspend_of (function_of (elided e).given t) (point_of t)))
       (λ q. and_then (save_for t (point_of t) q) (λ z. Ok (next z)))
       (λ q is. save_goes (point_of t) q next
       (λ x own. saved (next (after (point_of t) q x)) refl refl refl refl refl refl
-      (was_awake (point_of t) q x own)))
+      (was_awake (point_of t) q x own goes)))
 
   module _ (at : ℕ) (result : Option ℕ) (must_tail : Bool) (ty : Option Ty) (args : List Arg) where
     abbrev call_by : Intrinsic → Instr
@@ -180,24 +180,25 @@ module _ (e : Elision) (t : State) (m : SavesAt e t) (h : HaveCallers e t)
       plain =
           gives_keep e t at Intrinsic.CoroSuspend result must_tail ty args k calm_call h (integer 8 (negsuc 0))
 
-      suspend_keeps : (x : Operand) → Keep e (suspend t result x)
-      suspend_keeps Operand.None =
+      suspend_keeps : (x : Operand) → (x ≡ Operand.None → GoesStill t) → Keep e (suspend t result x)
+      suspend_keeps Operand.None goes =
           save_goes (point_of t) (point_of t) (λ z. gives z result (integer 8 (negsuc 0)))
           (λ x own. saved (gives (after (point_of t) (point_of t) x) result (integer 8 (negsuc 0))) refl refl refl refl
-          refl refl (was_awake (point_of t) (point_of t) x own))
-      suspend_keeps (Operand.Local v) = plain
-      suspend_keeps (Operand.Global n) = plain
-      suspend_keeps (Operand.Number z) = plain
-      suspend_keeps Operand.True = plain
-      suspend_keeps Operand.False = plain
-      suspend_keeps Operand.Null = plain
-      suspend_keeps Operand.Poison = plain
+          refl refl (was_awake (point_of t) (point_of t) x own (goes refl)))
+      suspend_keeps (Operand.Local v) goes = plain
+      suspend_keeps (Operand.Global n) goes = plain
+      suspend_keeps (Operand.Number z) goes = plain
+      suspend_keeps Operand.True goes = plain
+      suspend_keeps Operand.False goes = plain
+      suspend_keeps Operand.Null goes = plain
+      suspend_keeps Operand.Poison goes = plain
 
-    by_save : (j : Intrinsic) → saves_by j ≡ true → StandsAtCall e t at j result must_tail ty args → Kept j
-    by_save Intrinsic.CoroSave is k = save_keeps
-    by_save Intrinsic.CoroSuspend is k = suspend_keeps k (operand_at args 0)
-    by_save _ is k = absurd (cc)
+    by_save : (j : Intrinsic) → saves_by j ≡ true → StandsAtCall e t at j result must_tail ty args
+        → SavesAt e t j args → Kept j
+    by_save Intrinsic.CoroSave is k m = save_keeps (m.goes (inl refl))
+    by_save Intrinsic.CoroSuspend is k m = suspend_keeps k (operand_at args 0) (λ none. m.goes (inr none))
+    by_save _ is k m = absurd (cc)
 
     pub saves_keep_callers : (j : Intrinsic) → saves_by j ≡ true → StandsAtCall e t at j result must_tail ty args
-        → HaveCallers e (framed_step (elided e) t)
-    saves_keep_callers j is k = next_keeps e t at (call_by j) k h (by_save j is k)
+        → SavesAt e t j args → HaveCallers e (framed_step (elided e) t)
+    saves_keep_callers j is k m = next_keeps e t at (call_by j) k h (by_save j is k m)

@@ -1,7 +1,9 @@
 -- Behind each step of the run that gives frames callers of instances are on the stack.
-use Rattle.std.proofs.Common.{◌≡◌, ◌+◌, ◌⊎◌, ◌∙◌, ap, sym, subst, inl, inr, ℕ, Bool, true, List, Option}
+use Rattle.std.proofs.Common.{◌≡◌, ◌+◌, ◌⊎◌, ◌∙◌, sym, refl, subst, inl, inr, ℕ, Bool, true, List, Option}
 use Rattle.std.specs.Prelude.{None, Some, slice_get}
+use Rattle.elide_sites.specs.Destroyed.{is_stop}
 use Rattle.pass_elide_kept.proofs.CallersSaved.{saves_keep_callers}
+use Rattle.pass_elide_kept.proofs.KeptOther.{never_saves}
 use Rattle.pass_elide.specs.declared.given.GivenFrame.{GivenFrame}
 use Rattle.pass_elide_kept.specs.Modules.{KeepsHandlesAndEnds}
 use Rattle.pass_elide_kept.specs.Runs.{IsKeptGiving}
@@ -10,29 +12,28 @@ use Rattle.pass_elide_proof.proofs.Calls.{calls_keep}
 use Rattle.pass_elide_proof.proofs.CallersAgain.{again_keeps}
 use Rattle.pass_elide_proof.proofs.CallersBack.{rets_keep}
 use Rattle.pass_elide_proof.proofs.CallersBegin.{begin_keeps}
-use Rattle.pass_elide_proof.proofs.CallersCoros.{end_keeps, gives_only_keep, saves_by_keep}
+use Rattle.pass_elide_proof.proofs.CallersCoros.{end_keeps, gives_only_keep}
 use Rattle.pass_elide_proof.proofs.CallersEdges.{edges_keep}
 use Rattle.pass_elide_proof.proofs.CallersEnds.{resumed_ends_keep}
 use Rattle.pass_elide_proof.proofs.CallersInstr.{done_keeps}
 use Rattle.pass_elide_proof.proofs.CallersMaking.{allocas_keep, allocators_keep, ends_keep, starts_keep}
 use Rattle.pass_elide_proof.proofs.CallersWaking.{destroys_keep, resumes_keep}
-use Rattle.pass_elide_proof.proofs.Facts.{some_none}
 use Rattle.pass_elide_proof.proofs.PlacingFacts.{by_truth}
 use Rattle.pass_elide_proof.proofs.SiteCallers.{sites_keep}
 use Rattle.pass_elide_proof.specs.Callers.{HaveBlocks, MarksNoFrame, saves_by}
 use Rattle.pass_elide_proof.specs.CallersStack.{AreCalled}
 use Rattle.pass_elide_proof.specs.Calling.{AreReady, IsAtSite}
-use Rattle.pass_elide_proof.specs.Elision.{Elision, Shape, elided, elided_code, function_in, no_shape}
-use Rattle.pass_elide_proof.specs.Invariant.{HaveCallers, IsDestroying}
+use Rattle.pass_elide_proof.specs.Elision.{Elision, elided, elided_code, function_in}
+use Rattle.pass_elide_proof.specs.Invariant.{HaveCallers}
 use Rattle.pass_elide_proof.specs.OwnSlots.{HaveNoSlots}
 use Rattle.pass_elide_proof.specs.Places.{phi_count}
-use Rattle.pass_elide_proof.specs.Placing.{HasShape, KeepsPlaces}
+use Rattle.pass_elide_proof.specs.Placing.{KeepsPlaces}
 use Rattle.pass_proofs.specs.ir_model.Ty.{Ty}
 use Rattle.pass_proofs.specs.ir_model.declared.instr.Instr.{Instr}
 use Rattle.pass_proofs.specs.ir_model.declared.operand.Arg.{Arg}
 use Rattle.pass_proofs.specs.ir_model.declared.operand.Callee.{Callee}
 use Rattle.pass_proofs.specs.ir_model.declared.operand.Intrinsic.{Intrinsic}
-use Rattle.pass_proofs.specs.run_framed.Framed.{framed_step, is_given}
+use Rattle.pass_proofs.specs.run_framed.Framed.{framed_step}
 use Rattle.pass_proofs.specs.run_source.declared.state.Instance.{Instance}
 use Rattle.pass_proofs.specs.run_source.declared.state.State.{State}
 use Rattle.pass_proofs.specs.run_step.Values.{arg_values, nth}
@@ -40,25 +41,19 @@ use Rattle.pass_proofs.specs.run_step.Values.{arg_values, nth}
 module _ (e : Elision) (places : KeepsPlaces e) (keeps : KeepsHandlesAndEnds e) (s t : State)
     (theirs : IsKeptGiving e t) (slots : HaveNoSlots t) (blocks : HaveBlocks t) (known : AreCalled e t)
     (h : HaveCallers e t) where
-  -- a coroutine of no shape is never given its frame
-  never_given : e.shape t.top.func ≡ no_shape → (number : ℕ) (y : Instance) → slice_get t.instances number ≡ Some y
-      → is_given t.world.memory y ≡ true → IsDestroying e y number t.top → ⊥
-  never_given none number y there given d =
-      let k = theirs.shapes.instances number y there given in
-      let same : e.shape y.coroutine ≡ no_shape = ap e.shape (sym d.func) ∙ none in
-      some_none ((e.shape y.coroutine).waits k.asks.allocates) k.asks.asks k.asks.waits
-      (ap (λ (x : Shape). x.waits k.asks.allocates) same)
+  stops : (j : Intrinsic) → saves_by j ≡ true → (result : Option ℕ) (must_tail : Bool) (ty : Option Ty)
+      (args : List Arg) → is_stop (Instr.Call result must_tail ty (Callee.Intrinsic j) args) ≡ true
+  stops Intrinsic.CoroSave is result must_tail ty args = refl
+  stops Intrinsic.CoroSuspend is result must_tail ty args = refl
+  stops _ is result must_tail ty args = absurd (cc)
 
   saves : (at : ℕ) (j : Intrinsic) (result : Option ℕ) (must_tail : Bool) (ty : Option Ty) (args : List Arg)
-      → saves_by j ≡ true → StandsAtCall e t at j result must_tail ty args → SavesAt e t
+      → saves_by j ≡ true → StandsAtCall e t at j result must_tail ty args → SavesAt e t j args
       → HaveCallers e (framed_step (elided e) t)
-  saves at j result must_tail ty args is k m = on (places.shapes t.top.func)
-    where
-      on : (e.shape t.top.func ≡ no_shape) ⊎ HasShape e t.top.func → HaveCallers e (framed_step (elided e) t)
-      on (inl none) = saves_keep_callers e t m h (never_given none) at result must_tail ty args j is k
-      on (inr x) =
-          saves_by_keep e t at result must_tail ty args h
-          (record { inside = m.inside; mode = m.mode; goes = m.goes; still = keeps.still t.top.func x }) j is k
+  saves at j result must_tail ty args is k m =
+      saves_keep_callers e t m.inside h
+      (never_saves e keeps t theirs at (Instr.Call result must_tail ty (Callee.Intrinsic j) args) k m.mode
+      (stops j is result must_tail ty args)) at result must_tail ty args j is k m
 
   marks : (at : ℕ) (j : Intrinsic) (result : Option ℕ) (must_tail : Bool) (ty : Option Ty) (args : List Arg)
       → (j ≡ Intrinsic.LifetimeStart) ⊎ (j ≡ Intrinsic.LifetimeEnd)

@@ -157,7 +157,7 @@ module _ (e : Elision) (places : KeepsPlaces e) (keeps : KeepsHandlesAndEnds e) 
       (other t.top.func t.top.block at _ k.there (no_begin j is result must_tail ty args)) j is k
   stays_known (TakesStep.Saves at j result must_tail ty args is k m) =
       saves_stay_known e t h at result must_tail ty args
-      (other t.top.func t.top.block at _ k.there (no_begin_saved j is result must_tail ty args)) m j is k
+      (other t.top.func t.top.block at _ k.there (no_begin_saved j is result must_tail ty args)) j is k m
   stays_known (TakesStep.Begins at result must_tail ty args k inside those) =
       begin_known e t at result must_tail ty args k those.1
       (λ v name. (keeps.begins t.top.func).named t.top.block at v _ k.there refl name)

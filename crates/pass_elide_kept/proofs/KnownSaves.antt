@@ -1,7 +1,7 @@
 -- At saves and suspends it stays known what activations have by their calls.
-use Rattle.std.proofs.Common.{◌≡◌, ◌∙◌, ap, Bool, Err, false, length, List, not, Ok, Option, refl, Result, true, ℕ}
+use Rattle.std.proofs.Common.{◌≡◌, ◌∙◌, ap, Bool, Err, false, inl, inr, length, List, not, Ok, Option, refl, Result, true, ℕ}
 use Rattle.std.specs.Prelude.{None, Some, negsuc, slice_get}
-use Rattle.pass_elide_kept.specs.Steps.{SavesAt, StandsAtCall}
+use Rattle.pass_elide_kept.specs.Steps.{GoesStill, SavesAt, StandsAtCall}
 use Rattle.pass_elide_proof.proofs.CallersEdges.{status_was}
 use Rattle.pass_elide_proof.proofs.CallersInstr.{was_itself}
 use Rattle.pass_elide_proof.proofs.CallersKnown.{KnownIf, next_known}
@@ -34,7 +34,7 @@ use Rattle.pass_proofs.specs.run_step.Values.{integer}
 
 module _ (e : Elision) (t : State) (h : AreCalled e t) (at : ℕ) (result : Option ℕ) (must_tail : Bool)
     (ty : Option Ty) (args : List Arg)
-    (apart : (v : ℕ) → begin_name (function_in e t.top.func) ≡ Some v → result ≡ Some v → ⊥) (m : SavesAt e t) where
+    (apart : (v : ℕ) → begin_name (function_in e t.top.func) ≡ Some v → result ≡ Some v → ⊥) where
   abbrev call_by : Intrinsic → Instr
   call_by j = Instr.Call result must_tail ty (Callee.Intrinsic j) args
 
@@ -56,12 +56,12 @@ module _ (e : Elision) (t : State) (h : AreCalled e t) (at : ℕ) (result : Opti
   abbrev after : Point → Point → ℕ × Instance → State
   after save suspend x = with_left (with_instance t x.0 (asleep save suspend x.1)) true
 
-  was_awake : (save suspend : Point) (x : ℕ × Instance) → own_instance t ≡ Some x → (number : ℕ) (y : Instance)
-      → slice_get (after save suspend x).instances number ≡ Some y → WasBefore t.instances number y
-  was_awake save suspend x own =
+  was_awake : (save suspend : Point) (x : ℕ × Instance) → own_instance t ≡ Some x → GoesStill t → (number : ℕ)
+      (y : Instance) → slice_get (after save suspend x).instances number ≡ Some y → WasBefore t.instances number y
+  was_awake save suspend x own goes =
       let own_is = own_there t x.0 x.1 own in
       status_was t.instances x.0 x.1 (asleep save suspend x.1) own_is.1 refl refl refl
-      (λ going. m.goes x.1 (ap (instance_in t.instances) own_is.0 ∙ own_is.1))
+      (λ going. goes x.1 (ap (instance_in t.instances) own_is.0 ∙ own_is.1))
 
   saved : (save suspend : Point) (f : State → State)
       → ((x : ℕ × Instance) → own_instance t ≡ Some x → AreCalled e (f (after save suspend x)))
@@ -79,8 +79,8 @@ module _ (e : Elision) (t : State) (h : AreCalled e t) (at : ℕ) (result : Opti
       on None own = tt
       on (Some x) own = by x own (not x.1.freed)
 
-  save_known : KnownIf e (save (elided e).given t)
-  save_known = on (found Cause.State (suspend_of (function_of (elided e).given t) (point_of t)))
+  save_known : GoesStill t → KnownIf e (save (elided e).given t)
+  save_known goes = on (found Cause.State (suspend_of (function_of (elided e).given t) (point_of t)))
     where
       on : (r : Result Point Cause) → KnownIf e (and_then r (λ (q : Point). and_then (save_for t (point_of t) q)
           (λ (z : State). Ok (next z))))
@@ -88,27 +88,27 @@ module _ (e : Elision) (t : State) (h : AreCalled e t) (at : ℕ) (result : Opti
       on (Ok q) =
           saved (point_of t) q next
           (λ x own. top_known e t h (next (after (point_of t) q x)) refl refl refl refl refl
-          (was_awake (point_of t) q x own) (λ v is. refl))
+          (was_awake (point_of t) q x own goes) (λ v is. refl))
 
-  suspend_known : (x : Operand) → KnownIf e (suspend t result x)
-  suspend_known Operand.None =
+  suspend_known : (x : Operand) → (x ≡ Operand.None → GoesStill t) → KnownIf e (suspend t result x)
+  suspend_known Operand.None goes =
       saved (point_of t) (point_of t) (λ z. gives z result (integer 8 (negsuc 0)))
       (λ x own. top_known e t h (gives (after (point_of t) (point_of t) x) result (integer 8 (negsuc 0))) refl refl
-      refl refl refl (was_awake (point_of t) (point_of t) x own)
+      refl refl refl (was_awake (point_of t) (point_of t) x own (goes refl))
       (λ v is. result_elsewhere t.top.values result (integer 8 (negsuc 0)) v (apart v is)))
-  suspend_known (Operand.Local v) = given (integer 8 (negsuc 0))
-  suspend_known (Operand.Global n) = given (integer 8 (negsuc 0))
-  suspend_known (Operand.Number z) = given (integer 8 (negsuc 0))
-  suspend_known Operand.True = given (integer 8 (negsuc 0))
-  suspend_known Operand.False = given (integer 8 (negsuc 0))
-  suspend_known Operand.Null = given (integer 8 (negsuc 0))
-  suspend_known Operand.Poison = given (integer 8 (negsuc 0))
+  suspend_known (Operand.Local v) goes = given (integer 8 (negsuc 0))
+  suspend_known (Operand.Global n) goes = given (integer 8 (negsuc 0))
+  suspend_known (Operand.Number z) goes = given (integer 8 (negsuc 0))
+  suspend_known Operand.True goes = given (integer 8 (negsuc 0))
+  suspend_known Operand.False goes = given (integer 8 (negsuc 0))
+  suspend_known Operand.Null goes = given (integer 8 (negsuc 0))
+  suspend_known Operand.Poison goes = given (integer 8 (negsuc 0))
 
-  by_save : (j : Intrinsic) → saves_by j ≡ true → Kept j
-  by_save Intrinsic.CoroSave is = save_known
-  by_save Intrinsic.CoroSuspend is = suspend_known (operand_at args 0)
-  by_save _ is = absurd (cc)
+  by_save : (j : Intrinsic) → saves_by j ≡ true → SavesAt e t j args → Kept j
+  by_save Intrinsic.CoroSave is m = save_known (m.goes (inl refl))
+  by_save Intrinsic.CoroSuspend is m = suspend_known (operand_at args 0) (λ none. m.goes (inr none))
+  by_save _ is m = absurd (cc)
 
   pub saves_stay_known : (j : Intrinsic) → saves_by j ≡ true → StandsAtCall e t at j result must_tail ty args
-      → AreCalled e (framed_step (elided e) t)
-  saves_stay_known j is k = next_known e t at (call_by j) k h (by_save j is)
+      → SavesAt e t j args → AreCalled e (framed_step (elided e) t)
+  saves_stay_known j is k m = next_known e t at (call_by j) k h (by_save j is m)

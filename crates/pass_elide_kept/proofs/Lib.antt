@@ -9,7 +9,6 @@ mod Beside
 mod KnownSaves
 mod KnownCalls
 mod CallersSaved
-mod KeptCallers
 mod Moves
 mod MovesMaking
 mod Fronted
@@ -19,7 +18,6 @@ mod PassedBack
 mod Stepped
 mod PassedSteps
 mod CalledSteps
-mod CallerSteps
 mod Keepers
 mod StaysFreed
 mod KeptBack
@@ -29,6 +27,8 @@ mod KeptEdges
 mod KeptPushed
 mod KeptSites
 mod KeptOther
+mod KeptCallers
+mod CallerSteps
 mod KeptPopped
 mod KeptEnds
 mod KeptBegins

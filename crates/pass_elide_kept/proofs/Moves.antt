@@ -4,7 +4,7 @@ use Rattle.std.specs.List.{Contains}
 use Rattle.std.specs.Prelude.{None, Some, negsuc, slice_get}
 use Rattle.elide_sites.specs.Destroyed.{is_stop}
 use Rattle.pass_elide_kept.proofs.Goes.{step_is}
-use Rattle.pass_elide_kept.specs.Steps.{SavesAt, StandsAtCall}
+use Rattle.pass_elide_kept.specs.Steps.{GoesStill, SavesAt, StandsAtCall}
 use Rattle.pass_elide_proof.proofs.CallersBlocks.{KeepsStacks, changed_keeps, disowned_life, ended_kind, frames_kept, lives_elsewhere, stack_with, stacks_same, started_life}
 use Rattle.pass_elide_proof.proofs.CallersEdges.{status_was}
 use Rattle.pass_elide_proof.proofs.CallersInstr.{fetched_at, was_itself}
@@ -240,7 +240,7 @@ module _ (e : Elision) (t : State) (result : Option ℕ) (must_tail : Bool) (ty 
 
   -- ---- saves
 
-  module _ (m : SavesAt e t) (stops : is_stop (Instr.Call result must_tail ty (Callee.Intrinsic j) args) ≡ true) where
+  module _ (stops : is_stop (Instr.Call result must_tail ty (Callee.Intrinsic j) args) ≡ true) where
     abbrev asleep : Point → Point → Instance → Instance
     asleep save suspend x =
         record x {
@@ -251,12 +251,12 @@ module _ (e : Elision) (t : State) (result : Option ℕ) (must_tail : Bool) (ty 
     abbrev after : Point → Point → ℕ × Instance → State
     after save suspend x = with_left (with_instance t x.0 (asleep save suspend x.1)) true
 
-    was_awake : (save suspend : Point) (x : ℕ × Instance) → own_instance t ≡ Some x → (number : ℕ) (y : Instance)
-        → slice_get (after save suspend x).instances number ≡ Some y → WasBefore t.instances number y
-    was_awake save suspend x own =
+    was_awake : (save suspend : Point) (x : ℕ × Instance) → own_instance t ≡ Some x → GoesStill t → (number : ℕ)
+        (y : Instance) → slice_get (after save suspend x).instances number ≡ Some y → WasBefore t.instances number y
+    was_awake save suspend x own goes =
         let own_is = own_there t x.0 x.1 own in
         status_was t.instances x.0 x.1 (asleep save suspend x.1) own_is.1 refl refl refl
-        (λ going. m.goes x.1 (ap (instance_in t.instances) own_is.0 ∙ own_is.1))
+        (λ going. goes x.1 (ap (instance_in t.instances) own_is.0 ∙ own_is.1))
 
     left_on : (z : State) → z.below ≡ t.below → z.world.memory ≡ t.world.memory
         → ((number : ℕ) (y : Instance) → slice_get z.instances number ≡ Some y → WasBefore t.instances number y)
@@ -296,8 +296,9 @@ module _ (e : Elision) (t : State) (result : Option ℕ) (must_tail : Bool) (ty 
         by_own None own = tt
         by_own (Some x) own = by x own (not x.1.freed)
 
-    save_moves : MovesIf e t (Instr.Call result must_tail ty (Callee.Intrinsic j) args) (save (elided e).given t)
-    save_moves = by (found Cause.State (suspend_of (function_of (elided e).given t) (point_of t)))
+    save_moves : GoesStill t
+        → MovesIf e t (Instr.Call result must_tail ty (Callee.Intrinsic j) args) (save (elided e).given t)
+    save_moves goes = by (found Cause.State (suspend_of (function_of (elided e).given t) (point_of t)))
       where
         by : (r : Result Point Cause)
             → MovesIf e t i (and_then r (λ (q : Point). and_then (save_for t (point_of t) q)
@@ -305,23 +306,23 @@ module _ (e : Elision) (t : State) (result : Option ℕ) (must_tail : Bool) (ty 
         by (Err cause) = tt
         by (Ok q) =
             saved (point_of t) q next
-            (λ x own. left_on (next (after (point_of t) q x)) refl refl (was_awake (point_of t) q x own) refl refl
+            (λ x own. left_on (next (after (point_of t) q x)) refl refl (was_awake (point_of t) q x own goes) refl refl
             refl refl refl refl (λ v ne. refl) refl)
 
-    suspend_moves : (x : Operand)
+    suspend_moves : (x : Operand) → (x ≡ Operand.None → GoesStill t)
         → MovesIf e t (Instr.Call result must_tail ty (Callee.Intrinsic j) args) (suspend t result x)
-    suspend_moves Operand.None =
+    suspend_moves Operand.None goes =
         saved (point_of t) (point_of t) (λ z. gives z result (integer 8 (negsuc 0)))
         (λ x own. left_on (gives (after (point_of t) (point_of t) x) result (integer 8 (negsuc 0))) refl refl
-        (was_awake (point_of t) (point_of t) x own) refl refl refl refl refl refl
+        (was_awake (point_of t) (point_of t) x own (goes refl)) refl refl refl refl refl refl
         (λ v ne. result_elsewhere t.top.values result (integer 8 (negsuc 0)) v ne) refl)
-    suspend_moves (Operand.Local v) = gives_it (integer 8 (negsuc 0))
-    suspend_moves (Operand.Global n) = gives_it (integer 8 (negsuc 0))
-    suspend_moves (Operand.Number z) = gives_it (integer 8 (negsuc 0))
-    suspend_moves Operand.True = gives_it (integer 8 (negsuc 0))
-    suspend_moves Operand.False = gives_it (integer 8 (negsuc 0))
-    suspend_moves Operand.Null = gives_it (integer 8 (negsuc 0))
-    suspend_moves Operand.Poison = gives_it (integer 8 (negsuc 0))
+    suspend_moves (Operand.Local v) goes = gives_it (integer 8 (negsuc 0))
+    suspend_moves (Operand.Global n) goes = gives_it (integer 8 (negsuc 0))
+    suspend_moves (Operand.Number z) goes = gives_it (integer 8 (negsuc 0))
+    suspend_moves Operand.True goes = gives_it (integer 8 (negsuc 0))
+    suspend_moves Operand.False goes = gives_it (integer 8 (negsuc 0))
+    suspend_moves Operand.Null goes = gives_it (integer 8 (negsuc 0))
+    suspend_moves Operand.Poison goes = gives_it (integer 8 (negsuc 0))
 
 -- ---- which intrinsic it is
 
@@ -366,16 +367,18 @@ module _ (e : Elision) (t : State) (at : ℕ) (result : Option ℕ) (must_tail :
       → MovesBy e t (framed_step (elided e) t) (Instr.Call result must_tail ty (Callee.Intrinsic j) args)
   gives_move j is k = next_moves e t (call_by j) at k fine (given_moves j is)
 
-  saved_moves : SavesAt e t → (j : Intrinsic) → saves_by j ≡ true → Moves j
-  saved_moves m Intrinsic.CoroSave is = save_moves e t result must_tail ty args Intrinsic.CoroSave m refl
-  saved_moves m Intrinsic.CoroSuspend is =
-      suspend_moves e t result must_tail ty args Intrinsic.CoroSuspend m refl (operand_at args 0)
-  saved_moves m _ is = absurd (cc)
+  saved_moves : (j : Intrinsic) → saves_by j ≡ true → SavesAt e t j args → Moves j
+  saved_moves Intrinsic.CoroSave is m =
+      save_moves e t result must_tail ty args Intrinsic.CoroSave refl (m.goes (inl refl))
+  saved_moves Intrinsic.CoroSuspend is m =
+      suspend_moves e t result must_tail ty args Intrinsic.CoroSuspend refl (operand_at args 0)
+      (λ none. m.goes (inr none))
+  saved_moves _ is m = absurd (cc)
 
   pub saves_move : (j : Intrinsic) → saves_by j ≡ true → StandsAtCall e t at j result must_tail ty args
-      → SavesAt e t
+      → SavesAt e t j args
       → MovesBy e t (framed_step (elided e) t) (Instr.Call result must_tail ty (Callee.Intrinsic j) args)
-  saves_move j is k m = next_moves e t (call_by j) at k fine (saved_moves m j is)
+  saves_move j is k m = next_moves e t (call_by j) at k fine (saved_moves j is m)
 
   pub ramp_ends_move : HaveNoSlots t → (t.top.mode ≡ Mode.Resumed → ⊥)
       → StandsAtCall e t at Intrinsic.CoroEnd result must_tail ty args

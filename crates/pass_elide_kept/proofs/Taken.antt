@@ -7,7 +7,7 @@ use Rattle.pass_elide_kept.proofs.Places.{at_own, front_own}
 use Rattle.pass_elide_kept.proofs.TakenEnds.{edge_taken, exit_taken, freed_taken, meeting_taken, way_on_taken}
 use Rattle.pass_elide_kept.specs.Modules.{KeepsHandlesAndEnds}
 use Rattle.pass_elide_kept.specs.Runs.{IsKeptFramed, IsKeptGiving}
-use Rattle.pass_elide_kept.specs.Steps.{SavesAt, StandsAtCall, TakesStep}
+use Rattle.pass_elide_kept.specs.Steps.{SavesAt, SavesNow, StandsAtCall, TakesStep}
 use Rattle.pass_elide_proof.proofs.Addresses.{twin_back}
 use Rattle.pass_elide_proof.proofs.CallersInstr.{fetched_at}
 use Rattle.pass_elide_proof.proofs.CallersPlaces.{stands_at_instr, stands_at_ret}
@@ -45,6 +45,7 @@ use Rattle.pass_proofs.specs.ir_model.declared.operand.Arg.{Arg}
 use Rattle.pass_proofs.specs.ir_model.declared.operand.Callee.{Callee}
 use Rattle.pass_proofs.specs.ir_model.declared.operand.Intrinsic.{Intrinsic}
 use Rattle.pass_proofs.specs.ir_model.declared.operand.Operand.{Operand}
+use Rattle.pass_proofs.specs.ir_paths.Windows.{operand_at}
 use Rattle.pass_proofs.specs.run_agreement.Machines.{IsFine}
 use Rattle.pass_proofs.specs.run_framed.Framed.{framed_context, framed_step, given_ramp}
 use Rattle.pass_proofs.specs.run_laws.changed.Changed.{callee_at}
@@ -241,6 +242,9 @@ module _ (e : Elision) (places : KeepsPlaces e) (keeps : KeepsHandlesAndEnds e) 
     ready_takes (IsReadyFor.Deallocation a result must_tail ty args memory at) =
         TakesStep.Allocates s.top.at a result must_tail ty args
         (at_ready at.own.runs (Instr.Call result must_tail ty (Callee.Allocator a) args) at.own.there at.own.no_room)
+    ready_takes (IsReadyFor.FreeBeside a result must_tail ty args at) =
+        TakesStep.Allocates s.top.at a result must_tail ty args
+        (at_ready at.runs (Instr.Call result must_tail ty (Callee.Allocator a) args) at.there at.room)
     ready_takes (IsReadyFor.Asking j result must_tail ty args at) =
         TakesStep.Gives s.top.at j result must_tail ty args (asks_give j at.asks)
         (at_ready at.own.runs (Instr.Call result must_tail ty (Callee.Intrinsic j) args) at.own.there at.own.no_room)
@@ -345,12 +349,12 @@ module _ (e : Elision) (places : KeepsPlaces e) (keeps : KeepsHandlesAndEnds e) 
         → is_own j ≡ true
         → fetch (function_of (framed e).given s) s.top.block s.top.at
         ≡ AtInstr (Instr.Call result must_tail ty (Callee.Intrinsic j) args)
-        → MaySave e s → SavesAt e t
+        → (SavesNow j args → MaySave e s) → SavesAt e t j args
     saves_at result must_tail ty j args own there may = record {
       inside = inside r.top.func j result must_tail ty args own there;
       mode = not_entering_too s.top.mode t.top.mode r.top.mode
           (not_at_call result must_tail ty (Callee.Intrinsic j) args there);
-      goes = goes_too e s t r may.goes;
+      goes = λ now. goes_too e s t r (may now).goes;
     }
 
     again : (name : ℕ) (ty : Ty) (align from label : ℕ) → s.outcome ≡ Outcome.Running
@@ -399,11 +403,16 @@ module _ (e : Elision) (places : KeepsPlaces e) (keeps : KeepsHandlesAndEnds e) 
     going_takes (IsAccompanied.Save result must_tail ty args at) =
         TakesStep.Saves s.top.at Intrinsic.CoroSave result must_tail ty args refl
         (at_call at.call.runs result must_tail ty Intrinsic.CoroSave args at.call.there at.call.block at.call.own)
-        (saves_at result must_tail ty Intrinsic.CoroSave args refl at.call.there at.may)
+        (saves_at result must_tail ty Intrinsic.CoroSave args refl at.call.there (λ now. at.may))
     going_takes (IsAccompanied.Suspend result must_tail ty args at) =
         TakesStep.Saves s.top.at Intrinsic.CoroSuspend result must_tail ty args refl
         (at_call at.call.runs result must_tail ty Intrinsic.CoroSuspend args at.call.there at.call.block at.call.own)
-        (saves_at result must_tail ty Intrinsic.CoroSuspend args refl at.call.there at.may)
+        (saves_at result must_tail ty Intrinsic.CoroSuspend args refl at.call.there (by_token at.may))
+      where
+        by_token : (operand_at args 0 ≡ Operand.None → MaySave e s) → SavesNow Intrinsic.CoroSuspend args
+            → MaySave e s
+        by_token may (inl save) = absurd (cc)
+        by_token may (inr none) = may none
     going_takes (IsAccompanied.Exit label at) = exit_taken e places keeps s t r next label at
     going_takes (IsAccompanied.WayOn k label at) = way_on_taken e places keeps s t r next k label at
     going_takes (IsAccompanied.Meeting label to alike at) = meeting_taken e places keeps s t r next label to at

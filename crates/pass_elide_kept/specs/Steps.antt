@@ -14,6 +14,8 @@ use Rattle.pass_proofs.specs.ir_model.declared.operand.Allocator.{Allocator}
 use Rattle.pass_proofs.specs.ir_model.declared.operand.Arg.{Arg}
 use Rattle.pass_proofs.specs.ir_model.declared.operand.Callee.{Callee}
 use Rattle.pass_proofs.specs.ir_model.declared.operand.Intrinsic.{Intrinsic}
+use Rattle.pass_proofs.specs.ir_model.declared.operand.Operand.{Operand}
+use Rattle.pass_proofs.specs.ir_paths.Windows.{operand_at}
 use Rattle.pass_proofs.specs.run_laws.changed.Changed.{Each}
 use Rattle.pass_proofs.specs.run_source.State.{is_finished}
 use Rattle.pass_proofs.specs.run_source.declared.state.Instance.{Instance}
@@ -34,11 +36,19 @@ pub record EntersPast (e : Elision) (t : State) (label : ℕ) : Type 0 where
   pub frees : was_given (sides t t) t.top ≡ true
       → (e.shape t.top.func).frees (position_of (function_in e t.top.func) label) ≡ None
 
+-- the instance of the topmost activation isn't Finished
+abbrev pub GoesStill : State → Type 0
+GoesStill t = (y : Instance) → instance_in t.instances t.top.instance ≡ Some y → is_finished y.status ≡ false
+
+-- A coro.save saves, and so does a coro.suspend without a token. Behind a save the instance may be Finished.
+abbrev pub SavesNow : Intrinsic → List Arg → Type 0
+SavesNow j args = (j ≡ Intrinsic.CoroSave) ⊎ (operand_at args 0 ≡ Operand.None)
+
 -- the instance of an activation that saves isn't Finished
-pub record SavesAt (e : Elision) (t : State) : Type 0 where
+pub record SavesAt (e : Elision) (t : State) (j : Intrinsic) (args : List Arg) : Type 0 where
   pub inside : (function_in e t.top.func).coroutine ≡ true
   pub mode : IsNotEntering t.top
-  pub goes : (y : Instance) → instance_in t.instances t.top.instance ≡ Some y → is_finished y.status ≡ false
+  pub goes : SavesNow j args → GoesStill t
 
 pub data TakesStep (e : Elision) (s t : State) : Type 0 where
   Works : (at : ℕ) (i : Instr) (w : Work) → StandsAtDone e t at i w → TakesStep e s t
@@ -55,7 +65,7 @@ pub data TakesStep (e : Elision) (s t : State) : Type 0 where
   Gives : (at : ℕ) (j : Intrinsic) (result : Option ℕ) (must_tail : Bool) (ty : Option Ty) (args : List Arg)
       → gives_only j ≡ true → StandsAtCall e t at j result must_tail ty args → TakesStep e s t
   Saves : (at : ℕ) (j : Intrinsic) (result : Option ℕ) (must_tail : Bool) (ty : Option Ty) (args : List Arg)
-      → saves_by j ≡ true → StandsAtCall e t at j result must_tail ty args → SavesAt e t → TakesStep e s t
+      → saves_by j ≡ true → StandsAtCall e t at j result must_tail ty args → SavesAt e t j args → TakesStep e s t
   Begins : (at : ℕ) (result : Option ℕ) (must_tail : Bool) (ty : Option Ty) (args : List Arg)
       → StandsAtCall e t at Intrinsic.CoroBegin result must_tail ty args
       → (function_in e t.top.func).coroutine ≡ true → Each (IsKnownTo t.instances) (t.top ∷ t.below)
