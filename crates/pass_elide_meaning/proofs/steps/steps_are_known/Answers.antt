@@ -1,4 +1,4 @@
-use Rattle.pass_elide_meaning.proofs.Steps.{step_known}
+use Rattle.pass_elide_meaning.proofs.StepsKnown.{step_known}
 use Rattle.pass_elide_meaning.proofs.steps.steps_are_known.Goals as goal
 
 pub returns : goal.returns
