@@ -10,7 +10,7 @@ use Rattle.pass_elide_proof.proofs.Stacks.{KeepsHead, destroys_on}
 use Rattle.pass_elide_proof.specs.Callers.{MovesOn}
 use Rattle.pass_elide_proof.specs.Calling.{DestroysHandles}
 use Rattle.pass_elide_proof.specs.Elision.{Elision, function_in}
-use Rattle.pass_elide_proof.specs.Invariant.{IsDestroying, IsSiteOf, behind}
+use Rattle.pass_elide_proof.specs.Invariant.{IsDestroying, IsSiteOf}
 use Rattle.pass_proofs.specs.flow_points.Reached.{IsReached}
 use Rattle.pass_proofs.specs.ir_model.declared.instr.Instr.{Instr}
 use Rattle.pass_proofs.specs.ir_model.declared.module.Function.{Function}

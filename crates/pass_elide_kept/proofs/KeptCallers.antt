@@ -1,6 +1,6 @@
 -- Behind each step of the run that gives frames callers of instances are on the stack.
 use Rattle.std.proofs.Common.{◌≡◌, ◌+◌, ◌⊎◌, ◌∙◌, sym, refl, subst, inl, inr, ℕ, Bool, true, List, Option}
-use Rattle.std.specs.Prelude.{None, Some, slice_get}
+use Rattle.std.specs.Prelude.{None, Some}
 use Rattle.elide_sites.specs.Destroyed.{is_stop}
 use Rattle.pass_elide_kept.proofs.CallersSaved.{saves_keep_callers}
 use Rattle.pass_elide_kept.proofs.KeptOther.{never_saves}
@@ -34,7 +34,6 @@ use Rattle.pass_proofs.specs.ir_model.declared.operand.Arg.{Arg}
 use Rattle.pass_proofs.specs.ir_model.declared.operand.Callee.{Callee}
 use Rattle.pass_proofs.specs.ir_model.declared.operand.Intrinsic.{Intrinsic}
 use Rattle.pass_proofs.specs.run_framed.Framed.{framed_step}
-use Rattle.pass_proofs.specs.run_source.declared.state.Instance.{Instance}
 use Rattle.pass_proofs.specs.run_source.declared.state.State.{State}
 use Rattle.pass_proofs.specs.run_step.Values.{arg_values, nth}
 
@@ -98,7 +97,7 @@ module _ (e : Elision) (places : KeepsPlaces e) (keeps : KeepsHandlesAndEnds e) 
       begin_keeps e t at result must_tail ty args k inside theirs.own h
   callers_stay (TakesStep.EndsRamp at result must_tail ty args k ramp) =
       end_keeps e t at result must_tail ty args h slots ramp k
-  callers_stay (TakesStep.EndsResumed at result must_tail ty args k resumed inside) =
+  callers_stay (TakesStep.EndsResumed at result must_tail ty args k resumed inside ends) =
       resumed_ends_keep e t at result must_tail ty args k resumed inside slots h keeps.handles theirs.own known
   callers_stay (TakesStep.Enters label k past) = edges_keep e t label k h
   callers_stay (TakesStep.Calls r k) = calls_keep e s t r k h

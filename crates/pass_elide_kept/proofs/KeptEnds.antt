@@ -10,6 +10,7 @@ use Rattle.pass_elide_kept.specs.Steps.{StandsAtCall}
 use Rattle.pass_elide_proof.proofs.CallersBlocks.{KeepsStacks, changed_keeps, disowned_life, stacks_same}
 use Rattle.pass_elide_proof.proofs.CallersEdges.{status_was}
 use Rattle.pass_elide_proof.proofs.CallersInstr.{was_itself}
+use Rattle.pass_elide_proof.proofs.CallersOnward.{destroys_as}
 use Rattle.pass_elide_proof.proofs.Facts.{not_both, some_none}
 use Rattle.pass_elide_proof.proofs.LeftWindows.{own_again, own_there}
 use Rattle.pass_elide_proof.specs.Callers.{WasBefore}
@@ -24,7 +25,7 @@ use Rattle.pass_proofs.specs.ir_model.declared.operand.Arg.{Arg}
 use Rattle.pass_proofs.specs.ir_model.declared.operand.Callee.{Callee}
 use Rattle.pass_proofs.specs.ir_model.declared.operand.Intrinsic.{Intrinsic}
 use Rattle.pass_proofs.specs.run_agreement.Machines.{IsFine}
-use Rattle.pass_proofs.specs.run_framed.Framed.{disown_given, framed_finish, framed_step, is_stack_block}
+use Rattle.pass_proofs.specs.run_framed.Framed.{disown_given, framed_finish, framed_step, is_given, is_stack_block}
 use Rattle.pass_proofs.specs.run_memory.Memory.{disown, disowned}
 use Rattle.pass_proofs.specs.run_memory.declared.block.MemoryBlock.{MemoryBlock}
 use Rattle.pass_proofs.specs.run_memory.declared.pointer.Value.{Value}
@@ -44,7 +45,8 @@ module _ (e : Elision) (z t : State) (at : ℕ) (result : Option ℕ) (must_tail
     (none : HaveNoSlots t) (h : KeepersIn e z t) (ramps : AreGivenBy e t.instances (t.top ∷ t.below))
     (handles : KeepAllHandles e) (links : AreCalled e t)
     (freed : (b : Activation) (rest : List Activation) → t.below ≡ b ∷ rest → IsBehindADestroy e b → (number : ℕ)
-    → t.top.instance ≡ Some number → t.top.has_left ≡ false → WasFreed z number) where
+    (x : Instance) → slice_get t.instances number ≡ Some x → is_given t.world.memory x ≡ true
+    → IsDestroying e x number t.top → WasFreed z number) where
   no_keeper : (y : Instance) (number : ℕ) → HasKeeper e y number t.top None → ⊥
   no_keeper y number c = not_both (function_in e t.top.func).coroutine inside c.site.plain
 
@@ -58,7 +60,7 @@ module _ (e : Elision) (z t : State) (at : ℕ) (result : Option ℕ) (must_tail
   left is =
       pops_keep_keepers e z t h ramps handles links t.world t.instances (was_itself t.instances)
       (stacks_same t.world.memory) no_keeper
-      (λ b rest below behind number y there d. absurd (not_both t.top.has_left is d.stays)) None no_frame
+      (λ b rest below behind number y there given d. absurd (not_both t.top.has_left is d.stays)) None no_frame
 
   abbrev ended : Option (ℕ × Instance) → State
   ended o =
@@ -69,7 +71,7 @@ module _ (e : Elision) (z t : State) (at : ℕ) (result : Option ℕ) (must_tail
   ends_none is =
       pops_keep_keepers e z t h ramps handles links (record t.world { memory = t.world.memory }) t.instances
       (was_itself t.instances) (stacks_same t.world.memory) no_keeper
-      (λ b rest below behind number y there d.
+      (λ b rest below behind number y there given d.
       absurd (some_none (own_instance t) (number, y) (own_again t number y d.instance there) is)) None no_frame
 
   module _ (x : ℕ × Instance) (is : own_instance t ≡ Some x) where
@@ -104,9 +106,14 @@ module _ (e : Elision) (z t : State) (at : ℕ) (result : Option ℕ) (must_tail
         inner a b e = cc
 
     gone : (b : Activation) (rest : List Activation) → t.below ≡ b ∷ rest → IsBehindADestroy e b → (number : ℕ)
-        (y : Instance) → slice_get all number ≡ Some y → IsDestroying e y number t.top → IsOver z number y
-    gone b rest below behind number y at d =
-        (finished number y at d, freed b rest below behind number d.instance d.stays)
+        (y : Instance) (at : slice_get all number ≡ Some y)
+        → is_given t.world.memory (was number y at).before ≡ true → IsDestroying e y number t.top → IsOver z number y
+    gone b rest below behind number y at given d =
+        let old = was number y at in (
+          finished number y at d,
+          freed b rest below behind number old.before old.there given
+              (destroys_as e y old.before number (sym old.coroutine) (sym old.block) (sym old.start) t.top d),
+        )
 
     calm_memory : (change : List MemoryBlock → List MemoryBlock) → KeepsStacks t.world.memory (change t.world.memory)
         → KeepsStacks t.world.memory (change (without_slots t.world.memory x.1.slots))

@@ -66,6 +66,7 @@ pub record IsBehindADestroy (e : Elision) (b : Activation) : Type 0 where
   pub stands : StandsAt e b (behind point)
   pub there : slice_get (instrs_of (function_in e b.func) point.block) point.at ≡ Some instr
   pub destroys : is_call_of Intrinsic.CoroDestroy instr ≡ true
+  pub plain : (function_in e b.func).coroutine ≡ false
 
 module _ (e : Elision) (z t : State) (h : KeepersIn e z t) (ramps : AreGivenBy e t.instances (t.top ∷ t.below))
     (handles : KeepAllHandles e) (links : AreCalled e t) (world : World) (ys : List Instance)
@@ -73,7 +74,8 @@ module _ (e : Elision) (z t : State) (h : KeepersIn e z t) (ramps : AreGivenBy e
     (stacks : KeepsStacks t.world.memory world.memory)
     (not_keeper : (y : Instance) (number : ℕ) → HasKeeper e y number t.top None → ⊥)
     (over : (b : Activation) (rest : List Activation) → t.below ≡ b ∷ rest → IsBehindADestroy e b → (number : ℕ)
-    (y : Instance) → slice_get ys number ≡ Some y → IsDestroying e y number t.top → IsOver z number y)
+    (y : Instance) (there : slice_get ys number ≡ Some y)
+    → is_given t.world.memory (was number y there).before ≡ true → IsDestroying e y number t.top → IsOver z number y)
     (v : Option Value) (returns : (frame : Value) (number : ℕ) → t.top.mode ≡ Mode.GivenRamp frame
     → t.top.instance ≡ Some number → unwrap_or v Value.Poison ≡ frame) where
   abbrev now : State
@@ -148,7 +150,14 @@ module _ (e : Elision) (z t : State) (h : KeepersIn e z t) (ramps : AreGivenBy e
       with_keeper c other =
           by (keeper_back e t handles links v returns b rest below x number old.there (IsOver z number y) c other
           (λ p j stands at of d.
-          over b rest below (record { point = p; instr = j; stands = stands; there = at; destroys = of }) number y there
+          over b rest below (record {
+            point = p;
+            instr = j;
+            stands = stands;
+            there = at;
+            destroys = of;
+            plain = c.site.plain;
+          }) number y there (given_before number y there given)
           (destroys_as e x y number old.coroutine old.block old.start t.top d)))
         where
           by : IsOver z number y ⊎ HasKeeper e x number back None → Ends
@@ -292,5 +301,5 @@ module _ (e : Elision) (z t : State) (k : StandsAtRet e t) (h : KeepersIn e z t)
       subst (KeepersIn e z) (sym is)
       (or_kept e z t (return t (value_of e t k k.value)) (subst (λ (u : State). IsFine u.outcome) is fine)
       (pops_keep_keepers e z t h ramps handles links t.world t.instances (was_itself t.instances)
-      (stacks_same t.world.memory) not_held (λ b rest below behind number y at d. absurd (never_destroys y number d))
+      (stacks_same t.world.memory) not_held (λ b rest below behind number y at given d. absurd (never_destroys y number d))
       (value_of e t k k.value) gives_frame))

@@ -164,7 +164,7 @@ module _ (e : Elision) (places : KeepsPlaces e) (keeps : KeepsHandlesAndEnds e) 
       (room_too t.top.block at _ k.there) h
   stays_known (TakesStep.EndsRamp at result must_tail ty args k ramp) =
       ramp_ends_known e t h at result must_tail ty args (other t.top.func t.top.block at _ k.there refl) ramp k
-  stays_known (TakesStep.EndsResumed at result must_tail ty args k resumed inside) =
+  stays_known (TakesStep.EndsResumed at result must_tail ty args k resumed inside ends) =
       resumed_ends_known e t h apart at result must_tail ty args k resumed
   stays_known (TakesStep.Enters label k past) = edges_known e t label k h (keeps.begins t.top.func).phis
   stays_known (TakesStep.Calls r k) =

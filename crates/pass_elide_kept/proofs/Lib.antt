@@ -32,3 +32,7 @@ mod CallerSteps
 mod KeptPopped
 mod KeptEnds
 mod KeptBegins
+mod PlainPlaces
+mod KeptCalled
+mod KeptSteps
+mod RelatedSteps

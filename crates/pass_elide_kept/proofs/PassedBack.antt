@@ -298,7 +298,7 @@ module _ (e : Elision) (places : KeepsPlaces e) (keeps : KeepsHandlesAndEnds e) 
       (nth (arg_values (elided e).given.code t.top.values args) 1) t.top.mode)
   stays_passed (TakesStep.EndsRamp at result must_tail ty args k ramp) =
       moved_pass e t _ _ (ramp_ends_move e t at result must_tail ty args fine slots ramp k) h
-  stays_passed (TakesStep.EndsResumed at result must_tail ty args k resumed inside) =
+  stays_passed (TakesStep.EndsResumed at result must_tail ty args k resumed inside _) =
       resumed_ends_pass e t h slots at result must_tail ty args k resumed fine
   stays_passed (TakesStep.Enters label k past) = edges_pass e t label k past h fine
   stays_passed (TakesStep.Calls r k) = calls_pass e s t r k h

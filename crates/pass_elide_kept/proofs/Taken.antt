@@ -11,7 +11,7 @@ use Rattle.pass_elide_kept.specs.Steps.{SavesAt, SavesNow, StandsAtCall, TakesSt
 use Rattle.pass_elide_proof.proofs.Addresses.{twin_back}
 use Rattle.pass_elide_proof.proofs.CallersInstr.{fetched_at}
 use Rattle.pass_elide_proof.proofs.CallersPlaces.{stands_at_instr, stands_at_ret}
-use Rattle.pass_elide_proof.proofs.Facts.{some_none}
+use Rattle.pass_elide_proof.proofs.Facts.{not_both, some_none}
 use Rattle.pass_elide_proof.proofs.Followed.{follows}
 use Rattle.pass_elide_proof.proofs.Modules.{finds_alike}
 use Rattle.pass_elide_proof.proofs.OwnPlaces.{instr_there}
@@ -270,6 +270,7 @@ module _ (e : Elision) (places : KeepsPlaces e) (keeps : KeepsHandlesAndEnds e) 
         TakesStep.EndsResumed s.top.at k.result k.must_tail k.ty k.args (left_end k)
         (resumed_too s.top.mode t.top.mode r.beside.top.mode back.resumed)
         (ap (λ (n : ℕ). (function_in e n).coroutine) r.beside.top.func ∙ back.coroutine)
+        (λ stays. absurd (not_both s.top.has_left k.left (sym r.beside.top.has_left ∙ stays)))
     ready_takes (IsReadyFor.LastReturn at none) = ret at
 
   -- ---- where both go on, and nothing is put in front
@@ -441,4 +442,4 @@ module _ (e : Elision) (places : KeepsPlaces e) (keeps : KeepsHandlesAndEnds e) 
         (at_call at.ends.runs result must_tail ty Intrinsic.CoroEnd args at.ends.there at.ends.beside
         (in_front at.ends.none at.ends.stands))
         (resumed_too s.top.mode t.top.mode r.top.mode at.resumed)
-        (inside r.top.func Intrinsic.CoroEnd result must_tail ty args refl at.ends.there)
+        (inside r.top.func Intrinsic.CoroEnd result must_tail ty args refl at.ends.there) (λ stays. at.ends.there)

@@ -1,7 +1,9 @@
 -- What is asked of states of both runs, so that what is related stays related.
-use Rattle.std.specs.Prelude.{◌≡◌, ℕ, slice_get, Some, None, Option}
+use Rattle.std.specs.Prelude.{◌≡◌, ◌∷◌, ℕ, Bool, true, false, List, slice_get, Some, None, Option}
 use Rattle.pass_elide_proof.specs.Callers.{WakesByEdge}
+use Rattle.pass_elide_proof.specs.Destroying.{IsBehindDestroy}
 use Rattle.pass_elide_proof.specs.Elision.{Elision, framed, function_in}
+use Rattle.pass_elide_proof.specs.Placing.{HasShape}
 use Rattle.pass_elide_proof.specs.PlacingStates.{HaveShapes, IsKnownState}
 use Rattle.pass_elide_proof.specs.Returning.{HaveOwnSlots}
 use Rattle.pass_proofs.specs.ir_model.Names.{position_of}
@@ -9,9 +11,12 @@ use Rattle.pass_proofs.specs.ir_model.Ty.{Ty}
 use Rattle.pass_proofs.specs.ir_model.declared.instr.Instr.{Instr}
 use Rattle.pass_proofs.specs.ir_model.declared.instr.Terminator.{Terminator}
 use Rattle.pass_proofs.specs.ir_model.declared.operand.Arg.{Arg}
+use Rattle.pass_proofs.specs.ir_model.declared.operand.Callee.{Callee}
+use Rattle.pass_proofs.specs.ir_model.declared.operand.Intrinsic.{Intrinsic}
 use Rattle.pass_proofs.specs.ir_paths.Windows.{destroy_label, resume_label}
 use Rattle.pass_proofs.specs.ir_paths.declared.point.Point.{Point}
 use Rattle.pass_proofs.specs.run_source.State.{function_of}
+use Rattle.pass_proofs.specs.run_source.declared.state.Activation.{Activation}
 use Rattle.pass_proofs.specs.run_source.declared.state.Instance.{Instance}
 use Rattle.pass_proofs.specs.run_source.declared.state.Mode.{Mode}
 use Rattle.pass_proofs.specs.run_source.declared.state.State.{State}
@@ -28,11 +33,29 @@ pub record IsAtAnAlloca (e : Elision) (s : State) : Type 0 where
   pub align : ℕ
   pub there : fetch (function_of (framed e).given s) s.top.block s.top.at ≡ AtInstr (Instr.Alloca name ty align)
 
+-- a resumed activation that a coro.destroy has called is at coro.end, and hasn't left
+pub record EndsDestroyed (e : Elision) (s : State) : Type 0 where
+  pub caller : Activation
+  pub callers : List Activation
+  pub below : s.below ≡ caller ∷ callers
+  pub behind : IsBehindDestroy (function_in e caller.func) caller
+  pub resumed : s.top.mode ≡ Mode.Resumed
+  pub stays : s.top.has_left ≡ false
+  pub result : Option ℕ
+  pub must_tail : Bool
+  pub ty : Option Ty
+  pub args : List Arg
+  pub there : fetch (function_of (framed e).given s) s.top.block s.top.at
+      ≡ AtInstr (Instr.Call result must_tail ty (Callee.Intrinsic Intrinsic.CoroEnd) args)
+
 pub record IsKeptFramed (e : Elision) (s : State) : Type 0 where
   -- instances are of coroutines, and activations in no mode that isn't theirs
   pub known : IsKnownState e.code s
   -- an activation that executes its allocas again stands at one
   pub allocas : (from label : ℕ) → s.top.mode ≡ Mode.Entering from label → IsAtAnAlloca e s
+  -- the instance that a coro.destroy goes on with was freed when its activation comes to coro.end
+  pub destroyed : HasShape e s.top.func → EndsDestroyed e s → (number : ℕ) (x : Instance)
+      → s.top.instance ≡ Some number → slice_get s.instances number ≡ Some x → x.freed ≡ true
   -- a resumed activation comes to no ret, since it returns at coro.end
   pub rets : (value : Option Arg) → s.top.mode ≡ Mode.Resumed
       → fetch (function_of (framed e).given s) s.top.block s.top.at ≡ AtTerm (Terminator.Ret value) → ⊥

@@ -4,7 +4,7 @@ use Rattle.pass_elide_proof.specs.Beginning.{IsKnownTo}
 use Rattle.pass_elide_proof.specs.Callers.{IsNotEntering, MarksNoFrame, StandsAtDone, StandsAtEnd, StandsAtInstr, gives_only, saves_by}
 use Rattle.pass_elide_proof.specs.CallersStack.{StandsAtRet}
 use Rattle.pass_elide_proof.specs.Calling.{AreReady, IsAtCall, IsAtSite}
-use Rattle.pass_elide_proof.specs.Elision.{Elision, elided_code, function_in}
+use Rattle.pass_elide_proof.specs.Elision.{Elision, elided_code, framed, function_in}
 use Rattle.pass_elide_proof.specs.Match.{instance_in, is_given_mode, sides, was_given}
 use Rattle.pass_elide_proof.specs.Waking.{GivesNone}
 use Rattle.pass_proofs.specs.ir_model.Names.{position_of}
@@ -17,11 +17,11 @@ use Rattle.pass_proofs.specs.ir_model.declared.operand.Intrinsic.{Intrinsic}
 use Rattle.pass_proofs.specs.ir_model.declared.operand.Operand.{Operand}
 use Rattle.pass_proofs.specs.ir_paths.Windows.{operand_at}
 use Rattle.pass_proofs.specs.run_laws.changed.Changed.{Each}
-use Rattle.pass_proofs.specs.run_source.State.{is_finished}
+use Rattle.pass_proofs.specs.run_source.State.{function_of, is_finished}
 use Rattle.pass_proofs.specs.run_source.declared.state.Instance.{Instance}
 use Rattle.pass_proofs.specs.run_source.declared.state.Mode.{Mode}
 use Rattle.pass_proofs.specs.run_source.declared.state.State.{State}
-use Rattle.pass_proofs.specs.run_step.Step.{Work}
+use Rattle.pass_proofs.specs.run_step.Step.{AtInstr, Work, fetch}
 use Rattle.pass_proofs.specs.run_step.Values.{arg_values, nth}
 
 -- a call of an intrinsic stands at the place
@@ -50,6 +50,13 @@ pub record SavesAt (e : Elision) (t : State) (j : Intrinsic) (args : List Arg) :
   pub mode : IsNotEntering t.top
   pub goes : SavesNow j args → GoesStill t
 
+-- the framed run is at its coro.end where the activation hasn't left
+abbrev pub EndsToo : Elision → (s t : State) → Option ℕ → Bool → Option Ty → List Arg → Type 0
+EndsToo e s t result must_tail ty args =
+    t.top.has_left ≡ false
+    → fetch (function_of (framed e).given s) s.top.block s.top.at
+    ≡ AtInstr (Instr.Call result must_tail ty (Callee.Intrinsic Intrinsic.CoroEnd) args)
+
 pub data TakesStep (e : Elision) (s t : State) : Type 0 where
   Works : (at : ℕ) (i : Instr) (w : Work) → StandsAtDone e t at i w → TakesStep e s t
   Allocates : (at : ℕ) (a : Allocator) (result : Option ℕ) (must_tail : Bool) (ty : Option Ty) (args : List Arg)
@@ -75,7 +82,7 @@ pub data TakesStep (e : Elision) (s t : State) : Type 0 where
       → TakesStep e s t
   EndsResumed : (at : ℕ) (result : Option ℕ) (must_tail : Bool) (ty : Option Ty) (args : List Arg)
       → StandsAtCall e t at Intrinsic.CoroEnd result must_tail ty args → t.top.mode ≡ Mode.Resumed
-      → (function_in e t.top.func).coroutine ≡ true → TakesStep e s t
+      → (function_in e t.top.func).coroutine ≡ true → EndsToo e s t result must_tail ty args → TakesStep e s t
   Enters : (label : ℕ) → StandsAtEnd e t label → EntersPast e t label → TakesStep e s t
   Calls : AreReady e s t → IsAtCall e s t → TakesStep e s t
   Sites : AreReady e s t → IsAtSite e s t → TakesStep e s t

@@ -1,7 +1,8 @@
 //! What is kept behind each step of a known kind: activations pass by what allocates and frees given frames, have what
 //! their calls gave, and callers of instances stay on the stack.
 
-ghost use Rattle.std.specs.Prelude.{ℕ};
+ghost use Rattle.std.specs.Prelude.{◌≡◌, ℕ};
+ghost use Rattle.pass_elide_kept.specs.Kept.{AreKept};
 ghost use Rattle.pass_elide_kept.specs.Modules.{KeepsHandlesAndEnds};
 ghost use Rattle.pass_elide_kept.specs.Runs.{IsKeptFramed, IsKeptGiving};
 ghost use Rattle.pass_elide_proof.specs.CallersStack.{AreCalled};
@@ -11,6 +12,7 @@ ghost use Rattle.pass_elide_proof.specs.Match.{AreElided};
 ghost use Rattle.pass_elide_proof.specs.Placing.{KeepsPlaces};
 ghost use Rattle.pass_elide_proof.specs.PlacingStates.{HavePassedBy};
 ghost use Rattle.pass_elide_proof.specs.Stepping.{IsKnownStep, steps_of};
+ghost use Rattle.pass_proofs.specs.ir_base.declared.outcome.Outcome.{Outcome};
 ghost use Rattle.pass_proofs.specs.run_agreement.Machines.{IsFine, iterate};
 ghost use Rattle.pass_proofs.specs.run_framed.Framed.{framed_step};
 ghost use Rattle.pass_proofs.specs.run_source.declared.state.State.{State};
@@ -43,4 +45,17 @@ pub fn known_steps_keep_callers()
         → IsFine (framed_step (framed e) s).outcome → AreCalled e t → HaveCallers e t → (k : IsKnownStep e s t r)
         → AreElided e (framed_step (framed e) s) (iterate (framed_step (elided e)) (steps_of e s t r k) t)
         → HaveCallers e (iterate (framed_step (elided e)) (steps_of e s t r k) t) }
+{}
+
+/// So what is related stays related. The handle of each instance whose frame was given is kept by its caller until a
+/// destroy has freed it in the framed run.
+pub fn related_states_stay_related()
+    ensures { (e : Elision) → KeepsPlaces e → KeepsHandlesAndEnds e → (s t : State) → IsKeptFramed e s
+        → ((n : ℕ) → IsKeptGiving e (iterate (framed_step (elided e)) n t)) → (h : AreKept e s t)
+        → s.outcome ≡ Outcome.Running → IsFine (framed_step (framed e) s).outcome
+        → (k : IsKnownStep e s t h.related.beside)
+        → AreElided e (framed_step (framed e) s)
+        (iterate (framed_step (elided e)) (steps_of e s t h.related.beside k) t)
+        → AreKept e (framed_step (framed e) s)
+        (iterate (framed_step (elided e)) (steps_of e s t h.related.beside k) t) }
 {}
