@@ -36,3 +36,4 @@ mod PlainPlaces
 mod KeptCalled
 mod KeptSteps
 mod RelatedSteps
+mod FreedEnds

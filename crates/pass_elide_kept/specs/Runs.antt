@@ -13,7 +13,7 @@ use Rattle.pass_proofs.specs.ir_model.declared.instr.Terminator.{Terminator}
 use Rattle.pass_proofs.specs.ir_model.declared.operand.Arg.{Arg}
 use Rattle.pass_proofs.specs.ir_model.declared.operand.Callee.{Callee}
 use Rattle.pass_proofs.specs.ir_model.declared.operand.Intrinsic.{Intrinsic}
-use Rattle.pass_proofs.specs.ir_paths.Windows.{destroy_label, resume_label}
+use Rattle.pass_proofs.specs.ir_paths.Windows.{destroy_label, end_block, resume_label}
 use Rattle.pass_proofs.specs.ir_paths.declared.point.Point.{Point}
 use Rattle.pass_proofs.specs.run_source.State.{function_of}
 use Rattle.pass_proofs.specs.run_source.declared.state.Activation.{Activation}
@@ -47,6 +47,14 @@ pub record EndsDestroyed (e : Elision) (s : State) : Type 0 where
   pub args : List Arg
   pub there : fetch (function_of (framed e).given s) s.top.block s.top.at
       ≡ AtInstr (Instr.Call result must_tail ty (Callee.Intrinsic Intrinsic.CoroEnd) args)
+
+-- each coro.end of a function stands in its end block
+abbrev pub EndsInBlock : Elision → ℕ → Type 0
+EndsInBlock e func =
+    (block at : ℕ) (result : Option ℕ) (must_tail : Bool) (ty : Option Ty) (args : List Arg)
+    → fetch (function_in e func) block at
+    ≡ AtInstr (Instr.Call result must_tail ty (Callee.Intrinsic Intrinsic.CoroEnd) args)
+    → block ≡ end_block (function_in e func)
 
 pub record IsKeptFramed (e : Elision) (s : State) : Type 0 where
   -- instances are of coroutines, and activations in no mode that isn't theirs
