@@ -65,8 +65,8 @@ pub fn related_states_stay_related()
         (iterate (framed_step (elided e)) (steps_of e s t h.related.beside k) t) }
 {}
 
-/// In sound states the instance that a coro.destroy goes on with was freed at coro.end. So a field of what is kept of the
-/// framed run holds where functions of shapes free at once, and when they are destroyed.
+/// In sound states the instance that a coro.destroy goes on with was freed at coro.end. So `IsKeptFramed.destroyed`
+/// holds where functions of shapes free at once, and when they are destroyed.
 pub fn destroyed_ends_have_freed()
     ensures { (e : Elision) (s : State) → IsSoundState (framed e) s → HaveReleased e s → DestroysAreToFree e.code s
         → EndsInBlock e s.top.func
