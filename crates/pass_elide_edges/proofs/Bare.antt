@@ -61,7 +61,7 @@ disowned s (Some (i, x)) = on (is_stack_block s.world.memory x.block && (x.start
     on true = refl
     on false = refl
 
-over : (s : State) → (ended s).below ≡ s.below
+pub over : (s : State) → (ended s).below ≡ s.below
 over s = on s.top.has_left
   where
     on : (t : Bool) → (if t then s else framed_finish s).below ≡ s.below
@@ -298,7 +298,7 @@ fetch_end f block b is =
     (λ j. fetch_in (is j) (length (instrs_in (is j))))
     ∙ (λ j. fetch_or (past_end b.instrs j) (itself (length b.instrs) j) b.term)
 
-module _ (e : Elision) (enters : EntersNoStart e.code) (func block label : ℕ)
+module _ (e : Elision) (func block label : ℕ)
     (edge : HasEdge (function_at (elided_code e) func) block label) where
   abbrev f : Function
   f = function_in e func
@@ -310,7 +310,7 @@ module _ (e : Elision) (enters : EntersNoStart e.code) (func block label : ℕ)
       (length f.names) f.blocks)
   same_blocks = ap (λ (y : Function). y.blocks) ((finds_alike e).functions func)
 
-  framed_edge : HasEdge f block label
+  pub framed_edge : HasEdge f block label
   framed_edge =
       let end = term_end h block (length (instrs_of h block)) edge.term edge.stands in
       let first = front_ends (allocas_ahead (rooms e func) f)
@@ -324,5 +324,5 @@ module _ (e : Elision) (enters : EntersNoStart e.code) (func block label : ℕ)
         leads = edge.leads;
       }
 
-  pub elided_enters : position_of (function_at (elided_code e) func) label ≢ 0
-  elided_enters is = enters func block label framed_edge (sym ((code_of e func).labels label) ∙ is)
+  pub elided_enters : EntersNoStart e.code → position_of (function_at (elided_code e) func) label ≢ 0
+  elided_enters enters is = enters func block label framed_edge (sym ((code_of e func).labels label) ∙ is)

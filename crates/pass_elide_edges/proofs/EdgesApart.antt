@@ -28,7 +28,7 @@ use Rattle.pass_proofs.specs.run_source.declared.state.State.{State}
 use Rattle.pass_proofs.specs.run_step.Step.{AtTerm, GoTo, branch, fetch, term_action}
 use Rattle.pass_proofs.specs.run_step.Values.{truth_value, value_in}
 
-same_jump : (a b : ℕ) → Terminator.Jump a ≡ Terminator.Jump b → a ≡ b
+pub same_jump : (a b : ℕ) → Terminator.Jump a ≡ Terminator.Jump b → a ≡ b
 same_jump a b e = cc
 
 module _ (f : Function) (x : Shape) where
@@ -44,7 +44,7 @@ module _ (f : Function) (x : Shape) where
       same_term term last (sym first ∙ ((λ j. fetch f (same j) (length (instrs_of f (same j)))) ∙ second))
 
   -- a block doesn't end in a jump and a branch
-  no_branch : (block other to one two : ℕ) (y : Operand) → JumpsTo f block to
+  pub no_branch : (block other to one two : ℕ) (y : Operand) → JumpsTo f block to
       → Ends other (Terminator.Branch y one two) → block ≡ other → ⊥
   no_branch block other to one two y jumps branches same =
       let never = same_end block other (Terminator.Jump jumps.label) (Terminator.Branch y one two) same jumps.stands

@@ -3,6 +3,8 @@
 use Rattle.std.proofs.Common.{◌≡◌, ◌⊎◌, ◌<◌, ◌≤◌, ◌+◌, ◌++◌, inl, inr, ℕ, zero, suc, true, false, List, [], ◌∷◌, length, length-append, refl, sym, ap, ◌∙◌, subst, arith}
 use Rattle.std.specs.Prelude.{codes}
 use Rattle.pass_elide.specs.Elided.{elided_function, function_frames}
+use Rattle.pass_elide_edges.proofs.StepMoves.{IsThere}
+use Rattle.pass_elide_edges.specs.States.{WereGiven}
 use Rattle.pass_elide_proof.proofs.GivingMarkers.{markers_same}
 use Rattle.pass_elide_proof.proofs.Making.{HasMade, all_made, made_at, on_the_way}
 use Rattle.pass_elide_proof.proofs.Modules.{finds_alike}
@@ -112,6 +114,27 @@ module _ (e : Elision) (s t : State) (r : AreElided e s t) (at : IsAtFront e s t
   pub fronts_counted : CountsSlots t → CountsSlots (iterate (framed_step (elided e))
       (length (allocas_ahead (rooms e s.top.func) (function_in e s.top.func)) + 1) t)
   fronts_counted h = counts_on (elided e) (length is + 1) t (λ i lt. none_on i (omega (arith, lt))) h
+
+  -- ---- where it stands
+
+  pub fronts_below : (fronted e s t).below ≡ t.below
+  fronts_below = ap (λ (w : State). w.below) made.comes
+
+  pub fronts_count : length (fronted e s t).instances ≡ length t.instances
+  fronts_count = ap (λ (w : State). length w.instances) made.comes
+
+  pub fronts_top : IsThere t.top (fronted e s t).top
+  fronts_top =
+      subst (λ (w : State). IsThere t.top w.top) (sym made.comes)
+      (record { func = refl; block = refl; mode = refl; instance = refl })
+
+  pub fronts_given : WereGiven t (fronted e s t)
+  fronts_given =
+      subst (WereGiven t) (sym made.comes)
+      (record {
+        each = λ number y there given.
+            inl (record { instance = y; there = there; given = sym (given_more e s t r made.more number y there) ∙ given });
+      })
 
   -- ---- callers
 

@@ -14,3 +14,6 @@ pub mod Begins
 pub mod Runs
 pub mod Worked
 pub mod Freeing
+pub mod GivenStays
+pub mod StepMoves
+pub mod AllApart

@@ -1,9 +1,9 @@
 -- What is known of both states where the framed run stands at the end of a block.
-use Rattle.std.specs.Prelude.{◌≡◌, ◌≢◌, ℕ, Bool, true, false, []}
+use Rattle.std.specs.Prelude.{◌≡◌, ◌≢◌, ◌⊎◌, ℕ, Bool, true, false, List, [], ◌∷◌, length, slice_get, Some}
 use Rattle.pass_elide_edges.specs.Keeping.{HasEdge}
 use Rattle.pass_elide_proof.specs.EdgesFreeing.{FreesAside, FreesFrame}
 use Rattle.pass_elide_proof.specs.Elision.{Elision, Shape, elided_code, framed, function_in}
-use Rattle.pass_elide_proof.specs.Match.{Sides, is_given_mode, was_given}
+use Rattle.pass_elide_proof.specs.Match.{Sides, is_given_mode, sides, was_given}
 use Rattle.pass_elide_proof.specs.OwnSlots.{CountsSlots}
 use Rattle.pass_elide_proof.specs.PlacingStates.{IsKnownState}
 use Rattle.pass_elide_proof.specs.Shapes.{AsksForFrame}
@@ -11,7 +11,9 @@ use Rattle.pass_elide_proof.specs.Sound.{IsSoundState}
 use Rattle.pass_proofs.specs.ir_model.Names.{function_at, position_of}
 use Rattle.pass_proofs.specs.ir_model.declared.module.Function.{Function}
 use Rattle.pass_proofs.specs.ir_model.declared.module.Module.{Module}
+use Rattle.pass_proofs.specs.run_framed.Framed.{is_given}
 use Rattle.pass_proofs.specs.run_source.declared.state.Activation.{Activation}
+use Rattle.pass_proofs.specs.run_source.declared.state.Instance.{Instance}
 use Rattle.pass_proofs.specs.run_source.declared.state.State.{State}
 use Rattle.run_slots.specs.Slots.{IsSlottedState}
 
@@ -59,3 +61,27 @@ pub record ApartIn (f : Function) (x : Shape) (ramp given : Bool) (block other :
 abbrev pub StandApart : Elision → Sides → Activation → Activation → Type 0
 StandApart e d a c =
     ApartIn (function_in e a.func) (e.shape a.func) (is_given_mode c.mode) (was_given d c) a.block c.block
+
+-- and two stacks of them, as far as both go
+abbrev pub StandAllApart : Elision → Sides → List Activation → List Activation → Type 0
+StandAllApart e d [] cs = Unit {0}
+StandAllApart e d (a ∷ more) [] = Unit {0}
+StandAllApart e d (a ∷ more) (c ∷ cs) = StandApart e d a c × StandAllApart e d more cs
+
+-- all pairs of activations of two states do
+abbrev pub AllStandApart : Elision → State → State → Type 0
+AllStandApart e s t = StandAllApart e (sides s t) (s.top ∷ s.below) (t.top ∷ t.below)
+
+-- ---- given frames
+
+-- an instance of a state whose frame was given
+pub record WasGivenAt (t : State) (number : ℕ) : Type 0 where
+  pub instance : Instance
+  pub there : slice_get t.instances number ≡ Some instance
+  pub given : is_given t.world.memory instance ≡ true
+
+-- What was given its frame in the later state was so before, or it is the newest one and the topmost activation was a
+-- ramp that was given its frame.
+pub record WereGiven (t u : State) : Type 0 where
+  pub each : (number : ℕ) (y : Instance) → slice_get u.instances number ≡ Some y → is_given u.world.memory y ≡ true
+      → WasGivenAt t number ⊎ ((number ≡ length t.instances) × (is_given_mode t.top.mode ≡ true))

@@ -8,4 +8,4 @@ pub returns-clause-runs : goal.returns-clause-runs
 returns-clause-runs c = λ g entry args n enters begins fine. runs_bare g enters begins entry args n fine
 
 pub returns-clause-elided : goal.returns-clause-elided
-returns-clause-elided c = elided_enters
+returns-clause-elided c = λ e enters func block label edge. elided_enters e func block label edge enters
