@@ -84,7 +84,8 @@ module _ (t u : State) (w : WereGiven t u) where
 
   -- the instance of the topmost activation has just begun
   pub begun_then : (b : Bool) → is_given_mode t.top.mode ≡ b → (o : Option ℕ)
-      → (if b then true else option_map_or (is_given u.world.memory) (slice_get u.instances (length t.instances)) false)
+      → (if b then true else option_map_or (is_given u.world.memory)
+      (slice_get u.instances (length t.instances)) false)
       ≡ true
       → (if b then true else option_map_or (is_given t.world.memory) (instance_in t.instances o) false) ≡ true
   begun_then true mode o h = refl
@@ -315,7 +316,8 @@ module _ (e : Elision) (ends : KeepsEnds e) (alone : (func : ℕ) → EntersAlon
   known : Each (IsKnownTo t.instances) (t.top ∷ t.below)
   known = (
     λ i is.
-        let lt = first.sound.acts.0.known i (sym r.beside.top.instance ∙ is) in let many = r.beside.count in omega (arith, lt, many),
+        let lt = first.sound.acts.0.known i (sym r.beside.top.instance ∙ is) in
+        let many = r.beside.count in omega (arith, lt, many),
     known_below e r.beside.homes r.beside.hides (sides s t) s t s.below t.below r.beside.count r.beside.below
         first.sound.acts.1,
   )
@@ -427,7 +429,8 @@ module _ (e : Elision) (ends : KeepsEnds e) (alone : (func : ℕ) → EntersAlon
           pair t.top.block (inl refl) (k.block ∙ m.top.block) (k.mode ∙ m.top.mode) (was_before k.mode k.instance)
           (ours_gone same) not_again
       gone (HasGone.Begins k) =
-          pair t.top.block (inl refl) (k.block ∙ m.top.block) (k.mode ∙ m.top.mode) (begun k) (ours_gone same) not_again
+          pair t.top.block (inl refl) (k.block ∙ m.top.block) (k.mode ∙ m.top.mode) (begun k)
+          (ours_gone same) not_again
       gone (HasGone.Edge k) =
           pair u.top.block (inr (edge_there k)) refl (k.mode ∙ m.top.mode) (was_before k.mode k.instance)
           (ours_gone same) not_again
@@ -480,11 +483,13 @@ module _ (e : Elision) (ends : KeepsEnds e) (alone : (func : ℕ) → EntersAlon
           absurd (none_some u.top.instance number (next.top.instance ∙ new) instance)
       both k block (HasMoved.Goes below gone) =
           let level : length u.below ≡ length m.from.below = ap length below in
-          let low = from_many in let up = high in let equal = many_then in absurd (omega (arith, up, low, level, equal))
+          let low = from_many in let up = high in let equal = many_then in
+          absurd (omega (arith, up, low, level, equal))
       both k block (HasMoved.Back q) =
           let was : length m.from.below ≡ 1 + length q.rest = higher _ _ _ q.was in
           let down : length u.below ≡ length q.rest = ap length q.below in
-          let low = from_many in let up = high in let equal = many_then in absurd (omega (arith, up, low, was, down, equal))
+          let low = from_many in let up = high in let equal = many_then in
+          absurd (omega (arith, up, low, was, down, equal))
 
       ours_on : HasMoved (framed e) s z → AllStandApart e z u
       ours_on (HasMoved.Calls k block instance) = both k block m.moved

@@ -133,7 +133,11 @@ module _ (e : Elision) (s t : State) (r : AreElided e s t) (at : IsAtFront e s t
       subst (WereGiven t) (sym made.comes)
       (record {
         each = λ number y there given.
-            inl (record { instance = y; there = there; given = sym (given_more e s t r made.more number y there) ∙ given });
+            inl (record {
+              instance = y;
+              there = there;
+              given = sym (given_more e s t r made.more number y there) ∙ given;
+            });
       })
 
   -- ---- callers

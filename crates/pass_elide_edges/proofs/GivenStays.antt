@@ -86,7 +86,8 @@ module _ (g : FramedGiven) (m : ℕ) (Old : ℕ → Type 0) (G : Type 0) where
     λ given. old.1 ((λ k. is_stack_block s.world.memory (sym block k) || not (sym start k == 0)) ∙ given),
   )
 
-  instance_fine : (s : State) (i : ℕ) (x new : Instance) → KnownIn i s.world.memory x → slice_get s.instances i ≡ Some x
+  instance_fine : (s : State) (i : ℕ) (x new : Instance) → KnownIn i s.world.memory x
+      → slice_get s.instances i ≡ Some x
       → new.block ≡ x.block → new.start ≡ x.start
       → ((j : ℕ) (y : Instance) → slice_get s.instances j ≡ Some y → KnownIn j s.world.memory y)
       → Fine (with_instance s i new)
@@ -190,32 +191,39 @@ module _ (g : FramedGiven) (m : ℕ) (Old : ℕ → Type 0) (G : Type 0) where
           → Fine (begun g.given (with_memory s (owned_in s b)) b 0)
       by_kind z at same =
           begun_fine (with_memory s (owned_in s b)) b 0 size
-          (let many = changed_many s.world.memory b (owned_to (own_frame g.given s).size) in let lt = get_within s.world.memory b z at in omega (arith, many, lt))
+          (let many = changed_many s.world.memory b (owned_to (own_frame g.given s).size) in
+          let lt = get_within s.world.memory b z at in omega (arith, many, lt))
           (λ stack. given (kinds_back z.kind kind same (is_stack (or_false (is_stack_block (owned_in s b) b) stack))))
-          (memory_fine s (owned_in s b) (kinds_block s.world.memory b (owned_to (own_frame g.given s).size) (λ x. refl)) h)
+          (memory_fine s (owned_in s b)
+          (kinds_block s.world.memory b (owned_to (own_frame g.given s).size) (λ x. refl)) h)
         where
           is_stack : is_stack_block (owned_in s b) b ≡ true → same_kind z.kind Kind.Stack ≡ true
           is_stack stack =
               sym (ap (λ (q : Option MemoryBlock). option_map_or (λ (y : MemoryBlock). same_kind y.kind Kind.Stack) q
               false) (changed_here s.world.memory b (owned_to (own_frame g.given s).size) z at)) ∙ stack
 
-      by_block : (z : Option MemoryBlock) → slice_get s.world.memory b ≡ z → (c : Bool) → may_be_owned kind (own_frame g.given s).size z ≡ c
+      by_block : (z : Option MemoryBlock) → slice_get s.world.memory b ≡ z → (c : Bool)
+          → may_be_owned kind (own_frame g.given s).size z ≡ c
           → Keeps (and_then (check c Cause.Begin (Ok (owned_in s b)))
           (λ (memory : List MemoryBlock). Ok (begun g.given (with_memory s memory) b 0)))
       by_block z ez false ec = tt
       by_block None ez true ec = absurd (cc)
       by_block (Some z) ez true ec = by_kind z ez (free_block kind (own_frame g.given s).size z ec).made
 
-      by_bits : (t : Bool) → Keeps (and_then (check (t && may_be_owned kind (own_frame g.given s).size (slice_get s.world.memory b)) Cause.Begin (Ok (owned_in s b)))
+      by_bits : (t : Bool) → Keeps (and_then (check (t && may_be_owned kind
+          (own_frame g.given s).size (slice_get s.world.memory b)) Cause.Begin (Ok (owned_in s b)))
           (λ (memory : List MemoryBlock). Ok (begun g.given (with_memory s memory) b 0)))
       by_bits false = tt
-      by_bits true = by_block (slice_get s.world.memory b) refl (may_be_owned kind (own_frame g.given s).size (slice_get s.world.memory b)) refl
+      by_bits true =
+          by_block (slice_get s.world.memory b) refl
+          (may_be_owned kind (own_frame g.given s).size (slice_get s.world.memory b)) refl
   begin_at_fine s (Value.Ptr Pointer.Null) kind given size h = tt
   begin_at_fine s (Value.Ptr (Pointer.Func f)) kind given size h = tt
   begin_at_fine s Value.Poison kind given size h = tt
   begin_at_fine s (Value.Int n) kind given size h = tt
 
-  begin_fine : (s : State) (result : Option ℕ) (mem : Value) → length s.instances ≡ m → Fine s → Keeps (begin g.given s result mem)
+  begin_fine : (s : State) (result : Option ℕ) (mem : Value) → length s.instances ≡ m → Fine s
+      → Keeps (begin g.given s result mem)
   begin_fine s result mem size h = by (is_none s.top.instance)
     where
       by : (t : Bool) → Keeps (and_then (ok_if t Cause.Begin s) (λ (s : State).
@@ -264,7 +272,8 @@ module _ (g : FramedGiven) (m : ℕ) (Old : ℕ → Type 0) (G : Type 0) where
       by : (t : Bool) → Keeps (and_then (ok_if t Cause.Begin s) (λ (s : State).
           and_then (begin_given_at g s frame) (λ (s : State). Ok (gives s result frame))))
       by true =
-          then_keeps (begin_given_at g s frame) (λ (z : State). gives z result frame) (given_at_fine s frame given size h)
+          then_keeps (begin_given_at g s frame) (λ (z : State). gives z result frame)
+          (given_at_fine s frame given size h)
           (λ z k. k)
       by false = tt
 
@@ -296,7 +305,8 @@ module _ (g : FramedGiven) (m : ℕ) (Old : ℕ → Type 0) (G : Type 0) where
       by None eo = tt
       by (Some (i, x)) eo =
           if_keeps (not x.freed) Cause.State (with_left (with_instance s i (saved_as s p q x)) true)
-          (instance_fine s i x (saved_as s p q x) (h i x (own_number s i x eo).1) (own_number s i x eo).1 refl refl h)
+          (instance_fine s i x (saved_as s p q x) (h i x (own_number s i x eo).1)
+          (own_number s i x eo).1 refl refl h)
 
   save_fine : (s : State) → Fine s → Keeps (save g.given s)
   save_fine s h = by (suspend_of (function_of g.given s) (point_of s))
@@ -328,11 +338,13 @@ module _ (g : FramedGiven) (m : ℕ) (Old : ℕ → Type 0) (G : Type 0) where
           → Fine (change_own s (λ (x : Instance). record x { released = true }) o)
       by None eo = h
       by (Some (i, x)) eo =
-          instance_fine s i x (record x { released = true }) (h i x (own_number s i x eo).1) (own_number s i x eo).1 refl refl h
+          instance_fine s i x (record x { released = true }) (h i x (own_number s i x eo).1)
+          (own_number s i x eo).1 refl refl h
 
   -- ---- returns and ends
 
-  pop_fine : (s : State) (v : Option Value) (below : List Activation) → s.below ≡ below → Fine s → Keeps (pop s v below)
+  pop_fine : (s : State) (v : Option Value) (below : List Activation) → s.below ≡ below → Fine s
+      → Keeps (pop s v below)
   pop_fine s v [] is h = by (outcome_of v)
     where
       by : (r : Result Outcome Cause) → Keeps (and_then r (λ (outcome : Outcome). Ok (record s { outcome = outcome })))
@@ -364,10 +376,12 @@ module _ (g : FramedGiven) (m : ℕ) (Old : ℕ → Type 0) (G : Type 0) where
           set =
               memory_fine (with_instance s i (record x { status = Status.Finished }))
               (without_slots s.world.memory x.slots) (kinds_slots s.world.memory x.slots)
-              (instance_fine s i x (record x { status = Status.Finished }) (h i x (own_number s i x eo).1) (own_number s i x eo).1 refl refl h)
+              (instance_fine s i x (record x { status = Status.Finished }) (h i x (own_number s i x eo).1)
+              (own_number s i x eo).1 refl refl h)
 
           on : (t : Bool)
-              → Fine (if t then with_memory (finished_in s i x) (disown (without_slots s.world.memory x.slots) x.block) else (finished_in s i x))
+              → Fine (if t then with_memory (finished_in s i x)
+              (disown (without_slots s.world.memory x.slots) x.block) else (finished_in s i x))
           on true =
               memory_fine (finished_in s i x) (disown (without_slots s.world.memory x.slots) x.block)
               (kinds_block (without_slots s.world.memory x.slots) x.block disowned (λ z. refl)) set
@@ -439,7 +453,8 @@ module _ (g : FramedGiven) (m : ℕ) (Old : ℕ → Type 0) (G : Type 0) where
   promise_fine s result (Err cause) h = tt
   promise_fine s result (Ok v) h = h
 
-  coro_fine : (s : State) (i : Intrinsic) (args : List Arg) (vs : List Value) (result : Option ℕ) → length s.instances ≡ m
+  coro_fine : (s : State) (i : Intrinsic) (args : List Arg) (vs : List Value) (result : Option ℕ)
+      → length s.instances ≡ m
       → ((frame : Value) → s.top.mode ≡ Mode.GivenRamp frame → G) → Fine s
       → Keeps (framed_coro g s i args vs result)
   coro_fine s Intrinsic.CoroId args vs result size mode h = h
@@ -448,7 +463,8 @@ module _ (g : FramedGiven) (m : ℕ) (Old : ℕ → Type 0) (G : Type 0) where
   coro_fine s Intrinsic.CoroAlignI32 args vs result size mode h = h
   coro_fine s Intrinsic.CoroAlignI64 args vs result size mode h = h
   coro_fine s Intrinsic.CoroAlloc args vs result size mode h = h
-  coro_fine s Intrinsic.CoroBegin args vs result size mode h = framed_begin_fine s result (nth vs 1) s.top.mode refl mode size h
+  coro_fine s Intrinsic.CoroBegin args vs result size mode h =
+      framed_begin_fine s result (nth vs 1) s.top.mode refl mode size h
   coro_fine s Intrinsic.CoroFree args vs result size mode h = release_fine s h
   coro_fine s Intrinsic.CoroFrame args vs result size mode h = h
   coro_fine s Intrinsic.CoroSave args vs result size mode h = save_fine s h
@@ -478,7 +494,8 @@ module _ (g : FramedGiven) (m : ℕ) (Old : ℕ → Type 0) (G : Type 0) where
           (kinds_then s.world.memory (without_slots s.world.memory x.slots)
           (disown (without_slots s.world.memory x.slots) x.block) (kinds_slots s.world.memory x.slots)
           (kinds_block (without_slots s.world.memory x.slots) x.block disowned (λ z. refl)))
-          (instance_fine s i x (record x { freed = true }) (h i x (at_found s p i x eo)) (at_found s p i x eo) refl refl h)
+          (instance_fine s i x (record x { freed = true }) (h i x (at_found s p i x eo))
+          (at_found s p i x eo) refl refl h)
       by false = h
 
   deallocate_fine : (s : State) (p : Value) → Fine s → Keeps (deallocate s p)
@@ -506,7 +523,8 @@ module _ (g : FramedGiven) (m : ℕ) (Old : ℕ → Type 0) (G : Type 0) where
       by (Some (i, x)) eo =
           if_keeps (list_all (may_leave (length s.below) x) (w ∷ ws)) Cause.State
           (enter_block g.given (with_left (with_status s i x Status.Running) false) label)
-          (instance_fine s i x (record x { status = Status.Running }) (h i x (own_number s i x eo).1) (own_number s i x eo).1 refl refl h)
+          (instance_fine s i x (record x { status = Status.Running }) (h i x (own_number s i x eo).1)
+          (own_number s i x eo).1 refl refl h)
 
   -- ---- steps
 
@@ -519,7 +537,8 @@ module _ (g : FramedGiven) (m : ℕ) (Old : ℕ → Type 0) (G : Type 0) where
   act_fine s (Done w) k size mode h = memory_fine s w.world.memory k h
   act_fine s (NewSlot w z) k size mode h = slot_fine (settled s w) z s.top.mode (memory_fine s w.world.memory k h)
   act_fine s (Enter func args result must_tail) k size mode h = h
-  act_fine s (Coro i args result) k size mode h = coro_fine s i args (arg_values g.given.code s.top.values args) result size mode h
+  act_fine s (Coro i args result) k size mode h =
+      coro_fine s i args (arg_values g.given.code s.top.values args) result size mode h
   act_fine s (Deallocate p) k size mode h = deallocate_fine s p h
   act_fine s (GoTo label) k size mode h = branch_fine s label (left_windows g.given s label) h
   act_fine s (Return v) k size mode h = return_fine s v h

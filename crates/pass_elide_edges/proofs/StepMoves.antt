@@ -1,5 +1,5 @@
--- How a step of a run moves activations: the topmost one stays in its block or takes an edge, another one is put on top
--- of it, or it returns.
+-- How a step of a run moves activations: the topmost one stays in its block or takes an edge, another one is put on
+-- top of it, or it returns.
 use Rattle.std.proofs.Common.{◌≡◌, ◌∙◌, ℕ, Bool, true, false, List, [], ◌∷◌, length, Err, None, Ok, Option, Result, Some, ap, if◌then◌else◌, refl, sym, ◌&&◌, ◌==◌, ◌+◌}
 use Rattle.pass_elide_edges.proofs.Bare.{over}
 use Rattle.pass_elide_proof.proofs.ReleasingActs.{goto_there}

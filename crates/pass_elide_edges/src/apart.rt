@@ -57,11 +57,12 @@ pub fn given_frames_were_given()
 /// What stands apart does so behind a step, where it stays and no other frame is given.
 pub fn others_keep_apart()
     ensures { (e : Elision) (x y t u : State) (rows others : List Activation) → WereGiven t u
-        → Each (IsKnownTo t.instances) others → StandAllApart e (sides y t) rows others → StandAllApart e (sides x u) rows others }
+        → Each (IsKnownTo t.instances) others → StandAllApart e (sides y t) rows others
+        → StandAllApart e (sides x u) rows others }
 {}
 
-/// Behind a step of a known kind all activations stand apart as they did. Both runs go on in their topmost activations,
-/// which don't execute their allocas again; or both call a function; or both return.
+/// Behind a step of a known kind all activations stand apart as they did. Both runs go on in their topmost
+/// activations, which don't execute their allocas again; or both call a function; or both return.
 pub fn known_steps_keep_apart()
     ensures goes_on { (e : Elision) (s t : State) (r : AreRelated e s t) (k : IsKnownStep e s t r.beside) → KeepsEnds e
         → ((func : ℕ) → EntersAlone (function_in e func) (e.shape func)) → EndsFramed e s → AllStandApart e s t
