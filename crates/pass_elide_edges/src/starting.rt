@@ -1,7 +1,7 @@
 //! Where runs start, and in the worked module, what the ends of blocks ask holds.
 
 ghost use Rattle.pass_elide_edges.specs.Keeping.{EntersAlone, KeepsEnds, KeepsFreeing};
-ghost use Rattle.pass_elide_edges.specs.States.{EndsElided, EndsFramed, EntersNoStart, StandApart, StartsBare};
+ghost use Rattle.pass_elide_edges.specs.States.{AllStandApart, EndsElided, EndsFramed, EntersNoStart, StandApart, StartsBare};
 ghost use Rattle.pass_elide_edges.specs.WorkedFreeing.{freeing_function, freeing_shape};
 ghost use Rattle.pass_elide_proof.specs.EdgesFreeing.{FreesFrame};
 ghost use Rattle.pass_elide_proof.specs.Elision.{Elision, elided, elided_code, framed, function_in};
@@ -31,6 +31,12 @@ pub fn runs_start_at_known_ends()
         → (function_in e entry).coroutine ≡ false
         → StandApart e (sides (first_state e.code entry args) (first_state (elided_code e) entry args))
         (first_state e.code entry args).top (first_state (elided_code e) entry args).top }
+{}
+
+/// All pairs of activations stand apart there: there is one pair.
+pub fn runs_start_apart()
+    ensures { (e : Elision) (entry : ℕ) (args : List Word) → KeepsPlaces e → (function_in e entry).coroutine ≡ false
+        → AllStandApart e (first_state e.code entry args) (first_state (elided_code e) entry args) }
 {}
 
 /// In each state of the framed run it holds too, where no frame has room for another one.
