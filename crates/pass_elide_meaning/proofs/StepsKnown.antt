@@ -14,8 +14,7 @@ use Rattle.pass_elide_proof.specs.Stepping.{IsKnownStep}
 use Rattle.pass_proofs.specs.ir_base.declared.outcome.Outcome.{Outcome}
 use Rattle.pass_proofs.specs.run_agreement.Machines.{IsFine}
 use Rattle.pass_proofs.specs.run_framed.Framed.{FramedGiven, framed_advance, framed_next, framed_step}
-use Rattle.pass_proofs.specs.run_source.Source.{or_undefined}
-use Rattle.pass_proofs.specs.run_source.State.{function_of}
+use Rattle.pass_proofs.specs.run_source.State.{function_of, or_undefined}
 use Rattle.pass_proofs.specs.run_source.declared.state.State.{State}
 use Rattle.pass_proofs.specs.run_step.Step.{AtInstr, AtTerm, Fetched, Nowhere, fetch}
 
