@@ -16,8 +16,8 @@ module _ (e : Elision) (keeps : KeepsPlaces e) (more : KeepsMore e) (entry : ℕ
     (call : IsEntryCall e entry args) where
   pub framed_lacks : KeepsRuns e → LacksFramed e (framed_after e entry args 0)
   framed_lacks k = record {
-    sizes = λ other a result must_tail ty vs word waits takes. inr (known.sizes other a result must_tail ty vs word waits
-        takes);
+    sizes = λ other a result must_tail ty vs word waits takes.
+        inr (known.sizes other a result must_tail ty vs word waits takes);
   }
     where
       known : IsKnownFramed e (framed_after e entry args 0)

@@ -30,7 +30,8 @@ module _ (e : Elision) (s t : State) (r : AreRelated e s t) (keeps : KeepsPlaces
     (ends : KeepsEnds e) (known : IsKnownFramed e s) (giving : IsKnownGiving e t) (first : EndsFramed e s)
     (second : EndsElided e t) (apart : StandApart e (sides s t) s.top t.top) (runs : s.outcome ≡ Outcome.Running)
     (fine : IsFine (framed_step (framed e) s).outcome) where
-  known_by : (x : Fetched) → fetch (function_of (framed e).given s) s.top.block s.top.at ≡ x → IsKnownStep e s t r.beside
+  known_by : (x : Fetched) → fetch (function_of (framed e).given s) s.top.block s.top.at ≡ x
+      → IsKnownStep e s t r.beside
   known_by Nowhere is = absurd (nowhere (framed e) s runs is fine)
   known_by (AtInstr i) is = instruction_known e keeps more s t r known giving runs fine i is
   known_by (AtTerm term) is = ends_known e keeps ends s t r first second apart r.passed.0 runs fine term is

@@ -38,8 +38,8 @@ pub record LacksFramed (e : Elision) (s : State) : Type 0 where
 -- ---- the run that gives frames
 
 pub record LacksGiving (e : Elision) (t : State) : Type 0 where
-  -- Only a ramp that was given its frame is in the block beside the allocation. What is missing is an invariant on where
-  -- the coroutine was asked: only the block that asks leads there, by the name of what coro.alloc gave.
+  -- Only a ramp that was given its frame is in the block beside the allocation. What is missing is an invariant on the
+  -- block that asks: it alone leads there, by the name of what coro.alloc gave.
   pub aside : (k : AsksForFrame (function_in e t.top.func) (e.shape t.top.func)) → t.top.block ≡ k.beside
       → is_given_mode t.top.mode ≡ true
   -- A marker marks no frame. What is missing is that a frame's block is none of those of original allocas.
