@@ -1,10 +1,13 @@
 -- What isn't derived yet of states of both runs, so that they are known.
-use Rattle.std.specs.Prelude.{◌≡◌, ◌⊎◌, ℕ, Bool, true, List, Some, Option}
+use Rattle.std.specs.Prelude.{◌≡◌, ◌⊎◌, ℕ, Bool, true, List, slice_get, Some, Option}
+use Rattle.elide_shape.specs.Calls.{deals}
+use Rattle.elide_shape.specs.declared.calls.Dealing.{Dealing}
 use Rattle.pass_elide_known.specs.Keeping.{is_marker}
 use Rattle.pass_elide_known.specs.States.{Allocates, StandsAtElided}
 use Rattle.pass_elide_proof.specs.Elision.{Elision, function_in}
 use Rattle.pass_elide_proof.specs.Marking.{HoldsNoFrame, second_operand}
 use Rattle.pass_elide_proof.specs.Match.{frame_size, is_given_mode}
+use Rattle.pass_elide_proof.specs.Places.{instrs_of}
 use Rattle.pass_elide_proof.specs.Shapes.{AsksForFrame}
 use Rattle.pass_elide_runs.specs.Names.{AsksSize, IsGivenBy}
 use Rattle.pass_proofs.specs.ir_base.declared.outcome.Word.{Word}
@@ -34,6 +37,15 @@ pub record LacksFramed (e : Elision) (s : State) : Type 0 where
       (word : Word) → (e.shape s.top.func).waits s.top.block ≡ Some other
       → Allocates e s a result must_tail ty args word
       → TakesSize (function_in e s.top.func) args ⊎ (word.bits ≡ frame_size e s.top.func)
+
+-- so it is of each function where a frame is allocated, as where nothing loads the size back
+abbrev pub TakesSizes : Elision → Type 0
+TakesSizes e =
+    (func block other at : ℕ) (a : Allocator) (result : Option ℕ) (must_tail : Bool) (ty : Option Ty) (args : List Arg)
+    → (e.shape func).waits block ≡ Some other → deals Dealing.Allocates a ≡ true
+    → slice_get (instrs_of (function_in e func) block) at
+    ≡ Some (Instr.Call result must_tail ty (Callee.Allocator a) args)
+    → TakesSize (function_in e func) args
 
 -- ---- the run that gives frames
 
