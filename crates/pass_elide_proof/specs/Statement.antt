@@ -79,18 +79,18 @@ pub record IsEntryCall (e : Elision) (entry : ℕ) (args : List Word) : Type 0 w
 -- The runs agree by prices of at most one step and one for each site of a function.
 abbrev pub ElisionKeepsStates : Elision → ℕ → Type 0
 ElisionKeepsStates e most =
-    (entry : ℕ) (args : List Word) → IsEntryCall e entry args
+    (entry : ℕ) (args : List Word) → (function_in e entry).coroutine ≡ false
     → AgreesBy (AreRelatedOrOver e) (IsNear (elided_run e entry args) (1 + most) (AreRelatedOrOver e))
     (uncounted (framed_run e entry args)) (λ s. 1 + most) (uncounted (elided_run e entry args)) (λ t. 1)
 
 -- The second makes fewer allocator calls by the calls that it executes without allocation.
 abbrev pub ElisionLosesCalls : Elision → Type 0
 ElisionLosesCalls e =
-    (entry : ℕ) (args : List Word) → IsEntryCall e entry args
+    (entry : ℕ) (args : List Word) → (function_in e entry).coroutine ≡ false
     → LosesCalls (framed_run e entry args) (elided_run e entry args)
 
 -- Each frame that is given lives as long as its instance isn't Finished.
 abbrev pub ElisionKeepsFrames : Elision → Type 0
 ElisionKeepsFrames e =
-    (entry : ℕ) (args : List Word) → IsEntryCall e entry args
+    (entry : ℕ) (args : List Word) → (function_in e entry).coroutine ≡ false
     → DoGivenFramesLive (elided e) entry args

@@ -3,7 +3,7 @@
 ghost use Rattle.std.specs.Prelude.{List, Some, false, length, slice_get, ◌<◌, ◌^◌, ◌≡◌, ℕ};
 ghost use Rattle.pass_elide_proof.specs.Assembling.{KnowsSteps, WaitsBehind};
 ghost use Rattle.pass_elide_proof.specs.Elision.{Elision, elided_code, function_in};
-ghost use Rattle.pass_elide_proof.specs.Statement.{AreRelated, ElisionKeepsStates, ElisionLosesCalls, IsElisionOf, IsEntryCall};
+ghost use Rattle.pass_elide_proof.specs.Statement.{AreRelated, ElisionKeepsStates, ElisionLosesCalls, IsElisionOf};
 ghost use Rattle.pass_proofs.specs.ir_base.declared.outcome.Word.{Word};
 ghost use Rattle.pass_proofs.specs.ir_model.declared.module.Module.{Module};
 ghost use Rattle.pass_proofs.specs.run_laws.memory.Standing.{Embeds, own_homes};
@@ -18,11 +18,13 @@ ghost use Rattle.pass_proofs.specs.run_step.Step.{first_world};
 pub fn known_steps_keep_states()
     ensures states { (e : Elision) (source : Module) (most : ℕ) → IsElisionOf e source most
         → ((func : ℕ) → WaitsBehind (function_in e func) (e.shape func))
-        → ((entry : ℕ) (args : List Word) → IsEntryCall e entry args → KnowsSteps e entry args (AreRelated e))
+        → ((entry : ℕ) (args : List Word) → (function_in e entry).coroutine ≡ false
+        → KnowsSteps e entry args (AreRelated e))
         → ElisionKeepsStates e most }
     ensures calls { (e : Elision) (source : Module) (most : ℕ) → IsElisionOf e source most
         → ((func : ℕ) → WaitsBehind (function_in e func) (e.shape func))
-        → ((entry : ℕ) (args : List Word) → IsEntryCall e entry args → KnowsSteps e entry args (AreRelated e))
+        → ((entry : ℕ) (args : List Word) → (function_in e entry).coroutine ≡ false
+        → KnowsSteps e entry args (AreRelated e))
         → ElisionLosesCalls e }
 {}
 
