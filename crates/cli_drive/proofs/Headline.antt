@@ -132,7 +132,7 @@ module _ (input out err : Stream) (plain : Bool) where
       read (subst (λ (x : Words). EndsBy (reads_input x) x input out err Status.Done) same ends)
   lowered_whole words is (IsEnding.BadList word e unread told) = absurd (cc)
   lowered_whole words is (IsEnding.Help text e asks unread written) = absurd (cc)
-  lowered_whole words is (IsEnding.Usage text e unread written) = absurd (cc)
+  lowered_whole words is (IsEnding.Usage text e unwanted unread written) = absurd (cc)
   lowered_whole words is (IsEnding.NoMemoryForWords unread written) =
       let bad = (whole_of out err [] _ Status.OutOfMemory written).0 in absurd (cc)
 

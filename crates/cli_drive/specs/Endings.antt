@@ -9,6 +9,7 @@ use Rattle.cli_report.specs.Report.{bad_list_text}
 use Rattle.cli_runs.specs.Runs.{verdict_status}
 use Rattle.cli_runs.specs.declared.verdict.Answer.{Answer}
 use Rattle.cli_words.specs.Asked.{asked, asks_help}
+use Rattle.cli_words.specs.Told.{wants_help}
 use Rattle.cli_words.specs.declared.words.Reading.{Reading}
 use Rattle.cli_words.specs.declared.words.Words.{Words}
 use Rattle.ir_base.specs.declared.status.Status.{Status}
@@ -111,7 +112,8 @@ pub data TellsBadList (word : List ℕ) (out err : Stream) (result : Status) : T
 
 -- ---- all that the program does
 
--- By the words. Those that aren't taken read nothing, and so does help, which comes only where one of them asks for it.
+-- By the words. Those that aren't taken read nothing, and so does help. It comes only where one of them asks for it, and
+-- always where clap finds nothing else.
 pub data IsEnding (words : List (List ℕ)) (input out err : Stream) (result : Status) : Type 0 where
   Taken : (w : Words) → asked words ≡ Reading.Read w → EndsBy (reads_input w) w input out err result
       → IsEnding words input out err result
@@ -119,7 +121,7 @@ pub data IsEnding (words : List (List ℕ)) (input out err : Stream) (result : S
       → IsEnding words input out err result
   Help : (text : List ℕ) → asked words ≡ Reading.Refused → list_any asks_help words ≡ true → IsUnread input
       → IsWritten out err text [] Status.Done result → IsEnding words input out err result
-  Usage : (text : List ℕ) → asked words ≡ Reading.Refused → IsUnread input
+  Usage : (text : List ℕ) → asked words ≡ Reading.Refused → wants_help words ≡ false → IsUnread input
       → IsWritten out err [] text Status.Words result → IsEnding words input out err result
   NoMemoryForWords : IsUnread input → IsWritten out err [] (codes "out of memory\n") Status.OutOfMemory result
       → IsEnding words input out err result

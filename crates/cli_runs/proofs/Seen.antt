@@ -1,28 +1,27 @@
 -- The text of a run is that of what is seen of it.
-use Rattle.std.proofs.Common.{◌≡◌, ℕ, ℤ, List, [], ◌∷◌, ◌++◌, ◌∙◌, ap, refl, subst, Ok, Err}
+use Rattle.std.proofs.Common.{◌≡◌, ℕ, ℤ, List, [], ◌∷◌, ◌++◌, ◌∙◌, ap, refl, subst, sym, Ok, Err}
 use Rattle.std.specs.Prelude.{map, codes, slice_get, Some, None, Option, Result, IfOk}
 use Rattle.run_agreement.specs.Machines.{Seen}
 use Rattle.ir_base.specs.declared.outcome.Event.{Event}
 use Rattle.ir_base.specs.declared.outcome.Outcome.{Outcome}
-use Rattle.cli_runs.specs.Runs.{framed_answer, framed_run, plain_run, run_answer, run_verdict, seen_answer, shown, source_answer, source_run}
+use Rattle.cli_runs.specs.Runs.{framed_answer, framed_shown, plain_run, run_answer, run_verdict, seen_answer, shown, source_answer, source_shown}
 use Rattle.cli_runs.specs.declared.verdict.Answer.{Answer}
 use Rattle.cli_runs.specs.declared.verdict.EntryCall.{EntryCall}
-use Rattle.run_source.specs.Source.{state_at}
 use Rattle.text_names.specs.Spelling.{spelling}
 use Rattle.cli_report.specs.Report.{declared_text, event_text, events_text, outcome_text, run_text, seen_event_text, seen_events_text, words_text}
 use Rattle.frame_layout.specs.declared.layout.Layouts.{Layouts}
-use Rattle.run_framed_facts.proofs.Steps.{seen-same as framed-same}
-use Rattle.run_framed_facts.specs.FramedFacts.{HaveFramedFacts, given_with}
-use Rattle.run_framed.specs.Framed.{framed_state_at}
 use Rattle.ir_model.specs.declared.module.Declaration.{Declaration}
 use Rattle.ir_model.specs.declared.module.Frame.{Frame}
-use Rattle.ir_model.specs.declared.module.Function.{Function}
 use Rattle.ir_model.specs.declared.module.Module.{Module}
-use Rattle.ir_paths.specs.declared.point.Facts.{Facts}
 use Rattle.run_step.specs.Runs.{name_of_declaration, seen_event}
-use Rattle.flow_facts.specs.HaveFacts.{HaveFacts}
+use Rattle.ir_base.specs.declared.outcome.Word.{Word}
+use Rattle.run_framed.specs.Machines.{run_of as framed_run}
 use Rattle.run_plain.specs.Plain.{plain_state_at}
-use Rattle.run_source_facts.proofs.Steps.{seen-same}
+use Rattle.run_source.specs.Machines.{run_of as source_run}
+use Rattle.run_whole.specs.Framed.{ShowsFramed, seen_now as framed_now}
+use Rattle.run_whole.specs.Source.{ShowsSource, seen_now as source_now}
+use Rattle.run_whole.specs.declared.framed.FramedView.{FramedView}
+use Rattle.run_whole.specs.declared.source.SourceView.{SourceView}
 
 declared : (d : Option Declaration) → declared_text d ≡ spelling (name_of_declaration d)
 declared None = refl
@@ -48,20 +47,49 @@ pub plain_by : {E : Type 0} (code : Module) (answers : List ℤ) (call : EntryCa
 plain_by code answers call steps (Ok a) is = is ∙ plain_is code answers call steps
 plain_by code answers call steps (Err e) is = is
 
-source_is : (m : Module) (sizes : List Frame) (answers : List ℤ) (facts : List Facts) (call : EntryCall) (steps : ℕ) → HaveFacts m.functions facts → source_run (record { code = m; sizes = sizes; answers = answers; facts = facts }) call steps ≡ source_answer m sizes answers call steps
-source_is m sizes answers facts call steps have =
-    let s = state_at (record { code = m; sizes = sizes; answers = answers; facts = facts }) call.func call.args steps in
-    as_seen m s.world.events s.world.allocs s.outcome ∙ ap (λ (seen : Seen). seen_answer m seen) (seen-same m sizes answers facts call.func call.args steps have)
+source_is : (m : Module) (sizes : List Frame) (answers : List ℤ) (call : EntryCall) (steps : ℕ) (v : SourceView)
+    → ShowsSource m sizes call.func call.args answers steps v → source_shown v ≡ source_answer m sizes answers call steps
+source_is m sizes answers call steps v shows =
+    let r = source_run v.machine in
+    let outcome : v.outcome ≡ r.state.outcome = shows.outcome ∙ sym (ap (λ (s : Seen). s.outcome) shows.seen) in
+    as_seen r.given.code r.state.world.events r.state.world.allocs v.outcome
+    ∙ (ap (λ (o : Outcome). seen_answer r.given.code (record {
+      events = map (seen_event r.given.code) r.state.world.events;
+      outcome = o;
+      allocs = r.state.world.allocs;
+    })) outcome
+    ∙ (ap (λ (code : Module). seen_answer code (source_now r)) shows.code
+    ∙ ap (λ (s : Seen). seen_answer m s) shows.seen))
 
-pub source_by : {E : Type 0} (m : Module) (sizes : List Frame) (answers : List ℤ) (facts : List Facts) (call : EntryCall) (steps : ℕ) (functions : List Function) (r : Result Answer E) → functions ≡ m.functions → HaveFacts functions facts → IfOk r (λ a. a ≡ source_run (record { code = m; sizes = sizes; answers = answers; facts = facts }) call steps) → IfOk r (λ a. a ≡ source_answer m sizes answers call steps)
-source_by m sizes answers facts call steps functions (Ok a) same have is = is ∙ source_is m sizes answers facts call steps (subst (λ (fs : List Function). HaveFacts fs facts) same have)
-source_by m sizes answers facts call steps functions (Err e) same have is = is
+pub source_by : {E : Type 0} (m : Module) (sizes : List Frame) (answers : List ℤ) (call : EntryCall) (steps : ℕ)
+    (args : List Word) (v : SourceView) (r : Result Answer E) → args ≡ call.args
+    → ShowsSource m sizes call.func args answers steps v → IfOk r (λ a. a ≡ source_shown v)
+    → IfOk r (λ a. a ≡ source_answer m sizes answers call steps)
+source_by m sizes answers call steps args v (Ok a) same shows is =
+    is ∙ source_is m sizes answers call steps v
+    (subst (λ (ws : List Word). ShowsSource m sizes call.func ws answers steps v) same shows)
+source_by m sizes answers call steps args v (Err e) same shows is = is
 
-framed_is : (m : Module) (layouts : Layouts) (answers : List ℤ) (facts : List Facts) (call : EntryCall) (steps : ℕ) → HaveFramedFacts m.functions facts → framed_run (given_with m layouts.coroutines answers facts) call steps ≡ framed_answer m layouts answers call steps
-framed_is m layouts answers facts call steps have =
-    let s = framed_state_at (given_with m layouts.coroutines answers facts) call.func call.args steps in
-    as_seen m s.world.events s.world.allocs s.outcome ∙ ap (λ (seen : Seen). seen_answer m seen) (framed-same m layouts answers facts call.func call.args steps have)
+framed_is : (m : Module) (layouts : Layouts) (answers : List ℤ) (call : EntryCall) (steps : ℕ) (v : FramedView)
+    → ShowsFramed m layouts call.func call.args answers steps v
+    → framed_shown v ≡ framed_answer m layouts answers call steps
+framed_is m layouts answers call steps v shows =
+    let r = framed_run v.machine in
+    let outcome : v.outcome ≡ r.state.outcome = shows.outcome ∙ sym (ap (λ (s : Seen). s.outcome) shows.seen) in
+    as_seen r.given.given.code r.state.world.events r.state.world.allocs v.outcome
+    ∙ (ap (λ (o : Outcome). seen_answer r.given.given.code (record {
+      events = map (seen_event r.given.given.code) r.state.world.events;
+      outcome = o;
+      allocs = r.state.world.allocs;
+    })) outcome
+    ∙ (ap (λ (code : Module). seen_answer code (framed_now r)) shows.code
+    ∙ ap (λ (s : Seen). seen_answer m s) shows.seen))
 
-pub framed_by : {E : Type 0} (m : Module) (layouts : Layouts) (answers : List ℤ) (facts : List Facts) (call : EntryCall) (steps : ℕ) (functions : List Function) (r : Result Answer E) → functions ≡ m.functions → HaveFramedFacts functions facts → IfOk r (λ a. a ≡ framed_run (given_with m layouts.coroutines answers facts) call steps) → IfOk r (λ a. a ≡ framed_answer m layouts answers call steps)
-framed_by m layouts answers facts call steps functions (Ok a) same have is = is ∙ framed_is m layouts answers facts call steps (subst (λ (fs : List Function). HaveFramedFacts fs facts) same have)
-framed_by m layouts answers facts call steps functions (Err e) same have is = is
+pub framed_by : {E : Type 0} (m : Module) (layouts : Layouts) (answers : List ℤ) (call : EntryCall) (steps : ℕ)
+    (args : List Word) (v : FramedView) (r : Result Answer E) → args ≡ call.args
+    → ShowsFramed m layouts call.func args answers steps v → IfOk r (λ a. a ≡ framed_shown v)
+    → IfOk r (λ a. a ≡ framed_answer m layouts answers call steps)
+framed_by m layouts answers call steps args v (Ok a) same shows is =
+    is ∙ framed_is m layouts answers call steps v
+    (subst (λ (ws : List Word). ShowsFramed m layouts call.func ws answers steps v) same shows)
+framed_by m layouts answers call steps args v (Err e) same shows is = is

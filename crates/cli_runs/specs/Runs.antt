@@ -9,13 +9,15 @@ use Rattle.ir_base.specs.declared.status.Status.{Status}
 use Rattle.cli_runs.specs.declared.verdict.Answer.{Answer}
 use Rattle.cli_runs.specs.declared.verdict.EntryCall.{EntryCall}
 use Rattle.cli_runs.specs.declared.verdict.Verdict.{Verdict}
-use Rattle.run_source.specs.Source.{SourceAt, state_at}
+use Rattle.run_source.specs.Machines.{run_of as source_run}
+use Rattle.run_source.specs.Source.{SourceAt}
 use Rattle.text_names.specs.Spelling.{spelling}
 use Rattle.cli_report.specs.Report.{not_callable_text, refused_text, run_text, seen_text, syntax_text}
 use Rattle.cli_words.specs.declared.words.RunWords.{RunWords}
 use Rattle.frame_layout.specs.declared.layout.Layout.{Layout}
 use Rattle.frame_layout.specs.declared.layout.Layouts.{Layouts}
-use Rattle.run_framed.specs.Framed.{FramedAt, FramedGiven, framed_state_at}
+use Rattle.run_framed.specs.Framed.{FramedAt}
+use Rattle.run_framed.specs.Machines.{run_of as framed_run}
 use Rattle.run_ints.specs.Numbers.{word_of}
 use Rattle.ir_model.specs.Names.{same_text}
 use Rattle.ir_model.specs.Ty.{Ty, int}
@@ -23,7 +25,8 @@ use Rattle.ir_model.specs.declared.module.Frame.{Frame}
 use Rattle.ir_model.specs.declared.module.Function.{Function}
 use Rattle.ir_model.specs.declared.module.Module.{Module}
 use Rattle.ir_model.specs.declared.module.Param.{Param}
-use Rattle.run_source_tables.specs.Given.{Given}
+use Rattle.run_whole.specs.declared.framed.FramedView.{FramedView}
+use Rattle.run_whole.specs.declared.source.SourceView.{SourceView}
 use Rattle.run_plain.specs.Plain.{PlainAt, plain_state_at}
 
 -- ---- answers
@@ -145,10 +148,11 @@ size_of l = record { coroutine = l.coroutine; size = l.size; align = l.align }
 abbrev pub sizes_of : Layouts → List Frame
 sizes_of layouts = map size_of layouts.coroutines
 
--- the events and the outcome of a run of a source with these facts
-abbrev pub source_run : Given → EntryCall → ℕ → Answer
-source_run g call steps =
-    let s = state_at g call.func call.args steps in shown (run_verdict s.outcome) (run_text g.code s.world.events s.outcome)
+-- the answer by what a source's machine shows
+abbrev pub source_shown : SourceView → Answer
+source_shown v =
+    shown (run_verdict v.outcome)
+    (run_text (source_run v.machine).given.code (source_run v.machine).state.world.events v.outcome)
 
 -- what is seen of a source after so many steps
 abbrev pub source_answer : Module → List Frame → List ℤ → EntryCall → ℕ → Answer
@@ -160,10 +164,11 @@ source_or m sizes w (Some call) = source_answer m sizes w.answers call w.steps
 
 -- ---- run of a framed module
 
--- the events and the outcome of a run of a framed module with these facts
-abbrev pub framed_run : FramedGiven → EntryCall → ℕ → Answer
-framed_run g call steps =
-    let s = framed_state_at g call.func call.args steps in shown (run_verdict s.outcome) (run_text g.given.code s.world.events s.outcome)
+-- the answer by what a framed module's machine shows
+abbrev pub framed_shown : FramedView → Answer
+framed_shown v =
+    shown (run_verdict v.outcome)
+    (run_text (framed_run v.machine).given.given.code (framed_run v.machine).state.world.events v.outcome)
 
 -- what is seen of a framed module after so many steps
 abbrev pub framed_answer : Module → Layouts → List ℤ → EntryCall → ℕ → Answer

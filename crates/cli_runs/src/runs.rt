@@ -1,23 +1,18 @@
 //! Runs of modules.
 
 ghost use Rattle.std.specs.Prelude.{◌≡◌, IfOk, map};
-ghost use Rattle.cli_runs.specs.Runs.{run_verdict, plain_run, run_answer, not_callable, run_module, size_of, sizes_of, source_run, source_answer, source_or, framed_run, framed_answer, run_framed, entry_call};
-ghost use Rattle.run_framed_facts.specs.FramedFacts.{given_with};
+ghost use Rattle.cli_runs.specs.Runs.{run_verdict, plain_run, run_answer, not_callable, run_module, size_of, sizes_of, source_shown, source_answer, source_or, framed_shown, framed_answer, run_framed, entry_call};
 
 use crate::entry::entry_call;
 use crate::texts::{shown, told};
 use crate::verdict::{Answer, EntryCall, Verdict};
 use cli_report::{not_callable_text, run_text};
 use cli_words::RunWords;
-use flow_facts::all_facts;
 use frame_layout::{Layout, Layouts};
 use ir_base::{Items, Outcome};
 use ir_model::{Frame, Module};
-use ir_paths::Facts;
-use run_framed::FramedMachine;
-use run_framed_facts::all_framed_facts;
 use run_plain::PlainMachine;
-use run_source::SourceMachine;
+use run_whole::{FramedView, SourceView, run_framed as whole_framed, run_source as whole_source};
 use std::alloc::{AllocError, Global};
 
 fn run_verdict(outcome: Outcome) -> Verdict
@@ -93,22 +88,13 @@ pub fn sizes_of(alloc: Global, layouts: &[Layout]) -> Result<Items<Frame>, Alloc
     Ok(sizes)
 }
 
-fn source_run(
-    alloc: Global,
-    source: Module,
-    sizes: &[Frame],
-    facts: Items<Facts>,
-    answers: &[i128],
-    call: &EntryCall,
-    steps: u64,
-) -> Result<Answer, AllocError>
-    ensures { IfOk result (λ a. a ≡ source_run (record { code = source; sizes = sizes.now; answers = answers.now; facts = facts }) call.now steps) }
+/// The answer by what a source's machine shows.
+fn source_shown(alloc: Global, view: &SourceView) -> Result<Answer, AllocError>
+    ensures { IfOk result (λ a. a ≡ source_shown view.now) }
 {
-    let args = call.args.as_slice();
-    let mut machine = SourceMachine::start(alloc, source, sizes, facts, call.func, args, answers)?;
-    let outcome = machine.run(steps)?;
-    let text = run_text(alloc, machine.code(), machine.events(), outcome)?;
-    Ok(shown(alloc, run_verdict(outcome), Items::from_vec(text)))
+    let machine = &view.machine;
+    let text = run_text(alloc, machine.code(), machine.events(), view.outcome)?;
+    Ok(shown(alloc, run_verdict(view.outcome), Items::from_vec(text)))
 }
 
 /// What is seen of a run of a source.
@@ -122,8 +108,9 @@ fn source_answer(
 ) -> Result<Answer, AllocError>
     ensures { IfOk result (λ a. a ≡ source_answer source sizes.now answers.now call.now steps) }
 {
-    let facts = all_facts(alloc, source.functions.as_slice())?;
-    source_run(alloc, source, sizes, facts, answers, call, steps)
+    let args = call.args.as_slice();
+    let view = whole_source(alloc, source, sizes, call.func, args, answers, steps)?;
+    source_shown(alloc, &view)
 }
 
 /// Calls an entry of a source whose coroutines have these layouts.
@@ -152,24 +139,13 @@ pub fn run_source(
     }
 }
 
-fn framed_run(
-    alloc: Global,
-    framed: Module,
-    layouts: &Layouts,
-    facts: Items<Facts>,
-    answers: &[i128],
-    call: &EntryCall,
-    steps: u64,
-) -> Result<Answer, AllocError>
-    ensures { IfOk result (λ a. a ≡ framed_run (given_with framed layouts.now.coroutines answers.now facts) call.now steps) }
+/// The answer by what a framed module's machine shows.
+fn framed_shown(alloc: Global, view: &FramedView) -> Result<Answer, AllocError>
+    ensures { IfOk result (λ a. a ≡ framed_shown view.now) }
 {
-    let args = call.args.as_slice();
-    let mut machine = FramedMachine::start(
-        alloc, framed, layouts, facts, call.func, args, answers,
-    )?;
-    let outcome = machine.run(steps)?;
-    let text = run_text(alloc, machine.code(), machine.events(), outcome)?;
-    Ok(shown(alloc, run_verdict(outcome), Items::from_vec(text)))
+    let machine = &view.machine;
+    let text = run_text(alloc, machine.code(), machine.events(), view.outcome)?;
+    Ok(shown(alloc, run_verdict(view.outcome), Items::from_vec(text)))
 }
 
 /// What is seen of a run of a framed module.
@@ -183,8 +159,9 @@ fn framed_answer(
 ) -> Result<Answer, AllocError>
     ensures { IfOk result (λ a. a ≡ framed_answer framed layouts.now answers.now call.now steps) }
 {
-    let facts = all_framed_facts(alloc, framed.functions.as_slice())?;
-    framed_run(alloc, framed, layouts, facts, answers, call, steps)
+    let args = call.args.as_slice();
+    let view = whole_framed(alloc, framed, layouts, call.func, args, answers, steps)?;
+    framed_shown(alloc, &view)
 }
 
 /// Calls an entry of a framed module with the layouts of its coroutines' frames.

@@ -1,11 +1,11 @@
 //! Which words are taken.
 
-ghost use Rattle.std.specs.Prelude.{◌≡◌, ◌≢◌, IfOk, IfErr, map, codes, string_bytes, take};
+ghost use Rattle.std.specs.Prelude.{◌≡◌, ◌≢◌, IfOk, IfErr, map, codes, string_bytes, take, true, false};
 ghost use Rattle.std.specs.List.{list_any};
 ghost use Rattle.clap.specs.Words.{app_of, kind_of};
 ghost use Rattle.cli_words.specs.App.{the_app};
 ghost use Rattle.cli_words.specs.Asked as spec;
-ghost use Rattle.cli_words.specs.Told.{Tells};
+ghost use Rattle.cli_words.specs.Told.{Tells, wants_help};
 
 use crate::answer::Taken;
 use crate::command::command;
@@ -36,15 +36,19 @@ fn read_words<'a>(
 ) -> Result<Reading, Error>
     requires { app_of command.old ≡ the_app }
     ensures read { IfOk result (λ r. spec.asked (map string_bytes words.entry.now) ≡ r) }
+    ensures free { IfOk result (λ r. wants_help (map string_bytes words.entry.now) ≡ false) }
     ensures refused { IfErr result (λ e. kind_of e ≢ ErrorKind.OutOfMemory → spec.asked (map string_bytes words.entry.now) ≡ Reading.Refused) }
+    ensures helps { IfErr result (λ e. kind_of e ≢ ErrorKind.OutOfMemory → wants_help (map string_bytes words.entry.now) ≡ true → kind_of e ≡ ErrorKind.DisplayHelp) }
 {
     let matches = command.try_get_matches_from_mut(words)?;
     Ok(command_read(alloc, &matches)?)
 }
 
-/// What is answered to words that are refused.
+/// What is answered to words that are refused: help where that is all that they want, and else clap's complaint.
 fn told(alloc: Global, words: &[String], error: &Error) -> Result<Taken, AllocError>
-    ensures { IfOk result (λ t. spec.asked (map string_bytes words.now) ≡ Reading.Refused → Tells t (map string_bytes words.now)) }
+    ensures { IfOk result (λ t. spec.asked (map string_bytes words.now) ≡ Reading.Refused
+        → (wants_help (map string_bytes words.now) ≡ true → kind_of error.now ≡ ErrorKind.DisplayHelp)
+        → Tells t (map string_bytes words.now)) }
 {
     let text = format!(in alloc; "{error}")?;
     if !error.use_stderr() && ask_help(words) {

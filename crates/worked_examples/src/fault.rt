@@ -3,7 +3,8 @@
 //! A line of the file `faults` is `WORDS < FILE`. The words are answered to the module of the file over a source and sinks of
 //! 16 bytes a call: with each read failing in turn, which is a read fault and writes nothing to standard output; with each
 //! write to standard output failing in turn, which leaves what was written before, and is told; and with each write to
-//! standard error failing in turn, be it of the answer or of such a fault.
+//! standard error failing in turn, be it of the answer or of such a fault. A line `unread WORDS` is of words that read
+//! nothing: a read that fails changes nothing.
 
 use crate::answer::{Answer, Failing, NONE, ask_failing};
 use anyhow::Result;
@@ -84,8 +85,37 @@ fn wrong_telling(alloc: Global, words: &str, text: &[u8]) -> Result<Option<usize
     Ok(None)
 }
 
+/// Whether a read that fails changes nothing.
+fn is_unread(alloc: Global, words: &str) -> Result<bool, AllocError> {
+    let whole = ask_failing(alloc, words, b"", NONE)?;
+    let failing = ask_failing(alloc, words, b"", Failing { read: 1, ..NONE })?;
+    Ok(
+        failing.code == whole.code
+            && failing.out.as_slice() == whole.out.as_slice()
+            && failing.err.as_slice() == whole.err.as_slice(),
+    )
+}
+
+/// Writes which write faults are told otherwise.
+fn run_writes(rt: &HostRuntime, line: &str, words: &str, text: &[u8]) -> Result<()> {
+    if let Some(call) = wrong_write(rt.alloc(), words, text)? {
+        println!(rt; "{line}: write {call} otherwise")?;
+    }
+    if let Some(call) = wrong_telling(rt.alloc(), words, text)? {
+        println!(rt; "{line}: write {call} to standard error otherwise")?;
+    }
+    Ok(())
+}
+
 /// Runs the words of a line, and writes which faults are told otherwise. Whether the line has words.
 pub fn run(rt: &HostRuntime, line: &str) -> Result<bool> {
+    if let Some(words) = line.strip_prefix("unread ") {
+        if !is_unread(rt.alloc(), words)? {
+            println!(rt; "{line}: read")?;
+        }
+        run_writes(rt, line, words, b"")?;
+        return Ok(true);
+    }
     let Some((words, file)) = line.split_once(" < ") else {
         return Ok(false);
     };
@@ -93,11 +123,6 @@ pub fn run(rt: &HostRuntime, line: &str) -> Result<bool> {
     if let Some(call) = wrong_read(rt.alloc(), words, &text)? {
         println!(rt; "{line}: read {call} otherwise")?;
     }
-    if let Some(call) = wrong_write(rt.alloc(), words, &text)? {
-        println!(rt; "{line}: write {call} otherwise")?;
-    }
-    if let Some(call) = wrong_telling(rt.alloc(), words, &text)? {
-        println!(rt; "{line}: write {call} to standard error otherwise")?;
-    }
+    run_writes(rt, line, words, &text)?;
     Ok(true)
 }
