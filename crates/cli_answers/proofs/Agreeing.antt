@@ -2,11 +2,11 @@
 use Rattle.std.proofs.Common.{◌≡◌, ◌<◌, ℕ, List, length, Ok, Err, refl, subst, arith}
 use Rattle.std.specs.Prelude.{◌^◌, IfOk, Result}
 use Rattle.cli_answers.specs.Answers.{AreAgreeing, IsComparedOf, IsComparison, IsInput, options_of}
-use Rattle.cli_runs.specs.declared.verdict.Answer.{Answer}
+use Rattle.cli_compare.specs.cli_runs.declared.verdict.Answer.{Answer}
 use Rattle.cli_words.specs.declared.words.RunWords.{RunWords}
-use Rattle.compiler.specs.Lowering.{IsLowering}
-use Rattle.compiler.specs.Printed.{HasFewNames}
-use Rattle.compiler.specs.declared.lowered.Lowering.{Lowering}
+use Rattle.cli_compare.specs.compiler.Lowering.{IsLowering}
+use Rattle.cli_compare.specs.compiler.Printed.{HasFewNames}
+use Rattle.cli_compare.specs.compiler.declared.lowered.Lowering.{Lowering}
 use Rattle.cli_compare.proofs.compiler_theorem.theorem.Texts.{texts_kept}
 use Rattle.ir_base.specs.declared.status.Options.{Options}
 

@@ -3,16 +3,16 @@ use Rattle.std.proofs.Common.{◌≡◌, ℕ, Bool, List, Option, Ok, Err, subst
 use Rattle.std.specs.Prelude.{Result, IfOk}
 use Rattle.ir_base.specs.declared.status.Options.{Options}
 use Rattle.cli_answers.specs.Answers.{IsMadeOf, IsMadeOfAcceptance, IsMadeOfRefusal, IsMadeOfRules, check_answer, checked_run, options_of}
-use Rattle.cli_runs.specs.declared.verdict.Answer.{Answer}
+use Rattle.cli_compare.specs.cli_runs.declared.verdict.Answer.{Answer}
 use Rattle.cli_words.specs.declared.words.RunWords.{RunWords}
 use Rattle.rule_all.specs.Refused.{IsRefused}
 use Rattle.ir_model.specs.declared.module.Module.{Module}
-use Rattle.compiler.specs.Lowering.{IsLowering}
-use Rattle.compiler.specs.NoCoroutine.{LeavesNoCoroutine}
-use Rattle.compiler.specs.Printed.{HasFewNames, IsReadPlain}
-use Rattle.compiler.specs.declared.lowered.Lowering.{Lowering}
-use Rattle.frame_acceptance.specs.Acceptance.{IsAcceptance, IsRefusedFor}
-use Rattle.frame_acceptance.specs.declared.accepting.Acceptance.{Acceptance}
+use Rattle.cli_compare.specs.compiler.Lowering.{IsLowering}
+use Rattle.cli_compare.specs.compiler.NoCoroutine.{LeavesNoCoroutine}
+use Rattle.cli_compare.specs.compiler.Printed.{HasFewNames, IsReadPlain}
+use Rattle.cli_compare.specs.compiler.declared.lowered.Lowering.{Lowering}
+use Rattle.cli_compare.specs.frame_acceptance.Acceptance.{IsAcceptance, IsRefusedFor}
+use Rattle.cli_compare.specs.frame_acceptance.declared.accepting.Acceptance.{Acceptance}
 use Rattle.rule_modules.specs.declared.order.Refusal.{Refusal}
 use Rattle.rule_names.specs.declared.stage.Stage.{Stage}
 

@@ -1,8 +1,8 @@
 -- What a command answers to the bytes of its input.
 use Rattle.std.specs.Prelude.{◌≡◌, ℕ, Bool, true, false, not, List, max, min, codes, Some, None, Option, is_some, if◌then◌else◌, length, ◌≤◌}
 use Rattle.ir_base.specs.declared.status.Options.{Options}
-use Rattle.cli_runs.specs.declared.verdict.Answer.{Answer}
-use Rattle.cli_runs.specs.declared.verdict.Verdict.{Verdict}
+use Rattle.cli_compare.specs.cli_runs.declared.verdict.Answer.{Answer}
+use Rattle.cli_compare.specs.cli_runs.declared.verdict.Verdict.{Verdict}
 use Rattle.cli_words.specs.declared.words.Form.{Form}
 use Rattle.cli_words.specs.declared.words.RunWords.{RunWords}
 use Rattle.cli_words.specs.declared.words.Words.{Words}
@@ -12,20 +12,20 @@ use Rattle.text_parser.specs.Parse.{read_module}
 use Rattle.text_parser.specs.declared.text.Parsed.{Parsed}
 use Rattle.text_printer.specs.Items.{module_text}
 use Rattle.cli_compare.specs.Compared.{IsCompared}
-use Rattle.compiler.specs.Lowering.{IsLowering, OfLowered}
+use Rattle.cli_compare.specs.compiler.Lowering.{IsLowering, OfLowered}
 use Rattle.cli_compare.specs.compiler_theorem.theorem.Texts.{AgreeInRuns}
 use Rattle.text_canonical.specs.grammar.Bytes.{AreBytes}
-use Rattle.compiler.specs.NoCoroutine.{LeavesNoCoroutine}
-use Rattle.compiler.specs.Printed.{HasFewNames, IsReadPlain}
-use Rattle.compiler.specs.declared.lowered.Lowered.{Lowered}
-use Rattle.compiler.specs.declared.lowered.Lowering.{Lowering}
+use Rattle.cli_compare.specs.compiler.NoCoroutine.{LeavesNoCoroutine}
+use Rattle.cli_compare.specs.compiler.Printed.{HasFewNames, IsReadPlain}
+use Rattle.cli_compare.specs.compiler.declared.lowered.Lowered.{Lowered}
+use Rattle.cli_compare.specs.compiler.declared.lowered.Lowering.{Lowering}
 use Rattle.rule_all.specs.Refused.{IsRefused}
-use Rattle.frame_acceptance.specs.Acceptance.{IsAcceptance, IsRefusedFor}
-use Rattle.frame_acceptance.specs.declared.accepting.Acceptance.{Acceptance}
+use Rattle.cli_compare.specs.frame_acceptance.Acceptance.{IsAcceptance, IsRefusedFor}
+use Rattle.cli_compare.specs.frame_acceptance.declared.accepting.Acceptance.{Acceptance}
 use Rattle.cli_gen.specs.Generated.{generated_module}
 use Rattle.rule_modules.specs.declared.order.Refusal.{Refusal}
 use Rattle.rule_names.specs.declared.stage.Stage.{Stage}
-use Rattle.cli_runs.specs.Runs.{shown, refused, syntax_fault, entry_call, not_callable, run_module, sizes_of, source_or, run_framed}
+use Rattle.cli_compare.specs.cli_runs.Runs.{shown, refused, syntax_fault, entry_call, not_callable, run_module, sizes_of, source_or, run_framed}
 
 -- ---- lower
 

@@ -8,3 +8,6 @@ mod answers;
 mod text;
 
 pub use answers::compare_lowered;
+pub use cli_runs as cli_runs_library;
+pub use compiler as compiler_library;
+pub use compiler::frame_acceptance_library;

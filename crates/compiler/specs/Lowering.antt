@@ -1,6 +1,7 @@
 -- The passes in a row.
 use Rattle.std.specs.Prelude.{ℕ, Bool, List, [], map, slice_get, Some, None, Option, ◌≡◌, ◌++◌}
 use Rattle.ir_base.specs.declared.name.Name.{Name}
+use Rattle.ir_base.specs.declared.outcome.Place.{Place}
 use Rattle.ir_base.specs.declared.status.Options.{Options}
 use Rattle.pass_cleanup.specs.Cleanup.{clean_module}
 use Rattle.pass_split.specs.Parts.{split_module}
@@ -40,7 +41,11 @@ lowered_text m layouts lowered = frames_text (map (frame_line m) layouts.corouti
 
 -- ---- what the lowering of a text comes to
 
--- a source with the layouts of its frames and its framed form; no call is elided yet
+-- the calls of a source whose frames lie in their callers: none until elision is there
+abbrev pub elided_calls : Module → List Place
+elided_calls m = []
+
+-- a source with the layouts of its frames and its framed form
 abbrev pub lowered_by : Module → Layouts → Module → Lowered
 lowered_by m layouts framed =
     record {
@@ -49,7 +54,7 @@ lowered_by m layouts framed =
       source = m;
       framed = framed;
       layouts = layouts;
-      sites = [];
+      sites = elided_calls m;
     }
 
 -- an accepted source, with the layouts of its frames, is lowered: saves are written out, and frames are built

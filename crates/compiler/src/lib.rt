@@ -22,5 +22,6 @@ pub mod order;
 mod passes;
 pub mod whole;
 
+pub use frame_acceptance as frame_acceptance_library;
 pub use lowered::{Lowered, Lowering, lower, lower_module};
 pub use passes::{framed_module, lowered_module};

@@ -8,5 +8,6 @@
 mod kept;
 mod questions;
 
+pub use flow_solver as flow_solver_library;
 pub use flow_solver::Graph;
 pub use questions::reached;

@@ -3,12 +3,12 @@ use Rattle.std.proofs.Common.{◌≡◌, ℕ, zero, suc, ◌+◌, ◌<◌, ◌�
 use Rattle.std.specs.Prelude.{slice_get, if◌then◌else◌, ◌==◌}
 use Rattle.flow_blocks.specs.Edges.{block_edges, edges_of_blocks, edges_out, successors_in, successors_of}
 use Rattle.flow_blocks.proofs.Elements.{listed_append, listed_map}
-use Rattle.flow_solver.proofs.Lists.{listed_at}
-use Rattle.flow_solver.specs.Paths.{HasNodes, IsListed}
+use Rattle.flow_bits.proofs.flow_solver.Lists.{listed_at}
+use Rattle.flow_bits.specs.flow_solver.Paths.{HasNodes, IsListed}
 use Rattle.ir_model.specs.Names.{position_of}
 use Rattle.ir_model.specs.declared.module.Block.{Block}
 use Rattle.ir_model.specs.declared.module.Function.{Function}
-use Rattle.ir_paths.specs.Paths.{targets}
+use Rattle.run_step.specs.ir_paths.Paths.{targets}
 use Rattle.run_step.proofs.LabelPositions.{leading, leading-is}
 
 one_further : (v : Bool) (n m : ℕ) → n ≤ m → (if v then 0 else suc n) ≤ suc m

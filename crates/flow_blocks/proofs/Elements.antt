@@ -1,6 +1,6 @@
 -- Elements of lists that are put together or mapped.
 use Rattle.std.proofs.Common.{◌≡◌, ◌⊎◌, List, [], ◌∷◌, ◌++◌, map, refl, ap, ⊎_elim, inl, inr}
-use Rattle.flow_solver.specs.Paths.{IsListed}
+use Rattle.flow_bits.specs.flow_solver.Paths.{IsListed}
 
 pub listed_append : {X : Type 0} (y : X) (xs zs : List X) → IsListed y (xs ++ zs) → IsListed y xs ⊎ IsListed y zs
 listed_append y [] zs h = inr h

@@ -1,3 +1,4 @@
+pub use Rattle.run_step.proofs as run_step
 pub mod Elements
 pub mod Bounds
 pub mod Telling

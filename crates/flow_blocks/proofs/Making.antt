@@ -7,8 +7,8 @@ use Rattle.flow_blocks.proofs.Reached.{are_reached, asked_at, kept_of, starts_wi
 use Rattle.flow_blocks.specs.Edges.{block_edges, graph_of}
 use Rattle.flow_blocks.specs.Reach.{AreReached}
 use Rattle.flow_blocks.specs.Words.{AreMarked, AreTold}
-use Rattle.flow_solver.specs.Paths.{HasNodes, IsListed}
-use Rattle.flow_solver.specs.declared.graph.Graph.{Graph}
+use Rattle.flow_bits.specs.flow_solver.Paths.{HasNodes, IsListed}
+use Rattle.flow_bits.specs.flow_solver.declared.graph.Graph.{Graph}
 use Rattle.ir_model.specs.declared.module.Function.{Function}
 
 pub graph_has_nodes : (f : Function) (g : Graph) → g ≡ graph_of f → HasNodes g.nodes g.edges

@@ -12,8 +12,8 @@ use Rattle.flow_blocks.specs.Edges.{block_edges}
 use Rattle.flow_blocks.specs.Reach.{AreReached, IsReached}
 use Rattle.flow_blocks.specs.Reach.IsReached.{Start, Edge}
 use Rattle.flow_blocks.specs.Words.{AreMarked, AreTold, kept_word, word_at, word_of}
-use Rattle.flow_solver.proofs.Lists.{listed_at, place_of}
-use Rattle.flow_solver.specs.Paths.{IsListed}
+use Rattle.flow_bits.proofs.flow_solver.Lists.{listed_at, place_of}
+use Rattle.flow_bits.specs.flow_solver.Paths.{IsListed}
 use Rattle.ir_model.specs.declared.module.Function.{Function}
 
 abbrev pub kept_of : List Bool → List (ℕ × ℕ) → List ℕ

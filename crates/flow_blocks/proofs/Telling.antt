@@ -9,8 +9,8 @@ use Rattle.std.proofs.Math.Seq.{get_or-append_seam}
 use Rattle.std.proofs.lemmas.Option.{slice_get-get_or}
 use Rattle.flow_bits.specs.Bits.{HasBit}
 use Rattle.flow_blocks.specs.Words.{AreMarked, AreTold, word_at}
-use Rattle.flow_solver.proofs.Lists.{listed_at, listed_cases, listed_front, listed_last, set_cases, set_here, set_other}
-use Rattle.flow_solver.specs.Paths.{IsListed}
+use Rattle.flow_bits.proofs.flow_solver.Lists.{listed_at, listed_cases, listed_front, listed_last, set_cases, set_here, set_other}
+use Rattle.flow_bits.specs.flow_solver.Paths.{IsListed}
 use Rattle.run_step.proofs.LabelPositions.{slice_get-replicate}
 
 -- ---- marks

@@ -1,10 +1,10 @@
 -- The blocks of a function as a graph.
 use Rattle.std.specs.Prelude.{ℕ, List, [], map, length, slice_get, Some, None, Option, ◌+◌, ◌∷◌, ◌++◌}
-use Rattle.flow_solver.specs.declared.graph.Graph.{Graph}
+use Rattle.flow_bits.specs.flow_solver.declared.graph.Graph.{Graph}
 use Rattle.ir_model.specs.Names.{position_of}
 use Rattle.ir_model.specs.declared.module.Block.{Block}
 use Rattle.ir_model.specs.declared.module.Function.{Function}
-use Rattle.ir_paths.specs.Paths.{targets}
+use Rattle.run_step.specs.ir_paths.Paths.{targets}
 
 abbrev pub successors_in : Function → Option Block → List ℕ
 successors_in f None = []

@@ -10,7 +10,7 @@ use Rattle.ir_model.specs.declared.module.Block.{Block}
 use Rattle.ir_model.specs.declared.module.Function.{Function}
 use Rattle.ir_model.specs.declared.operand.Intrinsic.{Intrinsic}
 use Rattle.ir_model.specs.declared.operand.Operand.{Operand}
-use Rattle.ir_paths.specs.Windows.{is_number}
+use Rattle.run_step.specs.ir_paths.Windows.{is_number}
 
 -- what the suspend gives that is the last instruction
 abbrev pub suspended : List Instr → Option ℕ

@@ -2,7 +2,7 @@
 use Rattle.std.specs.Prelude.{ℕ, List, length, ◌<◌}
 use Rattle.std.specs.List.Sorted.{IsStrictlyIncreasing}
 use Rattle.flow_blocks.specs.Edges.{block_edges}
-use Rattle.flow_solver.specs.Paths.{IsListed}
+use Rattle.flow_bits.specs.flow_solver.Paths.{IsListed}
 use Rattle.ir_model.specs.declared.module.Function.{Function}
 
 -- A path leads to a block: from one of the starts, over edges between blocks to none that is avoided.

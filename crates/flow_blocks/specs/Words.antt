@@ -2,7 +2,7 @@
 use Rattle.std.specs.Prelude.{◌≡◌, ℕ, Bool, true, false, List, length, slice_get, Some, None, Option, unwrap_or, ◌<◌}
 use Rattle.std.specs.List.Sorted.{IsStrictlyIncreasing}
 use Rattle.flow_bits.specs.Bits.{HasBit}
-use Rattle.flow_solver.specs.Paths.{IsListed}
+use Rattle.flow_bits.specs.flow_solver.Paths.{IsListed}
 
 -- a mark for each node, set exactly where the node is listed
 pub record AreMarked (nodes : ℕ) (blocks : List ℕ) (marks : List Bool) : Type 0 where

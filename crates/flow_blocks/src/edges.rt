@@ -3,10 +3,10 @@
 ghost use Rattle.std.specs.Prelude.{◌≡◌, ◌∷◌, ◌++◌, IfOk, OnOk, map};
 ghost use Rattle.flow_blocks.specs.Edges.{block_edges, edges_out, graph_of, successors_of};
 ghost use Rattle.ir_model.specs.Names.{position_of};
-ghost use Rattle.ir_paths.specs.Paths.{targets};
+ghost use Rattle.run_step.specs.ir_paths.Paths.{targets};
 ghost use Rattle.run_step.specs.Tables.{HasPositions};
 
-use flow_solver::Graph;
+use flow_bits::flow_solver_library::Graph;
 use ir_base::{BlockId, Items, ValueId};
 use ir_model::{Block, Case, Function, Terminator};
 use run_step::{position, positions_of};

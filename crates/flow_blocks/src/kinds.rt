@@ -3,7 +3,7 @@
 ghost use Rattle.std.specs.Prelude.{◌≡◌};
 ghost use Rattle.flow_blocks.specs.Kinds.{is_value, kind_at, kind_of, kind_of_case, suspended};
 ghost use Rattle.std.specs.Option.{option_copied};
-ghost use Rattle.ir_paths.specs.Windows.{is_number as is_number_of};
+ghost use Rattle.run_step.specs.ir_paths.Windows.{is_number as is_number_of};
 
 use ir_base::{BlockId, ValueId};
 use ir_model::{Case, Function, Instr, Intrinsic, Operand, Terminator, result_of_call};

@@ -9,6 +9,7 @@ mod kinds;
 mod reaching;
 
 pub use edges::{block_graph, successors};
-pub use flow_solver::Graph;
+pub use flow_bits::flow_solver_library::Graph;
 pub use kinds::{EdgeKind, edge_kind};
 pub use reaching::{after_end, reach};
+pub use run_step as run_step_library;

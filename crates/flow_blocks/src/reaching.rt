@@ -5,7 +5,7 @@ ghost use Rattle.flow_bits.specs.Bits.{HasBit};
 ghost use Rattle.flow_blocks.specs.Edges.{successors_of};
 ghost use Rattle.flow_blocks.specs.Reach.{AreReached};
 ghost use Rattle.flow_blocks.specs.Words.{AreMarked, AreTold, kept_word, word_at};
-ghost use Rattle.flow_solver.specs.Paths.{IsListed};
+ghost use Rattle.flow_bits.specs.flow_solver.Paths.{IsListed};
 
 use crate::edges::{block_graph, successors};
 use flow_bits::reached;

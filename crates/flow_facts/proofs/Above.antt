@@ -2,7 +2,7 @@
 use Rattle.std.proofs.Common.{◌≡◌, ℕ, ◌+◌, ◌<◌, ◌≤◌, List, [], ◌∷◌, ◌++◌, length, take, get_or, ap, sym, ◌∙◌, subst, ⊎_elim, arith}
 use Rattle.std.specs.Prelude.{IsTrue}
 use Rattle.std.proofs.lemmas.List.{take_more}
-use Rattle.ir_paths.specs.Slots.{has_name}
+use Rattle.flow_points.specs.ir_paths.Slots.{has_name}
 use Rattle.flow_solver.proofs.Lists.{listed_at, listed_cases, place_of}
 use Rattle.flow_solver.specs.Paths.{HasNodes}
 

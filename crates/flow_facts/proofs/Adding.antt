@@ -2,7 +2,7 @@
 use Rattle.std.proofs.Common.{◌≡◌, ℕ, ◌+◌, ◌<◌, Bool, true, false, ◌||◌, List, length, take, get_or, refl, ap, sym, ◌∙◌}
 use Rattle.std.specs.List.{list_any}
 use Rattle.std.proofs.lemmas.List.Folds.{list_any_more}
-use Rattle.ir_paths.specs.Slots.{has_name}
+use Rattle.flow_points.specs.ir_paths.Slots.{has_name}
 use Rattle.flow_facts.specs.Slots.{HasMore}
 
 or-assoc : (a b c : Bool) → ((a || b) || c) ≡ (a || (b || c))

@@ -3,7 +3,7 @@ use Rattle.std.proofs.Common.{◌≡◌, ℕ, zero, suc, ◌+◌, ◌-◌, ◌<�
 use Rattle.std.specs.Prelude.{if◌then◌else◌, ◌==◌}
 use Rattle.std.proofs.lemmas.Bool.{false≢true, or_cases}
 use Rattle.std.proofs.lemmas.List.Folds.{list_any-append}
-use Rattle.ir_paths.specs.Slots.{has_name}
+use Rattle.flow_points.specs.ir_paths.Slots.{has_name}
 
 -- ---- chains of pairs
 

@@ -7,9 +7,9 @@ use Rattle.ir_model.specs.declared.instr.Instr.{Instr}
 use Rattle.ir_model.specs.declared.module.Block.{Block}
 use Rattle.ir_model.specs.declared.module.Function.{Function}
 use Rattle.ir_model.specs.declared.operand.Operand.{Operand}
-use Rattle.ir_paths.proofs.Search.{either, eq_from, eq_itself, or_left, or_right}
-use Rattle.ir_paths.specs.Slots.{addresses_of, addresses_within, geps_from, has_name, is_gep}
-use Rattle.ir_paths.specs.Windows.{points_from, points_in, points_where}
+use Rattle.flow_points.proofs.ir_paths.Search.{either, eq_from, eq_itself, or_left, or_right}
+use Rattle.flow_points.specs.ir_paths.Slots.{addresses_of, addresses_within, geps_from, has_name, is_gep}
+use Rattle.flow_points.specs.ir_paths.Windows.{points_from, points_in, points_where}
 use Rattle.flow_solver.specs.Paths.{IsListed}
 use Rattle.flow_facts.proofs.Addresses.{chained, chained-all, reached_by, stays}
 use Rattle.flow_facts.specs.Chains.{bases_by, bases_in}

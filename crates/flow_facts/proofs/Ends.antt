@@ -7,11 +7,11 @@ use Rattle.ir_model.specs.Names.{first_where, position_of}
 use Rattle.ir_model.specs.declared.module.Block.{Block}
 use Rattle.ir_model.specs.declared.module.Function.{Function}
 use Rattle.ir_model.specs.declared.operand.Intrinsic.{Intrinsic}
-use Rattle.ir_paths.proofs.Search.{either, eq_from, or_left, or_right, same_point-same}
-use Rattle.ir_paths.specs.Paths.{block_points, has_point, same_point}
-use Rattle.ir_paths.specs.Slots.{end_points, points_at}
-use Rattle.ir_paths.specs.Windows.{end_block, is_call_of}
-use Rattle.ir_paths.specs.declared.point.Point.{Point}
+use Rattle.flow_points.proofs.ir_paths.Search.{either, eq_from, or_left, or_right, same_point-same}
+use Rattle.flow_points.specs.ir_paths.Paths.{block_points, has_point, same_point}
+use Rattle.flow_points.specs.ir_paths.Slots.{end_points, points_at}
+use Rattle.flow_points.specs.ir_paths.Windows.{end_block, is_call_of}
+use Rattle.flow_points.specs.ir_paths.declared.point.Point.{Point}
 use Rattle.flow_points.proofs.Tests.{same_point-from, same_test}
 use Rattle.flow_facts.specs.Slots.{end_from}
 

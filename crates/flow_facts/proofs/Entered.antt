@@ -10,11 +10,11 @@ use Rattle.ir_model.specs.declared.instr.Instr.{Instr}
 use Rattle.ir_model.specs.declared.module.Block.{Block}
 use Rattle.ir_model.specs.declared.module.Function.{Function}
 use Rattle.ir_model.specs.declared.operand.Intrinsic.{Intrinsic}
-use Rattle.ir_paths.proofs.Search.{either, eq_from}
-use Rattle.ir_paths.specs.Paths.{entry_point, has_point, same_point}
-use Rattle.ir_paths.specs.Slots.{behind_suspends}
-use Rattle.ir_paths.specs.Windows.{destroy_label, is_call_of, label_at, label_of_term, points_from, points_in, resume_label}
-use Rattle.ir_paths.specs.declared.point.Point.{Point}
+use Rattle.flow_points.proofs.ir_paths.Search.{either, eq_from}
+use Rattle.flow_points.specs.ir_paths.Paths.{entry_point, has_point, same_point}
+use Rattle.flow_points.specs.ir_paths.Slots.{behind_suspends}
+use Rattle.flow_points.specs.ir_paths.Windows.{destroy_label, is_call_of, label_at, label_of_term, points_from, points_in, resume_label}
+use Rattle.flow_points.specs.ir_paths.declared.point.Point.{Point}
 use Rattle.flow_points.proofs.Tests.{or-false, or_assoc, place_other, place_set}
 use Rattle.flow_facts.specs.Slots.{AreEntered, entered_by, entered_with}
 

@@ -3,8 +3,8 @@ use Rattle.std.proofs.Common.{◌≡◌, ℕ, zero, suc, ◌+◌, ◌<◌, List,
 use Rattle.std.specs.Prelude.{slice_get}
 use Rattle.std.proofs.lemmas.List.{take_more}
 use Rattle.ir_model.specs.declared.module.Function.{Function}
-use Rattle.ir_paths.specs.Facts.{AreFactsOf}
-use Rattle.ir_paths.specs.declared.point.Facts.{Facts}
+use Rattle.flow_points.specs.ir_paths.Facts.{AreFactsOf}
+use Rattle.flow_points.specs.ir_paths.declared.point.Facts.{Facts}
 use Rattle.flow_facts.specs.HaveFacts.{HaveFacts}
 
 each-put : (xs : List Function) (ys : List Facts) (x : Function) (y : Facts) → length ys ≡ length xs → ((k : ℕ) (f : Function) (o : Facts) → slice_get xs k ≡ Some f → slice_get ys k ≡ Some o → AreFactsOf f o) → AreFactsOf x y →

@@ -3,8 +3,8 @@ use Rattle.std.proofs.Common.{◌≡◌, ℕ, ◌+◌, ◌<◌, false, List, [],
 use Rattle.std.specs.Prelude.{slice_get, if◌then◌else◌, ◌==◌}
 use Rattle.ir_model.specs.declared.instr.Instr.{Instr}
 use Rattle.ir_model.specs.declared.module.Block.{Block}
-use Rattle.ir_paths.specs.Windows.{is_suspend_of, points_from, points_in}
-use Rattle.ir_paths.specs.declared.point.Point.{Point}
+use Rattle.flow_points.specs.ir_paths.Windows.{is_suspend_of, points_from, points_in}
+use Rattle.flow_points.specs.ir_paths.declared.point.Point.{Point}
 use Rattle.flow_facts.specs.Tokens.{is_token, or_head}
 use Rattle.flow_facts.proofs.Points.{one_point, points_from-more, points_in-more}
 

@@ -7,11 +7,11 @@ use Rattle.ir_model.specs.declared.instr.Instr.{Instr}
 use Rattle.ir_model.specs.declared.module.Block.{Block}
 use Rattle.ir_model.specs.declared.module.Function.{Function}
 use Rattle.ir_model.specs.declared.operand.Intrinsic.{Intrinsic}
-use Rattle.ir_paths.proofs.Search.{Has, both, either, eq_from, eq_itself, has_append, has_left, has_right, or_left, or_right, same_point-itself, same_point-same}
-use Rattle.ir_paths.specs.Paths.{has_point, same_point}
-use Rattle.ir_paths.specs.Slots.{IsRampSlot, addresses_of, allocas_of, exposed_in_block, has_name, is_escaped, is_promise, occurs, promise_of, touches}
-use Rattle.ir_paths.specs.Windows.{instr_at, instr_in, is_call_of, points_from, points_in, points_where}
-use Rattle.ir_paths.specs.declared.point.Point.{Point}
+use Rattle.flow_points.proofs.ir_paths.Search.{Has, both, either, eq_from, eq_itself, has_append, has_left, has_right, or_left, or_right, same_point-itself, same_point-same}
+use Rattle.flow_points.specs.ir_paths.Paths.{has_point, same_point}
+use Rattle.flow_points.specs.ir_paths.Slots.{IsRampSlot, addresses_of, allocas_of, exposed_in_block, has_name, is_escaped, is_promise, occurs, promise_of, touches}
+use Rattle.flow_points.specs.ir_paths.Windows.{instr_at, instr_in, is_call_of, points_from, points_in, points_where}
+use Rattle.flow_points.specs.ir_paths.declared.point.Point.{Point}
 use Rattle.flow_facts.proofs.Owning.{own_by}
 use Rattle.flow_facts.specs.Chains.{AreLedBack, LeadsTo, has_lowest}
 use Rattle.flow_facts.specs.Slots.{AreBehind, AreKeeping, AreRampSlots, HasMore, KeepsSlot, is_own, own_in, touched_at, touched_by}

@@ -6,8 +6,8 @@ use Rattle.std.proofs.lemmas.Nat.Bits.{bit_at-zero}
 use Rattle.flow_bits.specs.Bits.{HasBit}
 use Rattle.flow_bits.specs.Reaching.{AnswersAt, Reaches, StartAt}
 use Rattle.ir_model.specs.declared.module.Function.{Function}
-use Rattle.ir_paths.proofs.Search.{eq_from, eq_itself}
-use Rattle.ir_paths.specs.Slots.{has_name}
+use Rattle.flow_points.proofs.ir_paths.Search.{eq_from, eq_itself}
+use Rattle.flow_points.specs.ir_paths.Slots.{has_name}
 use Rattle.flow_solver.proofs.Lists.{listed_at, place_of}
 use Rattle.flow_solver.specs.Paths.{HasNodes, IsListed}
 use Rattle.flow_facts.proofs.Above.{AreBelow}

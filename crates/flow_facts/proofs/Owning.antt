@@ -4,7 +4,7 @@ use Rattle.std.specs.Prelude.{filter, flat_map}
 use Rattle.std.proofs.lemmas.List.Elements.{filter-append}
 use Rattle.ir_model.specs.declared.instr.Instr.{Instr}
 use Rattle.ir_model.specs.declared.module.Block.{Block}
-use Rattle.ir_paths.specs.Slots.{allocas_in}
+use Rattle.flow_points.specs.ir_paths.Slots.{allocas_in}
 use Rattle.flow_facts.specs.Slots.{is_own, own_in}
 
 allocas_in_cons : (i : Instr) (is : List Instr) → allocas_in (i ∷ is) ≡ allocas_in (i ∷ []) ++ allocas_in is

@@ -5,8 +5,8 @@ use Rattle.std.proofs.lemmas.Bool.{false≢true}
 use Rattle.std.proofs.lemmas.List.{append-nil, get_or_default}
 use Rattle.ir_model.specs.declared.instr.Instr.{Instr}
 use Rattle.ir_model.specs.declared.module.Block.{Block}
-use Rattle.ir_paths.specs.Windows.{points_from, points_in}
-use Rattle.ir_paths.specs.declared.point.Point.{Point}
+use Rattle.flow_points.specs.ir_paths.Windows.{points_from, points_in}
+use Rattle.flow_points.specs.ir_paths.declared.point.Point.{Point}
 
 pub take-all : {A : Type 0} (xs : List A) (i : ℕ) → length xs ≤ i → take i xs ≡ xs
 take-all [] zero le = refl

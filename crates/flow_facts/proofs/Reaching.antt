@@ -3,10 +3,10 @@ use Rattle.std.proofs.Common.{◌≡◌, ℕ, zero, suc, ◌+◌, Bool, true, fa
 use Rattle.std.specs.Prelude.{flat_map, not, if◌then◌else◌}
 use Rattle.std.proofs.lemmas.Bool.{false≢true}
 use Rattle.ir_model.specs.declared.module.Function.{Function}
-use Rattle.ir_paths.proofs.Search.{Has, both, either, has_append, has_left, has_right, or_left, or_right, same_point-itself, same_point-same}
-use Rattle.ir_paths.specs.Paths.{has_point, same_point}
-use Rattle.ir_paths.specs.Slots.{IsBehindSuspend, behind_suspends, end_points}
-use Rattle.ir_paths.specs.declared.point.Point.{Point}
+use Rattle.flow_points.proofs.ir_paths.Search.{Has, both, either, has_append, has_left, has_right, or_left, or_right, same_point-itself, same_point-same}
+use Rattle.flow_points.specs.ir_paths.Paths.{has_point, same_point}
+use Rattle.flow_points.specs.ir_paths.Slots.{IsBehindSuspend, behind_suspends, end_points}
+use Rattle.flow_points.specs.ir_paths.declared.point.Point.{Point}
 use Rattle.flow_points.proofs.Tests.{point-is}
 use Rattle.flow_points.specs.Reached.{AreReached, IsReached}
 use Rattle.flow_facts.proofs.Entered.{behind-first, mark_at}

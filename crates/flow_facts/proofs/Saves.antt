@@ -7,9 +7,9 @@ use Rattle.std.proofs.lemmas.List.Elements.{filter_map-append}
 use Rattle.ir_model.specs.declared.instr.Instr.{Instr}
 use Rattle.ir_model.specs.declared.module.Block.{Block}
 use Rattle.ir_model.specs.declared.module.Function.{Function}
-use Rattle.ir_paths.specs.Windows.{call_result, instr_at, is_suspend_of, points_from, points_in, points_where, suspend_of}
-use Rattle.ir_paths.specs.declared.point.Point.{Point}
-use Rattle.ir_paths.specs.declared.point.Window.{Window}
+use Rattle.flow_points.specs.ir_paths.Windows.{call_result, instr_at, is_suspend_of, points_from, points_in, points_where, suspend_of}
+use Rattle.flow_points.specs.ir_paths.declared.point.Point.{Point}
+use Rattle.flow_points.specs.ir_paths.declared.point.Window.{Window}
 
 abbrev pub with_suspend : Function → Point → Option (Point × Point)
 with_suspend f save = option_map (λ suspend. (save, suspend)) (suspend_of f save)

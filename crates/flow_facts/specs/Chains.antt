@@ -5,7 +5,7 @@ use Rattle.ir_model.specs.declared.instr.Instr.{Instr}
 use Rattle.ir_model.specs.declared.module.Block.{Block}
 use Rattle.ir_model.specs.declared.module.Function.{Function}
 use Rattle.ir_model.specs.declared.operand.Operand.{Operand}
-use Rattle.ir_paths.specs.Slots.{addresses_of, has_name}
+use Rattle.flow_points.specs.ir_paths.Slots.{addresses_of, has_name}
 
 -- the result of each getelementptr of a local, with that local
 abbrev pub bases_in : List Instr → List (ℕ × ℕ)

@@ -6,10 +6,10 @@ use Rattle.ir_model.specs.declared.instr.Instr.{Instr}
 use Rattle.ir_model.specs.declared.module.Block.{Block}
 use Rattle.ir_model.specs.declared.module.Function.{Function}
 use Rattle.ir_model.specs.declared.operand.Intrinsic.{Intrinsic}
-use Rattle.ir_paths.specs.Paths.{has_point}
-use Rattle.ir_paths.specs.Slots.{IsBehindSuspend, IsRampSlot, allocas_in, allocas_of, behind_suspends, end_points, exposed_in_block, has_name, occurs}
-use Rattle.ir_paths.specs.Windows.{instr_at, is_call_of, label_of_term}
-use Rattle.ir_paths.specs.declared.point.Point.{Point}
+use Rattle.flow_points.specs.ir_paths.Paths.{has_point}
+use Rattle.flow_points.specs.ir_paths.Slots.{IsBehindSuspend, IsRampSlot, allocas_in, allocas_of, behind_suspends, end_points, exposed_in_block, has_name, occurs}
+use Rattle.flow_points.specs.ir_paths.Windows.{instr_at, is_call_of, label_of_term}
+use Rattle.flow_points.specs.ir_paths.declared.point.Point.{Point}
 use Rattle.flow_facts.specs.Chains.{has_lowest}
 
 -- just those of the allocas that are a ramp's alone

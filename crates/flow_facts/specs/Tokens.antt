@@ -4,8 +4,8 @@ use Rattle.std.specs.HashMap.{HashMap, get}
 use Rattle.std.specs.declared.hash.BuildHasherDefault.{BuildHasherDefault}
 use Rattle.std.specs.declared.hash.FoldHasher.{FoldHasher}
 use Rattle.ir_model.specs.declared.module.Function.{Function}
-use Rattle.ir_paths.specs.Windows.{is_suspend_of, points_where}
-use Rattle.ir_paths.specs.declared.point.Point.{Point}
+use Rattle.flow_points.specs.ir_paths.Windows.{is_suspend_of, points_where}
+use Rattle.flow_points.specs.ir_paths.declared.point.Point.{Point}
 
 abbrev pub is_token : ℕ → Option ℕ → Bool
 is_token t None = false

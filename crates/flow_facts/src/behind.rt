@@ -2,17 +2,17 @@
 
 ghost use Rattle.std.specs.Prelude.{◌≡◌, ◌++◌, ◌∷◌, [], IfOk, OnOk, false, flat_map, replicate, true};
 ghost use Rattle.std.specs.List.{list_any};
-ghost use Rattle.ir_paths.specs.Paths.{has_point, block_points as block_points_of};
-ghost use Rattle.ir_paths.specs.Slots.{end_points as end_points_of};
-ghost use Rattle.ir_paths.specs.Windows.{end_block as end_block_of, is_call_of as is_call, label_in as label_in_cases, label_of_term as label_of_terminator};
+ghost use Rattle.flow_points.specs.ir_paths.Paths.{has_point, block_points as block_points_of};
+ghost use Rattle.flow_points.specs.ir_paths.Slots.{end_points as end_points_of};
+ghost use Rattle.flow_points.specs.ir_paths.Windows.{end_block as end_block_of, is_call_of as is_call, label_in as label_in_cases, label_of_term as label_of_terminator};
 ghost use Rattle.flow_facts.specs.Slots.{AreBehind, AreEntered, end_from, entered_by, entered_with, outside_if, firsts_from};
 ghost use Rattle.flow_points.specs.Reached.{IsGraphOf};
 
 use flow_points::PointGraph;
+use flow_points::ir_paths_library::Point;
 use ir_base::{BlockId, Items, ValueId};
 use ir_calls::{is_call_of, is_number};
 use ir_model::{Block, Case, Function, Instr, Intrinsic, Terminator};
-use ir_paths::Point;
 use std::alloc::{AllocError, Global};
 
 fn has_call(intrinsic: Intrinsic, instrs: &[Instr]) -> bool

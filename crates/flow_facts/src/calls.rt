@@ -1,12 +1,12 @@
 //! The calls of an intrinsic.
 
 ghost use Rattle.std.specs.Prelude.{◌≡◌, ◌++◌, IfOk, OnOk, map};
-ghost use Rattle.ir_paths.specs.Windows.{is_call_of as is_call_of_intrinsic, points_from, points_where};
+ghost use Rattle.flow_points.specs.ir_paths.Windows.{is_call_of as is_call_of_intrinsic, points_from, points_where};
 
+use flow_points::ir_paths_library::Point;
 use ir_base::{BlockId, Items};
 use ir_calls::is_call_of;
 use ir_model::{Function, Instr, Intrinsic};
-use ir_paths::Point;
 use std::alloc::{AllocError, Global};
 
 fn push_calls(

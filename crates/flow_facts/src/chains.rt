@@ -2,7 +2,7 @@
 
 ghost use Rattle.std.specs.Prelude.{◌≡◌, ◌<◌, ◌≤◌, ◌++◌, ◌∷◌, ℕ, [], IfOk, IsTrue, OnOk, map, replicate};
 ghost use Rattle.flow_solver.specs.Paths.{HasNodes};
-ghost use Rattle.ir_paths.specs.Slots.{has_name};
+ghost use Rattle.flow_points.specs.ir_paths.Slots.{has_name};
 ghost use Rattle.flow_facts.specs.Chains.{AreLedBack, bases_by, bases_in, has_lowest};
 
 use flow_bits::{Graph, reached};

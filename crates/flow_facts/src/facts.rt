@@ -1,15 +1,15 @@
 //! The facts about paths of a module's functions.
 
 ghost use Rattle.std.specs.Prelude.{IfOk};
-ghost use Rattle.ir_paths.specs.Facts.{AreFactsOf};
+ghost use Rattle.flow_points.specs.ir_paths.Facts.{AreFactsOf};
 ghost use Rattle.flow_facts.specs.HaveFacts.{HaveFacts};
 
 use crate::slots::slots_by;
 use crate::windows::windows_of;
 use flow_points::PointGraph;
+use flow_points::ir_paths_library::Facts;
 use ir_base::Items;
 use ir_model::Function;
-use ir_paths::Facts;
 use std::alloc::{AllocError, Global};
 
 /// The facts about paths of a function: the windows of its saves, and its ramp slots.

@@ -3,16 +3,16 @@
 ghost use Rattle.std.specs.Prelude.{◌≡◌, ◌||◌, ℕ, IfOk, OnOk};
 ghost use Rattle.std.specs.List.{list_any};
 ghost use Rattle.ir_model.specs.Names.{is_local};
-ghost use Rattle.ir_paths.specs.Slots.{exposed_in_block, exposes, has_name, is_in_args, is_memcpy as is_memcpy_callee, is_no_use as is_no_use_callee, occurs, occurs_in_phi, occurs_in_term};
+ghost use Rattle.flow_points.specs.ir_paths.Slots.{exposed_in_block, exposes, has_name, is_in_args, is_memcpy as is_memcpy_callee, is_no_use as is_no_use_callee, occurs, occurs_in_phi, occurs_in_term};
 ghost use Rattle.flow_facts.specs.Slots.{HasMore, touched_at};
 
 use crate::windows::instr_at;
+use flow_points::ir_paths_library::Point;
 use ir_base::{Items, ValueId};
 use ir_calls::is_call_of;
 use ir_model::{
     Arg, Block, Callee, Function, Incoming, Instr, Intrinsic, Operand, Phi, Terminator,
 };
-use ir_paths::Point;
 use std::alloc::{AllocError, Global};
 
 fn push_local(operand: &Operand, names: &mut Items<ValueId>) -> Result<(), AllocError>

@@ -2,8 +2,8 @@
 //! frame).
 
 ghost use Rattle.std.specs.Prelude.{◌≡◌, ◌++◌, ◌∷◌, [], IfOk, OnOk, flat_map};
-ghost use Rattle.ir_paths.specs.Slots.{local_of as local_of_operand, promise_of as promise_of_function};
-ghost use Rattle.ir_paths.specs.Windows.{call_operand};
+ghost use Rattle.flow_points.specs.ir_paths.Slots.{local_of as local_of_operand, promise_of as promise_of_function};
+ghost use Rattle.flow_points.specs.ir_paths.Windows.{call_operand};
 ghost use Rattle.flow_facts.specs.Slots.{AreKeeping, AreRampSlots, is_own, own_in};
 ghost use Rattle.flow_points.specs.Reached.{IsGraphOf};
 

@@ -3,13 +3,13 @@
 ghost use Rattle.std.specs.Prelude.{◌≡◌, ◌==◌, ℕ, IfOk, OnOk, Some, [], ◌∷◌, if◌then◌else◌};
 ghost use Rattle.std.specs.HashMap.{get};
 ghost use Rattle.ir_model.specs.Names.{is_local};
-ghost use Rattle.ir_paths.specs.Windows.{is_suspend_of, operand_at, points_from};
+ghost use Rattle.flow_points.specs.ir_paths.Windows.{is_suspend_of, operand_at, points_from};
 ghost use Rattle.flow_facts.specs.Tokens.{FindsSuspends, is_token, or_head};
 
+use flow_points::ir_paths_library::Point;
 use ir_base::{BlockId, ValueId};
 use ir_calls::is_call_of;
 use ir_model::{Arg, Function, Instr, Intrinsic, Operand};
-use ir_paths::Point;
 use std::alloc::{AllocError, Global};
 use std::collections::HashMap;
 

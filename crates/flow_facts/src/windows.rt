@@ -1,18 +1,18 @@
 //! The windows of a function's saves.
 
 ghost use Rattle.std.specs.Prelude.{◌≡◌, ◌==◌, All, IfOk, OnOk, MatchOption, None, Some, map, option_and_then};
-ghost use Rattle.ir_paths.specs.Facts.{IsWindow};
-ghost use Rattle.ir_paths.specs.Windows.{call_result as result_of_call, instr_at as instr_at_point, saves_of, suspend_of as suspend_of_save};
+ghost use Rattle.flow_points.specs.ir_paths.Facts.{IsWindow};
+ghost use Rattle.flow_points.specs.ir_paths.Windows.{call_result as result_of_call, instr_at as instr_at_point, saves_of, suspend_of as suspend_of_save};
 ghost use Rattle.flow_facts.specs.Tokens.{FindsSuspends};
 ghost use Rattle.flow_points.specs.Reached.{IsGraphOf};
 
 use crate::calls::points_of_calls;
 use crate::tokens::{Tokens, tokens_of};
 use flow_points::PointGraph;
+use flow_points::ir_paths_library::{Point, Window};
 use ir_base::{Items, ValueId};
 use ir_calls::call_result;
 use ir_model::{Function, Instr, Intrinsic};
-use ir_paths::{Point, Window};
 use std::alloc::{AllocError, Global};
 
 /// The instruction at a point, where there is one.

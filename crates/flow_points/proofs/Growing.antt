@@ -6,7 +6,7 @@ use Rattle.std.proofs.lemmas.List.{append-nil}
 use Rattle.ir_paths.specs.Paths.{has_point, same_point}
 use Rattle.ir_paths.specs.declared.point.Point.{Point}
 use Rattle.ir_paths.proofs.Search.{same_point-same}
-use Rattle.ir_model.specs.declared.module.Function.{Function}
+use Rattle.ir_paths.specs.ir_model.declared.module.Function.{Function}
 use Rattle.flow_points.specs.Rows.{AreInside, AreMarked, is_inside, is_marked, with_mark}
 use Rattle.flow_points.specs.Search.{IsGrown, adjoins, adjoins_any}
 use Rattle.flow_points.specs.declared.direction.Direction.{Direction}

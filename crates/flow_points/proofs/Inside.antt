@@ -3,7 +3,7 @@ use Rattle.std.proofs.Common.{◌≡◌, ℕ, ◌+◌, ◌<◌, Bool, true, fals
 use Rattle.std.specs.Prelude.{filter, map, not, if◌then◌else◌}
 use Rattle.std.proofs.lemmas.Bool.{and_from, and_parts, false≢true, not-true}
 use Rattle.std.proofs.lemmas.List.{take_more}
-use Rattle.ir_model.specs.declared.module.Function.{Function}
+use Rattle.ir_paths.specs.ir_model.declared.module.Function.{Function}
 use Rattle.ir_paths.specs.Paths.{IsPath, Leads, has_point, nexts, same_point}
 use Rattle.ir_paths.specs.Windows.{IsInWindow}
 use Rattle.ir_paths.specs.declared.point.Point.{Point}

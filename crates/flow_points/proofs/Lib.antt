@@ -1,3 +1,4 @@
+pub use Rattle.ir_paths.proofs as ir_paths
 pub mod LabelPositions
 pub mod Tests
 pub mod Marking

@@ -3,7 +3,7 @@ use Rattle.std.proofs.Common.{◌≡◌, ℕ, zero, suc, ◌+◌, ◌<◌, ◌�
 use Rattle.std.specs.Prelude.{map, not, nat_lt, slice_get, slice_set, unwrap_or}
 use Rattle.std.proofs.lemmas.Bool.{false≢true, cases_eq, cases_lt, ltb-true, lt-ltb}
 use Rattle.std.proofs.lemmas.List.{length-replicate, length-set, map-append, take_more}
-use Rattle.ir_model.specs.declared.module.Block.{Block}
+use Rattle.ir_paths.specs.ir_model.declared.module.Block.{Block}
 use Rattle.ir_paths.specs.Paths.{has_point, same_point}
 use Rattle.ir_paths.specs.declared.point.Point.{Point}
 use Rattle.ir_paths.proofs.Search.{same_point-same}

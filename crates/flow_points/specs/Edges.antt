@@ -1,7 +1,7 @@
 -- What the tables of a function's edges say.
 use Rattle.std.specs.Prelude.{ℕ, List, map, length, IsTrue, slice_get, Some, ◌≡◌, ◌<◌, ◌&&◌, ◌||◌}
-use Rattle.ir_model.specs.Names.{position_of}
-use Rattle.ir_model.specs.declared.module.Function.{Function}
+use Rattle.ir_paths.specs.ir_model.Names.{position_of}
+use Rattle.ir_paths.specs.ir_model.declared.module.Function.{Function}
 use Rattle.ir_paths.specs.Paths.{entry_point, has_point, nexts, same_point, targets}
 use Rattle.ir_paths.specs.declared.point.Point.{Point}
 use Rattle.flow_points.specs.Rows.{row_at}

@@ -1,6 +1,6 @@
 -- What a graph of points tells of paths.
 use Rattle.std.specs.Prelude.{List, map, length, IsTrue, ◌≡◌, ◌↔◌}
-use Rattle.ir_model.specs.declared.module.Function.{Function}
+use Rattle.ir_paths.specs.ir_model.declared.module.Function.{Function}
 use Rattle.ir_paths.specs.Paths.{Leads, has_point}
 use Rattle.ir_paths.specs.Windows.{IsInWindow}
 use Rattle.ir_paths.specs.declared.point.Point.{Point}

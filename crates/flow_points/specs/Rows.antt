@@ -1,6 +1,6 @@
 -- Marks of points, in a row for each block.
 use Rattle.std.specs.Prelude.{not, ℕ, Bool, false, List, [], map, length, IsTrue, nat_lt, slice_get, slice_set, unwrap_or, ◌≡◌, ◌+◌, ◌&&◌, ◌||◌, ◌∷◌, ◌++◌}
-use Rattle.ir_model.specs.declared.module.Function.{Function}
+use Rattle.ir_paths.specs.ir_model.declared.module.Function.{Function}
 use Rattle.ir_paths.specs.Paths.{has_point}
 use Rattle.ir_paths.specs.declared.point.Point.{Point}
 

@@ -1,6 +1,6 @@
 -- What a search does, in either direction.
 use Rattle.std.specs.Prelude.{true, false, not, ℕ, Bool, List, [], map, length, IsTrue, IsFalse, ◌≡◌, ◌↔◌, ◌+◌, ◌||◌, ◌∷◌, ◌++◌, if◌then◌else◌}
-use Rattle.ir_model.specs.declared.module.Function.{Function}
+use Rattle.ir_paths.specs.ir_model.declared.module.Function.{Function}
 use Rattle.ir_paths.specs.Paths.{has_point, nexts}
 use Rattle.ir_paths.specs.declared.point.Point.{Point}
 use Rattle.flow_points.specs.Rows.{AreMarked, is_marked}

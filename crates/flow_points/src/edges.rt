@@ -1,16 +1,16 @@
 //! The edges of a function, block by block.
 
 ghost use Rattle.std.specs.Prelude.{◌≡◌, ◌<◌, ◌&&◌, ◌||◌, ◌++◌, ◌∷◌, ℕ, [], IfOk, OnOk, IsTrue, length, map, replicate};
-ghost use Rattle.ir_model.specs.Names.{position_of};
+ghost use Rattle.ir_paths.specs.ir_model.Names.{position_of};
 ghost use Rattle.ir_paths.specs.Paths.{entry_point, has_point, nexts, same_point, targets};
 ghost use Rattle.ir_paths.specs.declared.point.Point.{Point as ThePoint};
 ghost use Rattle.flow_points.specs.Edges.{AreEntries, AreFiled, AreIncoming, HasPositions, outgoing_of};
 ghost use Rattle.flow_points.specs.Rows.{row_at};
 
 use crate::labels::{position, positions_of};
-use ir_base::{BlockId, Items, ValueId};
-use ir_model::{Case, Function, Terminator};
 use ir_paths::Point;
+use ir_paths::ir_base_library::{BlockId, Items, ValueId};
+use ir_paths::ir_model_library::{Case, Function, Terminator};
 use std::alloc::{AllocError, Global};
 
 /// Where the blocks of labels stand; for each block the points to which its terminator leads; and for each block, and for

@@ -9,9 +9,9 @@ use crate::direction::Direction;
 use crate::edges::{Edges, edges_of, entry_of};
 use crate::marks::Marks;
 use crate::trail::follow;
-use ir_base::{Items, ValueId};
-use ir_model::Function;
 use ir_paths::Point;
+use ir_paths::ir_base_library::{Items, ValueId};
+use ir_paths::ir_model_library::Function;
 use std::alloc::{AllocError, Global};
 
 /// Adds the points beside the starts.

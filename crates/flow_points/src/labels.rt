@@ -2,11 +2,11 @@
 
 ghost use Rattle.std.specs.Prelude.{◌≡◌, IfOk, length, nat_eq, replicate};
 ghost use Rattle.std.specs.Option.{unwrap_or};
-ghost use Rattle.ir_model.specs.Names.{position_of, first_where};
+ghost use Rattle.ir_paths.specs.ir_model.Names.{position_of, first_where};
 ghost use Rattle.flow_points.specs.Edges.{HasPositions};
 
-use ir_base::{BlockId, Items, ValueId};
-use ir_model::{Block, Function};
+use ir_paths::ir_base_library::{BlockId, Items, ValueId};
+use ir_paths::ir_model_library::{Block, Function};
 use std::alloc::{AllocError, Global};
 
 /// The position of the first of the blocks that has a label, or, where none has it, the position behind the last.

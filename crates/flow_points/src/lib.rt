@@ -12,3 +12,4 @@ mod marks;
 mod trail;
 
 pub use graph::PointGraph;
+pub use ir_paths as ir_paths_library;

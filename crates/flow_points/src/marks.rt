@@ -4,9 +4,9 @@ ghost use Rattle.std.specs.Prelude.{◌≡◌, ◌||◌, ◌&&◌, ◌+◌, ◌+
 ghost use Rattle.ir_paths.specs.Paths.{has_point};
 ghost use Rattle.flow_points.specs.Rows.{AreBlank, AreCleared, AreJoined, is_marked, sizes_of, with_mark};
 
-use ir_base::Items;
-use ir_model::Function;
 use ir_paths::Point;
+use ir_paths::ir_base_library::Items;
+use ir_paths::ir_model_library::Function;
 use std::alloc::{AllocError, Global};
 use std::marker::Model;
 

@@ -9,8 +9,8 @@ ghost use Rattle.flow_points.specs.Search.{IsGrown, adjoins};
 use crate::direction::Direction;
 use crate::edges::{Edges, row_of};
 use crate::marks::Marks;
-use ir_model::Function;
 use ir_paths::Point;
+use ir_paths::ir_model_library::Function;
 use std::alloc::AllocError;
 
 /// Adds a point, if it isn't there.

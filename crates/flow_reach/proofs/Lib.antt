@@ -1,3 +1,4 @@
+pub use Rattle.flow_blocks.proofs as flow_blocks
 pub mod Bits
 pub mod Stepping
 pub mod Each

@@ -1,2 +1,3 @@
+pub use Rattle.flow_blocks.specs as flow_blocks
 pub mod Reached
 pub mod Rows

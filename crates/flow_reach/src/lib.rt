@@ -9,6 +9,7 @@ mod question;
 mod reach;
 mod row;
 
+pub use flow_blocks as flow_blocks_library;
 pub use flow_solver::Graph;
 pub use question::{Pass, Passes};
 pub use reach::reached_points;

@@ -1,6 +1,6 @@
 pub use Rattle.frame_slots.proofs as frame_slots
 pub use Rattle.flow_reach.proofs as flow_reach
-pub use Rattle.flow_blocks.proofs as flow_blocks
+pub use Rattle.flow_reach.proofs.flow_blocks as flow_blocks
 pub mod Flips
 pub mod Zips
 pub mod Shapes

@@ -1,7 +1,7 @@
 -- What questions about paths require.
 use Rattle.std.proofs.Common.{◌≡◌, ℕ, zero, suc, ◌+◌, ◌<◌, List, [], ◌∷◌, length, map, refl, sym, ap, ◌∙◌, subst, ⊎_elim, inl, inr, arith}
 use Rattle.std.specs.Prelude.{◌⊎◌, slice_get, Some}
-use Rattle.flow_blocks.proofs.Bounds.{position_bounded}
+use Rattle.flow_reach.proofs.flow_blocks.Bounds.{position_bounded}
 use Rattle.flow_solver.specs.Paths.{IsListed}
 use Rattle.ir_model.specs.declared.module.Block.{Block}
 use Rattle.ir_model.specs.declared.module.Function.{Function}

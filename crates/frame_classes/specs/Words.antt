@@ -1,6 +1,6 @@
 -- The words of a chunk of slots: what puts them into the frame.
 use Rattle.std.specs.Prelude.{ℕ, Bool, List, [], bit_and, bit_or, ◌≡◌, Option, Some, None}
-use Rattle.flow_blocks.specs.Edges.{graph_of}
+use Rattle.flow_reach.specs.flow_blocks.Edges.{graph_of}
 use Rattle.ir_model.specs.declared.module.Function.{Function}
 use Rattle.ir_model.specs.declared.operand.Intrinsic.{Intrinsic}
 use Rattle.ir_paths.specs.Slots.{promise_of}

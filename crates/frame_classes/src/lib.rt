@@ -14,8 +14,7 @@ mod ways;
 
 pub use answer::classes;
 pub use class::SlotClass;
-pub use flow_blocks as flow_blocks_library;
 pub use flow_reach as flow_reach_library;
+pub use flow_reach::flow_blocks_library;
 pub use frame_slots as frame_slots_library;
-pub use frame_slots::rule_windows_library;
-pub use rule_shape as rule_shape_library;
+pub use frame_slots::{rule_shape_library, rule_windows_library};

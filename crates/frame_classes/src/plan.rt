@@ -1,7 +1,7 @@
 //! What is found of a function once, for all its slots.
 
 ghost use Rattle.std.specs.Prelude.{◌≡◌, ◌||◌, IfOk, OnOk};
-ghost use Rattle.flow_blocks.specs.Edges.{graph_of};
+ghost use Rattle.flow_reach.specs.flow_blocks.Edges.{graph_of};
 ghost use Rattle.ir_model.specs.declared.operand.Intrinsic.{Intrinsic as TheIntrinsic};
 ghost use Rattle.ir_paths.specs.Paths.{has_point};
 ghost use Rattle.ir_paths.specs.Slots.{local_of as local_of_operand, promise_of as promise_of_function};
@@ -17,17 +17,17 @@ ghost use Rattle.frame_slots.specs.rule_windows.Sets.{AreThose};
 
 use crate::rows::{Rows, block_words, call_rows, cleared, joined, passes_by, set_rows};
 use crate::ways::{edge_fronts, way_fronts, ways_of};
-use flow_blocks::{Graph, block_graph};
 use flow_points::PointGraph;
+use flow_reach::flow_blocks_library::{Graph, block_graph};
 use flow_reach::{Passes, reached_points};
 use frame_slots::flow_facts_library::windows_of;
+use frame_slots::rule_shape_library::end_block;
 use frame_slots::rule_windows_library::{PointSet, instr_at, points_where};
 use frame_slots::{EdgeWord, Mark, PhiUse, mark_rows, phi_uses};
 use ir_base::{BlockId, Items, ValueId};
 use ir_calls::{CallOf, operand_of};
 use ir_model::{Function, Instr, Intrinsic, Operand};
 use ir_paths::{Point, Window};
-use rule_shape::end_block;
 use std::alloc::{AllocError, Global};
 
 /// What is found of a function once, for all its slots.

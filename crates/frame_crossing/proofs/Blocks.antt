@@ -3,8 +3,8 @@ use Rattle.std.proofs.Common.{◌≡◌, ℕ, zero, suc, ◌+◌, ◌⊎◌, Boo
 use Rattle.std.specs.Prelude.{option_to_list, slice_get, ◌==◌}
 use Rattle.std.proofs.lemmas.List.{length-append}
 use Rattle.std.proofs.lemmas.Option.{slice_get_past}
-use Rattle.flow_blocks.proofs.Elements.{listed_append, listed_map, map_listed}
-use Rattle.flow_blocks.specs.Edges.{block_edges, edges_of_blocks, edges_out}
+use Rattle.rule_uses.proofs.flow_blocks.Elements.{listed_append, listed_map, map_listed}
+use Rattle.rule_uses.specs.flow_blocks.Edges.{block_edges, edges_of_blocks, edges_out}
 use Rattle.rule_uses.specs.Uses.{block_values, made_by_instrs, phi_values, values_at, values_in}
 use Rattle.flow_solver.proofs.Lists.{listed_front}
 use Rattle.flow_solver.specs.Paths.{IsListed}

@@ -2,9 +2,9 @@
 use Rattle.std.proofs.Common.{◌≡◌, ℕ, ◌+◌, ◌%◌, ◌<◌, List, ◌∷◌, ◌++◌, length, map, replicate, Some, Option, sym, ap, ◌∙◌, subst, ⊎_elim, arith}
 use Rattle.std.specs.Prelude.{filter, reverse, slice_get, slice_set}
 use Rattle.flow_bits.specs.Reaching.{AnswersAt, StartAt}
-use Rattle.flow_blocks.proofs.Bounds.{edge_bounded}
-use Rattle.flow_blocks.proofs.Elements.{listed_append, listed_map}
-use Rattle.flow_blocks.specs.Edges.{block_edges, graph_of}
+use Rattle.rule_uses.proofs.flow_blocks.Bounds.{edge_bounded}
+use Rattle.rule_uses.proofs.flow_blocks.Elements.{listed_append, listed_map}
+use Rattle.rule_uses.specs.flow_blocks.Edges.{block_edges, graph_of}
 use Rattle.rule_uses.specs.Questions.{all_bits, block_word}
 use Rattle.flow_solver.proofs.Lists.{listed_at}
 use Rattle.flow_solver.specs.Paths.{HasNodes, IsListed}
@@ -28,7 +28,7 @@ made_within f g word made edges starts is edges_are starts_are i node w at =
     subst (λ (x : Graph). node < x.nodes) (sym is) (⊎_elim
     (λ e. let first = ap (λ (p : ℕ × ℕ). p.0) e in omega (arith, first))
     (λ later.
-    let found = listed_map (λ (e : ℕ × ℕ). (e.1, Rattle.flow_blocks.specs.Words.word_at made e.0)) (node, w) edges later in
+    let found = listed_map (λ (e : ℕ × ℕ). (e.1, Rattle.rule_uses.specs.flow_blocks.Words.word_at made e.0)) (node, w) edges later in
     let edge : IsListed (found.0.0, found.0.1) (block_edges f) = subst (λ (l : List (ℕ × ℕ)). IsListed (found.0.0, found.0.1) l) (edges_are ∙ ap (λ (x : Graph). x.edges) is) found.1.0 in
     let lt = (edge_bounded f found.0.0 found.0.1 edge).1 in
     let same = ap (λ (p : ℕ × ℕ). p.0) found.1.1 in

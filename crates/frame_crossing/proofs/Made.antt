@@ -4,7 +4,7 @@ use Rattle.std.specs.Prelude.{bit_or, option_map, option_to_list, slice_get, sli
 use Rattle.std.proofs.lemmas.Bool.{cases_lt}
 use Rattle.std.proofs.lemmas.Option.{slice_get-map, slice_get_past}
 use Rattle.flow_bits.specs.Bits.{HasBit}
-use Rattle.flow_blocks.specs.Words.{word_at}
+use Rattle.rule_uses.specs.flow_blocks.Words.{word_at}
 use Rattle.rule_uses.specs.Questions.{block_word, instrs_word, phis_word, result_word, value_word}
 use Rattle.rule_uses.specs.Uses.{block_values, local_of, locals_in, made_by_instrs, made_by_phis, phi_values, values_at, values_in}
 use Rattle.flow_solver.proofs.Lists.{set_here, set_other}

@@ -7,11 +7,11 @@ use Rattle.std.proofs.lemmas.Option.{slice_get_within}
 use Rattle.flow_bits.specs.Bits.{HasBit}
 use Rattle.flow_bits.specs.Reaching.{AnswersAt, Reaches}
 use Rattle.flow_bits.specs.Reaching.Reaches.{Start, Edge}
-use Rattle.flow_blocks.proofs.Bounds.{edge_bounded}
-use Rattle.flow_blocks.proofs.Elements.{listed_map, map_listed}
-use Rattle.flow_blocks.proofs.Reached.{word_within}
-use Rattle.flow_blocks.specs.Edges.{block_edges}
-use Rattle.flow_blocks.specs.Words.{word_at}
+use Rattle.rule_uses.proofs.flow_blocks.Bounds.{edge_bounded}
+use Rattle.rule_uses.proofs.flow_blocks.Elements.{listed_map, map_listed}
+use Rattle.rule_uses.proofs.flow_blocks.Reached.{word_within}
+use Rattle.rule_uses.specs.flow_blocks.Edges.{block_edges}
+use Rattle.rule_uses.specs.flow_blocks.Words.{word_at}
 use Rattle.rule_uses.specs.Questions.{all_bits, block_word}
 use Rattle.rule_uses.specs.Undefined.{params_of}
 use Rattle.rule_uses.specs.Uses.{phi_values, values_at}

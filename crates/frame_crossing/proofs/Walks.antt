@@ -1,7 +1,7 @@
 -- Paths of points as paths of blocks.
 use Rattle.std.proofs.Common.{◌≡◌, ℕ, ◌+◌, ◌⊎◌, List, [], ◌∷◌, ◌++◌, length, Some, None, Option, refl, sym, ap, ◌∙◌, subst, ⊎_elim, inl, inr}
 use Rattle.std.specs.Prelude.{slice_get}
-use Rattle.flow_blocks.specs.Edges.{block_edges}
+use Rattle.rule_uses.specs.flow_blocks.Edges.{block_edges}
 use Rattle.rule_uses.specs.Uses.{locals_in, phi_values, values_at}
 use Rattle.flow_solver.specs.Paths.{IsListed}
 use Rattle.ir_parts.specs.Contents.{ending_operands, instr_operands, result_of}

@@ -1,8 +1,8 @@
 -- Words of 64 values: what blocks make and use, and what comes of it at the suspends.
 use Rattle.std.specs.Prelude.{ℕ, Bool, true, false, List, [], length, map, reverse, slice_get, slice_set, Some, Option, unwrap_or, filter, bit_and, bit_or, bit_xor, ◌≡◌, ◌+◌, ◌/◌, ◌%◌, ◌==◌, ◌∷◌, ◌++◌}
 use Rattle.flow_bits.specs.Bits.{HasBit}
-use Rattle.flow_blocks.specs.Edges.{block_edges, graph_of}
-use Rattle.flow_blocks.specs.Words.{word_at}
+use Rattle.rule_uses.specs.flow_blocks.Edges.{block_edges, graph_of}
+use Rattle.rule_uses.specs.flow_blocks.Words.{word_at}
 use Rattle.rule_uses.specs.Questions.{IsNumbering, all_bits, has_bit, phis_word, result_word, value_word}
 use Rattle.rule_uses.specs.Uses.{local_of}
 use Rattle.flow_solver.specs.Paths.{IsListed}

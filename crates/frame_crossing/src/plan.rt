@@ -9,12 +9,12 @@ ghost use Rattle.frame_crossing.specs.Words.{IsPlanOf, turned};
 
 use crate::edge_use::EdgeUse;
 use crate::edges::{EdgeSet, edge_set};
-use flow_blocks::{Graph, block_graph};
 use ir_base::{BlockId, Items, ValueId};
 use ir_calls::is_number;
 use ir_model::{Block, Case, Function, Incoming, Operand, Phi, Terminator};
 use ir_parts::next;
 use rule_shape::end_block;
+use rule_uses::flow_blocks_library::{Graph, block_graph};
 use run_step::{position, positions_of};
 use std::alloc::{AllocError, Global};
 

@@ -1,7 +1,7 @@
 //! Words of what stands in a function's text: a bit for each value of a chunk of 64.
 
 ghost use Rattle.std.specs.Prelude.{◌≡◌, ◌<◌, ◌++◌, IfOk, IfSome, map};
-ghost use Rattle.flow_blocks.specs.Words.{word_at as word_of_node};
+ghost use Rattle.rule_uses.specs.flow_blocks.Words.{word_at as word_of_node};
 ghost use Rattle.rule_uses.specs.Questions.{bit_of as bit_of_value, block_word as word_of_block, has_bit as has_bit_of, instrs_word as word_of_instrs, phis_word as word_of_phis, result_word as word_with, value_word as word_of_value};
 ghost use Rattle.ir_parts.specs.Contents.{arg_operands, callee_operands, ending_operands, instr_operands, result_of as result_of_instr};
 ghost use Rattle.frame_crossing.specs.Words.{block_open as open_of_block, open_word as word_of_open, operands_word, params_word as word_of_params, without as without_bits};

@@ -7,7 +7,7 @@ use Rattle.ir_paths.specs.Slots.{addresses_of, end_points, has_name}
 use Rattle.ir_paths.specs.declared.point.Point.{Point}
 use Rattle.rule_slots.specs.Early.{end_at}
 use Rattle.frame_slots.specs.Uses.{UsesAt, starts_of}
-use Rattle.rule_windows.specs.Windows.{own_edges}
+use Rattle.rule_slots.specs.rule_windows.Windows.{own_edges}
 use Rattle.rule_window_values.specs.Kept.{TakesFrom, front, own_blocks}
 
 -- where something of a slot stands: at a point, or, as what a phi takes, on the edge from one block to another

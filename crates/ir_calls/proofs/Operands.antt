@@ -1,8 +1,8 @@
 -- Operands by their positions.
 use Rattle.std.proofs.Common.{◌≡◌, ℕ, zero, suc, List, [], ◌∷◌, refl}
 use Rattle.std.specs.Prelude.{Option, Some, None, slice_get}
-use Rattle.ir_model.specs.declared.operand.Arg.{Arg}
-use Rattle.ir_model.specs.declared.operand.Operand.{Operand}
+use Rattle.ir_paths.specs.ir_model.declared.operand.Arg.{Arg}
+use Rattle.ir_paths.specs.ir_model.declared.operand.Operand.{Operand}
 use Rattle.ir_paths.specs.Windows.{operand_at}
 
 abbrev pub value_or_none : Option Arg → Operand

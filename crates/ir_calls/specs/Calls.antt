@@ -1,12 +1,12 @@
 -- The calls of a coroutine's intrinsics.
 use Rattle.std.specs.Prelude.{ℕ, Bool, true, false, List, [], find, Some, None, Option, option_and_then, pos, negsuc, ◌∷◌, ◌==◌}
-use Rattle.ir_model.specs.Names.{is_local}
-use Rattle.ir_model.specs.declared.instr.Instr.{Instr}
-use Rattle.ir_model.specs.declared.module.Block.{Block}
-use Rattle.ir_model.specs.declared.module.Function.{Function}
-use Rattle.ir_model.specs.declared.operand.Arg.{Arg}
-use Rattle.ir_model.specs.declared.operand.Intrinsic.{Intrinsic}
-use Rattle.ir_model.specs.declared.operand.Operand.{Operand}
+use Rattle.ir_paths.specs.ir_model.Names.{is_local}
+use Rattle.ir_paths.specs.ir_model.declared.instr.Instr.{Instr}
+use Rattle.ir_paths.specs.ir_model.declared.module.Block.{Block}
+use Rattle.ir_paths.specs.ir_model.declared.module.Function.{Function}
+use Rattle.ir_paths.specs.ir_model.declared.operand.Arg.{Arg}
+use Rattle.ir_paths.specs.ir_model.declared.operand.Intrinsic.{Intrinsic}
+use Rattle.ir_paths.specs.ir_model.declared.operand.Operand.{Operand}
 use Rattle.ir_paths.specs.Windows.{call_operand, call_result, is_call_of, operand_at}
 
 abbrev pub or_instr : Option Instr → Option Instr → Option Instr

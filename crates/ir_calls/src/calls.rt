@@ -1,13 +1,15 @@
 //! The calls of a coroutine's intrinsics.
 
 ghost use Rattle.std.specs.Prelude.{◌≡◌, Bool, MatchOption, None, Some, slice_get};
-ghost use Rattle.ir_model.specs.declared.operand.Operand.{Operand as TheOperand};
-ghost use Rattle.ir_model.specs.declared.instr.Instr.{Instr as TheInstr};
+ghost use Rattle.ir_paths.specs.ir_model.declared.operand.Operand.{Operand as TheOperand};
+ghost use Rattle.ir_paths.specs.ir_model.declared.instr.Instr.{Instr as TheInstr};
 ghost use Rattle.ir_paths.specs.Windows.{is_number, is_call_of as is_call, call_result as result_of, operand_at as operand_in};
 ghost use Rattle.ir_calls.specs.Calls.{first_call_in, first_call_by, first_call as first_call_to, value_of_first as first_value, is_value as is_the_value, is_null as is_null_operand, is_true as is_true_operand, is_second_true, is_final};
 
-use ir_base::ValueId;
-use ir_model::{Arg, Block, Callee, Function, Instr, Intrinsic, Operand, is_same_intrinsic};
+use ir_paths::ir_base_library::ValueId;
+use ir_paths::ir_model_library::{
+    Arg, Block, Callee, Function, Instr, Intrinsic, Operand, is_same_intrinsic,
+};
 
 /// A test of instructions.
 pub trait InstrTest: Sized {

@@ -1,3 +1,4 @@
+pub use Rattle.ir_base.specs as ir_base
 pub mod Ty
 pub mod TypeView
 pub mod TypeFalls

@@ -14,6 +14,7 @@ mod table;
 
 pub use calls::{is_same_intrinsic, result_of_call};
 pub use instr::{Case, Incoming, Instr, Phi, Terminator};
+pub use ir_base as ir_base_library;
 pub use ir_type::{IntWidth, IrType, Node};
 pub use module::{Block, Declaration, Frame, Function, GlobalItem, Module, Param, TypeItem};
 pub use names::numbered_name;

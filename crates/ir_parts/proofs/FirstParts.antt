@@ -1,7 +1,7 @@
 -- The first part of two lists, one behind the other.
 use Rattle.std.proofs.Common.{◌≡◌, ℕ, ◌+◌, sym, Bool, true, false, List, [], ◌∷◌, ◌++◌, refl, ap, ◌∙◌}
 use Rattle.std.specs.Prelude.{Option, Some, None}
-use Rattle.ir_base.specs.declared.outcome.Place.{Place}
+use Rattle.ir_model.specs.ir_base.declared.outcome.Place.{Place}
 use Rattle.ir_model.specs.declared.module.Block.{Block}
 use Rattle.ir_parts.specs.Parts.{Part, block_parts, blocks_parts, first_in_blocks, first_part, or_place, place_if}
 

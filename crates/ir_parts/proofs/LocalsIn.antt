@@ -1,6 +1,6 @@
 -- The locals of two lists of parts, one behind the other.
 use Rattle.std.proofs.Common.{◌≡◌, ℕ, ◌+◌, true, length, List, [], ◌∷◌, ◌++◌, refl, ap, sym, ◌∙◌, append_assoc}
-use Rattle.ir_base.specs.declared.outcome.Place.{Place}
+use Rattle.ir_model.specs.ir_base.declared.outcome.Place.{Place}
 use Rattle.ir_parts.specs.Parts.{Part, Ending, block_parts, block_place, blocks_parts, instr_parts, instr_place, phi_parts}
 use Rattle.ir_parts.specs.declared.defined.Definition.{Definition}
 use Rattle.ir_model.specs.declared.module.Block.{Block}

@@ -1,6 +1,6 @@
 -- The types, operands and labels that stand in the parts of a function, and the names that they define.
 use Rattle.std.specs.Prelude.{ℕ, Bool, true, false, List, [], map, Some, None, Option, option_to_list, ◌∷◌, ◌++◌}
-use Rattle.ir_base.specs.declared.outcome.Place.{Place}
+use Rattle.ir_model.specs.ir_base.declared.outcome.Place.{Place}
 use Rattle.ir_parts.specs.Parts.{Part, Signature, Head, OfPhi, OfInstr, Ending}
 use Rattle.ir_model.specs.Ty.{Ty}
 use Rattle.ir_model.specs.declared.instr.Instr.{Instr}

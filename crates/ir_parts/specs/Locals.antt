@@ -1,6 +1,6 @@
 -- The locals that a function defines, in order of the text.
 use Rattle.std.specs.Prelude.{ℕ, Bool, true, false, List, [], map, ◌+◌, ◌∷◌, ◌++◌}
-use Rattle.ir_base.specs.declared.outcome.Place.{Place}
+use Rattle.ir_model.specs.ir_base.declared.outcome.Place.{Place}
 use Rattle.ir_parts.specs.Contents.{part_locals}
 use Rattle.ir_parts.specs.Parts.{Part, Signature, Head, OfPhi, OfInstr, Ending, block_parts, parts_of}
 use Rattle.ir_parts.specs.declared.defined.Definition.{Definition}

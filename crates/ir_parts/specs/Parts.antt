@@ -1,7 +1,7 @@
 -- The parts of a function in order of the text, each with its place, and the first of them that breaks a rule.
 use Rattle.std.specs.Prelude.{ℕ, Bool, true, false, List, [], length, Some, None, Option, ◌+◌, ◌∷◌, ◌++◌, if◌then◌else◌}
-use Rattle.ir_base.specs.declared.outcome.Item.{Item}
-use Rattle.ir_base.specs.declared.outcome.Place.{Place}
+use Rattle.ir_model.specs.ir_base.declared.outcome.Item.{Item}
+use Rattle.ir_model.specs.ir_base.declared.outcome.Place.{Place}
 use Rattle.ir_model.specs.declared.instr.Instr.{Instr}
 use Rattle.ir_model.specs.declared.instr.Phi.{Phi}
 use Rattle.ir_model.specs.declared.instr.Terminator.{Terminator}

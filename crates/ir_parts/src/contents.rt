@@ -7,7 +7,7 @@ ghost use Rattle.ir_model.specs.declared.operand.Operand.{Operand as TheOperand}
 ghost use Rattle.ir_parts.specs.Parts.{Signature};
 ghost use Rattle.ir_parts.specs.Contents.{arg_types, instr_types, ending_types, part_types, return_types, arg_operands, callee_operands, instr_operands, ending_operands, return_operands, ending_labels};
 
-use ir_base::ValueId;
+use ir_model::ir_base_library::ValueId;
 use ir_model::{Arg, Callee, Case, Function, Incoming, Instr, IrType, Operand, Param, Terminator};
 use std::alloc::AllocError;
 

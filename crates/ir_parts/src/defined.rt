@@ -6,7 +6,7 @@ ghost use Rattle.ir_parts.specs.Contents.{result_of as result_of_instr};
 ghost use Rattle.ir_parts.specs.Locals.{local_at, locals_at, locals_in, locals_in_blocks, locals_of as locals_of_function};
 
 use crate::rule::{block_place, function_place, instr_place, next};
-use ir_base::{BlockId, FuncId, Items, Place, ValueId};
+use ir_model::ir_base_library::{BlockId, FuncId, Items, Place, ValueId};
 use ir_model::{Block, Function, Instr, Param, Phi};
 use std::alloc::{AllocError, Global};
 

@@ -14,6 +14,7 @@ pub use contents::{
     signature_types_pass, types_pass,
 };
 pub use defined::{Definition, locals_of, result_of};
+pub use ir_model as ir_model_library;
 pub use rule::{
     FunctionRule, block_place, first_part, function_place, instr_place, item_place, next,
 };

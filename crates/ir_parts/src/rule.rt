@@ -1,10 +1,10 @@
 //! Rules on the parts of functions.
 
 ghost use Rattle.std.specs.Prelude.{◌≡◌, ◌+◌, ◌∷◌, [], ℕ, Bool, length, IfOk};
-ghost use Rattle.ir_base.specs.declared.outcome.Place.{Place as ThePlace};
+ghost use Rattle.ir_model.specs.ir_base.declared.outcome.Place.{Place as ThePlace};
 ghost use Rattle.ir_parts.specs.Parts.{Part, Signature, Head, OfPhi, OfInstr, Ending, item_place as item_place_of, function_place as function_place_of, block_place as block_place_of, instr_place as instr_place_of, phi_parts, instr_parts, block_parts, blocks_parts, parts_of, first_part as first_part_of, first_in_blocks as first_in_blocks_of};
 
-use ir_base::{BlockId, FuncId, Item, Place};
+use ir_model::ir_base_library::{BlockId, FuncId, Item, Place};
 use ir_model::{Block, Function, Instr, Phi, Terminator};
 use std::alloc::AllocError;
 

@@ -6,5 +6,7 @@
 mod law;
 mod point;
 
+pub use ir_model as ir_model_library;
+pub use ir_model::ir_base_library;
 pub use law::facts_are_right;
 pub use point::{Facts, Point, Window};

@@ -1,6 +1,6 @@
 //! Points of a function, and what the machines know of its paths beforehand.
 
-use ir_base::{BlockId, Items, ValueId};
+use ir_model::ir_base_library::{BlockId, Items, ValueId};
 
 /// An instruction of a block, or behind the last of them its terminator. Phis aren't counted: they are taken with the
 /// branch that enters their block.

@@ -2,9 +2,9 @@
 use Rattle.std.proofs.Common.{◌≡◌, ℕ, zero, suc, ◌+◌, ◌<◌, Bool, true, false, cond, ◌&&◌, List, [], ◌∷◌, length, take, get_or, refl, ap, sym, ◌∙◌, arith, Option, Some, None, inl, inr}
 use Rattle.std.proofs.lemmas.Bool.{eqb-true, eq-eqb, false≢true}
 use Rattle.std.specs.Prelude.{option_map, if◌then◌else◌, ◌==◌, slice_get, ◌++◌, ◌⊎◌}
-use Rattle.ir_base.specs.declared.name.Name.{Name}
-use Rattle.ir_base.specs.declared.name.Name.TheVariants.{Number, Text}
-use Rattle.ir_base.specs.contracts.name.NamePartialEq.TheImpl.{eq-value}
+use Rattle.ir_model.specs.ir_base.declared.name.Name.{Name}
+use Rattle.ir_model.specs.ir_base.declared.name.Name.TheVariants.{Number, Text}
+use Rattle.ir_model.specs.ir_base.contracts.name.NamePartialEq.TheImpl.{eq-value}
 use Rattle.std.specs.Map.{lookup}
 use Rattle.std.specs.Cmp.Lexicographic.{pointwise}
 use Rattle.ir_model.specs.Names.{first_where, same_name, same_text}

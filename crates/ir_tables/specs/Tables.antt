@@ -1,6 +1,6 @@
 -- What a table of names says.
 use Rattle.std.specs.Prelude.{ℕ, Bool, true, false, List, Some, None, Option, ◌≡◌}
-use Rattle.ir_base.specs.declared.name.Name.{Name}
+use Rattle.ir_model.specs.ir_base.declared.name.Name.{Name}
 use Rattle.indexmap.specs.IndexMap.{IndexMap, get}
 use Rattle.ir_model.specs.Names.{first_where, same_name}
 

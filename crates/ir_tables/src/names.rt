@@ -5,8 +5,8 @@ ghost use Rattle.ir_model.specs.Names.{first_where, same_name, function_named, d
 ghost use Rattle.ir_tables.specs.Tables.{FindsFirst};
 
 use crate::table::{NameTable, find, table_of};
-use ir_base::{FuncId, Name};
 use ir_model::Module;
+use ir_model::ir_base_library::{FuncId, Name};
 use std::alloc::{AllocError, Global};
 
 /// A module with tables of the names of its items. Of two items of one kind and name the first counts.

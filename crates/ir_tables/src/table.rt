@@ -1,13 +1,13 @@
 //! Tables of names.
 
 ghost use Rattle.std.specs.Prelude.{◌≡◌, IfOk, OnOk};
-ghost use Rattle.ir_base.specs.declared.name.Name.{Name as TheName};
+ghost use Rattle.ir_model.specs.ir_base.declared.name.Name.{Name as TheName};
 ghost use Rattle.ir_tables.specs.Tables.{FindsFirst, or_at};
 ghost use Rattle.ir_model.specs.Names.{same_name};
 ghost use Rattle.indexmap.specs.IndexMap.{get};
 
 use indexmap::IndexMap;
-use ir_base::{Data, Name};
+use ir_model::ir_base_library::{Data, Name};
 use ir_model::{Declaration, Function, GlobalItem, TypeItem};
 use std::alloc::{AllocError, Global};
 

@@ -10,16 +10,16 @@ use Rattle.pass_elide_proof.specs.Match.{is_given_mode, sides, was_given}
 use Rattle.pass_elide_proof.specs.Places.{instrs_of}
 use Rattle.pass_elide_proof.specs.Placing.{IsQuiet}
 use Rattle.pass_elide_proof.specs.Shapes.{AsksForFrame}
-use Rattle.pass_proofs.proofs.ir_laws.facts.Lists.{get_within}
-use Rattle.pass_proofs.proofs.ir_laws.facts.Truth.{either}
-use Rattle.pass_proofs.specs.ir_model.Names.{position_of}
-use Rattle.pass_proofs.specs.ir_model.declared.instr.Phi.{Phi}
-use Rattle.pass_proofs.specs.ir_model.declared.module.Function.{Function}
-use Rattle.pass_proofs.specs.ir_model.declared.operand.Operand.{Operand}
-use Rattle.pass_proofs.specs.run_laws.changed.Changed.{Each}
-use Rattle.pass_proofs.specs.run_source.declared.state.State.{State}
-use Rattle.pass_proofs.specs.run_step.Step.{incoming_from}
-use Rattle.pass_proofs.specs.run_step.Values.{Env}
+use Rattle.pass_elide_proof.proofs.pass_proofs.ir_laws.facts.Lists.{get_within}
+use Rattle.pass_elide_proof.proofs.pass_proofs.ir_laws.facts.Truth.{either}
+use Rattle.pass_elide_proof.specs.pass_proofs.ir_model.Names.{position_of}
+use Rattle.pass_elide_proof.specs.pass_proofs.ir_model.declared.instr.Phi.{Phi}
+use Rattle.pass_elide_proof.specs.pass_proofs.ir_model.declared.module.Function.{Function}
+use Rattle.pass_elide_proof.specs.pass_proofs.ir_model.declared.operand.Operand.{Operand}
+use Rattle.pass_elide_proof.specs.pass_proofs.run_laws.changed.Changed.{Each}
+use Rattle.pass_elide_proof.specs.pass_proofs.run_source.declared.state.State.{State}
+use Rattle.pass_elide_proof.specs.pass_proofs.run_step.Step.{incoming_from}
+use Rattle.pass_elide_proof.specs.pass_proofs.run_step.Values.{Env}
 
 -- ---- lists
 

@@ -17,34 +17,34 @@ use Rattle.pass_elide_proof.specs.Elision.{Elision, elided_code, function_in, fu
 use Rattle.pass_elide_proof.specs.Places.{Rooms, allocas_ahead, instrs_in, instrs_of}
 use Rattle.pass_elide_proof.specs.PlacingStates.{BeginsInCoroutines, IsKnownState}
 use Rattle.pass_elide_proof.specs.StepCases.{ActsBy, LeadsTo, ended}
-use Rattle.pass_proofs.proofs.ir_laws.facts.Truth.{itself}
-use Rattle.pass_proofs.proofs.run_agreement.Runs.{running_or}
-use Rattle.pass_proofs.specs.ir_base.declared.cause.Cause.{Cause}
-use Rattle.pass_proofs.specs.ir_base.declared.outcome.Outcome.{Outcome}
-use Rattle.pass_proofs.specs.ir_base.declared.outcome.Word.{Word}
-use Rattle.pass_proofs.specs.ir_model.Names.{function_at, position_of}
-use Rattle.pass_proofs.specs.ir_model.declared.instr.Instr.{Instr}
-use Rattle.pass_proofs.specs.ir_model.declared.instr.Terminator.{Terminator}
-use Rattle.pass_proofs.specs.ir_model.declared.module.Block.{Block}
-use Rattle.pass_proofs.specs.ir_model.declared.module.Function.{Function}
-use Rattle.pass_proofs.specs.ir_paths.declared.point.Point.{Point}
-use Rattle.pass_proofs.specs.run_agreement.Machines.{IsFine, IsRunning, iterate}
-use Rattle.pass_proofs.specs.run_framed.Framed.{FramedGiven, alloca_from, continue_framed, disown_given, enter_after, framed_context, framed_finish, framed_slot, framed_state_at, framed_step, is_stack_block, reentry_values}
-use Rattle.pass_proofs.specs.run_laws.changed.Changed.{Each}
-use Rattle.pass_proofs.specs.run_memory.Memory.{disown}
-use Rattle.pass_proofs.specs.run_memory.declared.pointer.Pointer.{Pointer}
-use Rattle.pass_proofs.specs.run_memory.declared.pointer.Value.{Value}
-use Rattle.pass_proofs.specs.run_source.Source.{Sleeper, change_own, finish, first_state, if_let_go, pop, push, release, resumed, return, returned, sleeper_at, sleeper_of}
-use Rattle.pass_proofs.specs.run_source.State.{began_at, frame_address_of, function_of, instance_at, own_instance, settled, with_memory, with_slots, with_status, work_of}
-use Rattle.pass_proofs.specs.run_source.declared.state.Activation.{Activation}
-use Rattle.pass_proofs.specs.run_source.declared.state.Instance.{Instance}
-use Rattle.pass_proofs.specs.run_source.declared.state.Mode.{Mode}
-use Rattle.pass_proofs.specs.run_source.declared.state.State.{State}
-use Rattle.pass_proofs.specs.run_source.declared.state.Status.{Status}
-use Rattle.pass_proofs.specs.run_step.Results.{and_then, found}
-use Rattle.pass_proofs.specs.run_step.Step.{AtTerm, Fetched, GoTo, action_of, fetch, fetch_in, fetch_or, outcome_of, term_action}
-use Rattle.pass_proofs.specs.run_step.Values.{Env}
-use Rattle.pass_proofs.specs.run_step.declared.world.Slot.{Slot}
+use Rattle.pass_elide_proof.proofs.pass_proofs.ir_laws.facts.Truth.{itself}
+use Rattle.pass_elide_proof.proofs.pass_proofs.run_agreement.Runs.{running_or}
+use Rattle.pass_elide_proof.specs.pass_proofs.ir_base.declared.cause.Cause.{Cause}
+use Rattle.pass_elide_proof.specs.pass_proofs.ir_base.declared.outcome.Outcome.{Outcome}
+use Rattle.pass_elide_proof.specs.pass_proofs.ir_base.declared.outcome.Word.{Word}
+use Rattle.pass_elide_proof.specs.pass_proofs.ir_model.Names.{function_at, position_of}
+use Rattle.pass_elide_proof.specs.pass_proofs.ir_model.declared.instr.Instr.{Instr}
+use Rattle.pass_elide_proof.specs.pass_proofs.ir_model.declared.instr.Terminator.{Terminator}
+use Rattle.pass_elide_proof.specs.pass_proofs.ir_model.declared.module.Block.{Block}
+use Rattle.pass_elide_proof.specs.pass_proofs.ir_model.declared.module.Function.{Function}
+use Rattle.pass_elide_proof.specs.pass_proofs.ir_paths.declared.point.Point.{Point}
+use Rattle.pass_elide_proof.specs.pass_proofs.run_agreement.Machines.{IsFine, IsRunning, iterate}
+use Rattle.pass_elide_proof.specs.pass_proofs.run_framed.Framed.{FramedGiven, alloca_from, continue_framed, disown_given, enter_after, framed_context, framed_finish, framed_slot, framed_state_at, framed_step, is_stack_block, reentry_values}
+use Rattle.pass_elide_proof.specs.pass_proofs.run_laws.changed.Changed.{Each}
+use Rattle.pass_elide_proof.specs.pass_proofs.run_memory.Memory.{disown}
+use Rattle.pass_elide_proof.specs.pass_proofs.run_memory.declared.pointer.Pointer.{Pointer}
+use Rattle.pass_elide_proof.specs.pass_proofs.run_memory.declared.pointer.Value.{Value}
+use Rattle.pass_elide_proof.specs.pass_proofs.run_source.Source.{Sleeper, change_own, finish, first_state, if_let_go, pop, push, release, resumed, return, returned, sleeper_at, sleeper_of}
+use Rattle.pass_elide_proof.specs.pass_proofs.run_source.State.{began_at, frame_address_of, function_of, instance_at, own_instance, settled, with_memory, with_slots, with_status, work_of}
+use Rattle.pass_elide_proof.specs.pass_proofs.run_source.declared.state.Activation.{Activation}
+use Rattle.pass_elide_proof.specs.pass_proofs.run_source.declared.state.Instance.{Instance}
+use Rattle.pass_elide_proof.specs.pass_proofs.run_source.declared.state.Mode.{Mode}
+use Rattle.pass_elide_proof.specs.pass_proofs.run_source.declared.state.State.{State}
+use Rattle.pass_elide_proof.specs.pass_proofs.run_source.declared.state.Status.{Status}
+use Rattle.pass_elide_proof.specs.pass_proofs.run_step.Results.{and_then, found}
+use Rattle.pass_elide_proof.specs.pass_proofs.run_step.Step.{AtTerm, Fetched, GoTo, action_of, fetch, fetch_in, fetch_or, outcome_of, term_action}
+use Rattle.pass_elide_proof.specs.pass_proofs.run_step.Values.{Env}
+use Rattle.pass_elide_proof.specs.pass_proofs.run_step.declared.world.Slot.{Slot}
 
 -- ---- what is below stays
 

@@ -21,19 +21,19 @@ use Rattle.pass_elide_proof.specs.OwnSlots.{CountsSlots, HaveNoSlots}
 use Rattle.pass_elide_proof.specs.Places.{allocas_ahead}
 use Rattle.pass_elide_proof.specs.Returning.{AreFreed, HaveOwnSlots}
 use Rattle.pass_elide_proof.specs.Stepping.{IsKnownStep, fronted, steps_of}
-use Rattle.pass_proofs.proofs.ir_laws.facts.Lists.{get_before}
-use Rattle.pass_proofs.specs.ir_base.declared.outcome.Outcome.{Outcome}
-use Rattle.pass_proofs.specs.ir_model.Names.{numbered}
-use Rattle.pass_proofs.specs.ir_model.declared.instr.Instr.{Instr}
-use Rattle.pass_proofs.specs.ir_model.declared.module.Function.{Function}
-use Rattle.pass_proofs.specs.pass_fetch.Blocks.{numbered_names}
-use Rattle.pass_proofs.specs.run_agreement.Machines.{iterate}
-use Rattle.pass_proofs.specs.run_framed.Framed.{FramedGiven, framed_step}
-use Rattle.pass_proofs.specs.run_laws.access.Lines.{StandAt}
-use Rattle.pass_proofs.specs.run_source.State.{function_of}
-use Rattle.pass_proofs.specs.run_source.declared.state.Instance.{Instance}
-use Rattle.pass_proofs.specs.run_source.declared.state.State.{State}
-use Rattle.pass_proofs.specs.run_step.Step.{has_markers}
+use Rattle.pass_elide_proof.proofs.pass_proofs.ir_laws.facts.Lists.{get_before}
+use Rattle.pass_elide_proof.specs.pass_proofs.ir_base.declared.outcome.Outcome.{Outcome}
+use Rattle.pass_elide_proof.specs.pass_proofs.ir_model.Names.{numbered}
+use Rattle.pass_elide_proof.specs.pass_proofs.ir_model.declared.instr.Instr.{Instr}
+use Rattle.pass_elide_proof.specs.pass_proofs.ir_model.declared.module.Function.{Function}
+use Rattle.pass_elide_proof.specs.pass_proofs.pass_fetch.Blocks.{numbered_names}
+use Rattle.pass_elide_proof.specs.pass_proofs.run_agreement.Machines.{iterate}
+use Rattle.pass_elide_proof.specs.pass_proofs.run_framed.Framed.{FramedGiven, framed_step}
+use Rattle.pass_elide_proof.specs.pass_proofs.run_laws.access.Lines.{StandAt}
+use Rattle.pass_elide_proof.specs.pass_proofs.run_source.State.{function_of}
+use Rattle.pass_elide_proof.specs.pass_proofs.run_source.declared.state.Instance.{Instance}
+use Rattle.pass_elide_proof.specs.pass_proofs.run_source.declared.state.State.{State}
+use Rattle.pass_elide_proof.specs.pass_proofs.run_step.Step.{has_markers}
 
 names_many : (word : List ℕ) (k : ℕ) → length (numbered_names word k) ≡ k
 names_many word zero = refl

@@ -7,12 +7,12 @@ use Rattle.pass_elide_edges.specs.Keeping.{KeepsFreeing, SameOperand}
 use Rattle.pass_elide_edges.specs.WorkedFreeing.{freeing_function, freeing_shape}
 use Rattle.pass_elide_proof.specs.EdgesFreeing.{FreesAside, FreesFrame}
 use Rattle.pass_elide_proof.specs.Places.{instrs_of}
-use Rattle.pass_proofs.specs.ir_model.Ty.{ptr}
-use Rattle.pass_proofs.specs.ir_model.declared.instr.Instr.{Instr}
-use Rattle.pass_proofs.specs.ir_model.declared.operand.Allocator.{Allocator}
-use Rattle.pass_proofs.specs.ir_model.declared.operand.Callee.{Callee}
-use Rattle.pass_proofs.specs.ir_model.declared.operand.Operand.{Operand}
-use Rattle.pass_proofs.specs.ir_parts.Contents.{result_of}
+use Rattle.pass_elide_proof.specs.pass_proofs.ir_model.Ty.{ptr}
+use Rattle.pass_elide_proof.specs.pass_proofs.ir_model.declared.instr.Instr.{Instr}
+use Rattle.pass_elide_proof.specs.pass_proofs.ir_model.declared.operand.Allocator.{Allocator}
+use Rattle.pass_elide_proof.specs.pass_proofs.ir_model.declared.operand.Callee.{Callee}
+use Rattle.pass_elide_proof.specs.pass_proofs.ir_model.declared.operand.Operand.{Operand}
+use Rattle.pass_elide_proof.specs.pass_proofs.ir_parts.Contents.{result_of}
 
 pub once : (k : ℕ) (i : Instr) → slice_get (instrs_of freeing_function 1) k ≡ Some i → deals_by Dealing.Frees i ≡ true
     → k ≡ 0

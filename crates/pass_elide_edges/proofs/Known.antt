@@ -14,13 +14,13 @@ use Rattle.pass_elide_proof.specs.Placing.{KeepsPlaces}
 use Rattle.pass_elide_proof.specs.PlacingStates.{PassesBy}
 use Rattle.pass_elide_proof.specs.Statement.{AreRelated}
 use Rattle.pass_elide_proof.specs.Stepping.{IsKnownStep}
-use Rattle.pass_proofs.specs.ir_base.declared.outcome.Outcome.{Outcome}
-use Rattle.pass_proofs.specs.ir_model.declared.instr.Terminator.{Terminator}
-use Rattle.pass_proofs.specs.run_agreement.Machines.{IsFine}
-use Rattle.pass_proofs.specs.run_framed.Framed.{framed_act, framed_context, framed_step}
-use Rattle.pass_proofs.specs.run_source.State.{function_of, work_of}
-use Rattle.pass_proofs.specs.run_source.declared.state.State.{State}
-use Rattle.pass_proofs.specs.run_step.Step.{AtTerm, GoTo, fetch, term_action}
+use Rattle.pass_elide_proof.specs.pass_proofs.ir_base.declared.outcome.Outcome.{Outcome}
+use Rattle.pass_elide_proof.specs.pass_proofs.ir_model.declared.instr.Terminator.{Terminator}
+use Rattle.pass_elide_proof.specs.pass_proofs.run_agreement.Machines.{IsFine}
+use Rattle.pass_elide_proof.specs.pass_proofs.run_framed.Framed.{framed_act, framed_context, framed_step}
+use Rattle.pass_elide_proof.specs.pass_proofs.run_source.State.{function_of, work_of}
+use Rattle.pass_elide_proof.specs.pass_proofs.run_source.declared.state.State.{State}
+use Rattle.pass_elide_proof.specs.pass_proofs.run_step.Step.{AtTerm, GoTo, fetch, term_action}
 
 module _ (e : Elision) (keeps : KeepsPlaces e) (ends : KeepsEnds e) (s t : State) (r : AreRelated e s t)
     (first : EndsFramed e s) (second : EndsElided e t) (apart : StandApart e (sides s t) s.top t.top)

@@ -1,3 +1,4 @@
+pub use Rattle.pass_elide_proof.proofs as pass_elide_proof
 pub mod Choosing
 pub mod Staying
 pub mod Alike

@@ -8,9 +8,9 @@ use Rattle.pass_elide_proof.proofs.SoundSteps.{states_sound}
 use Rattle.pass_elide_proof.specs.Elision.{Elision, framed}
 use Rattle.pass_elide_proof.specs.Placing.{KeepsPlaces}
 use Rattle.pass_elide_proof.specs.Sound.{NestsNone}
-use Rattle.pass_proofs.specs.ir_base.declared.outcome.Word.{Word}
-use Rattle.pass_proofs.specs.run_framed.Framed.{framed_state_at, framed_step}
-use Rattle.pass_proofs.specs.run_source.Source.{first_state}
+use Rattle.pass_elide_proof.specs.pass_proofs.ir_base.declared.outcome.Word.{Word}
+use Rattle.pass_elide_proof.specs.pass_proofs.run_framed.Framed.{framed_state_at, framed_step}
+use Rattle.pass_elide_proof.specs.pass_proofs.run_source.Source.{first_state}
 use Rattle.run_hooks.proofs.Steps.{framed_steps, same_runs}
 use Rattle.run_hooks.specs.Hooks.{step_of}
 use Rattle.run_hooks.specs.Meanings.{framed_hooks}

@@ -10,12 +10,12 @@ use Rattle.pass_elide_proof.specs.Elision.{Elision, Shape, elided_code, framed, 
 use Rattle.pass_elide_proof.specs.Match.{sides}
 use Rattle.pass_elide_proof.specs.Placing.{HasShape, KeepsPlaces}
 use Rattle.pass_elide_proof.specs.Sound.{IsSoundState}
-use Rattle.pass_proofs.specs.ir_base.declared.outcome.Word.{Word}
-use Rattle.pass_proofs.specs.ir_model.declared.module.GlobalItem.{GlobalItem}
-use Rattle.pass_proofs.specs.run_framed.Framed.{FramedGiven}
-use Rattle.pass_proofs.specs.run_memory.declared.block.MemoryBlock.{MemoryBlock}
-use Rattle.pass_proofs.specs.run_source.Source.{first_state}
-use Rattle.pass_proofs.specs.run_step.Step.{global_block}
+use Rattle.pass_elide_proof.specs.pass_proofs.ir_base.declared.outcome.Word.{Word}
+use Rattle.pass_elide_proof.specs.pass_proofs.ir_model.declared.module.GlobalItem.{GlobalItem}
+use Rattle.pass_elide_proof.specs.pass_proofs.run_framed.Framed.{FramedGiven}
+use Rattle.pass_elide_proof.specs.pass_proofs.run_memory.declared.block.MemoryBlock.{MemoryBlock}
+use Rattle.pass_elide_proof.specs.pass_proofs.run_source.Source.{first_state}
+use Rattle.pass_elide_proof.specs.pass_proofs.run_step.Step.{global_block}
 use Rattle.run_hooks.specs.Meanings.{framed_hooks}
 use Rattle.run_slots.proofs.Meanings.{framed_keeps_slots}
 use Rattle.run_slots.proofs.Steps.{states_slotted}

@@ -6,24 +6,24 @@ use Rattle.pass_elide_proof.proofs.ReleasingActs.{goto_there}
 use Rattle.pass_elide_proof.proofs.StepCases.{leads_to, then_ok}
 use Rattle.pass_elide_proof.specs.Match.{is_given_mode}
 use Rattle.pass_elide_proof.specs.StepCases.{ActsBy, LeadsTo, ended}
-use Rattle.pass_proofs.specs.ir_base.declared.cause.Cause.{Cause}
-use Rattle.pass_proofs.specs.ir_base.declared.outcome.Outcome.{Outcome}
-use Rattle.pass_proofs.specs.ir_model.Names.{function_at, position_of}
-use Rattle.pass_proofs.specs.ir_model.declared.instr.Terminator.{Terminator}
-use Rattle.pass_proofs.specs.ir_paths.declared.point.Point.{Point}
-use Rattle.pass_proofs.specs.run_agreement.Machines.{IsFine}
-use Rattle.pass_proofs.specs.run_framed.Framed.{FramedGiven, alloca_from, disown_given, enter_after, framed_context, framed_finish, framed_slot, framed_step, is_stack_block, reentry_values}
-use Rattle.pass_proofs.specs.run_memory.Memory.{disown}
-use Rattle.pass_proofs.specs.run_memory.declared.pointer.Value.{Value}
-use Rattle.pass_proofs.specs.run_source.Source.{change_own, finish, if_let_go, let_go, may_be_freed, pop, push, release, resumed, return, returned}
-use Rattle.pass_proofs.specs.run_source.State.{frame_address_of, function_of, instance_at, own_instance, settled, with_memory, with_slots, with_status, work_of}
-use Rattle.pass_proofs.specs.run_source.declared.state.Activation.{Activation}
-use Rattle.pass_proofs.specs.run_source.declared.state.Instance.{Instance}
-use Rattle.pass_proofs.specs.run_source.declared.state.Mode.{Mode}
-use Rattle.pass_proofs.specs.run_source.declared.state.State.{State}
-use Rattle.pass_proofs.specs.run_source.declared.state.Status.{Status}
-use Rattle.pass_proofs.specs.run_step.Step.{AtTerm, Fetched, GoTo, action_of, fetch, outcome_of, term_action}
-use Rattle.pass_proofs.specs.run_step.declared.world.Slot.{Slot}
+use Rattle.pass_elide_proof.specs.pass_proofs.ir_base.declared.cause.Cause.{Cause}
+use Rattle.pass_elide_proof.specs.pass_proofs.ir_base.declared.outcome.Outcome.{Outcome}
+use Rattle.pass_elide_proof.specs.pass_proofs.ir_model.Names.{function_at, position_of}
+use Rattle.pass_elide_proof.specs.pass_proofs.ir_model.declared.instr.Terminator.{Terminator}
+use Rattle.pass_elide_proof.specs.pass_proofs.ir_paths.declared.point.Point.{Point}
+use Rattle.pass_elide_proof.specs.pass_proofs.run_agreement.Machines.{IsFine}
+use Rattle.pass_elide_proof.specs.pass_proofs.run_framed.Framed.{FramedGiven, alloca_from, disown_given, enter_after, framed_context, framed_finish, framed_slot, framed_step, is_stack_block, reentry_values}
+use Rattle.pass_elide_proof.specs.pass_proofs.run_memory.Memory.{disown}
+use Rattle.pass_elide_proof.specs.pass_proofs.run_memory.declared.pointer.Value.{Value}
+use Rattle.pass_elide_proof.specs.pass_proofs.run_source.Source.{change_own, finish, if_let_go, let_go, may_be_freed, pop, push, release, resumed, return, returned}
+use Rattle.pass_elide_proof.specs.pass_proofs.run_source.State.{frame_address_of, function_of, instance_at, own_instance, settled, with_memory, with_slots, with_status, work_of}
+use Rattle.pass_elide_proof.specs.pass_proofs.run_source.declared.state.Activation.{Activation}
+use Rattle.pass_elide_proof.specs.pass_proofs.run_source.declared.state.Instance.{Instance}
+use Rattle.pass_elide_proof.specs.pass_proofs.run_source.declared.state.Mode.{Mode}
+use Rattle.pass_elide_proof.specs.pass_proofs.run_source.declared.state.State.{State}
+use Rattle.pass_elide_proof.specs.pass_proofs.run_source.declared.state.Status.{Status}
+use Rattle.pass_elide_proof.specs.pass_proofs.run_step.Step.{AtTerm, Fetched, GoTo, action_of, fetch, outcome_of, term_action}
+use Rattle.pass_elide_proof.specs.pass_proofs.run_step.declared.world.Slot.{Slot}
 
 -- ---- where an activation is behind a step
 

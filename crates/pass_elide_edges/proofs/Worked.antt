@@ -14,18 +14,18 @@ use Rattle.pass_elide_proof.specs.Elision.{function_in, no_shape}
 use Rattle.pass_elide_proof.specs.Places.{instrs_of}
 use Rattle.pass_elide_proof.specs.Shapes.{AsksForFrame, JumpsTo}
 use Rattle.pass_elide_proof.specs.Worked.{a_caller, aside_of, the_elision, the_shape, waits_at}
-use Rattle.pass_proofs.proofs.ir_laws.facts.Truth.{and_first, and_second, equal_numbers, itself}
-use Rattle.pass_proofs.specs.flow_solver.Paths.{IsListed}
-use Rattle.pass_proofs.specs.ir_model.Names.{position_of}
-use Rattle.pass_proofs.specs.ir_model.Ty.{int, ptr}
-use Rattle.pass_proofs.specs.ir_model.declared.instr.Phi.{Phi}
-use Rattle.pass_proofs.specs.ir_model.declared.instr.Terminator.{Terminator}
-use Rattle.pass_proofs.specs.ir_model.declared.module.Block.{Block}
-use Rattle.pass_proofs.specs.ir_model.declared.module.Function.{Function}
-use Rattle.pass_proofs.specs.ir_model.declared.operand.Operand.{Operand}
-use Rattle.pass_proofs.specs.ir_paths.Paths.{targets}
-use Rattle.pass_proofs.specs.run_laws.changed.Changed.{Each}
-use Rattle.pass_proofs.specs.run_step.Step.{AtTerm, fetch, incoming_from}
+use Rattle.pass_elide_proof.proofs.pass_proofs.ir_laws.facts.Truth.{and_first, and_second, equal_numbers, itself}
+use Rattle.pass_elide_proof.specs.pass_proofs.flow_solver.Paths.{IsListed}
+use Rattle.pass_elide_proof.specs.pass_proofs.ir_model.Names.{position_of}
+use Rattle.pass_elide_proof.specs.pass_proofs.ir_model.Ty.{int, ptr}
+use Rattle.pass_elide_proof.specs.pass_proofs.ir_model.declared.instr.Phi.{Phi}
+use Rattle.pass_elide_proof.specs.pass_proofs.ir_model.declared.instr.Terminator.{Terminator}
+use Rattle.pass_elide_proof.specs.pass_proofs.ir_model.declared.module.Block.{Block}
+use Rattle.pass_elide_proof.specs.pass_proofs.ir_model.declared.module.Function.{Function}
+use Rattle.pass_elide_proof.specs.pass_proofs.ir_model.declared.operand.Operand.{Operand}
+use Rattle.pass_elide_proof.specs.pass_proofs.ir_paths.Paths.{targets}
+use Rattle.pass_elide_proof.specs.pass_proofs.run_laws.changed.Changed.{Each}
+use Rattle.pass_elide_proof.specs.pass_proofs.run_step.Step.{AtTerm, fetch, incoming_from}
 
 -- ---- each edge of a function passes a test
 

@@ -6,18 +6,18 @@ use Rattle.pass_elide_proof.specs.Elision.{Elision, Shape, function_in, no_shape
 use Rattle.pass_elide_proof.specs.Places.{instrs_of}
 use Rattle.pass_elide_proof.specs.Placing.{HasShape, IsQuiet, IsQuietOperand}
 use Rattle.pass_elide_proof.specs.Shapes.{AsksForFrame}
-use Rattle.pass_proofs.specs.flow_solver.Paths.{IsListed}
-use Rattle.pass_proofs.specs.ir_model.Names.{position_of}
-use Rattle.pass_proofs.specs.ir_model.declared.instr.Instr.{Instr}
-use Rattle.pass_proofs.specs.ir_model.declared.instr.Phi.{Phi}
-use Rattle.pass_proofs.specs.ir_model.declared.instr.Terminator.{Terminator}
-use Rattle.pass_proofs.specs.ir_model.declared.module.Function.{Function}
-use Rattle.pass_proofs.specs.ir_model.declared.operand.Operand.{Operand}
-use Rattle.pass_proofs.specs.ir_parts.Contents.{result_of}
-use Rattle.pass_proofs.specs.ir_paths.Paths.{entry_point, targets}
-use Rattle.pass_proofs.specs.ir_paths.Windows.{leaves, windows_of}
-use Rattle.pass_proofs.specs.run_laws.changed.Changed.{Each}
-use Rattle.pass_proofs.specs.run_step.Step.{AtTerm, fetch, incoming_from}
+use Rattle.pass_elide_proof.specs.pass_proofs.flow_solver.Paths.{IsListed}
+use Rattle.pass_elide_proof.specs.pass_proofs.ir_model.Names.{position_of}
+use Rattle.pass_elide_proof.specs.pass_proofs.ir_model.declared.instr.Instr.{Instr}
+use Rattle.pass_elide_proof.specs.pass_proofs.ir_model.declared.instr.Phi.{Phi}
+use Rattle.pass_elide_proof.specs.pass_proofs.ir_model.declared.instr.Terminator.{Terminator}
+use Rattle.pass_elide_proof.specs.pass_proofs.ir_model.declared.module.Function.{Function}
+use Rattle.pass_elide_proof.specs.pass_proofs.ir_model.declared.operand.Operand.{Operand}
+use Rattle.pass_elide_proof.specs.pass_proofs.ir_parts.Contents.{result_of}
+use Rattle.pass_elide_proof.specs.pass_proofs.ir_paths.Paths.{entry_point, targets}
+use Rattle.pass_elide_proof.specs.pass_proofs.ir_paths.Windows.{leaves, windows_of}
+use Rattle.pass_elide_proof.specs.pass_proofs.run_laws.changed.Changed.{Each}
+use Rattle.pass_elide_proof.specs.pass_proofs.run_step.Step.{AtTerm, fetch, incoming_from}
 
 -- ---- edges
 

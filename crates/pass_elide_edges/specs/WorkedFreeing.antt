@@ -1,14 +1,14 @@
 -- A worked function that tests what is to be freed for null, with blocks on the edges behind.
 use Rattle.std.specs.Prelude.{true, false, [], ◌∷◌, None, Some, codes, if◌then◌else◌, ◌==◌}
 use Rattle.pass_elide_proof.specs.Elision.{Shape}
-use Rattle.pass_proofs.specs.ir_base.declared.name.Name.{Name}
-use Rattle.pass_proofs.specs.ir_model.Ty.{ptr}
-use Rattle.pass_proofs.specs.ir_model.declared.instr.Instr.{Instr}
-use Rattle.pass_proofs.specs.ir_model.declared.instr.Terminator.{Terminator}
-use Rattle.pass_proofs.specs.ir_model.declared.module.Function.{Function}
-use Rattle.pass_proofs.specs.ir_model.declared.operand.Allocator.{Allocator}
-use Rattle.pass_proofs.specs.ir_model.declared.operand.Callee.{Callee}
-use Rattle.pass_proofs.specs.ir_model.declared.operand.Operand.{Operand}
+use Rattle.pass_elide_proof.specs.pass_proofs.ir_base.declared.name.Name.{Name}
+use Rattle.pass_elide_proof.specs.pass_proofs.ir_model.Ty.{ptr}
+use Rattle.pass_elide_proof.specs.pass_proofs.ir_model.declared.instr.Instr.{Instr}
+use Rattle.pass_elide_proof.specs.pass_proofs.ir_model.declared.instr.Terminator.{Terminator}
+use Rattle.pass_elide_proof.specs.pass_proofs.ir_model.declared.module.Function.{Function}
+use Rattle.pass_elide_proof.specs.pass_proofs.ir_model.declared.operand.Allocator.{Allocator}
+use Rattle.pass_elide_proof.specs.pass_proofs.ir_model.declared.operand.Callee.{Callee}
+use Rattle.pass_elide_proof.specs.pass_proofs.ir_model.declared.operand.Operand.{Operand}
 
 -- block 0 tests, 1 frees, 3 and 2 are on the edges behind it and beside it
 abbrev pub freeing_function : Function

@@ -8,20 +8,20 @@ ghost use Rattle.pass_elide_proof.specs.Elision.{Elision, Shape, elided, framed,
 ghost use Rattle.pass_elide_proof.specs.Match.{AreElided, is_given_mode, sides, was_given};
 ghost use Rattle.pass_elide_proof.specs.Statement.{AreRelated};
 ghost use Rattle.pass_elide_proof.specs.Stepping.{IsKnownStep, steps_of};
-ghost use Rattle.pass_proofs.specs.ir_base.declared.outcome.Outcome.{Outcome};
-ghost use Rattle.pass_proofs.specs.ir_model.Names.{position_of};
-ghost use Rattle.pass_proofs.specs.ir_model.declared.instr.Case.{Case};
-ghost use Rattle.pass_proofs.specs.ir_model.declared.instr.Terminator.{Terminator};
-ghost use Rattle.pass_proofs.specs.ir_model.declared.module.Function.{Function};
-ghost use Rattle.pass_proofs.specs.ir_model.declared.operand.Arg.{Arg};
-ghost use Rattle.pass_proofs.specs.run_agreement.Machines.{IsFine, iterate};
-ghost use Rattle.pass_proofs.specs.run_framed.Framed.{FramedGiven, framed_context, framed_step};
-ghost use Rattle.pass_proofs.specs.run_laws.changed.Changed.{Each};
-ghost use Rattle.pass_proofs.specs.run_source.State.{function_of, work_of};
-ghost use Rattle.pass_proofs.specs.run_source.declared.state.Activation.{Activation};
-ghost use Rattle.pass_proofs.specs.run_source.declared.state.Mode.{Mode};
-ghost use Rattle.pass_proofs.specs.run_source.declared.state.State.{State};
-ghost use Rattle.pass_proofs.specs.run_step.Step.{AtTerm, GoTo, fetch, term_action};
+ghost use Rattle.pass_elide_proof.specs.pass_proofs.ir_base.declared.outcome.Outcome.{Outcome};
+ghost use Rattle.pass_elide_proof.specs.pass_proofs.ir_model.Names.{position_of};
+ghost use Rattle.pass_elide_proof.specs.pass_proofs.ir_model.declared.instr.Case.{Case};
+ghost use Rattle.pass_elide_proof.specs.pass_proofs.ir_model.declared.instr.Terminator.{Terminator};
+ghost use Rattle.pass_elide_proof.specs.pass_proofs.ir_model.declared.module.Function.{Function};
+ghost use Rattle.pass_elide_proof.specs.pass_proofs.ir_model.declared.operand.Arg.{Arg};
+ghost use Rattle.pass_elide_proof.specs.pass_proofs.run_agreement.Machines.{IsFine, iterate};
+ghost use Rattle.pass_elide_proof.specs.pass_proofs.run_framed.Framed.{FramedGiven, framed_context, framed_step};
+ghost use Rattle.pass_elide_proof.specs.pass_proofs.run_laws.changed.Changed.{Each};
+ghost use Rattle.pass_elide_proof.specs.pass_proofs.run_source.State.{function_of, work_of};
+ghost use Rattle.pass_elide_proof.specs.pass_proofs.run_source.declared.state.Activation.{Activation};
+ghost use Rattle.pass_elide_proof.specs.pass_proofs.run_source.declared.state.Mode.{Mode};
+ghost use Rattle.pass_elide_proof.specs.pass_proofs.run_source.declared.state.State.{State};
+ghost use Rattle.pass_elide_proof.specs.pass_proofs.run_step.Step.{AtTerm, GoTo, fetch, term_action};
 ghost use Rattle.std.specs.Prelude.{Bool, List, None, false, length, ◌+◌, ◌≡◌, ◌≢◌, ◌⊎◌, ℕ};
 
 /// The framed run goes over an edge, and the activation of the other one stays in its block or takes an edge too. The

@@ -8,14 +8,14 @@ ghost use Rattle.pass_elide_proof.specs.Places.{front_at};
 ghost use Rattle.pass_elide_proof.specs.Placing.{KeepsPlaces};
 ghost use Rattle.pass_elide_proof.specs.Statement.{AreRelated};
 ghost use Rattle.pass_elide_proof.specs.Stepping.{IsKnownStep};
-ghost use Rattle.pass_proofs.specs.ir_base.declared.outcome.Outcome.{Outcome};
-ghost use Rattle.pass_proofs.specs.ir_model.declared.instr.Terminator.{Terminator};
-ghost use Rattle.pass_proofs.specs.ir_model.declared.operand.Arg.{Arg};
-ghost use Rattle.pass_proofs.specs.run_agreement.Machines.{IsFine};
-ghost use Rattle.pass_proofs.specs.run_framed.Framed.{framed_step};
-ghost use Rattle.pass_proofs.specs.run_source.State.{function_of};
-ghost use Rattle.pass_proofs.specs.run_source.declared.state.State.{State};
-ghost use Rattle.pass_proofs.specs.run_step.Step.{AtTerm, fetch};
+ghost use Rattle.pass_elide_proof.specs.pass_proofs.ir_base.declared.outcome.Outcome.{Outcome};
+ghost use Rattle.pass_elide_proof.specs.pass_proofs.ir_model.declared.instr.Terminator.{Terminator};
+ghost use Rattle.pass_elide_proof.specs.pass_proofs.ir_model.declared.operand.Arg.{Arg};
+ghost use Rattle.pass_elide_proof.specs.pass_proofs.run_agreement.Machines.{IsFine};
+ghost use Rattle.pass_elide_proof.specs.pass_proofs.run_framed.Framed.{framed_step};
+ghost use Rattle.pass_elide_proof.specs.pass_proofs.run_source.State.{function_of};
+ghost use Rattle.pass_elide_proof.specs.pass_proofs.run_source.declared.state.State.{State};
+ghost use Rattle.pass_elide_proof.specs.pass_proofs.run_step.Step.{AtTerm, fetch};
 ghost use Rattle.std.specs.Prelude.{Option, Some, true, ◌≡◌};
 
 /// Where both runs stand beside each other at a ret, it leads back to a caller, or ends the run. New allocas of a

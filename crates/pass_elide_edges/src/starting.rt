@@ -12,12 +12,12 @@ ghost use Rattle.pass_elide_proof.specs.PlacingStates.{BeginsInCoroutines, IsKno
 ghost use Rattle.pass_elide_proof.specs.Sound.{NestsNone};
 ghost use Rattle.pass_elide_proof.specs.Stepping.{IsKnownStep, steps_of};
 ghost use Rattle.pass_elide_proof.specs.Worked.{the_elision};
-ghost use Rattle.pass_proofs.specs.ir_base.declared.outcome.Outcome.{Outcome};
-ghost use Rattle.pass_proofs.specs.ir_base.declared.outcome.Word.{Word};
-ghost use Rattle.pass_proofs.specs.run_agreement.Machines.{IsFine, iterate};
-ghost use Rattle.pass_proofs.specs.run_framed.Framed.{FramedGiven, framed_state_at, framed_step};
-ghost use Rattle.pass_proofs.specs.run_source.Source.{first_state};
-ghost use Rattle.pass_proofs.specs.run_source.declared.state.State.{State};
+ghost use Rattle.pass_elide_proof.specs.pass_proofs.ir_base.declared.outcome.Outcome.{Outcome};
+ghost use Rattle.pass_elide_proof.specs.pass_proofs.ir_base.declared.outcome.Word.{Word};
+ghost use Rattle.pass_elide_proof.specs.pass_proofs.run_agreement.Machines.{IsFine, iterate};
+ghost use Rattle.pass_elide_proof.specs.pass_proofs.run_framed.Framed.{FramedGiven, framed_state_at, framed_step};
+ghost use Rattle.pass_elide_proof.specs.pass_proofs.run_source.Source.{first_state};
+ghost use Rattle.pass_elide_proof.specs.pass_proofs.run_source.declared.state.State.{State};
 ghost use Rattle.std.specs.Prelude.{List, false, ◌≡◌, ℕ};
 
 /// The states in which both runs start have what ends of blocks ask of states. The entry is no coroutine, so it has no

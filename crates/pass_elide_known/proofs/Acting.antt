@@ -9,30 +9,30 @@ use Rattle.pass_elide_proof.proofs.AtCalls.{fine_ok}
 use Rattle.pass_elide_proof.proofs.PlacingFacts.{no_ramp}
 use Rattle.pass_elide_proof.specs.Elision.{Elision, Shape, framed}
 use Rattle.pass_elide_proof.specs.Placing.{IsPlain, KeepsPlaces, is_test}
-use Rattle.pass_proofs.specs.ir_base.declared.cause.Cause.{Cause}
-use Rattle.pass_proofs.specs.ir_base.declared.name.Name.{Name}
-use Rattle.pass_proofs.specs.ir_base.declared.ops.Pred.{Pred}
-use Rattle.pass_proofs.specs.ir_base.declared.outcome.Outcome.{Outcome}
-use Rattle.pass_proofs.specs.ir_base.declared.outcome.Word.{Word}
-use Rattle.pass_proofs.specs.ir_model.Ty.{Ty, array, int, named, ptr, structure, token}
-use Rattle.pass_proofs.specs.ir_model.declared.instr.Instr.{Instr}
-use Rattle.pass_proofs.specs.ir_model.declared.operand.Allocator.{Allocator}
-use Rattle.pass_proofs.specs.ir_model.declared.operand.Arg.{Arg}
-use Rattle.pass_proofs.specs.ir_model.declared.operand.Callee.{Callee}
-use Rattle.pass_proofs.specs.ir_model.declared.operand.Intrinsic.{Intrinsic}
-use Rattle.pass_proofs.specs.ir_parts.Contents.{result_of}
-use Rattle.pass_proofs.specs.run_agreement.Machines.{IsFine}
-use Rattle.pass_proofs.specs.run_framed.Framed.{FramedGiven, enter_given, framed_act, framed_advance, framed_context, framed_next, framed_step, given_call, given_ramp}
-use Rattle.pass_proofs.specs.run_ints.Numbers.{binary}
-use Rattle.pass_proofs.specs.run_laws.changed.Changed.{callee_at}
-use Rattle.pass_proofs.specs.run_laws.embedded.Related.{HasNoSlot}
-use Rattle.pass_proofs.specs.run_memory.Memory.{compare, copy, load, store}
-use Rattle.pass_proofs.specs.run_memory.declared.pointer.Pointer.{Pointer}
-use Rattle.pass_proofs.specs.run_memory.declared.pointer.Value.{Value}
-use Rattle.pass_proofs.specs.run_source.State.{function_of, gives, or_undefined, own_frame, work_of}
-use Rattle.pass_proofs.specs.run_source.declared.state.State.{State}
-use Rattle.pass_proofs.specs.run_step.Step.{Action, AtInstr, Context, Done, Enter, Stuck, Work, action_of, allocated, allocator_call, by_pred, cast_to, chosen, compared, copied_bytes, done, fetch, fits_function, if_alignment, indirect_call, instr_action, is_alignment, named_call, observed, set_memory, set_value, value_at, with_length, words_of}
-use Rattle.pass_proofs.specs.run_step.Values.{access_of, address, arg_value, arg_values, distance, element, indices_of, integer, nth, number_at, stored, truth_value, value_of}
+use Rattle.pass_elide_proof.specs.pass_proofs.ir_base.declared.cause.Cause.{Cause}
+use Rattle.pass_elide_proof.specs.pass_proofs.ir_base.declared.name.Name.{Name}
+use Rattle.pass_elide_proof.specs.pass_proofs.ir_base.declared.ops.Pred.{Pred}
+use Rattle.pass_elide_proof.specs.pass_proofs.ir_base.declared.outcome.Outcome.{Outcome}
+use Rattle.pass_elide_proof.specs.pass_proofs.ir_base.declared.outcome.Word.{Word}
+use Rattle.pass_elide_proof.specs.pass_proofs.ir_model.Ty.{Ty, array, int, named, ptr, structure, token}
+use Rattle.pass_elide_proof.specs.pass_proofs.ir_model.declared.instr.Instr.{Instr}
+use Rattle.pass_elide_proof.specs.pass_proofs.ir_model.declared.operand.Allocator.{Allocator}
+use Rattle.pass_elide_proof.specs.pass_proofs.ir_model.declared.operand.Arg.{Arg}
+use Rattle.pass_elide_proof.specs.pass_proofs.ir_model.declared.operand.Callee.{Callee}
+use Rattle.pass_elide_proof.specs.pass_proofs.ir_model.declared.operand.Intrinsic.{Intrinsic}
+use Rattle.pass_elide_proof.specs.pass_proofs.ir_parts.Contents.{result_of}
+use Rattle.pass_elide_proof.specs.pass_proofs.run_agreement.Machines.{IsFine}
+use Rattle.pass_elide_proof.specs.pass_proofs.run_framed.Framed.{FramedGiven, enter_given, framed_act, framed_advance, framed_context, framed_next, framed_step, given_call, given_ramp}
+use Rattle.pass_elide_proof.specs.pass_proofs.run_ints.Numbers.{binary}
+use Rattle.pass_elide_proof.specs.pass_proofs.run_laws.changed.Changed.{callee_at}
+use Rattle.pass_elide_proof.specs.pass_proofs.run_laws.embedded.Related.{HasNoSlot}
+use Rattle.pass_elide_proof.specs.pass_proofs.run_memory.Memory.{compare, copy, load, store}
+use Rattle.pass_elide_proof.specs.pass_proofs.run_memory.declared.pointer.Pointer.{Pointer}
+use Rattle.pass_elide_proof.specs.pass_proofs.run_memory.declared.pointer.Value.{Value}
+use Rattle.pass_elide_proof.specs.pass_proofs.run_source.State.{function_of, gives, or_undefined, own_frame, work_of}
+use Rattle.pass_elide_proof.specs.pass_proofs.run_source.declared.state.State.{State}
+use Rattle.pass_elide_proof.specs.pass_proofs.run_step.Step.{Action, AtInstr, Context, Done, Enter, Stuck, Work, action_of, allocated, allocator_call, by_pred, cast_to, chosen, compared, copied_bytes, done, fetch, fits_function, if_alignment, indirect_call, instr_action, is_alignment, named_call, observed, set_memory, set_value, value_at, with_length, words_of}
+use Rattle.pass_elide_proof.specs.pass_proofs.run_step.Values.{access_of, address, arg_value, arg_values, distance, element, indices_of, integer, nth, number_at, stored, truth_value, value_of}
 
 -- ---- an instruction that isn't undefined
 

@@ -27,32 +27,32 @@ use Rattle.pass_elide_proof.specs.Placing.{HasShape, KeepsPlaces, ReadsPlain}
 use Rattle.pass_elide_proof.specs.PlacingStates.{AreAtInstr}
 use Rattle.pass_elide_proof.specs.Statement.{AreRelated}
 use Rattle.pass_elide_proof.specs.Stepping.{IsAccompanied, IsKnownStep}
-use Rattle.pass_proofs.proofs.ir_laws.facts.Truth.{itself}
-use Rattle.pass_proofs.specs.ir_base.declared.ops.Pred.{Pred}
-use Rattle.pass_proofs.specs.ir_base.declared.outcome.Outcome.{Outcome}
-use Rattle.pass_proofs.specs.ir_model.Names.{is_local, position_of}
-use Rattle.pass_proofs.specs.ir_model.Ty.{Ty}
-use Rattle.pass_proofs.specs.ir_model.declared.instr.Instr.{Instr}
-use Rattle.pass_proofs.specs.ir_model.declared.instr.Phi.{Phi}
-use Rattle.pass_proofs.specs.ir_model.declared.module.Function.{Function}
-use Rattle.pass_proofs.specs.ir_model.declared.module.Module.{Module}
-use Rattle.pass_proofs.specs.ir_model.declared.operand.Allocator.{Allocator}
-use Rattle.pass_proofs.specs.ir_model.declared.operand.Arg.{Arg}
-use Rattle.pass_proofs.specs.ir_model.declared.operand.Callee.{Callee}
-use Rattle.pass_proofs.specs.ir_model.declared.operand.Operand.{Operand}
-use Rattle.pass_proofs.specs.ir_paths.Slots.{is_in_args}
-use Rattle.pass_proofs.specs.ir_paths.Windows.{operand_at}
-use Rattle.pass_proofs.specs.ir_paths.declared.point.Point.{Point}
-use Rattle.pass_proofs.specs.run_agreement.Machines.{IsFine}
-use Rattle.pass_proofs.specs.run_framed.Framed.{alloca_from, framed_next, framed_step}
-use Rattle.pass_proofs.specs.run_laws.changed.Changed.{Each}
-use Rattle.pass_proofs.specs.run_memory.declared.pointer.Value.{Value}
-use Rattle.pass_proofs.specs.run_source.Source.{deallocate}
-use Rattle.pass_proofs.specs.run_source.State.{function_of}
-use Rattle.pass_proofs.specs.run_source.declared.state.Mode.{Mode}
-use Rattle.pass_proofs.specs.run_source.declared.state.State.{State}
-use Rattle.pass_proofs.specs.run_step.Step.{AtInstr, fetch}
-use Rattle.pass_proofs.specs.run_step.Values.{Env, address, arg_values, nth, operand_value, value_in}
+use Rattle.pass_elide_proof.proofs.pass_proofs.ir_laws.facts.Truth.{itself}
+use Rattle.pass_elide_proof.specs.pass_proofs.ir_base.declared.ops.Pred.{Pred}
+use Rattle.pass_elide_proof.specs.pass_proofs.ir_base.declared.outcome.Outcome.{Outcome}
+use Rattle.pass_elide_proof.specs.pass_proofs.ir_model.Names.{is_local, position_of}
+use Rattle.pass_elide_proof.specs.pass_proofs.ir_model.Ty.{Ty}
+use Rattle.pass_elide_proof.specs.pass_proofs.ir_model.declared.instr.Instr.{Instr}
+use Rattle.pass_elide_proof.specs.pass_proofs.ir_model.declared.instr.Phi.{Phi}
+use Rattle.pass_elide_proof.specs.pass_proofs.ir_model.declared.module.Function.{Function}
+use Rattle.pass_elide_proof.specs.pass_proofs.ir_model.declared.module.Module.{Module}
+use Rattle.pass_elide_proof.specs.pass_proofs.ir_model.declared.operand.Allocator.{Allocator}
+use Rattle.pass_elide_proof.specs.pass_proofs.ir_model.declared.operand.Arg.{Arg}
+use Rattle.pass_elide_proof.specs.pass_proofs.ir_model.declared.operand.Callee.{Callee}
+use Rattle.pass_elide_proof.specs.pass_proofs.ir_model.declared.operand.Operand.{Operand}
+use Rattle.pass_elide_proof.specs.pass_proofs.ir_paths.Slots.{is_in_args}
+use Rattle.pass_elide_proof.specs.pass_proofs.ir_paths.Windows.{operand_at}
+use Rattle.pass_elide_proof.specs.pass_proofs.ir_paths.declared.point.Point.{Point}
+use Rattle.pass_elide_proof.specs.pass_proofs.run_agreement.Machines.{IsFine}
+use Rattle.pass_elide_proof.specs.pass_proofs.run_framed.Framed.{alloca_from, framed_next, framed_step}
+use Rattle.pass_elide_proof.specs.pass_proofs.run_laws.changed.Changed.{Each}
+use Rattle.pass_elide_proof.specs.pass_proofs.run_memory.declared.pointer.Value.{Value}
+use Rattle.pass_elide_proof.specs.pass_proofs.run_source.Source.{deallocate}
+use Rattle.pass_elide_proof.specs.pass_proofs.run_source.State.{function_of}
+use Rattle.pass_elide_proof.specs.pass_proofs.run_source.declared.state.Mode.{Mode}
+use Rattle.pass_elide_proof.specs.pass_proofs.run_source.declared.state.State.{State}
+use Rattle.pass_elide_proof.specs.pass_proofs.run_step.Step.{AtInstr, fetch}
+use Rattle.pass_elide_proof.specs.pass_proofs.run_step.Values.{Env, address, arg_values, nth, operand_value, value_in}
 
 -- ---- operands
 

@@ -12,14 +12,14 @@ use Rattle.pass_elide_proof.proofs.ReleasedKept.{released_first, slotted_runs}
 use Rattle.pass_elide_proof.proofs.SoundSteps.{states_sound}
 use Rattle.pass_elide_proof.specs.Elision.{Elision, Shape, elided, elided_code, framed, function_in, no_shape}
 use Rattle.pass_elide_proof.specs.Placing.{HasShape, KeepsPlaces}
-use Rattle.pass_proofs.specs.flow_blocks.Reach.{Start}
-use Rattle.pass_proofs.specs.ir_base.declared.outcome.Word.{Word}
-use Rattle.pass_proofs.specs.ir_model.Ty.{Ty}
-use Rattle.pass_proofs.specs.ir_model.declared.instr.Instr.{Instr}
-use Rattle.pass_proofs.specs.ir_model.declared.operand.Allocator.{Allocator}
-use Rattle.pass_proofs.specs.ir_model.declared.operand.Arg.{Arg}
-use Rattle.pass_proofs.specs.ir_model.declared.operand.Callee.{Callee}
-use Rattle.pass_proofs.specs.run_source.Source.{first_state}
+use Rattle.pass_elide_proof.specs.pass_proofs.flow_blocks.Reach.{Start}
+use Rattle.pass_elide_proof.specs.pass_proofs.ir_base.declared.outcome.Word.{Word}
+use Rattle.pass_elide_proof.specs.pass_proofs.ir_model.Ty.{Ty}
+use Rattle.pass_elide_proof.specs.pass_proofs.ir_model.declared.instr.Instr.{Instr}
+use Rattle.pass_elide_proof.specs.pass_proofs.ir_model.declared.operand.Allocator.{Allocator}
+use Rattle.pass_elide_proof.specs.pass_proofs.ir_model.declared.operand.Arg.{Arg}
+use Rattle.pass_elide_proof.specs.pass_proofs.ir_model.declared.operand.Callee.{Callee}
+use Rattle.pass_elide_proof.specs.pass_proofs.run_source.Source.{first_state}
 
 module _ (e : Elision) (keeps : KeepsPlaces e) (more : KeepsMore e) (entry : ℕ) (args : List Word)
     (plain : (function_in e entry).coroutine ≡ false) where

@@ -13,20 +13,20 @@ use Rattle.pass_elide_proof.specs.Places.{instrs_of, phi_count, room_at}
 use Rattle.pass_elide_proof.specs.Releasing.{HoldsOfRooms, IsFreeing}
 use Rattle.pass_elide_proof.specs.Sound.{NestsNone}
 use Rattle.pass_elide_proof.specs.Worked.{aside_of, the_elision, the_shape}
-use Rattle.pass_proofs.proofs.ir_laws.facts.Truth.{equal_numbers}
-use Rattle.pass_proofs.specs.frame_layout.declared.layout.Layout.{Layout}
-use Rattle.pass_proofs.specs.frame_layout.declared.layout.PlacedField.{PlacedField}
-use Rattle.pass_proofs.specs.ir_base.declared.name.Name.{Name}
-use Rattle.pass_proofs.specs.ir_model.Names.{noalloc_of}
-use Rattle.pass_proofs.specs.ir_model.Ty.{int, ptr}
-use Rattle.pass_proofs.specs.ir_model.declared.instr.Incoming.{Incoming}
-use Rattle.pass_proofs.specs.ir_model.declared.instr.Instr.{Instr}
-use Rattle.pass_proofs.specs.ir_model.declared.module.Function.{Function}
-use Rattle.pass_proofs.specs.ir_model.declared.operand.Callee.{Callee}
-use Rattle.pass_proofs.specs.ir_model.declared.operand.Operand.{Operand}
-use Rattle.pass_proofs.specs.run_framed.Framed.{given_ramp, is_frame_kind, no_layout}
-use Rattle.pass_proofs.specs.run_laws.changed.Changed.{Each}
-use Rattle.pass_proofs.specs.run_step.Step.{incoming_from}
+use Rattle.pass_elide_proof.proofs.pass_proofs.ir_laws.facts.Truth.{equal_numbers}
+use Rattle.pass_elide_proof.specs.pass_proofs.frame_layout.declared.layout.Layout.{Layout}
+use Rattle.pass_elide_proof.specs.pass_proofs.frame_layout.declared.layout.PlacedField.{PlacedField}
+use Rattle.pass_elide_proof.specs.pass_proofs.ir_base.declared.name.Name.{Name}
+use Rattle.pass_elide_proof.specs.pass_proofs.ir_model.Names.{noalloc_of}
+use Rattle.pass_elide_proof.specs.pass_proofs.ir_model.Ty.{int, ptr}
+use Rattle.pass_elide_proof.specs.pass_proofs.ir_model.declared.instr.Incoming.{Incoming}
+use Rattle.pass_elide_proof.specs.pass_proofs.ir_model.declared.instr.Instr.{Instr}
+use Rattle.pass_elide_proof.specs.pass_proofs.ir_model.declared.module.Function.{Function}
+use Rattle.pass_elide_proof.specs.pass_proofs.ir_model.declared.operand.Callee.{Callee}
+use Rattle.pass_elide_proof.specs.pass_proofs.ir_model.declared.operand.Operand.{Operand}
+use Rattle.pass_elide_proof.specs.pass_proofs.run_framed.Framed.{given_ramp, is_frame_kind, no_layout}
+use Rattle.pass_elide_proof.specs.pass_proofs.run_laws.changed.Changed.{Each}
+use Rattle.pass_elide_proof.specs.pass_proofs.run_step.Step.{incoming_from}
 
 abbrev the_coroutine : Function
 the_coroutine = function_in the_elision 0

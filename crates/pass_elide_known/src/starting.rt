@@ -5,11 +5,11 @@ ghost use Rattle.pass_elide_known.specs.States.{Allocates, IsKnownFramed, IsKnow
 ghost use Rattle.pass_elide_proof.specs.Elision.{Elision, elided_code, function_in};
 ghost use Rattle.pass_elide_proof.specs.Placing.{KeepsPlaces};
 ghost use Rattle.pass_elide_proof.specs.Worked.{the_elision};
-ghost use Rattle.pass_proofs.specs.ir_base.declared.outcome.Word.{Word};
-ghost use Rattle.pass_proofs.specs.ir_model.Ty.{Ty};
-ghost use Rattle.pass_proofs.specs.ir_model.declared.operand.Allocator.{Allocator};
-ghost use Rattle.pass_proofs.specs.ir_model.declared.operand.Arg.{Arg};
-ghost use Rattle.pass_proofs.specs.run_source.Source.{first_state};
+ghost use Rattle.pass_elide_proof.specs.pass_proofs.ir_base.declared.outcome.Word.{Word};
+ghost use Rattle.pass_elide_proof.specs.pass_proofs.ir_model.Ty.{Ty};
+ghost use Rattle.pass_elide_proof.specs.pass_proofs.ir_model.declared.operand.Allocator.{Allocator};
+ghost use Rattle.pass_elide_proof.specs.pass_proofs.ir_model.declared.operand.Arg.{Arg};
+ghost use Rattle.pass_elide_proof.specs.pass_proofs.run_source.Source.{first_state};
 ghost use Rattle.std.specs.Prelude.{Bool, List, Option, false, ◌<◌, ◌^◌, ◌≡◌, ℕ};
 
 /// The first states are known, if an allocator that is called first is asked for a small size. That holds of arguments

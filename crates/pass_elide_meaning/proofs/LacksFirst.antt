@@ -4,10 +4,10 @@ use Rattle.pass_elide_known.proofs.FirstStates.{framed_start, giving_start}
 use Rattle.pass_elide_known.specs.Keeping.{KeepsMore}
 use Rattle.pass_elide_known.specs.States.{IsKnownFramed, IsKnownGiving}
 use Rattle.pass_elide_meaning.specs.Lacks.{LacksFramed, LacksGiving}
-use Rattle.pass_elide_proof.specs.Assembling.{elided_after, framed_after}
-use Rattle.pass_elide_proof.specs.Elision.{Elision, framed}
-use Rattle.pass_elide_proof.specs.Placing.{KeepsPlaces}
-use Rattle.pass_elide_proof.specs.Statement.{IsEntryCall}
+use Rattle.pass_elide_edges.specs.pass_elide_proof.Assembling.{elided_after, framed_after}
+use Rattle.pass_elide_edges.specs.pass_elide_proof.Elision.{Elision, framed}
+use Rattle.pass_elide_edges.specs.pass_elide_proof.Placing.{KeepsPlaces}
+use Rattle.pass_elide_edges.specs.pass_elide_proof.Statement.{IsEntryCall}
 use Rattle.pass_elide_runs.proofs.Small.{words_small}
 use Rattle.pass_elide_runs.specs.Keeps.{KeepsRuns}
 use Rattle.pass_proofs.specs.ir_base.declared.outcome.Word.{Word}

@@ -5,22 +5,22 @@ use Rattle.pass_elide_edges.specs.States.{EndsElided, EndsFramed}
 use Rattle.pass_elide_known.specs.Keeping.{KeepsMore, is_marker}
 use Rattle.pass_elide_known.specs.States.{Allocates, IsEntering, IsKnownFramed, IsKnownGiving, MarksSlot, StandsAtOne}
 use Rattle.pass_elide_meaning.specs.Lacks.{LacksFramed, LacksGiving, TakesSize}
-use Rattle.pass_elide_proof.proofs.Allocas.{knows_allocas}
-use Rattle.pass_elide_proof.proofs.ElidedFound.{fetched}
-use Rattle.pass_elide_proof.proofs.OwnSlots.{counted_own}
-use Rattle.pass_elide_proof.proofs.PlacingStarts.{begins_of}
-use Rattle.pass_elide_proof.proofs.ReleasedCallees.{callees_in_runs}
-use Rattle.pass_elide_proof.proofs.ReleasedKept.{released_runs, slotted_runs}
-use Rattle.pass_elide_proof.proofs.ReleasedRooms.{callees_hold}
-use Rattle.pass_elide_proof.proofs.SlotStates.{slots_lead_in_runs}
-use Rattle.pass_elide_proof.proofs.SoundSteps.{states_sound}
-use Rattle.pass_elide_proof.specs.Assembling.{elided_after, framed_after}
-use Rattle.pass_elide_proof.specs.Elision.{Elision, elided, elided_code, framed, function_in}
-use Rattle.pass_elide_proof.specs.Match.{frame_size}
-use Rattle.pass_elide_proof.specs.OwnSlots.{CountsSlots}
-use Rattle.pass_elide_proof.specs.Placing.{KeepsPlaces}
-use Rattle.pass_elide_proof.specs.Releasing.{IsFreeing}
-use Rattle.pass_elide_proof.specs.Statement.{IsEntryCall}
+use Rattle.pass_elide_edges.proofs.pass_elide_proof.Allocas.{knows_allocas}
+use Rattle.pass_elide_edges.proofs.pass_elide_proof.ElidedFound.{fetched}
+use Rattle.pass_elide_edges.proofs.pass_elide_proof.OwnSlots.{counted_own}
+use Rattle.pass_elide_edges.proofs.pass_elide_proof.PlacingStarts.{begins_of}
+use Rattle.pass_elide_edges.proofs.pass_elide_proof.ReleasedCallees.{callees_in_runs}
+use Rattle.pass_elide_edges.proofs.pass_elide_proof.ReleasedKept.{released_runs, slotted_runs}
+use Rattle.pass_elide_edges.proofs.pass_elide_proof.ReleasedRooms.{callees_hold}
+use Rattle.pass_elide_edges.proofs.pass_elide_proof.SlotStates.{slots_lead_in_runs}
+use Rattle.pass_elide_edges.proofs.pass_elide_proof.SoundSteps.{states_sound}
+use Rattle.pass_elide_edges.specs.pass_elide_proof.Assembling.{elided_after, framed_after}
+use Rattle.pass_elide_edges.specs.pass_elide_proof.Elision.{Elision, elided, elided_code, framed, function_in}
+use Rattle.pass_elide_edges.specs.pass_elide_proof.Match.{frame_size}
+use Rattle.pass_elide_edges.specs.pass_elide_proof.OwnSlots.{CountsSlots}
+use Rattle.pass_elide_edges.specs.pass_elide_proof.Placing.{KeepsPlaces}
+use Rattle.pass_elide_edges.specs.pass_elide_proof.Releasing.{IsFreeing}
+use Rattle.pass_elide_edges.specs.pass_elide_proof.Statement.{IsEntryCall}
 use Rattle.pass_elide_runs.proofs.ElidedFirst.{no_slots}
 use Rattle.pass_elide_runs.proofs.GivingCalls.{called_in_runs}
 use Rattle.pass_elide_runs.proofs.KnownRuns.{knows_framed, knows_giving, saved_goes, suspended_goes}

@@ -6,11 +6,11 @@ use Rattle.pass_elide_edges.specs.States.{EndsElided, EndsFramed, StandApart}
 use Rattle.pass_elide_known.proofs.Whole.{instruction_known}
 use Rattle.pass_elide_known.specs.Keeping.{KeepsMore}
 use Rattle.pass_elide_known.specs.States.{IsKnownFramed, IsKnownGiving}
-use Rattle.pass_elide_proof.specs.Elision.{Elision, framed}
-use Rattle.pass_elide_proof.specs.Match.{sides}
-use Rattle.pass_elide_proof.specs.Placing.{KeepsPlaces}
-use Rattle.pass_elide_proof.specs.Statement.{AreRelated}
-use Rattle.pass_elide_proof.specs.Stepping.{IsKnownStep}
+use Rattle.pass_elide_edges.specs.pass_elide_proof.Elision.{Elision, framed}
+use Rattle.pass_elide_edges.specs.pass_elide_proof.Match.{sides}
+use Rattle.pass_elide_edges.specs.pass_elide_proof.Placing.{KeepsPlaces}
+use Rattle.pass_elide_edges.specs.pass_elide_proof.Statement.{AreRelated}
+use Rattle.pass_elide_edges.specs.pass_elide_proof.Stepping.{IsKnownStep}
 use Rattle.pass_proofs.specs.ir_base.declared.outcome.Outcome.{Outcome}
 use Rattle.pass_proofs.specs.run_agreement.Machines.{IsFine}
 use Rattle.pass_proofs.specs.run_framed.Framed.{FramedGiven, framed_advance, framed_next, framed_step}

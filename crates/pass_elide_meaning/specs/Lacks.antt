@@ -4,11 +4,11 @@ use Rattle.elide_shape.specs.Calls.{deals}
 use Rattle.elide_shape.specs.declared.calls.Dealing.{Dealing}
 use Rattle.pass_elide_known.specs.Keeping.{is_marker}
 use Rattle.pass_elide_known.specs.States.{Allocates, StandsAtElided}
-use Rattle.pass_elide_proof.specs.Elision.{Elision, function_in}
-use Rattle.pass_elide_proof.specs.Marking.{HoldsNoFrame, second_operand}
-use Rattle.pass_elide_proof.specs.Match.{frame_size, is_given_mode}
-use Rattle.pass_elide_proof.specs.Places.{instrs_of}
-use Rattle.pass_elide_proof.specs.Shapes.{AsksForFrame}
+use Rattle.pass_elide_edges.specs.pass_elide_proof.Elision.{Elision, function_in}
+use Rattle.pass_elide_edges.specs.pass_elide_proof.Marking.{HoldsNoFrame, second_operand}
+use Rattle.pass_elide_edges.specs.pass_elide_proof.Match.{frame_size, is_given_mode}
+use Rattle.pass_elide_edges.specs.pass_elide_proof.Places.{instrs_of}
+use Rattle.pass_elide_edges.specs.pass_elide_proof.Shapes.{AsksForFrame}
 use Rattle.pass_elide_runs.specs.Names.{AsksSize, IsGivenBy}
 use Rattle.pass_proofs.specs.ir_base.declared.outcome.Word.{Word}
 use Rattle.pass_proofs.specs.ir_model.Ty.{Ty}

@@ -10,12 +10,12 @@ use Rattle.pass_proofs.specs.run_framed.Framed.{FramedGiven, framed_state_at, fr
 use Rattle.pass_proofs.specs.run_source.Source.{first_state}
 use Rattle.pass_proofs.specs.run_source.declared.state.State.{State}
 use Rattle.pass_proofs.specs.run_step.Runs.{iterate}
-use Rattle.run_hooks.proofs.Keeping.{framed_keeps}
-use Rattle.run_hooks.proofs.Reaching.{states_reached}
-use Rattle.run_hooks.proofs.Steps.{framed_steps, same_runs}
-use Rattle.run_hooks.specs.Hooks.{step_of}
-use Rattle.run_hooks.specs.Meanings.{framed_hooks}
-use Rattle.run_hooks.specs.Reached.{AllHaveSwitches, IsReachedState}
+use Rattle.run_slots.proofs.run_hooks.Keeping.{framed_keeps}
+use Rattle.run_slots.proofs.run_hooks.Reaching.{states_reached}
+use Rattle.run_slots.proofs.run_hooks.Steps.{framed_steps, same_runs}
+use Rattle.run_slots.specs.run_hooks.Hooks.{step_of}
+use Rattle.run_slots.specs.run_hooks.Meanings.{framed_hooks}
+use Rattle.run_slots.specs.run_hooks.Reached.{AllHaveSwitches, IsReachedState}
 
 module _ (g : FramedGiven) (entry : ℕ) (args : List Word) (switches : AllHaveSwitches g.given.code)
     (switched : (func : ℕ) → AreSwitched (function_at g.given.code func)) where

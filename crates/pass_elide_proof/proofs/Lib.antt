@@ -1,3 +1,4 @@
+pub use Rattle.pass_proofs.proofs as pass_proofs
 pub mod Standing
 pub mod Modules
 pub mod Alike

@@ -32,10 +32,10 @@ use Rattle.pass_proofs.specs.run_step.Step.{Action, AtInstr, AtTerm, Coro, Deall
 use Rattle.pass_proofs.specs.run_step.Values.{arg_values, value_in, with_result}
 use Rattle.run_slots.proofs.Meanings.{framed_keeps_slots}
 use Rattle.run_slots.proofs.Steps.{states_slotted}
-use Rattle.run_hooks.proofs.Steps.{framed_steps, same_runs}
+use Rattle.run_slots.proofs.run_hooks.Steps.{framed_steps, same_runs}
 use Rattle.run_slots.specs.Slots.{GivesNoFrames, IsSlottedState}
-use Rattle.run_hooks.specs.Hooks.{step_of}
-use Rattle.run_hooks.specs.Meanings.{framed_hooks}
+use Rattle.run_slots.specs.run_hooks.Hooks.{step_of}
+use Rattle.run_slots.specs.run_hooks.Meanings.{framed_hooks}
 
 -- ---- a step that is no coro.free
 

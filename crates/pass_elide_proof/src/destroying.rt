@@ -18,7 +18,7 @@ ghost use Rattle.pass_proofs.specs.run_source.declared.state.Instance.{Instance}
 ghost use Rattle.pass_proofs.specs.run_source.declared.state.State.{State};
 ghost use Rattle.pass_proofs.specs.run_source_tables.Given.{Given};
 ghost use Rattle.pass_proofs.specs.pass_kept_proof.Related.{AreSoundInstances};
-ghost use Rattle.run_hooks.specs.Reached.{AllHaveSwitches};
+ghost use Rattle.run_slots.specs.run_hooks.Reached.{AllHaveSwitches};
 
 /// What stands right on top of an activation behind a coro.destroy has released its instance, or has yet to come to a
 /// coro.free. Each step of a framed run keeps it, where paths lead from destroy edges.

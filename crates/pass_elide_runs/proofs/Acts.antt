@@ -2,17 +2,17 @@
 use Rattle.std.proofs.Common.{◌≡◌, ◌∙◌, ℕ, Bool, true, false, ap, if◌then◌else◌, refl, sym, subst}
 use Rattle.pass_elide_proof.proofs.Facts.{not_both}
 use Rattle.pass_elide_proof.specs.StepCases.{ActsBy}
-use Rattle.pass_proofs.proofs.pass_kept_proof.Actions.{SameAction, action_same}
-use Rattle.pass_proofs.proofs.pass_kept_proof.Same.{same_all}
-use Rattle.pass_proofs.specs.ir_base.declared.cause.Cause.{Cause}
-use Rattle.pass_proofs.specs.ir_model.Layout.{size_of}
-use Rattle.pass_proofs.specs.ir_model.Ty.{Ty}
-use Rattle.pass_proofs.specs.ir_model.declared.instr.Instr.{Instr}
-use Rattle.pass_proofs.specs.pass_kept_proof.Needed.{BranchesTo}
-use Rattle.pass_proofs.specs.run_framed.Framed.{FramedGiven, framed_context}
-use Rattle.pass_proofs.specs.run_source.State.{work_of}
-use Rattle.pass_proofs.specs.run_source.declared.state.State.{State}
-use Rattle.pass_proofs.specs.run_step.Step.{Action, AtInstr, AtTerm, Context, Fetched, GoTo, NewSlot, Nowhere, Stuck, Work, action_of, alloca, if_alignment, is_alignment}
+use Rattle.pass_elide_proof.proofs.pass_proofs.pass_kept_proof.Actions.{SameAction, action_same}
+use Rattle.pass_elide_proof.proofs.pass_proofs.pass_kept_proof.Same.{same_all}
+use Rattle.pass_elide_proof.specs.pass_proofs.ir_base.declared.cause.Cause.{Cause}
+use Rattle.pass_elide_proof.specs.pass_proofs.ir_model.Layout.{size_of}
+use Rattle.pass_elide_proof.specs.pass_proofs.ir_model.Ty.{Ty}
+use Rattle.pass_elide_proof.specs.pass_proofs.ir_model.declared.instr.Instr.{Instr}
+use Rattle.pass_elide_proof.specs.pass_proofs.pass_kept_proof.Needed.{BranchesTo}
+use Rattle.pass_elide_proof.specs.pass_proofs.run_framed.Framed.{FramedGiven, framed_context}
+use Rattle.pass_elide_proof.specs.pass_proofs.run_source.State.{work_of}
+use Rattle.pass_elide_proof.specs.pass_proofs.run_source.declared.state.State.{State}
+use Rattle.pass_elide_proof.specs.pass_proofs.run_step.Step.{Action, AtInstr, AtTerm, Context, Fetched, GoTo, NewSlot, Nowhere, Stuck, Work, action_of, alloca, if_alignment, is_alignment}
 use Rattle.run_hooks.proofs.Reached.{IsOfInstr, of_term}
 
 pub record IsInstr (x : Fetched) : Type 0 where

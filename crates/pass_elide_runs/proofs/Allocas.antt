@@ -2,13 +2,13 @@
 use Rattle.std.proofs.Common.{◌≡◌, ◌≤◌, ◌<◌, ◌∙◌, ◌+◌, ◌-◌, ℕ, zero, suc, Bool, true, false, List, [], ◌∷◌, None, Option, Some, ap, if◌then◌else◌, refl, sym, arith}
 use Rattle.std.specs.Prelude.{drop, option_map, slice_get}
 use Rattle.pass_elide_proof.specs.Places.{instrs_in, instrs_of}
-use Rattle.pass_proofs.specs.ir_model.Ty.{Ty}
-use Rattle.pass_proofs.specs.ir_model.declared.instr.Instr.{Instr}
-use Rattle.pass_proofs.specs.ir_model.declared.module.Block.{Block}
-use Rattle.pass_proofs.specs.ir_model.declared.module.Function.{Function}
-use Rattle.pass_proofs.specs.ir_paths.declared.point.Point.{Point}
-use Rattle.pass_proofs.specs.run_framed.Framed.{alloca_from, alloca_in, alloca_of}
-use Rattle.pass_proofs.specs.run_step.Effects.{is_alloca}
+use Rattle.pass_elide_proof.specs.pass_proofs.ir_model.Ty.{Ty}
+use Rattle.pass_elide_proof.specs.pass_proofs.ir_model.declared.instr.Instr.{Instr}
+use Rattle.pass_elide_proof.specs.pass_proofs.ir_model.declared.module.Block.{Block}
+use Rattle.pass_elide_proof.specs.pass_proofs.ir_model.declared.module.Function.{Function}
+use Rattle.pass_elide_proof.specs.pass_proofs.ir_paths.declared.point.Point.{Point}
+use Rattle.pass_elide_proof.specs.pass_proofs.run_framed.Framed.{alloca_from, alloca_in, alloca_of}
+use Rattle.pass_elide_proof.specs.pass_proofs.run_step.Effects.{is_alloca}
 
 pub record IsAlloca (i : Instr) : Type 0 where
   pub name : ℕ

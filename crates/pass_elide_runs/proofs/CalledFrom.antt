@@ -9,30 +9,30 @@ use Rattle.pass_elide_proof.specs.StepCases.{ActsBy, LeadsTo, ended, saved_at}
 use Rattle.pass_elide_runs.proofs.Runs.{runs_keep}
 use Rattle.pass_elide_runs.proofs.Stacks.{Comes, changed_stack, comes, ended_stack, gone_stack, slotted_on, woken_on}
 use Rattle.pass_elide_runs.specs.Calls.{AreCalledFrom, CallsBy, HaveCallsBelow, IsCalledFrom}
-use Rattle.pass_proofs.proofs.run_states.sound_states.Fits.{Fits, calls_at, fits}
-use Rattle.pass_proofs.specs.ir_base.declared.outcome.Outcome.{Outcome}
-use Rattle.pass_proofs.specs.ir_base.declared.outcome.Word.{Word}
-use Rattle.pass_proofs.specs.ir_model.Names.{declaration_named, function_at, function_named}
-use Rattle.pass_proofs.specs.ir_model.Ty.{Ty}
-use Rattle.pass_proofs.specs.ir_model.declared.instr.Instr.{Instr}
-use Rattle.pass_proofs.specs.ir_model.declared.module.Module.{Module}
-use Rattle.pass_proofs.specs.ir_model.declared.operand.Arg.{Arg}
-use Rattle.pass_proofs.specs.ir_model.declared.operand.Callee.{Callee}
-use Rattle.pass_proofs.specs.ir_model.declared.operand.Intrinsic.{Intrinsic}
-use Rattle.pass_proofs.specs.ir_parts.Contents.{result_of}
-use Rattle.pass_proofs.specs.ir_paths.Windows.{is_call_of}
-use Rattle.pass_proofs.specs.run_agreement.Machines.{IsFine}
-use Rattle.pass_proofs.specs.run_framed.Framed.{FramedGiven, continue_framed, enter_given, framed_context, framed_slot, framed_state_at, given_call, given_ramp, last_value}
-use Rattle.pass_proofs.specs.run_laws.changed.Changed.{result_at, result_of as named_result}
-use Rattle.pass_proofs.specs.run_memory.declared.pointer.Value.{Value}
-use Rattle.pass_proofs.specs.run_source.Source.{begun, called, enter_block, given_back, if_let_go, mode_of, release, returned}
-use Rattle.pass_proofs.specs.run_source.State.{function_of, gives, instance_at, next, own_instance, settled, with_left, with_memory, with_status, work_of}
-use Rattle.pass_proofs.specs.run_source.declared.state.Activation.{Activation}
-use Rattle.pass_proofs.specs.run_source.declared.state.Mode.{Mode}
-use Rattle.pass_proofs.specs.run_source.declared.state.State.{State}
-use Rattle.pass_proofs.specs.run_source.declared.state.Status.{Status}
-use Rattle.pass_proofs.specs.run_step.Step.{Action, AtInstr, AtTerm, Context, Coro, Enter, Fetched, Nowhere, Work, action_of, fetch, named_call, observed, words_of}
-use Rattle.pass_proofs.specs.run_step.Values.{arg_values, integer, truth_value}
+use Rattle.pass_elide_proof.proofs.pass_proofs.run_states.sound_states.Fits.{Fits, calls_at, fits}
+use Rattle.pass_elide_proof.specs.pass_proofs.ir_base.declared.outcome.Outcome.{Outcome}
+use Rattle.pass_elide_proof.specs.pass_proofs.ir_base.declared.outcome.Word.{Word}
+use Rattle.pass_elide_proof.specs.pass_proofs.ir_model.Names.{declaration_named, function_at, function_named}
+use Rattle.pass_elide_proof.specs.pass_proofs.ir_model.Ty.{Ty}
+use Rattle.pass_elide_proof.specs.pass_proofs.ir_model.declared.instr.Instr.{Instr}
+use Rattle.pass_elide_proof.specs.pass_proofs.ir_model.declared.module.Module.{Module}
+use Rattle.pass_elide_proof.specs.pass_proofs.ir_model.declared.operand.Arg.{Arg}
+use Rattle.pass_elide_proof.specs.pass_proofs.ir_model.declared.operand.Callee.{Callee}
+use Rattle.pass_elide_proof.specs.pass_proofs.ir_model.declared.operand.Intrinsic.{Intrinsic}
+use Rattle.pass_elide_proof.specs.pass_proofs.ir_parts.Contents.{result_of}
+use Rattle.pass_elide_proof.specs.pass_proofs.ir_paths.Windows.{is_call_of}
+use Rattle.pass_elide_proof.specs.pass_proofs.run_agreement.Machines.{IsFine}
+use Rattle.pass_elide_proof.specs.pass_proofs.run_framed.Framed.{FramedGiven, continue_framed, enter_given, framed_context, framed_slot, framed_state_at, given_call, given_ramp, last_value}
+use Rattle.pass_elide_proof.specs.pass_proofs.run_laws.changed.Changed.{result_at, result_of as named_result}
+use Rattle.pass_elide_proof.specs.pass_proofs.run_memory.declared.pointer.Value.{Value}
+use Rattle.pass_elide_proof.specs.pass_proofs.run_source.Source.{begun, called, enter_block, given_back, if_let_go, mode_of, release, returned}
+use Rattle.pass_elide_proof.specs.pass_proofs.run_source.State.{function_of, gives, instance_at, next, own_instance, settled, with_left, with_memory, with_status, work_of}
+use Rattle.pass_elide_proof.specs.pass_proofs.run_source.declared.state.Activation.{Activation}
+use Rattle.pass_elide_proof.specs.pass_proofs.run_source.declared.state.Mode.{Mode}
+use Rattle.pass_elide_proof.specs.pass_proofs.run_source.declared.state.State.{State}
+use Rattle.pass_elide_proof.specs.pass_proofs.run_source.declared.state.Status.{Status}
+use Rattle.pass_elide_proof.specs.pass_proofs.run_step.Step.{Action, AtInstr, AtTerm, Context, Coro, Enter, Fetched, Nowhere, Work, action_of, fetch, named_call, observed, words_of}
+use Rattle.pass_elide_proof.specs.pass_proofs.run_step.Values.{arg_values, integer, truth_value}
 
 -- ---- the instruction that enters a function
 

@@ -8,15 +8,15 @@ use Rattle.pass_elide_proof.specs.Elision.{Elision, elided, elided_code, framed,
 use Rattle.pass_elide_proof.specs.Placing.{KeepsPlaces}
 use Rattle.pass_elide_runs.proofs.Elided.{coroutine_same, elided_none, elided_switched, elided_switches, fetched_none, suspend_own}
 use Rattle.pass_elide_runs.proofs.Led.{sound_there, state_reached}
-use Rattle.pass_proofs.specs.edges.rules.Returns.{AreSwitched}
-use Rattle.pass_proofs.specs.ir_base.declared.outcome.Word.{Word}
-use Rattle.pass_proofs.specs.ir_model.Names.{function_at, position_of}
-use Rattle.pass_proofs.specs.ir_model.declared.module.Function.{Function}
-use Rattle.pass_proofs.specs.ir_paths.Windows.{destroy_label}
-use Rattle.pass_proofs.specs.ir_paths.declared.point.Point.{Point}
-use Rattle.pass_proofs.specs.pass_kept_proof.Related.{AreSoundInstances, IsSoundStatus}
-use Rattle.pass_proofs.specs.run_framed.Framed.{framed_state_at}
-use Rattle.pass_proofs.specs.run_source.declared.state.State.{State}
+use Rattle.pass_elide_proof.specs.pass_proofs.edges.rules.Returns.{AreSwitched}
+use Rattle.pass_elide_proof.specs.pass_proofs.ir_base.declared.outcome.Word.{Word}
+use Rattle.pass_elide_proof.specs.pass_proofs.ir_model.Names.{function_at, position_of}
+use Rattle.pass_elide_proof.specs.pass_proofs.ir_model.declared.module.Function.{Function}
+use Rattle.pass_elide_proof.specs.pass_proofs.ir_paths.Windows.{destroy_label}
+use Rattle.pass_elide_proof.specs.pass_proofs.ir_paths.declared.point.Point.{Point}
+use Rattle.pass_elide_proof.specs.pass_proofs.pass_kept_proof.Related.{AreSoundInstances, IsSoundStatus}
+use Rattle.pass_elide_proof.specs.pass_proofs.run_framed.Framed.{framed_state_at}
+use Rattle.pass_elide_proof.specs.pass_proofs.run_source.declared.state.State.{State}
 use Rattle.run_hooks.specs.Reached.{AllHaveSwitches}
 
 -- a path without a coro.free is one of any kind

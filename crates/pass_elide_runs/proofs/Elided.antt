@@ -12,20 +12,20 @@ use Rattle.pass_elide_runs.proofs.Without.{Without, function_none, none_empty, n
 use Rattle.pass_elide_proof.specs.Elision.{Elision, elided_code, function_in, rooms}
 use Rattle.pass_elide_proof.specs.Places.{Rooms, instrs_in, instrs_of}
 use Rattle.pass_elide_proof.specs.Placing.{KeepsPlaces, is_own}
-use Rattle.pass_proofs.specs.edges.rules.Returns.{AreSwitched}
-use Rattle.pass_proofs.specs.flow_blocks.Edges.{block_edges, edges_of_blocks}
-use Rattle.pass_proofs.specs.ir_model.Names.{function_at, position_of, same_intrinsic}
-use Rattle.pass_proofs.specs.ir_model.Ty.{Ty}
-use Rattle.pass_proofs.specs.ir_model.declared.instr.Instr.{Instr}
-use Rattle.pass_proofs.specs.ir_model.declared.module.Block.{Block}
-use Rattle.pass_proofs.specs.ir_model.declared.module.Function.{Function}
-use Rattle.pass_proofs.specs.ir_model.declared.operand.Arg.{Arg}
-use Rattle.pass_proofs.specs.ir_model.declared.operand.Callee.{Callee}
-use Rattle.pass_proofs.specs.ir_model.declared.operand.Intrinsic.{Intrinsic}
-use Rattle.pass_proofs.specs.ir_paths.Paths.{targets}
-use Rattle.pass_proofs.specs.ir_paths.Windows.{is_call_of}
-use Rattle.pass_proofs.specs.pass_edges.Edges.{is_suspend}
-use Rattle.pass_proofs.specs.run_step.Step.{AtInstr, fetch}
+use Rattle.pass_elide_proof.specs.pass_proofs.edges.rules.Returns.{AreSwitched}
+use Rattle.pass_elide_proof.specs.pass_proofs.flow_blocks.Edges.{block_edges, edges_of_blocks}
+use Rattle.pass_elide_proof.specs.pass_proofs.ir_model.Names.{function_at, position_of, same_intrinsic}
+use Rattle.pass_elide_proof.specs.pass_proofs.ir_model.Ty.{Ty}
+use Rattle.pass_elide_proof.specs.pass_proofs.ir_model.declared.instr.Instr.{Instr}
+use Rattle.pass_elide_proof.specs.pass_proofs.ir_model.declared.module.Block.{Block}
+use Rattle.pass_elide_proof.specs.pass_proofs.ir_model.declared.module.Function.{Function}
+use Rattle.pass_elide_proof.specs.pass_proofs.ir_model.declared.operand.Arg.{Arg}
+use Rattle.pass_elide_proof.specs.pass_proofs.ir_model.declared.operand.Callee.{Callee}
+use Rattle.pass_elide_proof.specs.pass_proofs.ir_model.declared.operand.Intrinsic.{Intrinsic}
+use Rattle.pass_elide_proof.specs.pass_proofs.ir_paths.Paths.{targets}
+use Rattle.pass_elide_proof.specs.pass_proofs.ir_paths.Windows.{is_call_of}
+use Rattle.pass_elide_proof.specs.pass_proofs.pass_edges.Edges.{is_suspend}
+use Rattle.pass_elide_proof.specs.pass_proofs.run_step.Step.{AtInstr, fetch}
 use Rattle.run_hooks.specs.Reached.{AllHaveSwitches, HasSwitches}
 
 -- ---- edges between blocks

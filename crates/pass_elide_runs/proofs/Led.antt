@@ -9,19 +9,19 @@ use Rattle.pass_elide_proof.specs.Placing.{KeepsPlaces}
 use Rattle.pass_elide_runs.proofs.Elided.{elided_switches, same_edges}
 use Rattle.pass_elide_runs.proofs.Paths.{block_reached, same_reached}
 use Rattle.pass_elide_runs.specs.Standing.{StandWhereLed, StandsWhereLed}
-use Rattle.pass_proofs.specs.flow_blocks.Edges.{block_edges}
-use Rattle.pass_proofs.specs.flow_blocks.Reach.{IsReached as IsReachedBlock}
-use Rattle.pass_proofs.specs.ir_base.declared.outcome.Word.{Word}
-use Rattle.pass_proofs.specs.ir_model.Names.{function_at, position_of}
-use Rattle.pass_proofs.specs.ir_model.declared.module.Function.{Function}
-use Rattle.pass_proofs.specs.pass_kept_proof.Related.{AreSoundInstances, IsSoundStatus, coroutines}
-use Rattle.pass_proofs.specs.run_framed.Framed.{FramedGiven, framed_state_at, framed_step}
-use Rattle.pass_proofs.specs.run_laws.changed.Changed.{Each}
-use Rattle.pass_proofs.specs.run_source.Source.{first_state}
-use Rattle.pass_proofs.specs.run_source.declared.state.Activation.{Activation}
-use Rattle.pass_proofs.specs.run_source.declared.state.Instance.{Instance}
-use Rattle.pass_proofs.specs.run_source.declared.state.State.{State}
-use Rattle.pass_proofs.specs.run_source_tables.Given.{Given}
+use Rattle.pass_elide_proof.specs.pass_proofs.flow_blocks.Edges.{block_edges}
+use Rattle.pass_elide_proof.specs.pass_proofs.flow_blocks.Reach.{IsReached as IsReachedBlock}
+use Rattle.pass_elide_proof.specs.pass_proofs.ir_base.declared.outcome.Word.{Word}
+use Rattle.pass_elide_proof.specs.pass_proofs.ir_model.Names.{function_at, position_of}
+use Rattle.pass_elide_proof.specs.pass_proofs.ir_model.declared.module.Function.{Function}
+use Rattle.pass_elide_proof.specs.pass_proofs.pass_kept_proof.Related.{AreSoundInstances, IsSoundStatus, coroutines}
+use Rattle.pass_elide_proof.specs.pass_proofs.run_framed.Framed.{FramedGiven, framed_state_at, framed_step}
+use Rattle.pass_elide_proof.specs.pass_proofs.run_laws.changed.Changed.{Each}
+use Rattle.pass_elide_proof.specs.pass_proofs.run_source.Source.{first_state}
+use Rattle.pass_elide_proof.specs.pass_proofs.run_source.declared.state.Activation.{Activation}
+use Rattle.pass_elide_proof.specs.pass_proofs.run_source.declared.state.Instance.{Instance}
+use Rattle.pass_elide_proof.specs.pass_proofs.run_source.declared.state.State.{State}
+use Rattle.pass_elide_proof.specs.pass_proofs.run_source_tables.Given.{Given}
 use Rattle.run_hooks.proofs.Keeping.{framed_keeps}
 use Rattle.run_hooks.proofs.Reaching.{states_reached}
 use Rattle.run_hooks.proofs.Steps.{framed_steps, same_runs}

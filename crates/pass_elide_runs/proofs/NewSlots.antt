@@ -4,29 +4,29 @@ use Rattle.std.specs.Option.{option_map_or}
 use Rattle.std.specs.Prelude.{replicate, slice_get}
 use Rattle.pass_elide_proof.proofs.ChangedBoth.{changed_many}
 use Rattle.pass_elide_proof.specs.StepCases.{ActsBy}
-use Rattle.pass_proofs.proofs.ir_laws.facts.Lists.{get_last}
-use Rattle.pass_proofs.proofs.run_laws.embedded.Refills.{step_only}
-use Rattle.pass_proofs.proofs.run_laws.memory.Written.{changed_here}
-use Rattle.pass_proofs.specs.ir_base.declared.cause.Cause.{Cause}
-use Rattle.pass_proofs.specs.ir_model.Layout.{size_of}
-use Rattle.pass_proofs.specs.ir_model.Ty.{Ty}
-use Rattle.pass_proofs.specs.ir_model.declared.instr.Instr.{Instr}
-use Rattle.pass_proofs.specs.ir_model.declared.operand.Allocator.{Allocator}
-use Rattle.pass_proofs.specs.ir_model.declared.operand.Callee.{Callee}
-use Rattle.pass_proofs.specs.ir_model.declared.operand.Intrinsic.{Intrinsic}
-use Rattle.pass_proofs.specs.run_framed.Framed.{FramedGiven, framed_context, is_stack_block}
-use Rattle.pass_proofs.specs.run_laws.embedded.Refilled.{OnlyRefills}
-use Rattle.pass_proofs.specs.run_memory.Memory.{end, ended, fresh, is_killed, same_kind}
-use Rattle.pass_proofs.specs.run_memory.declared.block.Byte.{Byte}
-use Rattle.pass_proofs.specs.run_memory.declared.block.Kind.{Kind}
-use Rattle.pass_proofs.specs.run_memory.declared.block.Life.{Life}
-use Rattle.pass_proofs.specs.run_memory.declared.block.MemoryBlock.{MemoryBlock}
-use Rattle.pass_proofs.specs.run_memory.declared.pointer.Value.{Value}
-use Rattle.pass_proofs.specs.run_source.State.{work_of}
-use Rattle.pass_proofs.specs.run_source.declared.state.State.{State}
-use Rattle.pass_proofs.specs.run_step.Step.{Action, AtInstr, AtTerm, Context, Fetched, NewSlot, Nowhere, Stuck, Work, action_of, alloca, alloca_kind, has_markers, is_alignment, with_length}
-use Rattle.pass_proofs.specs.run_step.Values.{arg_values, nth, pointer_to, with_value}
-use Rattle.pass_proofs.specs.run_step.declared.world.Slot.{Slot}
+use Rattle.pass_elide_proof.proofs.pass_proofs.ir_laws.facts.Lists.{get_last}
+use Rattle.pass_elide_proof.proofs.pass_proofs.run_laws.embedded.Refills.{step_only}
+use Rattle.pass_elide_proof.proofs.pass_proofs.run_laws.memory.Written.{changed_here}
+use Rattle.pass_elide_proof.specs.pass_proofs.ir_base.declared.cause.Cause.{Cause}
+use Rattle.pass_elide_proof.specs.pass_proofs.ir_model.Layout.{size_of}
+use Rattle.pass_elide_proof.specs.pass_proofs.ir_model.Ty.{Ty}
+use Rattle.pass_elide_proof.specs.pass_proofs.ir_model.declared.instr.Instr.{Instr}
+use Rattle.pass_elide_proof.specs.pass_proofs.ir_model.declared.operand.Allocator.{Allocator}
+use Rattle.pass_elide_proof.specs.pass_proofs.ir_model.declared.operand.Callee.{Callee}
+use Rattle.pass_elide_proof.specs.pass_proofs.ir_model.declared.operand.Intrinsic.{Intrinsic}
+use Rattle.pass_elide_proof.specs.pass_proofs.run_framed.Framed.{FramedGiven, framed_context, is_stack_block}
+use Rattle.pass_elide_proof.specs.pass_proofs.run_laws.embedded.Refilled.{OnlyRefills}
+use Rattle.pass_elide_proof.specs.pass_proofs.run_memory.Memory.{end, ended, fresh, is_killed, same_kind}
+use Rattle.pass_elide_proof.specs.pass_proofs.run_memory.declared.block.Byte.{Byte}
+use Rattle.pass_elide_proof.specs.pass_proofs.run_memory.declared.block.Kind.{Kind}
+use Rattle.pass_elide_proof.specs.pass_proofs.run_memory.declared.block.Life.{Life}
+use Rattle.pass_elide_proof.specs.pass_proofs.run_memory.declared.block.MemoryBlock.{MemoryBlock}
+use Rattle.pass_elide_proof.specs.pass_proofs.run_memory.declared.pointer.Value.{Value}
+use Rattle.pass_elide_proof.specs.pass_proofs.run_source.State.{work_of}
+use Rattle.pass_elide_proof.specs.pass_proofs.run_source.declared.state.State.{State}
+use Rattle.pass_elide_proof.specs.pass_proofs.run_step.Step.{Action, AtInstr, AtTerm, Context, Fetched, NewSlot, Nowhere, Stuck, Work, action_of, alloca, alloca_kind, has_markers, is_alignment, with_length}
+use Rattle.pass_elide_proof.specs.pass_proofs.run_step.Values.{arg_values, nth, pointer_to, with_value}
+use Rattle.pass_elide_proof.specs.pass_proofs.run_step.declared.world.Slot.{Slot}
 
 -- what stands there is an alloca of the slot's name, which has the slot's address now
 pub record IsNewOf (c : Context) (w : Work) (here : Fetched) (x : Work) (slot : Slot) : Type 0 where

@@ -3,20 +3,20 @@ use Rattle.std.proofs.Common.{◌≡◌, ◌+◌, ◌&&◌, ◌⊎◌, inl, inr,
 use Rattle.std.specs.Prelude.{option_and_then, slice_get}
 use Rattle.pass_elide_proof.proofs.Facts.{not_both}
 use Rattle.pass_elide_proof.proofs.PlacingFacts.{by_truth}
-use Rattle.pass_proofs.proofs.pass_kept_proof.Rules.{suspend_is_suspend, where_is}
-use Rattle.pass_proofs.specs.ir_model.Names.{is_local, same_intrinsic}
-use Rattle.pass_proofs.specs.ir_model.declared.instr.Instr.{Instr}
-use Rattle.pass_proofs.specs.ir_model.declared.instr.Terminator.{Terminator}
-use Rattle.pass_proofs.specs.ir_model.declared.module.Function.{Function}
-use Rattle.pass_proofs.specs.ir_model.declared.operand.Callee.{Callee}
-use Rattle.pass_proofs.specs.ir_model.declared.operand.Intrinsic.{Intrinsic}
-use Rattle.pass_proofs.specs.ir_paths.Windows.{IsInWindow, call_operand, call_result, instr_at, is_call_of, is_suspend_of, points_where, suspend_of}
-use Rattle.pass_proofs.specs.ir_paths.declared.point.Point.{Point}
-use Rattle.pass_proofs.specs.pass_kept_proof.SuspendRules.{IsCallAt}
-use Rattle.pass_proofs.specs.rule_windows.Sets.{IsAfterEnd}
-use Rattle.pass_proofs.specs.run_source.State.{function_of}
-use Rattle.pass_proofs.specs.run_source.declared.state.State.{State}
-use Rattle.pass_proofs.specs.run_step.Step.{AtInstr, AtTerm, Fetched, fetch}
+use Rattle.pass_elide_proof.proofs.pass_proofs.pass_kept_proof.Rules.{suspend_is_suspend, where_is}
+use Rattle.pass_elide_proof.specs.pass_proofs.ir_model.Names.{is_local, same_intrinsic}
+use Rattle.pass_elide_proof.specs.pass_proofs.ir_model.declared.instr.Instr.{Instr}
+use Rattle.pass_elide_proof.specs.pass_proofs.ir_model.declared.instr.Terminator.{Terminator}
+use Rattle.pass_elide_proof.specs.pass_proofs.ir_model.declared.module.Function.{Function}
+use Rattle.pass_elide_proof.specs.pass_proofs.ir_model.declared.operand.Callee.{Callee}
+use Rattle.pass_elide_proof.specs.pass_proofs.ir_model.declared.operand.Intrinsic.{Intrinsic}
+use Rattle.pass_elide_proof.specs.pass_proofs.ir_paths.Windows.{IsInWindow, call_operand, call_result, instr_at, is_call_of, is_suspend_of, points_where, suspend_of}
+use Rattle.pass_elide_proof.specs.pass_proofs.ir_paths.declared.point.Point.{Point}
+use Rattle.pass_elide_proof.specs.pass_proofs.pass_kept_proof.SuspendRules.{IsCallAt}
+use Rattle.pass_elide_proof.specs.pass_proofs.rule_windows.Sets.{IsAfterEnd}
+use Rattle.pass_elide_proof.specs.pass_proofs.run_source.State.{function_of}
+use Rattle.pass_elide_proof.specs.pass_proofs.run_source.declared.state.State.{State}
+use Rattle.pass_elide_proof.specs.pass_proofs.run_step.Step.{AtInstr, AtTerm, Fetched, fetch}
 use Rattle.run_hooks.specs.Away.{IsAway, IsBehind, IsClear, IsPlacedState, IsWaiting, KeepsPlaceRules, point_in}
 use Rattle.run_hooks.specs.Hooks.{Hooks}
 

@@ -2,18 +2,18 @@
 use Rattle.std.proofs.Common.{◌≡◌, ◌+◌, inl, inr, ⊎_elim, ℕ, zero, suc, Bool, true, false, List, [], ◌∷◌, length, refl, sym, ap, subst, arith, ◌==◌, ◌||◌, ◌⊎◌}
 use Rattle.std.specs.Prelude.{None, Option, Some, map, slice_get}
 use Rattle.pass_elide_proof.proofs.DestroyingSteps.{listed_left, listed_right}
-use Rattle.pass_proofs.proofs.ir_laws.facts.Truth.{equal_numbers}
-use Rattle.pass_proofs.specs.flow_blocks.Edges.{block_edges, edges_of_blocks, edges_out}
-use Rattle.pass_proofs.specs.flow_blocks.Reach.{Edge, IsReached as IsReachedBlock, Start}
-use Rattle.pass_proofs.specs.flow_solver.Paths.{IsListed}
-use Rattle.pass_proofs.specs.ir_model.Names.{position_of}
-use Rattle.pass_proofs.specs.ir_model.declared.instr.Instr.{Instr}
-use Rattle.pass_proofs.specs.ir_model.declared.module.Block.{Block}
-use Rattle.pass_proofs.specs.ir_model.declared.module.Function.{Function}
-use Rattle.pass_proofs.specs.ir_paths.Paths.{targets}
-use Rattle.pass_proofs.specs.ir_paths.Slots.{has_name}
-use Rattle.pass_proofs.specs.pass_kept_proof.Needed.{BranchesTo, IsReached, after, along, first}
-use Rattle.pass_proofs.specs.run_step.Step.{fetch, fetch_in, fetch_or}
+use Rattle.pass_elide_proof.proofs.pass_proofs.ir_laws.facts.Truth.{equal_numbers}
+use Rattle.pass_elide_proof.specs.pass_proofs.flow_blocks.Edges.{block_edges, edges_of_blocks, edges_out}
+use Rattle.pass_elide_proof.specs.pass_proofs.flow_blocks.Reach.{Edge, IsReached as IsReachedBlock, Start}
+use Rattle.pass_elide_proof.specs.pass_proofs.flow_solver.Paths.{IsListed}
+use Rattle.pass_elide_proof.specs.pass_proofs.ir_model.Names.{position_of}
+use Rattle.pass_elide_proof.specs.pass_proofs.ir_model.declared.instr.Instr.{Instr}
+use Rattle.pass_elide_proof.specs.pass_proofs.ir_model.declared.module.Block.{Block}
+use Rattle.pass_elide_proof.specs.pass_proofs.ir_model.declared.module.Function.{Function}
+use Rattle.pass_elide_proof.specs.pass_proofs.ir_paths.Paths.{targets}
+use Rattle.pass_elide_proof.specs.pass_proofs.ir_paths.Slots.{has_name}
+use Rattle.pass_elide_proof.specs.pass_proofs.pass_kept_proof.Needed.{BranchesTo, IsReached, after, along, first}
+use Rattle.pass_elide_proof.specs.pass_proofs.run_step.Step.{fetch, fetch_in, fetch_or}
 
 -- ---- labels
 

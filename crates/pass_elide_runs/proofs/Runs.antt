@@ -3,13 +3,13 @@ use Rattle.std.proofs.Common.{◌≡◌, ◌⊎◌, inl, inr, ℕ, zero, suc, Li
 use Rattle.pass_elide_proof.proofs.Assembly.{framed_stays}
 use Rattle.pass_elide_proof.proofs.StepCases.{leads_to}
 use Rattle.pass_elide_proof.specs.StepCases.{LeadsTo}
-use Rattle.pass_proofs.proofs.run_agreement.Runs.{running_or}
-use Rattle.pass_proofs.specs.ir_base.declared.outcome.Outcome.{Outcome}
-use Rattle.pass_proofs.specs.ir_base.declared.outcome.Word.{Word}
-use Rattle.pass_proofs.specs.run_agreement.Machines.{IsFine, IsRunning, iterate}
-use Rattle.pass_proofs.specs.run_framed.Framed.{FramedGiven, framed_state_at, framed_step}
-use Rattle.pass_proofs.specs.run_source.Source.{first_state}
-use Rattle.pass_proofs.specs.run_source.declared.state.State.{State}
+use Rattle.pass_elide_proof.proofs.pass_proofs.run_agreement.Runs.{running_or}
+use Rattle.pass_elide_proof.specs.pass_proofs.ir_base.declared.outcome.Outcome.{Outcome}
+use Rattle.pass_elide_proof.specs.pass_proofs.ir_base.declared.outcome.Word.{Word}
+use Rattle.pass_elide_proof.specs.pass_proofs.run_agreement.Machines.{IsFine, IsRunning, iterate}
+use Rattle.pass_elide_proof.specs.pass_proofs.run_framed.Framed.{FramedGiven, framed_state_at, framed_step}
+use Rattle.pass_elide_proof.specs.pass_proofs.run_source.Source.{first_state}
+use Rattle.pass_elide_proof.specs.pass_proofs.run_source.declared.state.State.{State}
 
 running_is : (o : Outcome) → IsRunning o → o ≡ Outcome.Running
 running_is (Outcome.Returned v) h = absurd h

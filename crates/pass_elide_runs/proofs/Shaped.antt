@@ -15,15 +15,15 @@ use Rattle.pass_elide_proof.specs.Places.{phi_count, room_at}
 use Rattle.pass_elide_proof.specs.Placing.{HasShape, KeepsPlaces}
 use Rattle.pass_elide_proof.specs.PlacingStates.{HaveShapes}
 use Rattle.pass_elide_proof.specs.Releasing.{AreOfCallees, HoldsOfCallees, HoldsOfRooms}
-use Rattle.pass_proofs.specs.frame_layout.declared.layout.Layout.{Layout as TheLayout}
-use Rattle.pass_proofs.specs.ir_base.declared.outcome.Word.{Word}
-use Rattle.pass_proofs.specs.ir_model.declared.instr.Instr.{Instr}
-use Rattle.pass_proofs.specs.ir_model.declared.operand.Callee.{Callee}
-use Rattle.pass_proofs.specs.run_framed.Framed.{framed_state_at, framed_step}
-use Rattle.pass_proofs.specs.run_memory.declared.pointer.Value.{Value}
-use Rattle.pass_proofs.specs.run_source.declared.state.Activation.{Activation}
-use Rattle.pass_proofs.specs.run_source.declared.state.Mode.{Mode}
-use Rattle.pass_proofs.specs.run_source.declared.state.State.{State}
+use Rattle.pass_elide_proof.specs.pass_proofs.frame_layout.declared.layout.Layout.{Layout as TheLayout}
+use Rattle.pass_elide_proof.specs.pass_proofs.ir_base.declared.outcome.Word.{Word}
+use Rattle.pass_elide_proof.specs.pass_proofs.ir_model.declared.instr.Instr.{Instr}
+use Rattle.pass_elide_proof.specs.pass_proofs.ir_model.declared.operand.Callee.{Callee}
+use Rattle.pass_elide_proof.specs.pass_proofs.run_framed.Framed.{framed_state_at, framed_step}
+use Rattle.pass_elide_proof.specs.pass_proofs.run_memory.declared.pointer.Value.{Value}
+use Rattle.pass_elide_proof.specs.pass_proofs.run_source.declared.state.Activation.{Activation}
+use Rattle.pass_elide_proof.specs.pass_proofs.run_source.declared.state.Mode.{Mode}
+use Rattle.pass_elide_proof.specs.pass_proofs.run_source.declared.state.State.{State}
 
 -- ---- rooms of functions that are no coroutines are allocas
 

@@ -8,18 +8,18 @@ use Rattle.pass_elide_proof.specs.Match.{frame_size}
 use Rattle.pass_elide_proof.specs.PlacingStates.{BeginsInCoroutines}
 use Rattle.pass_elide_runs.proofs.GivenNames.{given_in_runs}
 use Rattle.pass_elide_runs.specs.Names.{AsksAlloc, AsksSize, HaveGiven, IsGivenBy}
-use Rattle.pass_proofs.specs.ir_base.declared.outcome.Word.{Word}
-use Rattle.pass_proofs.specs.ir_model.declared.operand.Arg.{Arg}
-use Rattle.pass_proofs.specs.ir_model.declared.operand.Intrinsic.{Intrinsic}
-use Rattle.pass_proofs.specs.run_agreement.Machines.{IsFine}
-use Rattle.pass_proofs.specs.run_framed.Framed.{FramedGiven, allocates, framed_coro, framed_state_at}
-use Rattle.pass_proofs.specs.run_ints.Numbers.{word_of}
-use Rattle.pass_proofs.specs.run_memory.declared.pointer.Value.{Value}
-use Rattle.pass_proofs.specs.run_source.State.{gives, own_frame}
-use Rattle.pass_proofs.specs.run_source.declared.state.Mode.{Mode}
-use Rattle.pass_proofs.specs.run_source.declared.state.State.{State}
-use Rattle.pass_proofs.specs.run_step.Step.{Context, Coro, Work, intrinsic_call}
-use Rattle.pass_proofs.specs.run_step.Values.{integer, truth_value, value_in}
+use Rattle.pass_elide_proof.specs.pass_proofs.ir_base.declared.outcome.Word.{Word}
+use Rattle.pass_elide_proof.specs.pass_proofs.ir_model.declared.operand.Arg.{Arg}
+use Rattle.pass_elide_proof.specs.pass_proofs.ir_model.declared.operand.Intrinsic.{Intrinsic}
+use Rattle.pass_elide_proof.specs.pass_proofs.run_agreement.Machines.{IsFine}
+use Rattle.pass_elide_proof.specs.pass_proofs.run_framed.Framed.{FramedGiven, allocates, framed_coro, framed_state_at}
+use Rattle.pass_elide_proof.specs.pass_proofs.run_ints.Numbers.{word_of}
+use Rattle.pass_elide_proof.specs.pass_proofs.run_memory.declared.pointer.Value.{Value}
+use Rattle.pass_elide_proof.specs.pass_proofs.run_source.State.{gives, own_frame}
+use Rattle.pass_elide_proof.specs.pass_proofs.run_source.declared.state.Mode.{Mode}
+use Rattle.pass_elide_proof.specs.pass_proofs.run_source.declared.state.State.{State}
+use Rattle.pass_elide_proof.specs.pass_proofs.run_step.Step.{Context, Coro, Work, intrinsic_call}
+use Rattle.pass_elide_proof.specs.pass_proofs.run_step.Values.{integer, truth_value, value_in}
 
 same_word : (x y : Word) → Value.Int x ≡ Value.Int y → x ≡ y
 same_word x y h = cc

@@ -8,31 +8,31 @@ use Rattle.pass_elide_runs.proofs.NewSlots.{IsNewOf, new_of}
 use Rattle.pass_elide_runs.proofs.Runs.{runs_keep}
 use Rattle.pass_elide_runs.proofs.Stacks.{Comes, StaysOn, changed_stack, comes, ended_stack, gone_stack, slotted_on, woken_at}
 use Rattle.pass_elide_runs.specs.Kinds.{HaveSlotKinds, HasSlotKinds, IsSlotKind}
-use Rattle.pass_proofs.proofs.run_laws.access.Walk.{Comes as ComesBy}
-use Rattle.pass_proofs.specs.ir_base.declared.cause.Cause.{Cause}
-use Rattle.pass_proofs.specs.ir_base.declared.outcome.Outcome.{Outcome}
-use Rattle.pass_proofs.specs.ir_base.declared.outcome.Word.{Word}
-use Rattle.pass_proofs.specs.ir_model.Names.{function_at}
-use Rattle.pass_proofs.specs.ir_model.declared.module.Module.{Module}
-use Rattle.pass_proofs.specs.ir_paths.declared.point.Point.{Point}
-use Rattle.pass_proofs.specs.run_agreement.Machines.{IsFine}
-use Rattle.pass_proofs.specs.run_framed.Framed.{FramedGiven, alloca_from, disown_given, enter_after, framed_context, framed_finish, framed_slot, framed_state_at, is_stack_block}
-use Rattle.pass_proofs.specs.run_laws.changed.Changed.{Each}
-use Rattle.pass_proofs.specs.run_memory.Memory.{check, disown, disowned, may_be_owned, own, owned_to, same_kind, with_block}
-use Rattle.pass_proofs.specs.run_memory.declared.block.Kind.{Kind}
-use Rattle.pass_proofs.specs.run_memory.declared.block.MemoryBlock.{MemoryBlock}
-use Rattle.pass_proofs.specs.run_memory.declared.pointer.Pointer.{Pointer}
-use Rattle.pass_proofs.specs.run_memory.declared.pointer.Value.{Value}
-use Rattle.pass_proofs.specs.run_source.Source.{change_own, enter_block, finish, given_back, if_let_go, let_go, may_be_freed, new_instance, release, returned, slots_of}
-use Rattle.pass_proofs.specs.run_source.State.{function_of, gives, instance_at, next, own_frame, own_instance, settled, with_left, with_memory, with_slots, with_status, work_of}
-use Rattle.pass_proofs.specs.run_source.declared.state.Activation.{Activation}
-use Rattle.pass_proofs.specs.run_source.declared.state.Instance.{Instance}
-use Rattle.pass_proofs.specs.run_source.declared.state.Mode.{Mode}
-use Rattle.pass_proofs.specs.run_source.declared.state.State.{State}
-use Rattle.pass_proofs.specs.run_source.declared.state.Status.{Status}
-use Rattle.pass_proofs.specs.run_step.Step.{Action, Done, NewSlot, deallocated, without_slots}
-use Rattle.pass_proofs.specs.run_step.Values.{integer, truth_value}
-use Rattle.pass_proofs.specs.run_step.declared.world.Slot.{Slot}
+use Rattle.pass_elide_proof.proofs.pass_proofs.run_laws.access.Walk.{Comes as ComesBy}
+use Rattle.pass_elide_proof.specs.pass_proofs.ir_base.declared.cause.Cause.{Cause}
+use Rattle.pass_elide_proof.specs.pass_proofs.ir_base.declared.outcome.Outcome.{Outcome}
+use Rattle.pass_elide_proof.specs.pass_proofs.ir_base.declared.outcome.Word.{Word}
+use Rattle.pass_elide_proof.specs.pass_proofs.ir_model.Names.{function_at}
+use Rattle.pass_elide_proof.specs.pass_proofs.ir_model.declared.module.Module.{Module}
+use Rattle.pass_elide_proof.specs.pass_proofs.ir_paths.declared.point.Point.{Point}
+use Rattle.pass_elide_proof.specs.pass_proofs.run_agreement.Machines.{IsFine}
+use Rattle.pass_elide_proof.specs.pass_proofs.run_framed.Framed.{FramedGiven, alloca_from, disown_given, enter_after, framed_context, framed_finish, framed_slot, framed_state_at, is_stack_block}
+use Rattle.pass_elide_proof.specs.pass_proofs.run_laws.changed.Changed.{Each}
+use Rattle.pass_elide_proof.specs.pass_proofs.run_memory.Memory.{check, disown, disowned, may_be_owned, own, owned_to, same_kind, with_block}
+use Rattle.pass_elide_proof.specs.pass_proofs.run_memory.declared.block.Kind.{Kind}
+use Rattle.pass_elide_proof.specs.pass_proofs.run_memory.declared.block.MemoryBlock.{MemoryBlock}
+use Rattle.pass_elide_proof.specs.pass_proofs.run_memory.declared.pointer.Pointer.{Pointer}
+use Rattle.pass_elide_proof.specs.pass_proofs.run_memory.declared.pointer.Value.{Value}
+use Rattle.pass_elide_proof.specs.pass_proofs.run_source.Source.{change_own, enter_block, finish, given_back, if_let_go, let_go, may_be_freed, new_instance, release, returned, slots_of}
+use Rattle.pass_elide_proof.specs.pass_proofs.run_source.State.{function_of, gives, instance_at, next, own_frame, own_instance, settled, with_left, with_memory, with_slots, with_status, work_of}
+use Rattle.pass_elide_proof.specs.pass_proofs.run_source.declared.state.Activation.{Activation}
+use Rattle.pass_elide_proof.specs.pass_proofs.run_source.declared.state.Instance.{Instance}
+use Rattle.pass_elide_proof.specs.pass_proofs.run_source.declared.state.Mode.{Mode}
+use Rattle.pass_elide_proof.specs.pass_proofs.run_source.declared.state.State.{State}
+use Rattle.pass_elide_proof.specs.pass_proofs.run_source.declared.state.Status.{Status}
+use Rattle.pass_elide_proof.specs.pass_proofs.run_step.Step.{Action, Done, NewSlot, deallocated, without_slots}
+use Rattle.pass_elide_proof.specs.pass_proofs.run_step.Values.{integer, truth_value}
+use Rattle.pass_elide_proof.specs.pass_proofs.run_step.declared.world.Slot.{Slot}
 
 -- ---- memory
 

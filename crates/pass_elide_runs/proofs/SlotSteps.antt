@@ -25,41 +25,41 @@ use Rattle.pass_elide_runs.proofs.SlotsKept.{KeepsNames, further, grown, over, w
 use Rattle.pass_elide_runs.proofs.Stacks.{Comes, SameStack, comes, ended_stack, gone_stack, changed_stack, woken_at, woken_on}
 use Rattle.pass_elide_runs.proofs.WakesBy.{IsWoken, wakes_by}
 use Rattle.pass_elide_runs.specs.Slots.{AllocasFirst, HasItsSlots, HaveItsSlots, IsAllocaAt, IsSlotOf, NamesAllocas}
-use Rattle.pass_proofs.specs.flow_blocks.Edges.{block_edges}
-use Rattle.pass_proofs.specs.flow_solver.Paths.{IsListed}
-use Rattle.pass_proofs.specs.ir_base.declared.outcome.Outcome.{Outcome}
-use Rattle.pass_proofs.specs.ir_base.declared.outcome.Word.{Word}
-use Rattle.pass_proofs.specs.ir_model.Names.{function_at, position_of}
-use Rattle.pass_proofs.specs.ir_model.Ty.{Ty}
-use Rattle.pass_proofs.specs.ir_model.declared.instr.Instr.{Instr}
-use Rattle.pass_proofs.specs.ir_model.declared.module.Block.{Block}
-use Rattle.pass_proofs.specs.ir_model.declared.module.Function.{Function}
-use Rattle.pass_proofs.specs.ir_model.declared.module.Module.{Module}
-use Rattle.pass_proofs.specs.ir_model.declared.operand.Arg.{Arg}
-use Rattle.pass_proofs.specs.ir_model.declared.operand.Callee.{Callee}
-use Rattle.pass_proofs.specs.ir_model.declared.operand.Intrinsic.{Intrinsic}
-use Rattle.pass_proofs.specs.ir_parts.Contents.{result_of}
-use Rattle.pass_proofs.specs.ir_paths.Paths.{targets}
-use Rattle.pass_proofs.specs.ir_paths.Slots.{has_name}
-use Rattle.pass_proofs.specs.ir_paths.Windows.{destroy_label, resume_label}
-use Rattle.pass_proofs.specs.ir_paths.declared.point.Point.{Point}
-use Rattle.pass_proofs.specs.pass_kept_proof.Needed.{BranchesTo}
-use Rattle.pass_proofs.specs.pass_kept_proof.Related.{IsSoundStatus}
-use Rattle.pass_proofs.specs.pass_kept_proof.SuspendRules.{IsCallAt, IsSwitched}
-use Rattle.pass_proofs.specs.run_agreement.Machines.{IsFine, IsReturned}
-use Rattle.pass_proofs.specs.run_framed.Framed.{FramedGiven, alloca_from, continue_framed, enter_after, framed_context, framed_slot, framed_state_at, framed_step, last_value}
-use Rattle.pass_proofs.specs.run_laws.changed.Changed.{Each}
-use Rattle.pass_proofs.specs.run_memory.declared.pointer.Value.{Value}
-use Rattle.pass_proofs.specs.run_source.Source.{Sleeper, called, enter_block, is_among, mode_of}
-use Rattle.pass_proofs.specs.run_source.State.{function_of, gives, instance_at, own_instance, settled, with_left, with_slots, work_of}
-use Rattle.pass_proofs.specs.run_source.declared.state.Activation.{Activation}
-use Rattle.pass_proofs.specs.run_source.declared.state.Mode.{Mode}
-use Rattle.pass_proofs.specs.run_source.declared.state.State.{State}
-use Rattle.pass_proofs.specs.run_source_tables.Given.{facts_at}
-use Rattle.pass_proofs.specs.run_step.Effects.{is_alloca}
-use Rattle.pass_proofs.specs.run_step.Step.{Action, AtInstr, AtTerm, Coro, Deallocate, Done, Enter, Fetched, NewSlot, Nowhere, Work, action_of, fetch, label_of, phis_of, values_in}
-use Rattle.pass_proofs.specs.run_step.Values.{Env, arg_values, integer, truth_value, value_in, with_result}
-use Rattle.pass_proofs.specs.run_step.declared.world.Slot.{Slot}
+use Rattle.pass_elide_proof.specs.pass_proofs.flow_blocks.Edges.{block_edges}
+use Rattle.pass_elide_proof.specs.pass_proofs.flow_solver.Paths.{IsListed}
+use Rattle.pass_elide_proof.specs.pass_proofs.ir_base.declared.outcome.Outcome.{Outcome}
+use Rattle.pass_elide_proof.specs.pass_proofs.ir_base.declared.outcome.Word.{Word}
+use Rattle.pass_elide_proof.specs.pass_proofs.ir_model.Names.{function_at, position_of}
+use Rattle.pass_elide_proof.specs.pass_proofs.ir_model.Ty.{Ty}
+use Rattle.pass_elide_proof.specs.pass_proofs.ir_model.declared.instr.Instr.{Instr}
+use Rattle.pass_elide_proof.specs.pass_proofs.ir_model.declared.module.Block.{Block}
+use Rattle.pass_elide_proof.specs.pass_proofs.ir_model.declared.module.Function.{Function}
+use Rattle.pass_elide_proof.specs.pass_proofs.ir_model.declared.module.Module.{Module}
+use Rattle.pass_elide_proof.specs.pass_proofs.ir_model.declared.operand.Arg.{Arg}
+use Rattle.pass_elide_proof.specs.pass_proofs.ir_model.declared.operand.Callee.{Callee}
+use Rattle.pass_elide_proof.specs.pass_proofs.ir_model.declared.operand.Intrinsic.{Intrinsic}
+use Rattle.pass_elide_proof.specs.pass_proofs.ir_parts.Contents.{result_of}
+use Rattle.pass_elide_proof.specs.pass_proofs.ir_paths.Paths.{targets}
+use Rattle.pass_elide_proof.specs.pass_proofs.ir_paths.Slots.{has_name}
+use Rattle.pass_elide_proof.specs.pass_proofs.ir_paths.Windows.{destroy_label, resume_label}
+use Rattle.pass_elide_proof.specs.pass_proofs.ir_paths.declared.point.Point.{Point}
+use Rattle.pass_elide_proof.specs.pass_proofs.pass_kept_proof.Needed.{BranchesTo}
+use Rattle.pass_elide_proof.specs.pass_proofs.pass_kept_proof.Related.{IsSoundStatus}
+use Rattle.pass_elide_proof.specs.pass_proofs.pass_kept_proof.SuspendRules.{IsCallAt, IsSwitched}
+use Rattle.pass_elide_proof.specs.pass_proofs.run_agreement.Machines.{IsFine, IsReturned}
+use Rattle.pass_elide_proof.specs.pass_proofs.run_framed.Framed.{FramedGiven, alloca_from, continue_framed, enter_after, framed_context, framed_slot, framed_state_at, framed_step, last_value}
+use Rattle.pass_elide_proof.specs.pass_proofs.run_laws.changed.Changed.{Each}
+use Rattle.pass_elide_proof.specs.pass_proofs.run_memory.declared.pointer.Value.{Value}
+use Rattle.pass_elide_proof.specs.pass_proofs.run_source.Source.{Sleeper, called, enter_block, is_among, mode_of}
+use Rattle.pass_elide_proof.specs.pass_proofs.run_source.State.{function_of, gives, instance_at, own_instance, settled, with_left, with_slots, work_of}
+use Rattle.pass_elide_proof.specs.pass_proofs.run_source.declared.state.Activation.{Activation}
+use Rattle.pass_elide_proof.specs.pass_proofs.run_source.declared.state.Mode.{Mode}
+use Rattle.pass_elide_proof.specs.pass_proofs.run_source.declared.state.State.{State}
+use Rattle.pass_elide_proof.specs.pass_proofs.run_source_tables.Given.{facts_at}
+use Rattle.pass_elide_proof.specs.pass_proofs.run_step.Effects.{is_alloca}
+use Rattle.pass_elide_proof.specs.pass_proofs.run_step.Step.{Action, AtInstr, AtTerm, Coro, Deallocate, Done, Enter, Fetched, NewSlot, Nowhere, Work, action_of, fetch, label_of, phis_of, values_in}
+use Rattle.pass_elide_proof.specs.pass_proofs.run_step.Values.{Env, arg_values, integer, truth_value, value_in, with_result}
+use Rattle.pass_elide_proof.specs.pass_proofs.run_step.declared.world.Slot.{Slot}
 use Rattle.run_hooks.specs.Reached.{AllHaveSwitches, IsReachedState}
 
 -- ---- outcomes and modes

@@ -14,31 +14,31 @@ use Rattle.pass_elide_runs.proofs.Runs.{runs_keep}
 use Rattle.pass_elide_runs.proofs.Stacks.{Comes, SameStack, StaysOn, comes, ended_stack, woken_at, woken_on}
 use Rattle.pass_elide_runs.specs.Ends.{GoOnTillEnd, GoesOnTillEnd, IsOverThere}
 use Rattle.pass_elide_runs.specs.Modes.{KnowModes}
-use Rattle.pass_proofs.proofs.ir_laws.facts.Lists.{get_last}
-use Rattle.pass_proofs.specs.ir_base.declared.outcome.Outcome.{Outcome}
-use Rattle.pass_proofs.specs.ir_base.declared.outcome.Word.{Word}
-use Rattle.pass_proofs.specs.ir_model.Names.{function_at}
-use Rattle.pass_proofs.specs.ir_model.declared.instr.Instr.{Instr}
-use Rattle.pass_proofs.specs.ir_model.declared.module.Module.{Module}
-use Rattle.pass_proofs.specs.ir_model.declared.operand.Intrinsic.{Intrinsic}
-use Rattle.pass_proofs.specs.ir_paths.Paths.{has_point, nexts}
-use Rattle.pass_proofs.specs.ir_paths.declared.point.Point.{Point}
-use Rattle.pass_proofs.specs.pass_kept_proof.Needed.{BranchesTo}
-use Rattle.pass_proofs.specs.pass_kept_proof.SuspendRules.{IsCallAt}
-use Rattle.pass_proofs.specs.run_agreement.Machines.{IsFine, IsReturned}
-use Rattle.pass_proofs.specs.run_framed.Framed.{FramedGiven, alloca_from, continue_framed, disown_given, enter_after, framed_finish, framed_slot, framed_state_at, framed_step, is_stack_block, last_value}
-use Rattle.pass_proofs.specs.run_laws.changed.Changed.{Each}
-use Rattle.pass_proofs.specs.run_memory.Memory.{disown}
-use Rattle.pass_proofs.specs.run_memory.declared.pointer.Value.{Value}
-use Rattle.pass_proofs.specs.run_source.Source.{begun, called, change_own, enter_block, finish, first_state, given_back, if_let_go, is_among, let_go, may_be_freed, mode_of, new_instance}
-use Rattle.pass_proofs.specs.run_source.State.{function_of, gives, instance_at, is_finished, next, own_facts, own_instance, settled, with_instance, with_left, with_memory, with_slots, with_status}
-use Rattle.pass_proofs.specs.run_source.declared.state.Activation.{Activation}
-use Rattle.pass_proofs.specs.run_source.declared.state.Instance.{Instance}
-use Rattle.pass_proofs.specs.run_source.declared.state.Mode.{Mode}
-use Rattle.pass_proofs.specs.run_source.declared.state.State.{State}
-use Rattle.pass_proofs.specs.run_source.declared.state.Status.{Status}
-use Rattle.pass_proofs.specs.run_step.Step.{AtInstr, Coro, Deallocate, Done, Enter, NewSlot, fetch}
-use Rattle.pass_proofs.specs.run_step.Values.{Env, arg_values, integer, nth, truth_value}
+use Rattle.pass_elide_proof.proofs.pass_proofs.ir_laws.facts.Lists.{get_last}
+use Rattle.pass_elide_proof.specs.pass_proofs.ir_base.declared.outcome.Outcome.{Outcome}
+use Rattle.pass_elide_proof.specs.pass_proofs.ir_base.declared.outcome.Word.{Word}
+use Rattle.pass_elide_proof.specs.pass_proofs.ir_model.Names.{function_at}
+use Rattle.pass_elide_proof.specs.pass_proofs.ir_model.declared.instr.Instr.{Instr}
+use Rattle.pass_elide_proof.specs.pass_proofs.ir_model.declared.module.Module.{Module}
+use Rattle.pass_elide_proof.specs.pass_proofs.ir_model.declared.operand.Intrinsic.{Intrinsic}
+use Rattle.pass_elide_proof.specs.pass_proofs.ir_paths.Paths.{has_point, nexts}
+use Rattle.pass_elide_proof.specs.pass_proofs.ir_paths.declared.point.Point.{Point}
+use Rattle.pass_elide_proof.specs.pass_proofs.pass_kept_proof.Needed.{BranchesTo}
+use Rattle.pass_elide_proof.specs.pass_proofs.pass_kept_proof.SuspendRules.{IsCallAt}
+use Rattle.pass_elide_proof.specs.pass_proofs.run_agreement.Machines.{IsFine, IsReturned}
+use Rattle.pass_elide_proof.specs.pass_proofs.run_framed.Framed.{FramedGiven, alloca_from, continue_framed, disown_given, enter_after, framed_finish, framed_slot, framed_state_at, framed_step, is_stack_block, last_value}
+use Rattle.pass_elide_proof.specs.pass_proofs.run_laws.changed.Changed.{Each}
+use Rattle.pass_elide_proof.specs.pass_proofs.run_memory.Memory.{disown}
+use Rattle.pass_elide_proof.specs.pass_proofs.run_memory.declared.pointer.Value.{Value}
+use Rattle.pass_elide_proof.specs.pass_proofs.run_source.Source.{begun, called, change_own, enter_block, finish, first_state, given_back, if_let_go, is_among, let_go, may_be_freed, mode_of, new_instance}
+use Rattle.pass_elide_proof.specs.pass_proofs.run_source.State.{function_of, gives, instance_at, is_finished, next, own_facts, own_instance, settled, with_instance, with_left, with_memory, with_slots, with_status}
+use Rattle.pass_elide_proof.specs.pass_proofs.run_source.declared.state.Activation.{Activation}
+use Rattle.pass_elide_proof.specs.pass_proofs.run_source.declared.state.Instance.{Instance}
+use Rattle.pass_elide_proof.specs.pass_proofs.run_source.declared.state.Mode.{Mode}
+use Rattle.pass_elide_proof.specs.pass_proofs.run_source.declared.state.State.{State}
+use Rattle.pass_elide_proof.specs.pass_proofs.run_source.declared.state.Status.{Status}
+use Rattle.pass_elide_proof.specs.pass_proofs.run_step.Step.{AtInstr, Coro, Deallocate, Done, Enter, NewSlot, fetch}
+use Rattle.pass_elide_proof.specs.pass_proofs.run_step.Values.{Env, arg_values, integer, nth, truth_value}
 use Rattle.run_hooks.proofs.Left.{states_last}
 use Rattle.run_hooks.proofs.LeftKeeping.{framed_keeps_last}
 use Rattle.run_hooks.proofs.Reached.{at_is}

@@ -4,29 +4,29 @@ use Rattle.std.specs.Prelude.{is_none, negsuc, not, unwrap_or}
 use Rattle.pass_elide_proof.proofs.StepCases.{if_ok, then_ok}
 use Rattle.pass_elide_proof.specs.StepCases.{ActsBy, ended}
 use Rattle.pass_elide_runs.proofs.Stacks.{Comes, changed_stack, comes, ended_stack}
-use Rattle.pass_proofs.specs.ir_base.declared.cause.Cause.{Cause}
-use Rattle.pass_proofs.specs.ir_base.declared.outcome.Outcome.{Outcome}
-use Rattle.pass_proofs.specs.ir_model.Names.{function_at}
-use Rattle.pass_proofs.specs.ir_model.declared.operand.Arg.{Arg}
-use Rattle.pass_proofs.specs.ir_model.declared.operand.Intrinsic.{Intrinsic}
-use Rattle.pass_proofs.specs.ir_model.declared.operand.Operand.{Operand}
-use Rattle.pass_proofs.specs.ir_paths.Windows.{destroy_label, operand_at, resume_label, suspend_of}
-use Rattle.pass_proofs.specs.ir_paths.declared.point.Point.{Point}
-use Rattle.pass_proofs.specs.run_agreement.Machines.{IsFine}
-use Rattle.pass_proofs.specs.run_framed.Framed.{FramedGiven, are_finished_at, begin_given, begin_given_at, begin_in_block, begin_in_frame, continue_framed, framed_act, framed_advance, framed_begin, framed_context, framed_coro, framed_next, framed_promise, framed_step, has_size}
-use Rattle.pass_proofs.specs.run_memory.Memory.{own}
-use Rattle.pass_proofs.specs.run_memory.declared.block.Kind.{Kind}
-use Rattle.pass_proofs.specs.run_memory.declared.pointer.Offset.{Offset}
-use Rattle.pass_proofs.specs.run_memory.declared.pointer.Pointer.{Pointer}
-use Rattle.pass_proofs.specs.run_memory.declared.pointer.Value.{Value}
-use Rattle.pass_proofs.specs.run_source.Source.{Sleeper, after_end, begin, begin_at, begun, destroy, done_at, is_live_at, resume, save, save_before, save_for, sleeper_at, suspend}
-use Rattle.pass_proofs.specs.run_source.State.{function_of, gives, next, or_undefined, own_frame, own_instance, point_of, work_of}
-use Rattle.pass_proofs.specs.run_source.declared.state.Mode.{Mode}
-use Rattle.pass_proofs.specs.run_source.declared.state.State.{State}
-use Rattle.pass_proofs.specs.run_source_tables.Given.{has_final, is_final}
-use Rattle.pass_proofs.specs.run_step.Results.{found, ok_if}
-use Rattle.pass_proofs.specs.run_step.Step.{Coro, action_of, block_of}
-use Rattle.pass_proofs.specs.run_step.Values.{arg_values, integer, nth}
+use Rattle.pass_elide_proof.specs.pass_proofs.ir_base.declared.cause.Cause.{Cause}
+use Rattle.pass_elide_proof.specs.pass_proofs.ir_base.declared.outcome.Outcome.{Outcome}
+use Rattle.pass_elide_proof.specs.pass_proofs.ir_model.Names.{function_at}
+use Rattle.pass_elide_proof.specs.pass_proofs.ir_model.declared.operand.Arg.{Arg}
+use Rattle.pass_elide_proof.specs.pass_proofs.ir_model.declared.operand.Intrinsic.{Intrinsic}
+use Rattle.pass_elide_proof.specs.pass_proofs.ir_model.declared.operand.Operand.{Operand}
+use Rattle.pass_elide_proof.specs.pass_proofs.ir_paths.Windows.{destroy_label, operand_at, resume_label, suspend_of}
+use Rattle.pass_elide_proof.specs.pass_proofs.ir_paths.declared.point.Point.{Point}
+use Rattle.pass_elide_proof.specs.pass_proofs.run_agreement.Machines.{IsFine}
+use Rattle.pass_elide_proof.specs.pass_proofs.run_framed.Framed.{FramedGiven, are_finished_at, begin_given, begin_given_at, begin_in_block, begin_in_frame, continue_framed, framed_act, framed_advance, framed_begin, framed_context, framed_coro, framed_next, framed_promise, framed_step, has_size}
+use Rattle.pass_elide_proof.specs.pass_proofs.run_memory.Memory.{own}
+use Rattle.pass_elide_proof.specs.pass_proofs.run_memory.declared.block.Kind.{Kind}
+use Rattle.pass_elide_proof.specs.pass_proofs.run_memory.declared.pointer.Offset.{Offset}
+use Rattle.pass_elide_proof.specs.pass_proofs.run_memory.declared.pointer.Pointer.{Pointer}
+use Rattle.pass_elide_proof.specs.pass_proofs.run_memory.declared.pointer.Value.{Value}
+use Rattle.pass_elide_proof.specs.pass_proofs.run_source.Source.{Sleeper, after_end, begin, begin_at, begun, destroy, done_at, is_live_at, resume, save, save_before, save_for, sleeper_at, suspend}
+use Rattle.pass_elide_proof.specs.pass_proofs.run_source.State.{function_of, gives, next, or_undefined, own_frame, own_instance, point_of, work_of}
+use Rattle.pass_elide_proof.specs.pass_proofs.run_source.declared.state.Mode.{Mode}
+use Rattle.pass_elide_proof.specs.pass_proofs.run_source.declared.state.State.{State}
+use Rattle.pass_elide_proof.specs.pass_proofs.run_source_tables.Given.{has_final, is_final}
+use Rattle.pass_elide_proof.specs.pass_proofs.run_step.Results.{found, ok_if}
+use Rattle.pass_elide_proof.specs.pass_proofs.run_step.Step.{Coro, action_of, block_of}
+use Rattle.pass_elide_proof.specs.pass_proofs.run_step.Values.{arg_values, integer, nth}
 
 -- ---- how long the stack is
 

@@ -4,9 +4,9 @@ use Rattle.std.specs.Prelude.{None, Option, Some, slice_get}
 use Rattle.pass_elide.specs.Elided.{block_frames, elided_blocks, elided_by, elided_function, elided_instrs, frame_address, frame_alloca, frame_allocas, frames_by, function_frames, given_call, with_front}
 use Rattle.pass_elide.specs.declared.given.GivenFrame.{GivenFrame}
 use Rattle.pass_elide_proof.specs.Places.{Rooms, instrs_in, instrs_of}
-use Rattle.pass_proofs.specs.ir_model.declared.instr.Instr.{Instr}
-use Rattle.pass_proofs.specs.ir_model.declared.module.Block.{Block}
-use Rattle.pass_proofs.specs.ir_model.declared.module.Function.{Function}
+use Rattle.pass_elide_proof.specs.pass_proofs.ir_model.declared.instr.Instr.{Instr}
+use Rattle.pass_elide_proof.specs.pass_proofs.ir_model.declared.module.Block.{Block}
+use Rattle.pass_elide_proof.specs.pass_proofs.ir_model.declared.module.Function.{Function}
 
 -- the test finds none of them
 unfoldable pub Without : (Instr → Bool) → List Instr → Type 0

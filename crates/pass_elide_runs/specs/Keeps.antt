@@ -12,8 +12,8 @@ use Rattle.pass_elide_runs.specs.Marks.{HasPlainAllocas, MarksAllocas}
 use Rattle.pass_elide_runs.specs.Modes.{KnowModes}
 use Rattle.pass_elide_runs.specs.Slots.{AllocasFirst, HaveItsSlots, NamesAllocas}
 use Rattle.pass_elide_runs.specs.Standing.{StandWhereLed}
-use Rattle.pass_proofs.specs.edges.rules.Returns.{AreSwitched}
-use Rattle.pass_proofs.specs.run_source.declared.state.State.{State}
+use Rattle.pass_elide_proof.specs.pass_proofs.edges.rules.Returns.{AreSwitched}
+use Rattle.pass_elide_proof.specs.pass_proofs.run_source.declared.state.State.{State}
 use Rattle.run_hooks.specs.Away.{IsPlacedState, KeepsAllPlaceRules}
 use Rattle.run_hooks.specs.Meanings.{framed_hooks}
 use Rattle.run_hooks.specs.Reached.{AllHaveSwitches}

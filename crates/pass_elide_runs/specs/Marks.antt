@@ -4,16 +4,16 @@ use Rattle.pass_elide_proof.specs.Elision.{Elision, differs_in, function_in}
 use Rattle.pass_elide_proof.specs.Marking.{HoldsNoFrame, first_operand}
 use Rattle.pass_elide_proof.specs.Places.{instrs_of}
 use Rattle.pass_elide_runs.specs.Slots.{IsAllocaAt}
-use Rattle.pass_proofs.specs.ir_model.Ty.{Ty}
-use Rattle.pass_proofs.specs.ir_model.declared.instr.Instr.{Instr}
-use Rattle.pass_proofs.specs.ir_model.declared.module.Function.{Function}
-use Rattle.pass_proofs.specs.ir_model.declared.operand.Arg.{Arg}
-use Rattle.pass_proofs.specs.ir_model.declared.operand.Callee.{Callee}
-use Rattle.pass_proofs.specs.ir_model.declared.operand.Intrinsic.{Intrinsic}
-use Rattle.pass_proofs.specs.ir_model.declared.operand.Operand.{Operand}
-use Rattle.pass_proofs.specs.ir_paths.Windows.{operand_at}
-use Rattle.pass_proofs.specs.run_source.declared.state.State.{State}
-use Rattle.pass_proofs.specs.run_step.Step.{block_of}
+use Rattle.pass_elide_proof.specs.pass_proofs.ir_model.Ty.{Ty}
+use Rattle.pass_elide_proof.specs.pass_proofs.ir_model.declared.instr.Instr.{Instr}
+use Rattle.pass_elide_proof.specs.pass_proofs.ir_model.declared.module.Function.{Function}
+use Rattle.pass_elide_proof.specs.pass_proofs.ir_model.declared.operand.Arg.{Arg}
+use Rattle.pass_elide_proof.specs.pass_proofs.ir_model.declared.operand.Callee.{Callee}
+use Rattle.pass_elide_proof.specs.pass_proofs.ir_model.declared.operand.Intrinsic.{Intrinsic}
+use Rattle.pass_elide_proof.specs.pass_proofs.ir_model.declared.operand.Operand.{Operand}
+use Rattle.pass_elide_proof.specs.pass_proofs.ir_paths.Windows.{operand_at}
+use Rattle.pass_elide_proof.specs.pass_proofs.run_source.declared.state.State.{State}
+use Rattle.pass_elide_proof.specs.pass_proofs.run_step.Step.{block_of}
 
 -- a marker's pointer is an alloca that was passed
 pub record MarksAlloca (f : Function) (block at : ℕ) (args : List Arg) : Type 0 where

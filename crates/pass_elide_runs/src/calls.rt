@@ -5,14 +5,14 @@ ghost use Rattle.pass_elide_proof.specs.Placing.{KeepsPlaces};
 ghost use Rattle.pass_elide_proof.specs.PlacingStates.{IsCalledBy};
 ghost use Rattle.pass_elide_proof.specs.StepCases.{LeadsTo};
 ghost use Rattle.pass_elide_runs.specs.Calls.{HaveCallsBelow};
-ghost use Rattle.pass_proofs.specs.ir_base.declared.outcome.Outcome.{Outcome};
-ghost use Rattle.pass_proofs.specs.ir_base.declared.outcome.Word.{Word};
-ghost use Rattle.pass_proofs.specs.ir_model.declared.module.Module.{Module};
-ghost use Rattle.pass_proofs.specs.run_agreement.Machines.{IsFine};
-ghost use Rattle.pass_proofs.specs.run_framed.Framed.{FramedGiven, framed_state_at};
-ghost use Rattle.pass_proofs.specs.run_source.Source.{first_state};
-ghost use Rattle.pass_proofs.specs.run_source.declared.state.Activation.{Activation};
-ghost use Rattle.pass_proofs.specs.run_source.declared.state.State.{State};
+ghost use Rattle.pass_elide_proof.specs.pass_proofs.ir_base.declared.outcome.Outcome.{Outcome};
+ghost use Rattle.pass_elide_proof.specs.pass_proofs.ir_base.declared.outcome.Word.{Word};
+ghost use Rattle.pass_elide_proof.specs.pass_proofs.ir_model.declared.module.Module.{Module};
+ghost use Rattle.pass_elide_proof.specs.pass_proofs.run_agreement.Machines.{IsFine};
+ghost use Rattle.pass_elide_proof.specs.pass_proofs.run_framed.Framed.{FramedGiven, framed_state_at};
+ghost use Rattle.pass_elide_proof.specs.pass_proofs.run_source.Source.{first_state};
+ghost use Rattle.pass_elide_proof.specs.pass_proofs.run_source.declared.state.Activation.{Activation};
+ghost use Rattle.pass_elide_proof.specs.pass_proofs.run_source.declared.state.State.{State};
 ghost use Rattle.std.specs.Prelude.{List, ◌∷◌, ◌≡◌, ℕ};
 
 /// Each activation was made by the instruction in front of the place of the one below it.

@@ -4,17 +4,17 @@ ghost use Rattle.pass_elide_proof.specs.Elision.{Elision, elided, framed, functi
 ghost use Rattle.pass_elide_proof.specs.Match.{instance_in};
 ghost use Rattle.pass_elide_proof.specs.Placing.{KeepsPlaces};
 ghost use Rattle.pass_elide_runs.specs.Keeps.{KeepsRuns, KnowsFramed, KnowsGiving};
-ghost use Rattle.pass_proofs.specs.ir_base.declared.outcome.Outcome.{Outcome};
-ghost use Rattle.pass_proofs.specs.ir_base.declared.outcome.Word.{Word};
-ghost use Rattle.pass_proofs.specs.ir_model.Names.{is_local};
-ghost use Rattle.pass_proofs.specs.ir_model.declared.operand.Intrinsic.{Intrinsic};
-ghost use Rattle.pass_proofs.specs.ir_paths.Windows.{call_operand};
-ghost use Rattle.pass_proofs.specs.pass_kept_proof.SuspendRules.{IsCallAt};
-ghost use Rattle.pass_proofs.specs.run_agreement.Machines.{IsFine};
-ghost use Rattle.pass_proofs.specs.run_framed.Framed.{framed_state_at};
-ghost use Rattle.pass_proofs.specs.run_source.State.{is_finished};
-ghost use Rattle.pass_proofs.specs.run_source.declared.state.Instance.{Instance};
-ghost use Rattle.pass_proofs.specs.run_source.declared.state.State.{State};
+ghost use Rattle.pass_elide_proof.specs.pass_proofs.ir_base.declared.outcome.Outcome.{Outcome};
+ghost use Rattle.pass_elide_proof.specs.pass_proofs.ir_base.declared.outcome.Word.{Word};
+ghost use Rattle.pass_elide_proof.specs.pass_proofs.ir_model.Names.{is_local};
+ghost use Rattle.pass_elide_proof.specs.pass_proofs.ir_model.declared.operand.Intrinsic.{Intrinsic};
+ghost use Rattle.pass_elide_proof.specs.pass_proofs.ir_paths.Windows.{call_operand};
+ghost use Rattle.pass_elide_proof.specs.pass_proofs.pass_kept_proof.SuspendRules.{IsCallAt};
+ghost use Rattle.pass_elide_proof.specs.pass_proofs.run_agreement.Machines.{IsFine};
+ghost use Rattle.pass_elide_proof.specs.pass_proofs.run_framed.Framed.{framed_state_at};
+ghost use Rattle.pass_elide_proof.specs.pass_proofs.run_source.State.{is_finished};
+ghost use Rattle.pass_elide_proof.specs.pass_proofs.run_source.declared.state.Instance.{Instance};
+ghost use Rattle.pass_elide_proof.specs.pass_proofs.run_source.declared.state.State.{State};
 ghost use Rattle.run_hooks.specs.Away.{point_in};
 ghost use Rattle.std.specs.Prelude.{List, Some, false, ◌≡◌, ℕ};
 

@@ -2,12 +2,12 @@
 
 ghost use Rattle.pass_elide_proof.specs.StepCases.{LeadsTo};
 ghost use Rattle.pass_elide_runs.specs.Modes.{KnowModes};
-ghost use Rattle.pass_proofs.specs.ir_base.declared.outcome.Outcome.{Outcome};
-ghost use Rattle.pass_proofs.specs.ir_base.declared.outcome.Word.{Word};
-ghost use Rattle.pass_proofs.specs.ir_model.Names.{function_at};
-ghost use Rattle.pass_proofs.specs.run_agreement.Machines.{IsFine};
-ghost use Rattle.pass_proofs.specs.run_framed.Framed.{FramedGiven, framed_state_at};
-ghost use Rattle.pass_proofs.specs.run_source.declared.state.State.{State};
+ghost use Rattle.pass_elide_proof.specs.pass_proofs.ir_base.declared.outcome.Outcome.{Outcome};
+ghost use Rattle.pass_elide_proof.specs.pass_proofs.ir_base.declared.outcome.Word.{Word};
+ghost use Rattle.pass_elide_proof.specs.pass_proofs.ir_model.Names.{function_at};
+ghost use Rattle.pass_elide_proof.specs.pass_proofs.run_agreement.Machines.{IsFine};
+ghost use Rattle.pass_elide_proof.specs.pass_proofs.run_framed.Framed.{FramedGiven, framed_state_at};
+ghost use Rattle.pass_elide_proof.specs.pass_proofs.run_source.declared.state.State.{State};
 ghost use Rattle.run_hooks.specs.Reached.{AllHaveSwitches, IsReachedState};
 ghost use Rattle.std.specs.Prelude.{List, false, ◌≡◌, ℕ};
 

@@ -5,9 +5,9 @@ ghost use Rattle.pass_elide_proof.specs.Placing.{HasShape, KeepsPlaces};
 ghost use Rattle.pass_elide_proof.specs.PlacingStates.{HaveShapes};
 ghost use Rattle.pass_elide_proof.specs.Releasing.{AreOfCallees};
 ghost use Rattle.pass_elide_proof.specs.Callers.{HaveBlocks};
-ghost use Rattle.pass_proofs.specs.ir_base.declared.outcome.Word.{Word};
-ghost use Rattle.pass_proofs.specs.run_framed.Framed.{framed_state_at, framed_step};
-ghost use Rattle.pass_proofs.specs.run_source.declared.state.State.{State};
+ghost use Rattle.pass_elide_proof.specs.pass_proofs.ir_base.declared.outcome.Word.{Word};
+ghost use Rattle.pass_elide_proof.specs.pass_proofs.run_framed.Framed.{framed_state_at, framed_step};
+ghost use Rattle.pass_elide_proof.specs.pass_proofs.run_source.declared.state.State.{State};
 ghost use Rattle.std.specs.Prelude.{List, ℕ};
 
 /// A ramp that was given its frame, and an instance whose frame was given, is of a function that has a shape. Each

@@ -3,10 +3,10 @@
 ghost use Rattle.pass_elide_proof.specs.Elision.{Elision, elided, elided_code, function_in};
 ghost use Rattle.pass_elide_proof.specs.Placing.{KeepsPlaces};
 ghost use Rattle.pass_elide_runs.specs.Standing.{StandWhereLed};
-ghost use Rattle.pass_proofs.specs.edges.rules.Returns.{AreSwitched};
-ghost use Rattle.pass_proofs.specs.ir_base.declared.outcome.Word.{Word};
-ghost use Rattle.pass_proofs.specs.ir_model.Names.{function_at};
-ghost use Rattle.pass_proofs.specs.run_framed.Framed.{FramedGiven, framed_state_at};
+ghost use Rattle.pass_elide_proof.specs.pass_proofs.edges.rules.Returns.{AreSwitched};
+ghost use Rattle.pass_elide_proof.specs.pass_proofs.ir_base.declared.outcome.Word.{Word};
+ghost use Rattle.pass_elide_proof.specs.pass_proofs.ir_model.Names.{function_at};
+ghost use Rattle.pass_elide_proof.specs.pass_proofs.run_framed.Framed.{FramedGiven, framed_state_at};
 ghost use Rattle.run_hooks.specs.Reached.{AllHaveSwitches};
 ghost use Rattle.std.specs.Prelude.{List, ℕ};
 

@@ -3,9 +3,9 @@
 ghost use Rattle.pass_elide_proof.specs.Callers.{WakesByEdge};
 ghost use Rattle.pass_elide_proof.specs.Elision.{Elision, elided, framed, function_in};
 ghost use Rattle.pass_elide_proof.specs.Placing.{KeepsPlaces};
-ghost use Rattle.pass_proofs.specs.edges.rules.Returns.{AreSwitched};
-ghost use Rattle.pass_proofs.specs.ir_base.declared.outcome.Word.{Word};
-ghost use Rattle.pass_proofs.specs.run_framed.Framed.{framed_state_at};
+ghost use Rattle.pass_elide_proof.specs.pass_proofs.edges.rules.Returns.{AreSwitched};
+ghost use Rattle.pass_elide_proof.specs.pass_proofs.ir_base.declared.outcome.Word.{Word};
+ghost use Rattle.pass_elide_proof.specs.pass_proofs.run_framed.Framed.{framed_state_at};
 ghost use Rattle.run_hooks.specs.Reached.{AllHaveSwitches};
 ghost use Rattle.std.specs.Prelude.{List, ℕ};
 

@@ -1,7 +1,7 @@
 -- The allocas of some instructions.
 use Rattle.std.proofs.Common.{◌≡◌, ℕ, List, [], ◌∷◌, ◌++◌, refl}
 use Rattle.ir_model.specs.declared.instr.Instr.{Instr}
-use Rattle.ir_paths.specs.Slots.{allocas_in}
+use Rattle.rule_windows.specs.ir_paths.Slots.{allocas_in}
 
 pub allocas_in_cons : (i : Instr) (is : List Instr) → allocas_in (i ∷ is) ≡ allocas_in (i ∷ []) ++ allocas_in is
 allocas_in_cons (Instr.Alloca name ty align) is = refl

@@ -6,7 +6,7 @@ use Rattle.ir_model.specs.Names.{first_where}
 use Rattle.ir_model.specs.declared.module.Block.{Block}
 use Rattle.ir_model.specs.declared.module.Function.{Function}
 use Rattle.ir_model.specs.declared.operand.Intrinsic.{Intrinsic}
-use Rattle.ir_paths.specs.Windows.{end_block, is_call_of}
+use Rattle.rule_windows.specs.ir_paths.Windows.{end_block, is_call_of}
 use Rattle.rule_shape.specs.Switches.{end_from}
 
 has_end : Block → Bool

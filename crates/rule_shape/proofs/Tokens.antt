@@ -4,8 +4,8 @@ use Rattle.std.proofs.lemmas.Bool.{false≢true}
 use Rattle.std.specs.Prelude.{Option, Some, None, find, is_some, is_none, option_and_then, unwrap_or, IsTrue, if◌then◌else◌}
 use Rattle.ir_base.specs.declared.outcome.Place.{Place}
 use Rattle.ir_base.specs.declared.rule.Rule.{Rule}
-use Rattle.ir_parts.specs.Parts.{Part, OfInstr, Ending, block_parts, block_place, blocks_parts, first_part, function_place, instr_parts, instr_place, or_place, parts_of, phi_parts, place_if}
-use Rattle.ir_parts.proofs.FirstParts.{first_part_append}
+use Rattle.rule_windows.specs.ir_parts.Parts.{Part, OfInstr, Ending, block_parts, block_place, blocks_parts, first_part, function_place, instr_parts, instr_place, or_place, parts_of, phi_parts, place_if}
+use Rattle.rule_windows.proofs.ir_parts.FirstParts.{first_part_append}
 use Rattle.ir_model.specs.declared.instr.Instr.{Instr}
 use Rattle.ir_model.specs.declared.module.Block.{Block}
 use Rattle.ir_model.specs.declared.module.Function.{Function}
@@ -13,8 +13,8 @@ use Rattle.ir_model.specs.declared.operand.Arg.{Arg}
 use Rattle.ir_model.specs.declared.operand.Callee.{Callee}
 use Rattle.ir_model.specs.declared.operand.Intrinsic.{Intrinsic}
 use Rattle.ir_model.specs.declared.operand.Operand.{Operand}
-use Rattle.ir_paths.specs.Windows.{call_result, is_call_of, operand_at}
-use Rattle.ir_calls.specs.Calls.{first_call, first_call_by, first_call_in, is_value, or_instr, value_of_first}
+use Rattle.rule_windows.specs.ir_paths.Windows.{call_result, is_call_of, operand_at}
+use Rattle.rule_windows.specs.ir_calls.Calls.{first_call, first_call_by, first_call_in, is_value, or_instr, value_of_first}
 use Rattle.rule_shape.specs.OneOfEach.{breaks_calls, calls_of, is_missing, is_right_instr, is_second, wrong_call}
 use Rattle.rule_shape.specs.Promise.{wrong_promise}
 use Rattle.rule_shape.specs.Suspends.{second_final, suspend_too_many}

@@ -1,3 +1,4 @@
+pub use Rattle.rule_windows.specs as rule_windows
 pub mod Places
 pub mod Uses
 pub mod OneOfEach

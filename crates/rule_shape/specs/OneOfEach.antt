@@ -1,16 +1,16 @@
 -- Rule K2: one id, begin and end, and what they and alloc, free and save name.
 use Rattle.std.specs.Prelude.{ℕ, Bool, true, false, not, List, [], is_some, is_none, slice_get, Some, None, Option, ◌&&◌, ◌||◌, if◌then◌else◌}
 use Rattle.ir_base.specs.declared.outcome.Place.{Place}
-use Rattle.ir_calls.specs.Calls.{first_call, is_null, is_value, value_of_first}
+use Rattle.rule_windows.specs.ir_calls.Calls.{first_call, is_null, is_value, value_of_first}
 use Rattle.rule_shape.specs.Places.{is_spot, is_the, places_where}
 use Rattle.rule_shape.specs.declared.one_of_each.Calls.{Calls}
-use Rattle.ir_parts.specs.Parts.{Part, OfInstr, Signature, first_part, parts_of}
+use Rattle.rule_windows.specs.ir_parts.Parts.{Part, OfInstr, Signature, first_part, parts_of}
 use Rattle.ir_model.specs.declared.instr.Instr.{Instr}
 use Rattle.ir_model.specs.declared.module.Function.{Function}
 use Rattle.ir_model.specs.declared.operand.Arg.{Arg}
 use Rattle.ir_model.specs.declared.operand.Callee.{Callee}
 use Rattle.ir_model.specs.declared.operand.Intrinsic.{Intrinsic}
-use Rattle.ir_paths.specs.Windows.{is_call_of, operand_at}
+use Rattle.rule_windows.specs.ir_paths.Windows.{is_call_of, operand_at}
 
 abbrev pub is_missing : Intrinsic → Function → Bool
 is_missing i f = is_none (first_call i f)

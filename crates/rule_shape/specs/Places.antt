@@ -1,7 +1,7 @@
 -- The places of a function's instructions that pass a test.
 use Rattle.std.specs.Prelude.{ℕ, Bool, true, false, List, [], length, Some, None, Option, ◌+◌, ◌&&◌, ◌∷◌, ◌++◌, if◌then◌else◌, ◌==◌}
 use Rattle.ir_base.specs.declared.outcome.Place.{Place}
-use Rattle.ir_parts.specs.Parts.{instr_place}
+use Rattle.rule_windows.specs.ir_parts.Parts.{instr_place}
 use Rattle.ir_model.specs.declared.instr.Instr.{Instr}
 use Rattle.ir_model.specs.declared.module.Block.{Block}
 use Rattle.ir_model.specs.declared.module.Function.{Function}

@@ -1,14 +1,14 @@
 -- Rule K10: the promise.
 use Rattle.std.specs.Prelude.{ℕ, Bool, true, false, not, List, is_some, slice_get, Some, None, Option, option_map, option_and_then, position, ◌||◌, if◌then◌else◌, ◌==◌}
 use Rattle.ir_base.specs.declared.outcome.Place.{Place}
-use Rattle.ir_calls.specs.Calls.{first_call, is_null}
+use Rattle.rule_windows.specs.ir_calls.Calls.{first_call, is_null}
 use Rattle.rule_shape.specs.Places.{places_where}
-use Rattle.ir_parts.specs.Parts.{place_if}
+use Rattle.rule_windows.specs.ir_parts.Parts.{place_if}
 use Rattle.ir_model.specs.declared.module.Function.{Function}
 use Rattle.ir_model.specs.declared.operand.Intrinsic.{Intrinsic}
 use Rattle.ir_model.specs.declared.operand.Operand.{Operand}
-use Rattle.ir_paths.specs.Slots.{allocas_of}
-use Rattle.ir_paths.specs.Windows.{call_operand, is_call_of}
+use Rattle.rule_windows.specs.ir_paths.Slots.{allocas_of}
+use Rattle.rule_windows.specs.ir_paths.Windows.{call_operand, is_call_of}
 
 -- the position of an alloca among the allocas of its function, in order of the text
 abbrev pub slot_of : Function → ℕ → Option ℕ

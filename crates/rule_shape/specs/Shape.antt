@@ -2,7 +2,7 @@
 use Rattle.std.specs.Prelude.{ℕ, Some, None, Option, unwrap_or, ◌≡◌}
 use Rattle.ir_base.specs.declared.outcome.Place.{Place}
 use Rattle.ir_base.specs.declared.rule.Rule.{Rule}
-use Rattle.ir_calls.specs.Calls.{value_of_first}
+use Rattle.rule_windows.specs.ir_calls.Calls.{value_of_first}
 use Rattle.rule_shape.specs.OneOfEach.{wrong_call}
 use Rattle.rule_shape.specs.Promise.{promise_slot, wrong_promise}
 use Rattle.rule_shape.specs.Suspends.{second_final, suspend_too_many, suspends_of}
@@ -13,7 +13,7 @@ use Rattle.ir_model.specs.Names.{function_at}
 use Rattle.ir_model.specs.declared.module.Function.{Function}
 use Rattle.ir_model.specs.declared.module.Module.{Module}
 use Rattle.ir_model.specs.declared.operand.Intrinsic.{Intrinsic}
-use Rattle.ir_paths.specs.Windows.{end_block}
+use Rattle.rule_windows.specs.ir_paths.Windows.{end_block}
 use Rattle.rule_windows.specs.Outside.{IsFirstOutside}
 use Rattle.rule_windows.specs.Windows.{IsFirstWindow}
 

@@ -1,12 +1,12 @@
 -- Rules K4 and K11: final suspends, and how many suspends there may be.
 use Rattle.std.specs.Prelude.{ℕ, Bool, slice_get, None, Option, List, ◌&&◌, if◌then◌else◌}
 use Rattle.ir_base.specs.declared.outcome.Place.{Place}
-use Rattle.ir_calls.specs.Calls.{is_final}
+use Rattle.rule_windows.specs.ir_calls.Calls.{is_final}
 use Rattle.rule_shape.specs.Places.{places_where}
 use Rattle.ir_model.specs.declared.instr.Instr.{Instr}
 use Rattle.ir_model.specs.declared.module.Function.{Function}
 use Rattle.ir_model.specs.declared.operand.Intrinsic.{Intrinsic}
-use Rattle.ir_paths.specs.Windows.{is_call_of}
+use Rattle.rule_windows.specs.ir_paths.Windows.{is_call_of}
 
 abbrev pub is_suspend : Instr → Bool
 is_suspend i = is_call_of Intrinsic.CoroSuspend i

@@ -4,7 +4,7 @@ use Rattle.std.specs.List.{list_any}
 use Rattle.ir_base.specs.declared.outcome.Place.{Place}
 use Rattle.rule_shape.specs.Places.{is_the}
 use Rattle.rule_shape.specs.Uses.{uses_of}
-use Rattle.ir_parts.specs.Parts.{Part, OfInstr, first_part, parts_of}
+use Rattle.rule_windows.specs.ir_parts.Parts.{Part, OfInstr, first_part, parts_of}
 use Rattle.ir_model.specs.Names.{is_local}
 use Rattle.ir_model.specs.declared.instr.Case.{Case}
 use Rattle.ir_model.specs.declared.instr.Instr.{Instr}
@@ -12,7 +12,7 @@ use Rattle.ir_model.specs.declared.instr.Terminator.{Terminator}
 use Rattle.ir_model.specs.declared.module.Block.{Block}
 use Rattle.ir_model.specs.declared.module.Function.{Function}
 use Rattle.ir_model.specs.declared.operand.Intrinsic.{Intrinsic}
-use Rattle.ir_paths.specs.Windows.{call_result, end_block, is_call_of, is_number}
+use Rattle.rule_windows.specs.ir_paths.Windows.{call_result, end_block, is_call_of, is_number}
 
 -- the label of the end's block
 abbrev pub end_label : Function → Option ℕ

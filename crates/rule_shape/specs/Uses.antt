@@ -1,6 +1,6 @@
 -- How often the operands of a function are a local.
 use Rattle.std.specs.Prelude.{ℕ, Bool, List, [], flat_map, map, count_by, slice_get, slice_set, unwrap_or, Some, None, Option, ◌+◌, ◌∷◌, ◌++◌}
-use Rattle.ir_parts.specs.Contents.{ending_operands, instr_operands}
+use Rattle.rule_windows.specs.ir_parts.Contents.{ending_operands, instr_operands}
 use Rattle.ir_model.specs.Names.{is_local}
 use Rattle.ir_model.specs.declared.instr.Instr.{Instr}
 use Rattle.ir_model.specs.declared.instr.Phi.{Phi}

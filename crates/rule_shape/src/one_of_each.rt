@@ -5,9 +5,11 @@ ghost use Rattle.rule_shape.specs.OneOfEach.{is_missing, second_call, calls_of, 
 
 use crate::places::{is_spot, is_the, places_where};
 use ir_base::{FuncId, Place, ValueId};
-use ir_calls::{CallOf, first_call, is_null, is_value, operand_of, value_of_first};
 use ir_model::{Arg, Block, Callee, Function, Instr, Intrinsic, Phi, Terminator};
-use ir_parts::{FunctionRule, first_part};
+use rule_windows::ir_calls_library::{
+    CallOf, first_call, is_null, is_value, operand_of, value_of_first,
+};
+use rule_windows::ir_parts_library::{FunctionRule, first_part};
 use std::alloc::{AllocError, Global};
 
 /// What a coroutine has of id, begin and end: whether one is missing, where there is a second, and the values of the first.

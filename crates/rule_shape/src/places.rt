@@ -4,9 +4,9 @@ ghost use Rattle.std.specs.Prelude.{◌≡◌, ◌++◌, IfOk, OnOk};
 ghost use Rattle.rule_shape.specs.Places.{place_of_passing, places_in, places_by, places_where as places_where_of, is_the as is_the_number, same_number, is_spot as is_spot_of};
 
 use ir_base::{BlockId, FuncId, Items, Place};
-use ir_calls::InstrTest;
 use ir_model::{Block, Function, Instr};
-use ir_parts::{instr_place, next};
+use rule_windows::ir_calls_library::InstrTest;
+use rule_windows::ir_parts_library::{instr_place, next};
 use std::alloc::{AllocError, Global};
 
 fn push_place<T: InstrTest>(

@@ -1,15 +1,15 @@
 //! The promise (rule K10).
 
 ghost use Rattle.std.specs.Prelude.{◌≡◌, ◌++◌, ◌∷◌, [], ◌==◌, flat_map, position, IfOk, OnOk, MatchOption};
-ghost use Rattle.ir_paths.specs.Slots.{allocas_in, allocas_of as allocas_in_function};
-ghost use Rattle.ir_paths.specs.Windows.{call_operand};
+ghost use Rattle.rule_windows.specs.ir_paths.Slots.{allocas_in, allocas_of as allocas_in_function};
+ghost use Rattle.rule_windows.specs.ir_paths.Windows.{call_operand};
 ghost use Rattle.ir_model.specs.declared.operand.Operand.{Operand as TheOperand};
 ghost use Rattle.rule_shape.specs.Promise.{slot_of as slot_of_alloca, slot_named, promise_operand, promise_slot as slot_of_promise, is_promise, is_wrong_promise, wrong_promise};
 
 use crate::places::places_where;
 use ir_base::{FuncId, Items, Place, SlotId, ValueId};
-use ir_calls::{CallOf, first_call, is_null, operand_of};
 use ir_model::{Block, Function, Instr, Intrinsic, Operand};
+use rule_windows::ir_calls_library::{CallOf, first_call, is_null, operand_of};
 use std::alloc::{AllocError, Global};
 
 fn push_alloca(all: &mut Items<ValueId>, instr: &Instr) -> Result<(), AllocError>

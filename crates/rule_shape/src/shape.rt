@@ -9,8 +9,8 @@ use crate::promise::{first_wrong_promise, promise_slot};
 use crate::suspends::{first_second_final, first_suspend_too_many, suspends_of};
 use crate::switches::{end_block, first_wrong_switch};
 use ir_base::{BlockId, FuncId, Items, Place, Rule, SlotId, ValueId};
-use ir_calls::value_of_first;
 use ir_model::{Function, Intrinsic, Module};
+use rule_windows::ir_calls_library::value_of_first;
 use rule_windows::{first_outside, first_wrong_window};
 use std::alloc::{AllocError, Global};
 

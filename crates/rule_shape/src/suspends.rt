@@ -5,8 +5,8 @@ ghost use Rattle.rule_shape.specs.Suspends.{is_suspend as is_suspend_of, is_fina
 
 use crate::places::places_where;
 use ir_base::{FuncId, Items, Place};
-use ir_calls::{InstrTest, is_call_of, is_final};
 use ir_model::{Function, Instr, Intrinsic};
+use rule_windows::ir_calls_library::{InstrTest, is_call_of, is_final};
 use std::alloc::{AllocError, Global};
 
 /// How many suspends a coroutine has at most.

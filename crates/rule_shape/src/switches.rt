@@ -3,16 +3,16 @@
 ghost use Rattle.std.specs.Prelude.{◌≡◌, ◌+◌, IfOk, MatchOption, None, Some, length, replicate, nat_le, option_and_then, slice_get};
 ghost use Rattle.std.specs.List.{list_any};
 ghost use Rattle.ir_model.specs.declared.operand.Intrinsic.{Intrinsic as TheIntrinsic};
-ghost use Rattle.ir_paths.specs.Windows.{is_call_of as is_call, end_block as end_block_of};
+ghost use Rattle.rule_windows.specs.ir_paths.Windows.{is_call_of as is_call, end_block as end_block_of};
 ghost use Rattle.rule_shape.specs.Uses.{counted_all, operands_of, uses_of};
 ghost use Rattle.rule_shape.specs.Switches.{end_label, end_from, are_both, is_switch_on, is_last, is_switched_in, is_switched, breaks_switch, wrong_switch};
 
 use crate::places::is_the;
 use crate::uses::{Uses, uses_in};
 use ir_base::{BlockId, FuncId, Place, ValueId};
-use ir_calls::{call_result, is_call_of, is_number, is_value};
 use ir_model::{Block, Case, Function, Instr, Intrinsic, Phi, Terminator};
-use ir_parts::{FunctionRule, first_part};
+use rule_windows::ir_calls_library::{call_result, is_call_of, is_number, is_value};
+use rule_windows::ir_parts_library::{FunctionRule, first_part};
 use std::alloc::{AllocError, Global};
 
 /// The uses of a function's locals and the label of its end's block, by which the switches of its suspends are looked at.

@@ -1,7 +1,7 @@
 //! How often the operands of a function are a local.
 
 ghost use Rattle.std.specs.Prelude.{◌≡◌, ◌∷◌, ◌++◌, [], ℕ, List, IfOk, OnOk, Some, map, length, replicate, slice_get};
-ghost use Rattle.ir_parts.specs.Contents.{arg_operands, callee_operands, instr_operands, ending_operands};
+ghost use Rattle.rule_windows.specs.ir_parts.Contents.{arg_operands, callee_operands, instr_operands, ending_operands};
 ghost use Rattle.rule_shape.specs.Uses.{operands_of, counted, counted_all, counted_phis, counted_instrs, counted_block, counted_blocks};
 
 use ir_base::{Items, ValueId};

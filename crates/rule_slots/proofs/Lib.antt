@@ -1,3 +1,4 @@
+pub use Rattle.flow_facts.proofs as flow_facts
 pub mod Chains
 pub mod Bounds
 pub mod Led

@@ -15,3 +15,5 @@ mod steps;
 mod uses;
 
 pub use faults::{SlotFaults, slot_faults};
+pub use flow_facts as flow_facts_library;
+pub use rule_windows as rule_windows_library;

@@ -8,7 +8,7 @@ use Rattle.rule_uses.specs.Questions.{AreNumbered, GetsNumber, HasNumber, IsNumb
 use Rattle.rule_uses.specs.declared.open_use.OpenUse.{OpenUse}
 use Rattle.flow_solver.proofs.Lists.{listed_cases, same_place, set_cases, set_here, set_other}
 use Rattle.flow_solver.specs.Paths.{IsListed}
-use Rattle.run_step.proofs.LabelPositions.{slice_get-replicate}
+use Rattle.flow_blocks.proofs.run_step.LabelPositions.{slice_get-replicate}
 
 pub none_numbered : (names : ℕ) → AreNumbered names [] (replicate names None) []
 none_numbered names = record {

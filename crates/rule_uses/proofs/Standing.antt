@@ -20,7 +20,7 @@ use Rattle.ir_model.specs.declared.instr.Instr.{Instr}
 use Rattle.ir_model.specs.declared.instr.Phi.{Phi}
 use Rattle.ir_model.specs.declared.module.Block.{Block}
 use Rattle.ir_model.specs.declared.module.Function.{Function}
-use Rattle.run_step.proofs.LabelPositions.{slice_get-replicate}
+use Rattle.flow_blocks.proofs.run_step.LabelPositions.{slice_get-replicate}
 
 -- ---- what was made last where
 

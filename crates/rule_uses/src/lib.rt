@@ -10,4 +10,6 @@ mod rule;
 mod scan;
 mod words;
 
+pub use flow_blocks as flow_blocks_library;
+pub use flow_blocks::run_step_library;
 pub use rule::first_undefined_use;

@@ -4,14 +4,14 @@ ghost use Rattle.std.specs.Prelude.{◌≡◌, ◌+◌, ◌++◌, IfOk, None, On
 ghost use Rattle.rule_uses.specs.Scan.{is_at as is_at_block, is_known as is_known_value, noted, noted_block, noted_instrs, noted_phis, open_at, open_block, open_blocks, open_in, open_incoming, open_instrs, open_phis, or_false, use_unless};
 ghost use Rattle.rule_uses.specs.Uses.{local_of as local_of_operand, locals_in};
 ghost use Rattle.ir_parts.specs.Contents.{instr_operands};
-ghost use Rattle.run_step.specs.Tables.{HasPositions};
+ghost use Rattle.flow_blocks.specs.run_step.Tables.{HasPositions};
 
 use crate::locals::{ending_locals, instr_locals, local_of};
 use crate::open_use::OpenUse;
+use flow_blocks::run_step_library::{position, positions_of};
 use ir_base::{BlockId, FuncId, Items, Place, ValueId};
 use ir_model::{Block, Function, Incoming, Instr, Phi};
 use ir_parts::{instr_place, next, result_of};
-use run_step::{position, positions_of};
 use std::alloc::{AllocError, Global};
 
 fn is_param(params: &Items<bool>, value: ValueId) -> bool

@@ -6,7 +6,7 @@ use Rattle.std.proofs.lemmas.Bool.{cases_lt, eqb-true, false≢true}
 use Rattle.std.proofs.lemmas.List.{length-append}
 use Rattle.std.proofs.lemmas.Option.{slice_get_past}
 use Rattle.flow_bits.specs.Bits.{HasBit}
-use Rattle.flow_blocks.specs.Words.{word_at}
+use Rattle.rule_uses.specs.flow_blocks.Words.{word_at}
 use Rattle.ir_base.specs.declared.outcome.Place.{Place}
 use Rattle.rule_uses.specs.Uses.{Use, uses_of, values_at}
 use Rattle.flow_solver.specs.Paths.{IsListed}
@@ -14,7 +14,7 @@ use Rattle.ir_parts.specs.Parts.{Part, first_part, or_place, parts_of, place_if}
 use Rattle.ir_model.specs.declared.module.Function.{Function}
 use Rattle.ir_paths.specs.Windows.{saves_of}
 use Rattle.ir_paths.specs.declared.point.Point.{Point}
-use Rattle.rule_windows.specs.First.{IsFirst}
+use Rattle.rule_shape.specs.rule_windows.First.{IsFirst}
 use Rattle.rule_window_values.proofs.Bits.{Asks, asks, either_bit, made_told, no_bit}
 use Rattle.rule_window_values.proofs.Reaching.{IsBehind, behind_told, told_behind}
 use Rattle.rule_window_values.proofs.Taking.{TakesOwn, all_taken, edge_listed}

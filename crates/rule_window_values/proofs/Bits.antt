@@ -6,8 +6,8 @@ use Rattle.std.proofs.lemmas.Bool.{cases_eq, cases_lt, eqb-true, false≢true}
 use Rattle.std.proofs.lemmas.Nat.Bits.{bit_at_and, bit_at_or, bit_at_ones, bit_at_xor, bit_at-lt, bit_at-pow_other, bit_at-pow_same, bit_at-zero}
 use Rattle.std.proofs.lemmas.Option.{slice_get-map}
 use Rattle.flow_bits.specs.Bits.{HasBit}
-use Rattle.flow_blocks.proofs.Elements.{listed_append}
-use Rattle.flow_blocks.specs.Words.{word_at}
+use Rattle.rule_uses.proofs.flow_blocks.Elements.{listed_append}
+use Rattle.rule_uses.specs.flow_blocks.Words.{word_at}
 use Rattle.rule_uses.specs.Questions.{IsNumbering, all_bits, bit_if, bit_in, block_word, edge_word, instrs_word, phis_word, result_word, value_word, word_of_bit}
 use Rattle.rule_uses.specs.Uses.{block_values, local_of, locals_in, made_by_instrs, made_by_phis, values_at, values_in}
 use Rattle.flow_solver.proofs.Lists.{listed_front, same_place}

@@ -3,7 +3,7 @@ use Rattle.std.proofs.Common.{◌≡◌, ℕ, zero, suc, ◌+◌, ◌<◌, ◌�
 use Rattle.std.specs.Prelude.{slice_get, slice_set}
 use Rattle.std.proofs.lemmas.List.{length-append, length-set, take_more}
 use Rattle.std.proofs.lemmas.Option.{slice_get_within}
-use Rattle.flow_blocks.proofs.Elements.{listed_append}
+use Rattle.rule_uses.proofs.flow_blocks.Elements.{listed_append}
 use Rattle.rule_uses.proofs.Numbering.{none_numbered as none_asked}
 use Rattle.rule_uses.specs.Questions.{GetsNumber, HasNumber, IsNumbering}
 use Rattle.flow_solver.proofs.Lists.{listed_cases, same_place, set_cases, set_here, set_other}

@@ -6,10 +6,10 @@ use Rattle.std.proofs.lemmas.Option.{slice_get-map, slice_get_past}
 use Rattle.flow_bits.specs.Bits.{HasBit}
 use Rattle.flow_bits.specs.Reaching.{AnswersAt, Reaches, StartAt}
 use Rattle.flow_bits.specs.Reaching.Reaches.{Start, Edge}
-use Rattle.flow_blocks.proofs.Bounds.{edge_bounded, position_bounded}
-use Rattle.flow_blocks.proofs.Reached.{word_within}
-use Rattle.flow_blocks.specs.Edges.{block_edges}
-use Rattle.flow_blocks.specs.Words.{word_at}
+use Rattle.rule_uses.proofs.flow_blocks.Bounds.{edge_bounded, position_bounded}
+use Rattle.rule_uses.proofs.flow_blocks.Reached.{word_within}
+use Rattle.rule_uses.specs.flow_blocks.Edges.{block_edges}
+use Rattle.rule_uses.specs.flow_blocks.Words.{word_at}
 use Rattle.rule_uses.specs.Uses.{values_at}
 use Rattle.flow_solver.proofs.Lists.{listed_at, place_of, same_place}
 use Rattle.flow_solver.specs.Paths.{IsListed}

@@ -4,7 +4,7 @@ use Rattle.std.specs.Prelude.{◌↔◌, All, IsTrue, option_to_list}
 use Rattle.std.proofs.lemmas.Bool.{false≢true}
 use Rattle.std.proofs.lemmas.List.{map-append, take_more}
 use Rattle.std.proofs.lemmas.List.Elements.{All-get_or}
-use Rattle.flow_blocks.proofs.Elements.{listed_append}
+use Rattle.rule_uses.proofs.flow_blocks.Elements.{listed_append}
 use Rattle.flow_solver.proofs.Lists.{listed_cases, listed_front, listed_last}
 use Rattle.flow_solver.specs.Paths.{IsListed}
 use Rattle.ir_parts.specs.Contents.{result_of}

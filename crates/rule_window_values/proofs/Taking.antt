@@ -3,7 +3,7 @@ use Rattle.std.proofs.Common.{◌≡◌, ℕ, zero, suc, ◌+◌, ◌⊎◌, Boo
 use Rattle.std.specs.Prelude.{◌↔◌, ◌==◌, bit_or, if◌then◌else◌, option_to_list, slice_get}
 use Rattle.std.proofs.lemmas.Bool.{eqb-true, false≢true}
 use Rattle.flow_bits.specs.Bits.{HasBit}
-use Rattle.flow_blocks.specs.Words.{word_at}
+use Rattle.rule_uses.specs.flow_blocks.Words.{word_at}
 use Rattle.rule_uses.specs.Questions.{result_word}
 use Rattle.rule_uses.specs.Uses.{local_of}
 use Rattle.flow_solver.specs.Paths.{IsListed}

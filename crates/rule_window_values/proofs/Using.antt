@@ -2,7 +2,7 @@
 use Rattle.std.proofs.Common.{◌≡◌, ℕ, ◌+◌, ◌⊎◌, List, [], ◌∷◌, ◌++◌, length, map, Option, refl, sym, subst, ⊎_elim, inl, inr}
 use Rattle.std.specs.Prelude.{◌↔◌, bit_and, bit_or, option_to_list}
 use Rattle.flow_bits.specs.Bits.{HasBit}
-use Rattle.flow_blocks.specs.Words.{word_at}
+use Rattle.rule_uses.specs.flow_blocks.Words.{word_at}
 use Rattle.ir_base.specs.declared.outcome.Place.{Place}
 use Rattle.rule_uses.specs.Questions.{block_word, phis_word, result_word}
 use Rattle.rule_uses.specs.Uses.{Use, block_uses, block_values, blocks_uses, incoming_use, incoming_uses, instr_uses, local_of, locals_in, phi_uses, phi_values, use_of, uses_at, uses_of, values_at}

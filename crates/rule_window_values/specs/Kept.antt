@@ -1,6 +1,6 @@
 -- Rule K7: values made in windows and used behind them.
 use Rattle.std.specs.Prelude.{ℕ, List, [], map, slice_get, IsTrue, Some, None, Option, ◌≡◌, ◌∷◌}
-use Rattle.flow_blocks.specs.Edges.{block_edges}
+use Rattle.rule_uses.specs.flow_blocks.Edges.{block_edges}
 use Rattle.ir_base.specs.declared.outcome.Place.{Place}
 use Rattle.rule_uses.specs.Uses.{Use, local_of, uses_of, values_at}
 use Rattle.flow_solver.specs.Paths.{IsListed}
@@ -15,7 +15,7 @@ use Rattle.ir_model.specs.declared.module.Function.{Function}
 use Rattle.ir_paths.specs.Paths.{Leads}
 use Rattle.ir_paths.specs.Windows.{IsInWindow, destroy_label, end_block, instr_at, resume_label, saves_of}
 use Rattle.ir_paths.specs.declared.point.Point.{Point}
-use Rattle.rule_windows.specs.First.{IsFirst}
+use Rattle.rule_shape.specs.rule_windows.First.{IsFirst}
 
 -- ---- values made in a window
 

@@ -1,3 +1,4 @@
+pub use Rattle.rule_uses.specs as rule_uses
 pub mod Kept
 pub mod Spans
 pub mod Words

@@ -2,8 +2,8 @@
 use Rattle.std.specs.Prelude.{ℕ, Bool, false, List, IsTrue, length, map, slice_get, Some, None, Option, ◌≡◌, ◌↔◌, ◌+◌, ◌<◌, ◌/◌, ◌%◌}
 use Rattle.flow_bits.specs.Bits.{HasBit}
 use Rattle.flow_bits.specs.Reaching.{AnswersAt}
-use Rattle.flow_blocks.specs.Edges.{block_edges}
-use Rattle.flow_blocks.specs.Words.{word_at}
+use Rattle.rule_uses.specs.flow_blocks.Edges.{block_edges}
+use Rattle.rule_uses.specs.flow_blocks.Words.{word_at}
 use Rattle.ir_base.specs.declared.outcome.Place.{Place}
 use Rattle.rule_uses.specs.Questions.{block_word, has_bit}
 use Rattle.ir_parts.specs.Parts.{Part}

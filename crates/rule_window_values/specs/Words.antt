@@ -1,6 +1,6 @@
 -- Words of 64 questions: which values are used where.
 use Rattle.std.specs.Prelude.{ℕ, Bool, List, [], slice_get, Option, bit_and, bit_or, bit_xor, ◌+◌, ◌==◌, ◌||◌, ◌∷◌, if◌then◌else◌}
-use Rattle.flow_blocks.specs.Words.{word_at}
+use Rattle.rule_uses.specs.flow_blocks.Words.{word_at}
 use Rattle.rule_uses.specs.Questions.{all_bits, block_word, edge_word, phis_word, result_word, value_word}
 use Rattle.rule_uses.specs.Uses.{local_of}
 use Rattle.ir_parts.specs.Contents.{ending_operands, instr_operands, result_of}

@@ -14,3 +14,4 @@ mod spans;
 mod words;
 
 pub use rule::first_kept_value;
+pub use rule_shape as rule_shape_library;

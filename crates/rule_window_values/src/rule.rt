@@ -1,9 +1,9 @@
 //! The first value made in a window and used behind it.
 
 ghost use Rattle.std.specs.Prelude.{◌≡◌, ◌<◌, ◌/◌, ℕ, IfOk, length};
-ghost use Rattle.flow_blocks.specs.Edges.{graph_of};
+ghost use Rattle.rule_uses.specs.flow_blocks.Edges.{graph_of};
 ghost use Rattle.ir_paths.specs.Windows.{end_block as end_block_of};
-ghost use Rattle.run_step.specs.Tables.{HasPositions};
+ghost use Rattle.rule_uses.specs.run_step.Tables.{HasPositions};
 ghost use Rattle.rule_window_values.specs.Kept.{IsFirstKept};
 ghost use Rattle.rule_window_values.specs.Spans.{AreNumbered, AreSpansOf};
 ghost use Rattle.rule_window_values.specs.Told.{AreTold, IsKeptRuleOf, IsToldBy, breaks_value, told_value as told_of_value};
@@ -12,12 +12,12 @@ use crate::numbers::{Numbers, numbers_of};
 use crate::scan::{taken_blocks, told_blocks};
 use crate::spans::{Span, spans_of};
 use crate::words::{chunk_of, has_bit};
-use flow_blocks::{Graph, block_graph};
 use ir_base::{BlockId, FuncId, Items, Place, ValueId};
 use ir_model::{Block, Function, Instr, Phi, Terminator};
 use ir_parts::{FunctionRule, first_part, result_of};
 use rule_shape::end_block;
-use run_step::positions_of;
+use rule_uses::flow_blocks_library::{Graph, block_graph};
+use rule_uses::run_step_library::positions_of;
 use std::alloc::{AllocError, Global};
 
 /// The values that are made in a window and used behind it: by the number of each value that is made in a window a bit of

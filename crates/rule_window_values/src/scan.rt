@@ -1,11 +1,11 @@
 //! One walk through a function's text, which finds the questions with a use.
 
 ghost use Rattle.std.specs.Prelude.{◌≡◌, ◌==◌, slice_get};
-ghost use Rattle.flow_blocks.specs.Words.{word_at as word_of_node};
+ghost use Rattle.rule_uses.specs.flow_blocks.Words.{word_at as word_of_node};
 ghost use Rattle.rule_uses.specs.Questions.{block_word, instrs_word, phis_word as word_of_phis};
 ghost use Rattle.ir_parts.specs.Contents.{ending_operands, instr_operands};
 ghost use Rattle.ir_paths.specs.Windows.{label_at};
-ghost use Rattle.run_step.specs.Tables.{HasPositions};
+ghost use Rattle.rule_uses.specs.run_step.Tables.{HasPositions};
 ghost use Rattle.rule_window_values.specs.Words.{end_at, is_own_edge, label_leads, left_of, live_at, operands_word, own_at, taken_blocks, taken_incoming, taken_phis, taken_word, told_block, told_blocks, told_incoming, told_instrs, told_phis, with_used};
 
 use crate::chunk::Chunk;
@@ -14,7 +14,7 @@ use crate::operands::{ending_word, instr_word, with_operand};
 use crate::words::{phis_word, with_result, word_at};
 use ir_base::{BlockId, Items};
 use ir_model::{Block, Function, Incoming, Instr, Phi, Terminator};
-use run_step::position;
+use rule_uses::run_step_library::position;
 
 fn left_of(base: u64, made: u64) -> u64
     ensures { result ≡ left_of base made }

@@ -2,8 +2,8 @@
 
 ghost use Rattle.std.specs.Prelude.{◌≡◌, ◌<◌, ◌==◌, ℕ, IfOk, IfSome, OnOk, Some, length, map, slice_get};
 ghost use Rattle.flow_bits.specs.Reaching.{AnswersAt};
-ghost use Rattle.flow_blocks.specs.Edges.{graph_of};
-ghost use Rattle.flow_blocks.specs.Words.{word_at as word_of_node};
+ghost use Rattle.rule_uses.specs.flow_blocks.Edges.{graph_of};
+ghost use Rattle.rule_uses.specs.flow_blocks.Words.{word_at as word_of_node};
 ghost use Rattle.ir_parts.specs.Contents.{result_of as result_of_instr};
 ghost use Rattle.rule_uses.specs.Questions.{bit_of as bit_of_value, block_word as word_of_block, has_bit as has_bit_of, instrs_word as word_of_instrs, phis_word as word_of_phis, result_word as word_with, value_word as word_of_value};
 ghost use Rattle.ir_paths.specs.Windows.{end_block as end_block_of};

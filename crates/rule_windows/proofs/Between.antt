@@ -4,14 +4,14 @@ use Rattle.std.proofs.lemmas.Bool.{false≢true, lt-ltb}
 use Rattle.std.specs.Prelude.{Option, Some, None, IsTrue, IsFalse, nat_lt, slice_get, is_some, option_and_then, ◌⊎◌, ◌↔◌, ◌==◌, if◌then◌else◌}
 use Rattle.std.specs.List.{list_any}
 use Rattle.ir_base.specs.declared.outcome.Place.{Place}
-use Rattle.ir_model.specs.declared.instr.Instr.{Instr}
-use Rattle.ir_model.specs.declared.module.Block.{Block}
-use Rattle.ir_model.specs.declared.module.Function.{Function}
-use Rattle.ir_model.specs.declared.operand.Intrinsic.{Intrinsic}
-use Rattle.ir_paths.proofs.Search.{leads-more, same_point-itself, same_point-same}
-use Rattle.ir_paths.specs.Paths.{IsPath, Leads, entry_point, has_point, nexts, nexts_in, same_point, targets}
-use Rattle.ir_paths.specs.Windows.{IsInWindow, call_result, destroy_label, instr_at, instr_in, is_call_of, is_suspend_of, points_from, points_in, points_where, resume_label}
-use Rattle.ir_paths.specs.declared.point.Point.{Point}
+use Rattle.ir_parts.specs.ir_model.declared.instr.Instr.{Instr}
+use Rattle.ir_parts.specs.ir_model.declared.module.Block.{Block}
+use Rattle.ir_parts.specs.ir_model.declared.module.Function.{Function}
+use Rattle.ir_parts.specs.ir_model.declared.operand.Intrinsic.{Intrinsic}
+use Rattle.flow_points.proofs.ir_paths.Search.{leads-more, same_point-itself, same_point-same}
+use Rattle.flow_points.specs.ir_paths.Paths.{IsPath, Leads, entry_point, has_point, nexts, nexts_in, same_point, targets}
+use Rattle.flow_points.specs.ir_paths.Windows.{IsInWindow, call_result, destroy_label, instr_at, instr_in, is_call_of, is_suspend_of, points_from, points_in, points_where, resume_label}
+use Rattle.flow_points.specs.ir_paths.declared.point.Point.{Point}
 use Rattle.flow_points.specs.Reached.{AllLeadTo, AreReached, IsReached, LeadsToAny}
 use Rattle.flow_points.specs.Rows.{is_marked}
 use Rattle.rule_windows.specs.First.{IsFirst}

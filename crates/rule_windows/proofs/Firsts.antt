@@ -4,12 +4,12 @@ use Rattle.std.proofs.lemmas.Bool.{false≢true}
 use Rattle.std.specs.Prelude.{Option, Some, None, IsTrue, IsFalse, ◌⊎◌, ◌↔◌}
 use Rattle.ir_base.specs.declared.outcome.Place.{Place}
 use Rattle.ir_parts.specs.Parts.{Part, Signature, Head, OfPhi, OfInstr, Ending, first_part, or_place, parts_of, place_if}
-use Rattle.ir_model.specs.declared.instr.Instr.{Instr}
-use Rattle.ir_model.specs.declared.instr.Terminator.{Terminator}
-use Rattle.ir_model.specs.declared.module.Function.{Function}
-use Rattle.ir_paths.proofs.Search.{same_point-same, same_point-itself}
-use Rattle.ir_paths.specs.Paths.{has_point, same_point}
-use Rattle.ir_paths.specs.declared.point.Point.{Point}
+use Rattle.ir_parts.specs.ir_model.declared.instr.Instr.{Instr}
+use Rattle.ir_parts.specs.ir_model.declared.instr.Terminator.{Terminator}
+use Rattle.ir_parts.specs.ir_model.declared.module.Function.{Function}
+use Rattle.flow_points.proofs.ir_paths.Search.{same_point-same, same_point-itself}
+use Rattle.flow_points.specs.ir_paths.Paths.{has_point, same_point}
+use Rattle.flow_points.specs.ir_paths.declared.point.Point.{Point}
 use Rattle.flow_points.specs.Reached.{IsReached}
 use Rattle.flow_points.specs.Rows.{is_marked}
 use Rattle.rule_windows.specs.First.{IsFirst}

@@ -1,9 +1,9 @@
 -- One more point of a list by a test.
 use Rattle.std.proofs.Common.{◌≡◌, ℕ, suc, ◌+◌, Bool, true, false, List, [], ◌∷◌, ◌++◌, refl, ap, sym, ◌∙◌, append_assoc, add-one}
 use Rattle.std.specs.Prelude.{if◌then◌else◌}
-use Rattle.ir_model.specs.declared.instr.Instr.{Instr}
-use Rattle.ir_paths.specs.Windows.{points_from}
-use Rattle.ir_paths.specs.declared.point.Point.{Point}
+use Rattle.ir_parts.specs.ir_model.declared.instr.Instr.{Instr}
+use Rattle.flow_points.specs.ir_paths.Windows.{points_from}
+use Rattle.flow_points.specs.ir_paths.declared.point.Point.{Point}
 use Rattle.rule_windows.specs.Points.{pushed_if}
 
 by_test : (b : Bool) (all rest : List Point) (p : Point) → pushed_if b all p ++ rest ≡ all ++ (if b then p ∷ rest else rest)

@@ -2,15 +2,15 @@
 use Rattle.std.proofs.Common.{◌≡◌, ◌<◌, ◌+◌, ℕ, zero, suc, Bool, true, false, ◌&&◌, List, [], ◌∷◌, ◌++◌, length, replicate, refl, sym, ap, ◌∙◌, arith, append_assoc, add-one}
 use Rattle.std.proofs.lemmas.Bool.{eqb-true, eq-eqb, false≢true}
 use Rattle.std.specs.Prelude.{Option, Some, None, slice_get, slice_set, unwrap_or, if◌then◌else◌, ◌==◌}
-use Rattle.ir_model.specs.Names.{is_local}
-use Rattle.ir_model.specs.declared.instr.Instr.{Instr}
-use Rattle.ir_model.specs.declared.module.Block.{Block}
-use Rattle.ir_model.specs.declared.module.Function.{Function}
-use Rattle.ir_model.specs.declared.operand.Intrinsic.{Intrinsic}
-use Rattle.ir_model.specs.declared.operand.Operand.{Operand}
-use Rattle.ir_paths.specs.Slots.{local_of}
-use Rattle.ir_paths.specs.Windows.{call_operand, is_call_of, is_suspend_of, points_from, points_in, points_where}
-use Rattle.ir_paths.specs.declared.point.Point.{Point}
+use Rattle.ir_parts.specs.ir_model.Names.{is_local}
+use Rattle.ir_parts.specs.ir_model.declared.instr.Instr.{Instr}
+use Rattle.ir_parts.specs.ir_model.declared.module.Block.{Block}
+use Rattle.ir_parts.specs.ir_model.declared.module.Function.{Function}
+use Rattle.ir_parts.specs.ir_model.declared.operand.Intrinsic.{Intrinsic}
+use Rattle.ir_parts.specs.ir_model.declared.operand.Operand.{Operand}
+use Rattle.flow_points.specs.ir_paths.Slots.{local_of}
+use Rattle.flow_points.specs.ir_paths.Windows.{call_operand, is_call_of, is_suspend_of, points_from, points_in, points_where}
+use Rattle.flow_points.specs.ir_paths.declared.point.Point.{Point}
 use Rattle.flow_points.proofs.Tests.{place_other, place_set, set_past}
 use Rattle.flow_points.specs.Rows.{row_at}
 use Rattle.rule_windows.specs.Tokens.{AreTokensOf, taken_by, token_in, with_point, with_token, with_tokens_by, with_tokens_in}

@@ -2,12 +2,12 @@
 use Rattle.std.specs.Prelude.{ℕ, Bool, true, false, List, Option, IsTrue, ◌≡◌, ◌&&◌, ◌||◌, ◌⊎◌}
 use Rattle.ir_base.specs.declared.outcome.Place.{Place}
 use Rattle.ir_parts.specs.Parts.{Part, OfInstr, Ending, parts_of}
-use Rattle.ir_model.specs.declared.instr.Instr.{Instr}
-use Rattle.ir_model.specs.declared.instr.Terminator.{Terminator}
-use Rattle.ir_model.specs.declared.module.Function.{Function}
-use Rattle.ir_model.specs.declared.operand.Intrinsic.{Intrinsic}
-use Rattle.ir_paths.specs.Windows.{is_call_of}
-use Rattle.ir_paths.specs.declared.point.Point.{Point}
+use Rattle.ir_parts.specs.ir_model.declared.instr.Instr.{Instr}
+use Rattle.ir_parts.specs.ir_model.declared.instr.Terminator.{Terminator}
+use Rattle.ir_parts.specs.ir_model.declared.module.Function.{Function}
+use Rattle.ir_parts.specs.ir_model.declared.operand.Intrinsic.{Intrinsic}
+use Rattle.flow_points.specs.ir_paths.Windows.{is_call_of}
+use Rattle.flow_points.specs.ir_paths.declared.point.Point.{Point}
 use Rattle.flow_points.specs.Rows.{is_marked}
 use Rattle.rule_windows.specs.First.{IsFirst}
 use Rattle.rule_windows.specs.Points.{point_of}

@@ -2,11 +2,11 @@
 use Rattle.std.specs.Prelude.{ℕ, Bool, true, false, List, [], length, slice_get, Some, None, Option, ◌+◌, ◌-◌, ◌∷◌, ◌++◌}
 use Rattle.ir_base.specs.declared.outcome.Place.{Place}
 use Rattle.ir_parts.specs.Parts.{instr_place}
-use Rattle.ir_model.specs.declared.module.Block.{Block}
-use Rattle.ir_model.specs.declared.module.Function.{Function}
-use Rattle.ir_model.specs.declared.operand.Intrinsic.{Intrinsic}
-use Rattle.ir_paths.specs.Windows.{is_call_of, points_where}
-use Rattle.ir_paths.specs.declared.point.Point.{Point}
+use Rattle.ir_parts.specs.ir_model.declared.module.Block.{Block}
+use Rattle.ir_parts.specs.ir_model.declared.module.Function.{Function}
+use Rattle.ir_parts.specs.ir_model.declared.operand.Intrinsic.{Intrinsic}
+use Rattle.flow_points.specs.ir_paths.Windows.{is_call_of, points_where}
+use Rattle.flow_points.specs.ir_paths.declared.point.Point.{Point}
 
 abbrev pub phis_in : Option Block → ℕ
 phis_in None = 0

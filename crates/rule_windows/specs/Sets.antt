@@ -1,8 +1,8 @@
 -- Sets of points that paths lead to.
 use Rattle.std.specs.Prelude.{List, Bool, IsTrue, IsFalse, ◌≡◌, ◌↔◌, ◌⊎◌, [], ◌∷◌}
-use Rattle.ir_model.specs.declared.module.Function.{Function}
-use Rattle.ir_paths.specs.Paths.{has_point}
-use Rattle.ir_paths.specs.declared.point.Point.{Point}
+use Rattle.ir_parts.specs.ir_model.declared.module.Function.{Function}
+use Rattle.flow_points.specs.ir_paths.Paths.{has_point}
+use Rattle.flow_points.specs.ir_paths.declared.point.Point.{Point}
 use Rattle.flow_points.specs.Reached.{IsReached}
 use Rattle.flow_points.specs.Rows.{is_marked}
 use Rattle.rule_windows.specs.Points.{begins, ends, entry}

@@ -1,12 +1,12 @@
 -- For each token the suspends that take it.
 use Rattle.std.specs.Prelude.{ℕ, List, [], Some, None, Option, slice_get, slice_set, ◌≡◌, ◌<◌, ◌+◌, ◌∷◌, ◌++◌, length, if◌then◌else◌}
-use Rattle.ir_model.specs.declared.instr.Instr.{Instr}
-use Rattle.ir_model.specs.declared.module.Block.{Block}
-use Rattle.ir_model.specs.declared.module.Function.{Function}
-use Rattle.ir_model.specs.declared.operand.Intrinsic.{Intrinsic}
-use Rattle.ir_paths.specs.Slots.{local_of}
-use Rattle.ir_paths.specs.Windows.{call_operand, is_call_of, is_suspend_of, points_where}
-use Rattle.ir_paths.specs.declared.point.Point.{Point}
+use Rattle.ir_parts.specs.ir_model.declared.instr.Instr.{Instr}
+use Rattle.ir_parts.specs.ir_model.declared.module.Block.{Block}
+use Rattle.ir_parts.specs.ir_model.declared.module.Function.{Function}
+use Rattle.ir_parts.specs.ir_model.declared.operand.Intrinsic.{Intrinsic}
+use Rattle.flow_points.specs.ir_paths.Slots.{local_of}
+use Rattle.flow_points.specs.ir_paths.Windows.{call_operand, is_call_of, is_suspend_of, points_where}
+use Rattle.flow_points.specs.ir_paths.declared.point.Point.{Point}
 use Rattle.flow_points.specs.Rows.{row_at}
 
 -- each local's row has the suspends that take it as their token, in order of the text

@@ -2,12 +2,12 @@
 use Rattle.std.specs.Prelude.{ℕ, Bool, true, false, not, List, [], IsTrue, IsFalse, Some, None, Option, is_some, option_and_then, ◌≡◌, ◌&&◌, ◌||◌, ◌⊎◌, ◌∷◌}
 use Rattle.ir_base.specs.declared.outcome.Place.{Place}
 use Rattle.ir_calls.specs.Calls.{is_final}
-use Rattle.ir_model.specs.declared.instr.Instr.{Instr}
-use Rattle.ir_model.specs.declared.module.Function.{Function}
-use Rattle.ir_model.specs.declared.operand.Intrinsic.{Intrinsic}
-use Rattle.ir_paths.specs.Paths.{Leads, entry_point, has_point, nexts, same_point}
-use Rattle.ir_paths.specs.Windows.{IsInWindow, call_result, destroy_label, instr_at, is_call_of, is_suspend_of, points_where, resume_label}
-use Rattle.ir_paths.specs.declared.point.Point.{Point}
+use Rattle.ir_parts.specs.ir_model.declared.instr.Instr.{Instr}
+use Rattle.ir_parts.specs.ir_model.declared.module.Function.{Function}
+use Rattle.ir_parts.specs.ir_model.declared.operand.Intrinsic.{Intrinsic}
+use Rattle.flow_points.specs.ir_paths.Paths.{Leads, entry_point, has_point, nexts, same_point}
+use Rattle.flow_points.specs.ir_paths.Windows.{IsInWindow, call_result, destroy_label, instr_at, is_call_of, is_suspend_of, points_where, resume_label}
+use Rattle.flow_points.specs.ir_paths.declared.point.Point.{Point}
 use Rattle.flow_points.specs.Rows.{is_marked}
 use Rattle.rule_windows.specs.First.{IsFirst}
 use Rattle.rule_windows.specs.Points.{place_of}

@@ -1,12 +1,12 @@
 //! Where a suspend's own edges lead.
 
 ghost use Rattle.std.specs.Prelude.{◌≡◌, slice_get};
-ghost use Rattle.ir_paths.specs.Windows.{label_in, label_of_term, resume_label as resume_label_of, destroy_label as destroy_label_of, label_at};
+ghost use Rattle.flow_points.specs.ir_paths.Windows.{label_in, label_of_term, resume_label as resume_label_of, destroy_label as destroy_label_of, label_at};
 
+use flow_points::ir_paths_library::Point;
 use ir_base::{BlockId, ValueId};
 use ir_calls::is_number;
-use ir_model::{Case, Function, Terminator};
-use ir_paths::Point;
+use ir_parts::ir_model_library::{Case, Function, Terminator};
 
 fn label_in(number: u64, cases: &[Case], default: ValueId) -> ValueId
     ensures { result ≡ label_in number cases.now default }

@@ -11,6 +11,8 @@ mod sets;
 mod tokens;
 mod windows;
 
+pub use ir_calls as ir_calls_library;
+pub use ir_parts as ir_parts_library;
 pub use outside::{first_outside, without_begin};
 pub use points::{instr_at, place_of, point_of, points_where};
 pub use sets::{PointSet, reached_set};

@@ -9,11 +9,11 @@ ghost use Rattle.rule_windows.specs.Outside.{ends_with_it, needs_begin, is_retur
 use crate::points::{has_point, point_of, points_where};
 use crate::sets::{PointSet, reached_set};
 use flow_points::PointGraph;
+use flow_points::ir_paths_library::Point;
 use ir_base::{FuncId, Place};
 use ir_calls::{CallOf, is_call_of};
-use ir_model::{Block, Function, Instr, Intrinsic, Phi, Terminator};
+use ir_parts::ir_model_library::{Block, Function, Instr, Intrinsic, Phi, Terminator};
 use ir_parts::{FunctionRule, first_part};
-use ir_paths::Point;
 use std::alloc::{AllocError, Global};
 
 /// What a function's begin and end lead to: the points behind begin without the end between, those after the end, and those

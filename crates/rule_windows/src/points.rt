@@ -1,15 +1,15 @@
 //! Points of a function, and their places.
 
 ghost use Rattle.std.specs.Prelude.{◌≡◌, ◌++◌, ◌+◌, IfOk, OnOk, MatchOption, None, Some, slice_get};
-ghost use Rattle.ir_paths.specs.Paths.{has_point as has_the_point, same_point};
-ghost use Rattle.ir_paths.specs.Windows.{instr_at as instr_at_point, points_from, points_in, points_where as points_where_of};
+ghost use Rattle.flow_points.specs.ir_paths.Paths.{has_point as has_the_point, same_point};
+ghost use Rattle.flow_points.specs.ir_paths.Windows.{instr_at as instr_at_point, points_from, points_in, points_where as points_where_of};
 ghost use Rattle.rule_windows.specs.Points.{phi_count, place_of as place_of_point, point_in, point_of as point_of_place, pushed_if};
 
+use flow_points::ir_paths_library::Point;
 use ir_base::{BlockId, FuncId, Items, Place};
 use ir_calls::InstrTest;
-use ir_model::{Block, Function, Instr};
+use ir_parts::ir_model_library::{Block, Function, Instr};
 use ir_parts::{instr_place, next};
-use ir_paths::Point;
 use std::alloc::{AllocError, Global};
 
 /// Whether both are the same point.

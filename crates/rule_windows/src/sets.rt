@@ -1,16 +1,16 @@
 //! Sets of points of a function.
 
 ghost use Rattle.std.specs.Prelude.{◌≡◌, ◌++◌, ◌∷◌, ◌||◌, [], IfOk, OnOk, replicate, false, true};
-ghost use Rattle.ir_paths.specs.Paths.{same_point};
-ghost use Rattle.ir_paths.specs.declared.point.Point.{Point as ThePoint};
+ghost use Rattle.flow_points.specs.ir_paths.Paths.{same_point};
+ghost use Rattle.flow_points.specs.ir_paths.declared.point.Point.{Point as ThePoint};
 ghost use Rattle.flow_points.specs.Reached.{IsGraphOf, IsReached};
 ghost use Rattle.flow_points.specs.Rows.{is_inside, is_marked, with_mark};
 ghost use Rattle.rule_windows.specs.Sets.{AreIn, AreThose};
 
 use flow_points::PointGraph;
+use flow_points::ir_paths_library::Point;
 use ir_base::Items;
-use ir_model::Function;
-use ir_paths::Point;
+use ir_parts::ir_model_library::Function;
 use std::alloc::{AllocError, Global};
 use std::marker::Model;
 

@@ -3,11 +3,11 @@
 ghost use Rattle.std.specs.Prelude.{◌≡◌, [], IfOk, OnOk, Some, replicate, slice_get};
 ghost use Rattle.rule_windows.specs.Tokens.{AreTokensOf, token_in, taken_by, with_point, with_token, with_tokens_in, with_tokens_by};
 
+use flow_points::ir_paths_library::Point;
 use ir_base::{BlockId, Items, ValueId};
 use ir_calls::{is_call_of, operand_of};
-use ir_model::{Block, Function, Instr, Intrinsic, Operand};
+use ir_parts::ir_model_library::{Block, Function, Instr, Intrinsic, Operand};
 use ir_parts::next;
-use ir_paths::Point;
 use std::alloc::{AllocError, Global};
 use std::marker::Model;
 
@@ -19,7 +19,7 @@ pub struct Tokens {
 
 impl Model for Tokens {
     ghost use Rattle.std.specs.Prelude.{List};
-    ghost use Rattle.ir_paths.specs.declared.point.Point.{Point as ThePoint};
+    ghost use Rattle.flow_points.specs.ir_paths.declared.point.Point.{Point as ThePoint};
 
     ghost Value = { List (List ThePoint) };
 

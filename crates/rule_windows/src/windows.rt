@@ -2,7 +2,7 @@
 
 ghost use Rattle.std.specs.Prelude.{◌≡◌, ◌↔◌, IfOk, OnOk, IsTrue, filter};
 ghost use Rattle.std.specs.List.{list_any};
-ghost use Rattle.ir_paths.specs.Paths.{has_point as has_the_point};
+ghost use Rattle.flow_points.specs.ir_paths.Paths.{has_point as has_the_point};
 ghost use Rattle.flow_points.specs.Reached.{IsGraphOf};
 ghost use Rattle.rule_windows.specs.First.{IsFirst};
 ghost use Rattle.rule_windows.specs.Points.{place_of as place_of_point};
@@ -14,10 +14,10 @@ use crate::points::{has_point, instr_at, is_same_point, place_of, points_where};
 use crate::sets::{PointSet, set_of};
 use crate::tokens::{Tokens, tokens_of};
 use flow_points::PointGraph;
+use flow_points::ir_paths_library::Point;
 use ir_base::{FuncId, Items, Place};
 use ir_calls::{CallOf, call_result, is_call_of, is_final};
-use ir_model::{Function, Instr, Intrinsic};
-use ir_paths::Point;
+use ir_parts::ir_model_library::{Function, Instr, Intrinsic};
 use std::alloc::{AllocError, Global};
 
 // ---- what the suspend's own edges lead to

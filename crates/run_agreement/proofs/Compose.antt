@@ -3,8 +3,8 @@ use Rattle.std.proofs.Common.{◌≡◌, ℕ, ◌+◌, ◌*◌, ◌≤◌, ◌�
 use Rattle.std.proofs.Math.Nat.{mul-le-mul_left, mul-le-mul_right}
 use Rattle.run_agreement.specs.Machines.{Seen, IsFine, IsReturned}
 use Rattle.run_agreement.specs.Agreements.{Follows, Agrees, HaveSameCounts, AgreesWithin}
-use Rattle.ir_base.specs.declared.outcome.Outcome.{Outcome}
-use Rattle.ir_base.specs.declared.outcome.Word.{Word}
+use Rattle.ir_model.specs.ir_base.declared.outcome.Outcome.{Outcome}
+use Rattle.ir_model.specs.ir_base.declared.outcome.Word.{Word}
 
 pub follows_on : (u v w : Seen) → Follows u v → Follows v w → Follows u w
 follows_on u v w p q = record { events = q.events ∙ p.events; returns = λ r h. q.returns r (p.returns r h) }

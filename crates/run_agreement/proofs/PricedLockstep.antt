@@ -9,7 +9,7 @@ use Rattle.run_agreement.proofs.Compose.{returned_fine}
 use Rattle.run_agreement.proofs.Costs.{cost-add}
 use Rattle.run_agreement.proofs.Runs.{iterate-add, running_or, over_stays, fine_earlier, fine_until, returned_same}
 use Rattle.run_agreement.proofs.Shows.{ShowsSame, fine_running, shows_running, shows_same, turned}
-use Rattle.ir_base.specs.declared.outcome.Outcome.{Outcome}
+use Rattle.ir_model.specs.ir_base.declared.outcome.Outcome.{Outcome}
 
 zero_or : (n : ℕ) → (0 < n) ⊎ (n ≡ 0)
 zero_or zero = inr refl

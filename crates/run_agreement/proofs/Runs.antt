@@ -1,7 +1,7 @@
 -- Runs of machines whose states stay when they are over.
 use Rattle.std.proofs.Common.{◌≡◌, ℕ, zero, suc, ◌+◌, ◌-◌, ◌≤◌, ◌⊎◌, inl, inr, refl, sym, ap, ◌∙◌, subst, arith}
 use Rattle.run_agreement.specs.Machines.{IsFine, IsRunning, IsReturned, iterate, Machine, at, Stays}
-use Rattle.ir_base.specs.declared.outcome.Outcome.{Outcome}
+use Rattle.ir_model.specs.ir_base.declared.outcome.Outcome.{Outcome}
 
 pub iterate-add : {S : Type 0} (f : S → S) (m n : ℕ) (s : S) → iterate f (m + n) s ≡ iterate f n (iterate f m s)
 iterate-add f zero n s = let e : 0 + n ≡ n = omega arith in ap (λ i. iterate f i s) e

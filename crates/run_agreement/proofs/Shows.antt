@@ -2,7 +2,7 @@
 use Rattle.std.proofs.Common.{◌≡◌, ◌⊎◌, sym, ◌∙◌, subst}
 use Rattle.run_agreement.specs.Agreements.{Follows}
 use Rattle.run_agreement.specs.Machines.{Seen, IsFine}
-use Rattle.ir_base.specs.declared.outcome.Outcome.{Outcome}
+use Rattle.ir_model.specs.ir_base.declared.outcome.Outcome.{Outcome}
 
 -- both show the same events and the same outcome
 pub record ShowsSame (u w : Seen) : Type 0 where

@@ -1,8 +1,8 @@
 -- A lowered run agrees with a source run. A run is given as what is seen after n steps.
 use Rattle.std.specs.Prelude.{◌≡◌, ℕ, ◌+◌, ◌*◌, ◌≤◌, Option}
 use Rattle.run_agreement.specs.Machines.{Seen, IsFine, IsReturned}
-use Rattle.ir_base.specs.declared.outcome.Outcome.{Outcome}
-use Rattle.ir_base.specs.declared.outcome.Word.{Word}
+use Rattle.ir_model.specs.ir_base.declared.outcome.Outcome.{Outcome}
+use Rattle.ir_model.specs.ir_base.declared.outcome.Word.{Word}
 
 -- the second has the same events as the first, and has returned what the first has
 pub record Follows (u w : Seen) : Type 0 where

@@ -1,8 +1,8 @@
 -- Machines that make one step after another, and what is seen of their runs.
 use Rattle.std.specs.Prelude.{◌≡◌, ℕ, zero, suc, List}
-use Rattle.ir_base.specs.declared.name.Name.{Name}
-use Rattle.ir_base.specs.declared.outcome.Outcome.{Outcome}
-use Rattle.ir_base.specs.declared.outcome.Word.{Word}
+use Rattle.ir_model.specs.ir_base.declared.name.Name.{Name}
+use Rattle.ir_model.specs.ir_base.declared.outcome.Outcome.{Outcome}
+use Rattle.ir_model.specs.ir_base.declared.outcome.Word.{Word}
 
 -- an observed call, by the function's name
 pub record SeenEvent : Type 0 where

@@ -13,6 +13,7 @@ mod whole;
 
 pub use casts::cast;
 pub use compare::{icmp, select};
+pub use ir_base as ir_base_library;
 pub use num::Num;
 pub use operation::binary;
 pub use whole::{cut_signed, signed};

@@ -12,7 +12,7 @@ use Rattle.run_memory.specs.declared.block.MemoryBlock.{MemoryBlock}
 use Rattle.run_memory.specs.Memory.{Rights, is_live, range, range_at}
 use Rattle.run_memory.specs.Whole.{IsWhole, AreWhole, IsWithin, kept_size}
 use Rattle.run_memory.proofs.Blocks.{whole_at}
-use Rattle.ir_base.specs.declared.cause.Cause.{Cause}
+use Rattle.run_ints.specs.ir_base.declared.cause.Cause.{Cause}
 
 -- the range that an access found
 pub record Found (rights : Rights) (m : List MemoryBlock) (v : Value) (len align : ℕ) (spot : Spot) : Type 0 where

@@ -15,7 +15,7 @@ use Rattle.run_memory.specs.Whole.{IsWhole, AreWhole, IsWithin, kept_size}
 use Rattle.run_memory.proofs.Digits.{length-encode}
 use Rattle.run_memory.proofs.Found.{within_bytes}
 use Rattle.run_memory.proofs.Blocks.{within_along}
-use Rattle.ir_base.specs.declared.cause.Cause.{Cause}
+use Rattle.run_ints.specs.ir_base.declared.cause.Cause.{Cause}
 
 -- a block changed to a whole one
 pub with_block-whole : (m : List MemoryBlock) (b : ℕ) (f : MemoryBlock → MemoryBlock) → AreWhole m → ((x : MemoryBlock) → slice_get m b ≡ Some x → IsWhole x → IsWhole (f x)) → AreWhole (with_block m b f)

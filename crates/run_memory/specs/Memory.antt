@@ -10,7 +10,7 @@ use Rattle.run_memory.specs.declared.pointer.Pointer.{Pointer}
 use Rattle.run_memory.specs.declared.pointer.Value.{Value}
 use Rattle.run_memory.specs.declared.pointer.Offset.{Offset}
 use Rattle.run_memory.specs.Pointers.{same_pointer}
-use Rattle.ir_base.specs.declared.cause.Cause.{Cause}
+use Rattle.run_ints.specs.ir_base.declared.cause.Cause.{Cause}
 
 abbrev pub is_live : Life → Bool
 is_live Life.Live = true

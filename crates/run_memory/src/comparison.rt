@@ -7,7 +7,7 @@ use crate::block::MemoryBlock;
 use crate::memory::Memory;
 use crate::pointer::{BlockId, Offset, Pointer, Value};
 use crate::rights::{AccessRights, OwnerRights};
-use ir_base::Cause;
+use run_ints::ir_base_library::Cause;
 
 impl MemoryBlock {
     /// Whether an offset is from 0 to the size.

@@ -5,7 +5,7 @@ ghost use Rattle.run_memory.specs.Memory.{number_of, integer_from, are_parts, po
 
 use crate::block::Byte;
 use crate::pointer::{Access, Pointer, Value};
-use ir_base::Word;
+use run_ints::ir_base_library::Word;
 
 /// The number that bytes stand for, the least byte first, where each of them is a number.
 fn number_of(bytes: &[Byte]) -> Option<u64>

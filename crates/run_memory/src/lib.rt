@@ -22,3 +22,4 @@ pub use contents::Contents;
 pub use memory::Memory;
 pub use pointer::{Access, BlockId, Offset, Pointer, Spot, Value};
 pub use rights::{AccessRights, OwnerRights};
+pub use run_ints as run_ints_library;

@@ -10,7 +10,7 @@ use crate::contents::Contents;
 use crate::pointer::{BlockId, Offset, Pointer, Spot, Value};
 use crate::range::range_at;
 use crate::rights::AccessRights;
-use ir_base::Cause;
+use run_ints::ir_base_library::Cause;
 use std::alloc::{AllocError, Global};
 use std::marker::Model;
 

@@ -5,7 +5,7 @@ ghost use Rattle.run_ints.specs.Numbers.{signed_of};
 ghost use Rattle.run_memory.specs.Memory.{access_bytes};
 ghost use Rattle.run_memory.specs.Pointers.{moved, same_pointer};
 
-use ir_base::{FuncId, Word};
+use run_ints::ir_base_library::{FuncId, Word};
 
 /// A block's position in the list of memory blocks.
 pub type BlockId = usize;

@@ -6,7 +6,7 @@ ghost use Rattle.run_memory.specs.Memory.{range_at};
 use crate::block::MemoryBlock;
 use crate::pointer::{BlockId, Spot};
 use crate::rights::AccessRights;
-use ir_base::Cause;
+use run_ints::ir_base_library::Cause;
 
 /// A range of a block, or the first cause against an access to it.
 pub fn range_at<R: AccessRights>(

@@ -9,7 +9,7 @@ use crate::encoded::encoded;
 use crate::memory::Memory;
 use crate::pointer::{Access, Spot, Value};
 use crate::rights::{AccessRights, OwnerRights};
-use ir_base::Cause;
+use run_ints::ir_base_library::Cause;
 
 /// The ranges of a copy.
 #[derive(Clone, Copy, Debug, PartialEq, Eq, Drop)]

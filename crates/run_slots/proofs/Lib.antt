@@ -1,3 +1,4 @@
+pub use Rattle.run_hooks.proofs as run_hooks
 pub mod Blocks
 pub mod Times
 pub mod Keeping

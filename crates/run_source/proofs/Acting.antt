@@ -7,11 +7,11 @@ use Rattle.ir_model.specs.declared.module.Block.{Block}
 use Rattle.ir_model.specs.declared.module.Function.{Function}
 use Rattle.ir_model.specs.declared.operand.Arg.{Arg}
 use Rattle.ir_base.specs.declared.cause.Cause.{Cause}
-use Rattle.run_step.specs.Effects.{IsEffect, effect_of, is_new_slot, work_after}
-use Rattle.run_step.specs.Step.{Action, Coro, Deallocate, Done, Enter, GoTo, NewSlot, Return, Stuck, Work, AtTerm, fetch, fetch_in, fetch_or}
-use Rattle.run_step.specs.Values.{arg_values}
-use Rattle.run_step.specs.declared.effect.Effect.{Effect}
-use Rattle.run_step.specs.declared.world.Slot.{Slot}
+use Rattle.run_source_tables.specs.run_step.Effects.{IsEffect, effect_of, is_new_slot, work_after}
+use Rattle.run_source_tables.specs.run_step.Step.{Action, Coro, Deallocate, Done, Enter, GoTo, NewSlot, Return, Stuck, Work, AtTerm, fetch, fetch_in, fetch_or}
+use Rattle.run_source_tables.specs.run_step.Values.{arg_values}
+use Rattle.run_source_tables.specs.run_step.declared.effect.Effect.{Effect}
+use Rattle.run_source_tables.specs.run_step.declared.world.Slot.{Slot}
 use Rattle.run_source.specs.Source.{act, continue, coro}
 use Rattle.run_source.specs.State.{work_of}
 use Rattle.run_source_tables.specs.Given.{Given}

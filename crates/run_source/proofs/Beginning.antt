@@ -7,7 +7,7 @@ use Rattle.run_source.specs.State.{own_facts}
 use Rattle.run_source_tables.specs.Given.{Given}
 use Rattle.run_source.specs.declared.state.Instance.{Instance}
 use Rattle.run_source.specs.declared.state.State.{State}
-use Rattle.run_step.specs.declared.world.Slot.{Slot}
+use Rattle.run_source_tables.specs.run_step.declared.world.Slot.{Slot}
 use Rattle.run_source.proofs.Settings.{set-last}
 
 abbrev with_start : State → ℕ → List Instance → List Slot → State

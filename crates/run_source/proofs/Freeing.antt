@@ -17,9 +17,9 @@ use Rattle.run_source.specs.State.{began_at, instance_at, last_from, next, numbe
 use Rattle.run_source.specs.declared.state.Instance.{Instance}
 use Rattle.run_source.specs.declared.state.State.{State}
 use Rattle.run_source.proofs.Slots.{numbered-by}
-use Rattle.run_step.specs.Results.{and_then}
-use Rattle.run_step.specs.Step.{deallocated, without_slots}
-use Rattle.run_step.specs.declared.world.Slot.{Slot}
+use Rattle.run_source_tables.specs.run_step.Results.{and_then}
+use Rattle.run_source_tables.specs.run_step.Step.{deallocated, without_slots}
+use Rattle.run_source_tables.specs.run_step.declared.world.Slot.{Slot}
 
 there-other : (m : List MemoryBlock) (c b : ℕ) (f : MemoryBlock → MemoryBlock) → (c == b) ≡ false → slice_get (with_block m c f) b ≡ slice_get m b
 there-other [] c b f e = refl

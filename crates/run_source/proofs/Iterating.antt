@@ -2,7 +2,7 @@
 use Rattle.std.proofs.Common.{◌≡◌, ℕ, zero, suc, ◌+◌, ◌-◌, ◌<◌, ◌≤◌, Bool, true, false, refl, ap, sym, ◌∙◌, arith}
 use Rattle.std.proofs.lemmas.Bool.{false≢true}
 use Rattle.ir_base.specs.declared.outcome.Outcome.{Outcome}
-use Rattle.run_step.specs.Runs.{iterate}
+use Rattle.run_source_tables.specs.run_step.Runs.{iterate}
 use Rattle.run_source.specs.Source.{Continues, advance_by, continue, step}
 use Rattle.run_source_tables.specs.Given.{Given}
 use Rattle.run_source.specs.Machines.{is_over}

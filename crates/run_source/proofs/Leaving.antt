@@ -9,7 +9,7 @@ use Rattle.ir_paths.specs.Windows.{leaves}
 use Rattle.ir_paths.specs.declared.point.Facts.{Facts}
 use Rattle.ir_paths.specs.declared.point.Point.{Point}
 use Rattle.ir_paths.specs.declared.point.Window.{Window}
-use Rattle.run_step.specs.Results.{and_then, found, ok_if}
+use Rattle.run_source_tables.specs.run_step.Results.{and_then, found, ok_if}
 use Rattle.run_source_tables.specs.Lookups.{not_empty}
 use Rattle.run_source.specs.Source.{branch_leaving, enter_block, go_to, leave, left_windows, may_leave}
 use Rattle.run_source.specs.SourceEffects.{IsStop}

@@ -20,8 +20,8 @@ use Rattle.ir_model.specs.declared.operand.Arg.{Arg}
 use Rattle.ir_model.specs.declared.operand.Callee.{Callee}
 use Rattle.ir_model.specs.declared.operand.Intrinsic.{Intrinsic}
 use Rattle.ir_paths.specs.Windows.{call_result}
-use Rattle.run_step.specs.Step.{Action, Context, Done, Enter, Stuck, Work, allocated, allocator_call, branch, call, compared, copied_bytes, done, if_alignment, indirect_call, instr_action, intrinsic_call, is_alignment, named_call, observed, set_memory, switch, term_action, with_length}
-use Rattle.run_step.specs.Values.{address, nth}
+use Rattle.run_source_tables.specs.run_step.Step.{Action, Context, Done, Enter, Stuck, Work, allocated, allocator_call, branch, call, compared, copied_bytes, done, if_alignment, indirect_call, instr_action, intrinsic_call, is_alignment, named_call, observed, set_memory, switch, term_action, with_length}
+use Rattle.run_source_tables.specs.run_step.Values.{address, nth}
 
 of-done : {A : Type 0} (args : List Arg) (res : Option ℕ) (f : A → Work) (r : Result A Cause) → OfCall args res (done f r)
 of-done args res f (Ok a) = tt

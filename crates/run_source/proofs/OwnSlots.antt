@@ -6,9 +6,9 @@ use Rattle.ir_base.specs.declared.cause.Cause.{Cause}
 use Rattle.ir_model.specs.Layout.{size_of}
 use Rattle.ir_model.specs.declared.instr.Instr.{Instr}
 use Rattle.ir_model.specs.declared.ir_type.IrType.{IrType}
-use Rattle.run_step.specs.Step.{Action, Context, NewSlot, Stuck, Work, alloca_kind, has_markers, instr_action, is_alignment, set_memory, set_value}
-use Rattle.run_step.specs.Values.{pointer_to}
-use Rattle.run_step.specs.declared.world.Slot.{Slot}
+use Rattle.run_source_tables.specs.run_step.Step.{Action, Context, NewSlot, Stuck, Work, alloca_kind, has_markers, instr_action, is_alignment, set_memory, set_value}
+use Rattle.run_source_tables.specs.run_step.Values.{pointer_to}
+use Rattle.run_source_tables.specs.run_step.declared.world.Slot.{Slot}
 use Rattle.run_source.specs.Source.{act, continue}
 use Rattle.run_source.specs.SourceEffects.{IsOwner, IsStop, own_slot}
 use Rattle.run_source.specs.State.{settled, work_of, with_slots}

@@ -6,7 +6,7 @@ use Rattle.run_memory.specs.declared.pointer.Offset.{Offset}
 use Rattle.run_memory.specs.declared.pointer.Pointer.{Pointer}
 use Rattle.run_memory.specs.declared.pointer.Value.{Value}
 use Rattle.ir_base.specs.declared.cause.Cause.{Cause}
-use Rattle.run_step.specs.Results.{and_then, found, ok_if}
+use Rattle.run_source_tables.specs.run_step.Results.{and_then, found, ok_if}
 use Rattle.run_source.specs.Source.{frame_of_promise, has_promise_at, is_live_at}
 use Rattle.run_source.specs.State.{frame_address_of}
 use Rattle.run_source_tables.specs.Given.{Given}

@@ -2,7 +2,7 @@
 use Rattle.std.proofs.Common.{◌≡◌, ℕ, ◌+◌, List, [], ◌∷◌, refl, ap, sym, subst, ◌∙◌, Option, Some}
 use Rattle.std.specs.Prelude.{slice_get, slice_set}
 use Rattle.ir_paths.specs.declared.point.Point.{Point}
-use Rattle.run_step.specs.Values.{Env}
+use Rattle.run_source_tables.specs.run_step.Values.{Env}
 use Rattle.run_source.specs.Source.{push}
 use Rattle.run_source.specs.declared.state.Activation.{Activation}
 use Rattle.run_source.specs.declared.state.Instance.{Instance}

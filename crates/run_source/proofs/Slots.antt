@@ -4,11 +4,11 @@ use Rattle.std.specs.Prelude.{filter, not, slice_get, slice_set, option_and_then
 use Rattle.std.specs.List.{list_any}
 use Rattle.run_memory.specs.Memory.{killed}
 use Rattle.run_memory.specs.declared.block.MemoryBlock.{MemoryBlock}
-use Rattle.run_step.specs.Effects.{work}
-use Rattle.run_step.specs.Step.{Action, NewSlot, Work}
-use Rattle.run_step.specs.Values.{Env}
-use Rattle.run_step.specs.declared.world.Slot.{Slot}
-use Rattle.run_step.specs.declared.world.World.{World}
+use Rattle.run_source_tables.specs.run_step.Effects.{work}
+use Rattle.run_source_tables.specs.run_step.Step.{Action, NewSlot, Work}
+use Rattle.run_source_tables.specs.run_step.Values.{Env}
+use Rattle.run_source_tables.specs.run_step.declared.world.Slot.{Slot}
+use Rattle.run_source_tables.specs.run_step.declared.world.World.{World}
 use Rattle.run_source.specs.Source.{act, continue, is_among, is_over, kill_late, new_slot, with_new_slots}
 use Rattle.run_source.specs.SourceEffects.{IsOwner, slot_in, slot_of}
 use Rattle.run_source.specs.State.{numbered, own_facts, own_instance, settled, with_instance, with_memory, with_slots}

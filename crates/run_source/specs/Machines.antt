@@ -2,7 +2,7 @@
 use Rattle.std.specs.Prelude.{ℕ, Bool, true, false, List, ◌≡◌, ◌≤◌}
 use Rattle.ir_base.specs.declared.outcome.Outcome.{Outcome}
 use Rattle.ir_base.specs.declared.outcome.Word.{Word}
-use Rattle.run_step.specs.Runs.{iterate}
+use Rattle.run_source_tables.specs.run_step.Runs.{iterate}
 use Rattle.run_source.specs.Source.{state_at, step}
 use Rattle.run_source_tables.specs.Given.{Given}
 use Rattle.run_source.specs.SourceEffects.{given_of}

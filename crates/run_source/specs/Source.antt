@@ -29,11 +29,11 @@ use Rattle.ir_paths.specs.Slots.{promise_of}
 use Rattle.ir_paths.specs.Windows.{destroy_label, leaves, operand_at, resume_label, suspend_of}
 use Rattle.ir_paths.specs.declared.point.Point.{Point}
 use Rattle.ir_paths.specs.declared.point.Window.{Window}
-use Rattle.run_step.specs.Results.{and_then, found, ok_if}
-use Rattle.run_step.specs.Runs.{Seen, iterate, seen_of}
-use Rattle.run_step.specs.Step.{Action, Context, Coro, Deallocate, Done, Enter, GoTo, NewSlot, Return, Stuck, action_of, alloca, block_of, deallocated, entry_values, fetch, first_world, label_of, outcome_of, values_in, without_slots}
-use Rattle.run_step.specs.Values.{Env, arg_values, integer, nth, pointer_to, truth_value, with_result}
-use Rattle.run_step.specs.declared.world.Slot.{Slot}
+use Rattle.run_source_tables.specs.run_step.Results.{and_then, found, ok_if}
+use Rattle.run_source_tables.specs.run_step.Runs.{Seen, iterate, seen_of}
+use Rattle.run_source_tables.specs.run_step.Step.{Action, Context, Coro, Deallocate, Done, Enter, GoTo, NewSlot, Return, Stuck, action_of, alloca, block_of, deallocated, entry_values, fetch, first_world, label_of, outcome_of, values_in, without_slots}
+use Rattle.run_source_tables.specs.run_step.Values.{Env, arg_values, integer, nth, pointer_to, truth_value, with_result}
+use Rattle.run_source_tables.specs.run_step.declared.world.Slot.{Slot}
 use Rattle.std.specs.List.{list_all, list_any}
 use Rattle.std.specs.Option.{option_map_or}
 

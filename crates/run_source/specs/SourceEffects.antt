@@ -17,11 +17,11 @@ use Rattle.run_source.specs.declared.resuming.Sleeping.{Sleeping}
 use Rattle.run_source.specs.declared.state.State.{State}
 use Rattle.run_source.specs.declared.state.Status.{Status}
 use Rattle.ir_model.specs.declared.operand.Arg.{Arg}
-use Rattle.run_step.specs.Results.{and_then}
-use Rattle.run_step.specs.Step.{Action, Coro, NewSlot, Stuck, Work, deallocated}
-use Rattle.run_step.specs.Values.{Env, arg_values}
-use Rattle.run_step.specs.declared.effect.Effect.{Effect}
-use Rattle.run_step.specs.declared.world.Slot.{Slot}
+use Rattle.run_source_tables.specs.run_step.Results.{and_then}
+use Rattle.run_source_tables.specs.run_step.Step.{Action, Coro, NewSlot, Stuck, Work, deallocated}
+use Rattle.run_source_tables.specs.run_step.Values.{Env, arg_values}
+use Rattle.run_source_tables.specs.run_step.declared.effect.Effect.{Effect}
+use Rattle.run_source_tables.specs.run_step.declared.world.Slot.{Slot}
 
 -- what a program gives to the meaning
 abbrev pub given_of : SourceProgram → Given

@@ -16,8 +16,8 @@ use Rattle.ir_model.specs.declared.module.Frame.{Frame}
 use Rattle.ir_model.specs.declared.module.Function.{Function}
 use Rattle.ir_paths.specs.declared.point.Facts.{Facts}
 use Rattle.ir_paths.specs.declared.point.Point.{Point}
-use Rattle.run_step.specs.Step.{Work, place_at, set_result}
-use Rattle.run_step.specs.declared.world.Slot.{Slot}
+use Rattle.run_source_tables.specs.run_step.Step.{Work, place_at, set_result}
+use Rattle.run_source_tables.specs.run_step.declared.world.Slot.{Slot}
 use Rattle.run_source_tables.specs.Given.{Given, facts_at, frame_of}
 
 -- ---- what the topmost activation has

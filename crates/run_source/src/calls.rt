@@ -10,7 +10,7 @@ use crate::state::{Activation, Mode, State};
 use ir_base::{Cause, FuncId, Outcome, ValueId};
 use run_memory::Value;
 use run_source_tables::SourceProgram;
-use run_step::{Program, Stack};
+use run_source_tables::run_step_library::{Program, Stack};
 use run_step_code::{first_values, kill_slots, outcome_of, set_result};
 use std::alloc::{AllocError, Global};
 

@@ -1,8 +1,8 @@
 //! What a source machine does by the effect of an instruction.
 
 ghost use Rattle.std.specs.Prelude.{◌≡◌, ◌+◌, IfErr, OnOk, OnErr, Ok, Err, IsFalse};
-ghost use Rattle.run_step.specs.Effects.{is_new_slot};
-ghost use Rattle.run_step.specs.Values.{arg_values};
+ghost use Rattle.run_source_tables.specs.run_step.Effects.{is_new_slot};
+ghost use Rattle.run_source_tables.specs.run_step.Values.{arg_values};
 ghost use Rattle.run_source.specs.Source.{coro as coro_by};
 ghost use Rattle.run_source.specs.SourceEffects.{source_effect, given_of, IsStop, is_done};
 
@@ -17,7 +17,7 @@ use ir_base::{Cause, ValueId};
 use ir_model::{Arg, IntWidth, Intrinsic};
 use run_memory::Value;
 use run_source_tables::SourceProgram;
-use run_step::{Effect, truth};
+use run_source_tables::run_step_library::{Effect, truth};
 use std::alloc::Global;
 
 /// Why a step stops.

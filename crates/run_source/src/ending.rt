@@ -6,7 +6,7 @@ ghost use Rattle.run_memory.specs.Memory.{is_unkilled};
 ghost use Rattle.run_memory.specs.declared.block.Kind.{Kind as TheKind};
 ghost use Rattle.run_memory.specs.declared.pointer.Pointer.{Pointer as ThePointer};
 ghost use Rattle.run_memory.specs.declared.pointer.Value.{Value as TheValue};
-ghost use Rattle.run_step.specs.Step.{without_slots};
+ghost use Rattle.run_source_tables.specs.run_step.Step.{without_slots};
 ghost use Rattle.run_source.specs.State.{own_instance, gives};
 ghost use Rattle.run_source.specs.Source.{after_end as after_end_by, deallocate as deallocate_at, end_of, finish as finish_own, frame_address as frame_address_of_own, may_be_freed as may_be_freed_now, release as release_own};
 ghost use Rattle.run_source.specs.SourceEffects.{let_go_at, deallocated_other};
@@ -18,7 +18,7 @@ use crate::promise::frame_address_of;
 use crate::state::{Instance, Mode, State, Status};
 use ir_base::{Cause, ValueId};
 use run_memory::{BlockId, Kind, Memory, Offset, Pointer, Value};
-use run_step::{Slot, Stack, truth};
+use run_source_tables::run_step_library::{Slot, Stack, truth};
 use run_step_code::deallocate;
 
 /// The slots of an instance die.

@@ -5,7 +5,7 @@ ghost use Rattle.std.specs.List.{list_any};
 ghost use Rattle.ir_model.specs.TypeView.{bits_of};
 ghost use Rattle.ir_paths.specs.Windows.{operand_at};
 ghost use Rattle.run_memory.specs.Memory.{with_block, owned_to};
-ghost use Rattle.run_step.specs.Values.{integer};
+ghost use Rattle.run_source_tables.specs.run_step.Values.{integer};
 ghost use Rattle.run_source.specs.State.{gives, with_memory};
 ghost use Rattle.run_source_tables.specs.Given.{facts_at};
 ghost use Rattle.run_source.specs.Source.{begin as begin_with, begun, is_among, save as save_here, save_for as save_for_suspend, suspend as suspend_with};
@@ -18,8 +18,8 @@ use ir_base::{Cause, FuncId, Items, ValueId, Word};
 use ir_model::{Arg, IntWidth};
 use ir_paths::Point;
 use run_memory::{BlockId, Kind, Pointer, Value};
+use run_source_tables::run_step_library::{Slot, Stack, bits, cut};
 use run_source_tables::{SourceProgram, is_none_at};
-use run_step::{Slot, Stack, bits, cut};
 use run_step_code::set_result;
 use std::alloc::{AllocError, Global};
 

@@ -7,14 +7,14 @@ ghost use Rattle.run_source.specs.Source.{new_instance};
 ghost use Rattle.run_source.specs.declared.state.Instance.{Instance as TheInstance};
 ghost use Rattle.run_source.specs.declared.state.Status.{Status as TheStatus};
 ghost use Rattle.ir_paths.specs.declared.point.Point.{Point as ThePoint};
-ghost use Rattle.run_step.specs.Values.{Env};
-ghost use Rattle.run_step.specs.declared.world.Slot.{Slot as TheSlot};
+ghost use Rattle.run_source_tables.specs.run_step.Values.{Env};
+ghost use Rattle.run_source_tables.specs.run_step.declared.world.Slot.{Slot as TheSlot};
 
 use crate::state::{Instance, Instances, Saved, Status};
 use ir_base::{FuncId, Items};
 use ir_paths::Point;
 use run_memory::{BlockId, Pointer, Value};
-use run_step::{Slot, Stack};
+use run_source_tables::run_step_library::{Slot, Stack};
 use std::alloc::{AllocError, AllocFailed, Global};
 use std::mem;
 

@@ -23,7 +23,7 @@ impl SourceMachine {
     ghost use Rattle.std.specs.Prelude.{◌≡◌, ◌+◌, ℕ, List, map, IfOk, OnOk, OnErr};
     ghost use Rattle.ir_base.specs.declared.outcome.Word.{Word as TheWord};
     ghost use Rattle.run_source_tables.specs.Given.{Given};
-    ghost use Rattle.run_step.specs.Runs.{seen_event};
+    ghost use Rattle.run_source_tables.specs.run_step.Runs.{seen_event};
     ghost use Rattle.run_source.specs.Source.{SourceAt, SeenOf};
     ghost use Rattle.run_source.specs.SourceEffects.{given_of};
     ghost use Rattle.run_source.specs.Machines.{machine_at, ran, run_of, progress_of, RanSome};

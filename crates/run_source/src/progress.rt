@@ -1,7 +1,7 @@
 //! Many steps.
 
 ghost use Rattle.std.specs.Prelude.{◌≡◌, OnOk, OnErr};
-ghost use Rattle.run_step.specs.Runs.{iterate};
+ghost use Rattle.run_source_tables.specs.run_step.Runs.{iterate};
 ghost use Rattle.run_source.specs.Source.{step};
 ghost use Rattle.run_source.specs.SourceEffects.{given_of};
 ghost use Rattle.run_source.specs.Machines.{progress_of, is_over as is_over_outcome, RanSome};

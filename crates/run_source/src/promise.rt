@@ -13,8 +13,8 @@ use crate::state::{Instance, State, Status};
 use ir_base::{Cause, ValueId};
 use ir_model::Arg;
 use run_memory::{BlockId, Memory, Offset, Pointer, Value};
+use run_source_tables::run_step_library::{Slot, Stack, pointer_to};
 use run_source_tables::{SourceProgram, is_true_at};
-use run_step::{Slot, Stack, pointer_to};
 
 /// The block of the newest slot of an alloca.
 fn block_of_slot(slots: &Stack<Slot>, alloca: ValueId) -> Option<BlockId>

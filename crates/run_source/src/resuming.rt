@@ -1,7 +1,7 @@
 //! Resume, destroy, done and the promise.
 
 ghost use Rattle.std.specs.Prelude.{◌≡◌, ◌+◌, IfErr, IfOk, OnOk, OnErr, Ok, Err, List, [], ◌∷◌, Some, slice_get, slice_set};
-ghost use Rattle.run_step.specs.Values.{Env};
+ghost use Rattle.run_source_tables.specs.run_step.Values.{Env};
 ghost use Rattle.run_source.specs.declared.state.Activation.{Activation as TheActivation};
 ghost use Rattle.run_source.specs.declared.state.Instance.{Instance as TheInstance};
 ghost use Rattle.run_source.specs.declared.state.Status.{Status as TheStatus};
@@ -18,7 +18,7 @@ use ir_base::{Cause, FuncId, Items, ValueId};
 use ir_paths::Point;
 use run_memory::Value;
 use run_source_tables::SourceProgram;
-use run_step::{Stack, truth};
+use run_source_tables::run_step_library::{Stack, truth};
 use std::alloc::{AllocError, Global};
 use std::mem;
 

@@ -8,7 +8,7 @@ use crate::calls::called;
 use crate::state::{Instances, Mode, State};
 use ir_base::{FuncId, Items, Outcome, Word};
 use run_memory::Value;
-use run_step::{Program, Stack};
+use run_source_tables::run_step_library::{Program, Stack};
 use run_step_code::first_world;
 use std::alloc::{AllocError, Global};
 

@@ -3,7 +3,7 @@
 use ir_base::{FuncId, Items, Outcome, ValueId};
 use ir_paths::Point;
 use run_memory::{BlockId, Value};
-use run_step::{Slot, Stack, World};
+use run_source_tables::run_step_library::{Slot, Stack, World};
 use std::marker::Model;
 
 /// How an activation came to be. In a framed run a ramp may be given its frame's address, and a resumed activation may

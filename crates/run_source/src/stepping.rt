@@ -4,8 +4,8 @@ ghost use Rattle.std.specs.Prelude.{◌≡◌, ◌+◌, IfErr, OnOk, OnErr, Ok, 
 ghost use Rattle.run_memory.specs.Memory.{Rights, killed};
 ghost use Rattle.ir_base.specs.declared.outcome.Outcome.{Outcome as TheOutcome};
 ghost use Rattle.ir_model.specs.declared.instr.Instr.{Instr as TheInstr};
-ghost use Rattle.run_step.specs.Step.{instr_action, action_of, fetch};
-ghost use Rattle.run_step.specs.Effects.{context, is_alloca};
+ghost use Rattle.run_source_tables.specs.run_step.Step.{instr_action, action_of, fetch};
+ghost use Rattle.run_source_tables.specs.run_step.Effects.{context, is_alloca};
 ghost use Rattle.run_source.specs.declared.stepping.Owner.{Owner as TheOwner};
 ghost use Rattle.run_source.specs.State.{function_of, work_of};
 ghost use Rattle.run_source.specs.Source.{act as act_by, context_of, continue, step};
@@ -17,8 +17,8 @@ use crate::state::State;
 use ir_base::{Cause, Item, Outcome, Place, ValueId};
 use ir_model::{Function, Instr, IrType};
 use run_memory::{BlockId, Memory, OwnerRights};
+use run_source_tables::run_step_library::Slot;
 use run_source_tables::{SourceProgram, args_of, result_of};
-use run_step::Slot;
 use run_step_code::{execute, make_slot, place_at, terminate};
 use std::alloc::{AllocError, Global};
 

@@ -11,4 +11,5 @@ mod table;
 
 pub use points::{is_none_at, is_true_at, leaves, same_point};
 pub use program::SourceProgram;
+pub use run_step as run_step_library;
 pub use shape::{Sought, args_of, first_point, result_at, result_of};

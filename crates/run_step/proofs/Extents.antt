@@ -3,11 +3,11 @@ use Rattle.std.proofs.Common.{◌≡◌, ℕ, zero, suc, ◌+◌, ◌-◌, ◌*�
 use Rattle.std.specs.Prelude.{option_map, slice_get, ◌^◌, ◌⊎◌}
 use Rattle.std.specs.Option.{unwrap_or}
 use Rattle.std.proofs.Math.Nat.{suc-mul, zero-mul}
-use Rattle.ir_base.specs.declared.name.Name.{Name}
-use Rattle.ir_model.specs.Layout.{Extent, array_extent, extent_at, extent_in, extent_or, extent_then, fields_extent, field_offset_from, field_type, no_fields, of_type, padded, rounded_up, type_named, with_field, extent_of, align_of, size_of}
-use Rattle.ir_model.specs.Ty.{Ty, Tys, array, field, named, ptr, structure, to_tys}
-use Rattle.ir_model.specs.declared.module.TypeItem.{TypeItem}
-use Rattle.ir_model.specs.declared.module.Module.{Module}
+use Rattle.ir_paths.specs.ir_base.declared.name.Name.{Name}
+use Rattle.ir_paths.specs.ir_model.Layout.{Extent, array_extent, extent_at, extent_in, extent_or, extent_then, fields_extent, field_offset_from, field_type, no_fields, of_type, padded, rounded_up, type_named, with_field, extent_of, align_of, size_of}
+use Rattle.ir_paths.specs.ir_model.Ty.{Ty, Tys, array, field, named, ptr, structure, to_tys}
+use Rattle.ir_paths.specs.ir_model.declared.module.TypeItem.{TypeItem}
+use Rattle.ir_paths.specs.ir_model.declared.module.Module.{Module}
 use Rattle.run_step.specs.Values.{capped, part_at, times}
 use Rattle.run_step.specs.Effects.{capped_extent}
 use Rattle.run_step.specs.declared.extent.Extent.{Extent as CodeExtent}

@@ -3,9 +3,9 @@ use Rattle.std.proofs.Common.{◌≡◌, ℕ, zero, suc, ◌+◌, ◌-◌, ◌<�
 use Rattle.std.proofs.lemmas.Bool.{eqb-true, eq-eqb, false≢true}
 use Rattle.std.proofs.Math.Seq.{drop-cons}
 use Rattle.std.specs.Prelude.{option_map, unwrap_or, slice_get, slice_set, replicate, if◌then◌else◌, ◌==◌, ◌⊎◌}
-use Rattle.ir_model.specs.Names.{first_where, position_of}
-use Rattle.ir_model.specs.declared.module.Block.{Block}
-use Rattle.ir_model.specs.declared.module.Function.{Function}
+use Rattle.ir_paths.specs.ir_model.Names.{first_where, position_of}
+use Rattle.ir_paths.specs.ir_model.declared.module.Block.{Block}
+use Rattle.ir_paths.specs.ir_model.declared.module.Function.{Function}
 
 abbrev pub leading : ℕ → List Block → ℕ
 leading label [] = 0

@@ -1,12 +1,12 @@
 -- Numbers of a width that a type has.
 use Rattle.std.proofs.Common.{◌≡◌, ℕ, ◌≤◌, ◌<◌, arith, sym, ◌∙◌, subst}
 use Rattle.std.specs.Prelude.{◌^◌}
-use Rattle.run_ints.specs.Words.{IsNum, IsNumOf, AreOfOneWidth}
-use Rattle.run_ints.specs.declared.num.Num.{Num}
-use Rattle.run_ints.specs.declared.num.Num.TheVariants.{Poison, Is}
-use Rattle.ir_model.specs.TypeView.{bits_of}
-use Rattle.ir_model.specs.declared.ir_type.IntWidth.{IntWidth}
-use Rattle.ir_model.specs.declared.ir_type.IntWidth.TheVariants.{I1, I8, I16, I32, I64}
+use Rattle.run_memory.specs.run_ints.Words.{IsNum, IsNumOf, AreOfOneWidth}
+use Rattle.run_memory.specs.run_ints.declared.num.Num.{Num}
+use Rattle.run_memory.specs.run_ints.declared.num.Num.TheVariants.{Poison, Is}
+use Rattle.ir_paths.specs.ir_model.TypeView.{bits_of}
+use Rattle.ir_paths.specs.ir_model.declared.ir_type.IntWidth.{IntWidth}
+use Rattle.ir_paths.specs.ir_model.declared.ir_type.IntWidth.TheVariants.{I1, I8, I16, I32, I64}
 
 pub narrow : (width : IntWidth) → bits_of width ≤ 64
 narrow I1 = omega arith

@@ -1,9 +1,9 @@
 -- Going along the indices of a getelementptr.
 use Rattle.std.proofs.Common.{◌≡◌, ℕ, ◌+◌, ◌-◌, ◌<◌, ◌≤◌, List, [], ◌∷◌, length, take, drop, get_or, refl, ap, sym, ◌∙◌, arith, suc, Option}
-use Rattle.ir_model.specs.Layout.{unnamed}
-use Rattle.ir_model.specs.Ty.{Ty}
-use Rattle.ir_model.specs.declared.operand.Arg.{Arg}
-use Rattle.ir_model.specs.declared.module.Module.{Module}
+use Rattle.ir_paths.specs.ir_model.Layout.{unnamed}
+use Rattle.ir_paths.specs.ir_model.Ty.{Ty}
+use Rattle.ir_paths.specs.ir_model.declared.operand.Arg.{Arg}
+use Rattle.ir_paths.specs.ir_model.declared.module.Module.{Module}
 use Rattle.run_step.specs.Values.{Env, arg_value, index_of, indices_of, inner_distance, number_at, part_at, plus}
 use Rattle.run_step.proofs.Lists.{drop-next, drop-end}
 

@@ -2,18 +2,18 @@
 use Rattle.std.proofs.Common.{◌≡◌, ℕ, zero, suc, ◌+◌, ◌<◌, Bool, true, false, cond, ◌&&◌, List, [], ◌∷◌, length, take, get_or, refl, ap, sym, subst, ◌∙◌, arith, length-append, Option, Some, None, inl, inr}
 use Rattle.std.proofs.lemmas.Bool.{eqb-true, eq-eqb, false≢true}
 use Rattle.std.specs.Prelude.{option_map, if◌then◌else◌, ◌==◌, slice_get, unwrap_or, ◌++◌, ◌⊎◌}
-use Rattle.ir_base.specs.declared.name.Name.{Name}
-use Rattle.ir_base.specs.declared.name.Name.TheVariants.{Number, Text}
-use Rattle.ir_base.specs.contracts.name.NamePartialEq.TheImpl.{eq-value}
+use Rattle.ir_paths.specs.ir_base.declared.name.Name.{Name}
+use Rattle.ir_paths.specs.ir_base.declared.name.Name.TheVariants.{Number, Text}
+use Rattle.ir_paths.specs.ir_base.contracts.name.NamePartialEq.TheImpl.{eq-value}
 use Rattle.std.specs.Map.{lookup}
 use Rattle.std.specs.Cmp.Lexicographic.{pointwise}
-use Rattle.ir_model.specs.Names.{first_where, function_at, no_function, same_name, same_text}
+use Rattle.ir_paths.specs.ir_model.Names.{first_where, function_at, no_function, same_name, same_text}
 use Rattle.std.proofs.lemmas.Option.{slice_get-get_or}
-use Rattle.ir_model.specs.declared.module.Function.{Function}
-use Rattle.ir_model.specs.declared.module.Module.{Module}
-use Rattle.ir_model.specs.declared.module.TypeItem.{TypeItem}
-use Rattle.ir_model.specs.Ty.{Ty}
-use Rattle.ir_model.specs.Layout.{type_named}
+use Rattle.ir_paths.specs.ir_model.declared.module.Function.{Function}
+use Rattle.ir_paths.specs.ir_model.declared.module.Module.{Module}
+use Rattle.ir_paths.specs.ir_model.declared.module.TypeItem.{TypeItem}
+use Rattle.ir_paths.specs.ir_model.Ty.{Ty}
+use Rattle.ir_paths.specs.ir_model.Layout.{type_named}
 use Rattle.run_step.specs.Step.{has_markers}
 use Rattle.run_step.specs.Tables.{or_at, HaveTables, IsTableOf}
 use Rattle.run_step.specs.declared.function_table.FunctionTable.{FunctionTable}

@@ -6,14 +6,14 @@ use Rattle.run_memory.specs.declared.block.Kind.{Kind}
 use Rattle.run_memory.specs.declared.block.Life.{Life}
 use Rattle.run_memory.specs.declared.block.MemoryBlock.{MemoryBlock}
 use Rattle.run_memory.specs.declared.pointer.Value.{Value}
-use Rattle.ir_base.specs.declared.cause.Cause.{Cause}
-use Rattle.ir_base.specs.declared.outcome.Word.{Word}
-use Rattle.ir_model.specs.Layout.{Extent as LayoutExtent}
+use Rattle.ir_paths.specs.ir_base.declared.cause.Cause.{Cause}
+use Rattle.ir_paths.specs.ir_base.declared.outcome.Word.{Word}
+use Rattle.ir_paths.specs.ir_model.Layout.{Extent as LayoutExtent}
 use Rattle.run_step.specs.declared.extent.Extent.{Extent as CodeExtent}
-use Rattle.ir_model.specs.declared.instr.Instr.{Instr}
-use Rattle.ir_model.specs.declared.instr.Phi.{Phi}
-use Rattle.ir_model.specs.declared.module.Function.{Function}
-use Rattle.ir_model.specs.declared.module.Module.{Module}
+use Rattle.ir_paths.specs.ir_model.declared.instr.Instr.{Instr}
+use Rattle.ir_paths.specs.ir_model.declared.instr.Phi.{Phi}
+use Rattle.ir_paths.specs.ir_model.declared.module.Function.{Function}
+use Rattle.ir_paths.specs.ir_model.declared.module.Module.{Module}
 use Rattle.run_step.specs.Step.{Action, Context, Coro, Deallocate, Done, Enter, GoTo, NewSlot, Return, Stuck, Work, alloca_kind, has_markers}
 use Rattle.run_step.specs.Values.{Env, capped}
 use Rattle.run_step.specs.declared.effect.Effect.{Effect}

@@ -1,11 +1,11 @@
 -- What a step reads of its activation's values, and what it sets.
 use Rattle.std.specs.Prelude.{ℕ, pred, Bool, false, List, Some, None, Option, ◌||◌, ◌==◌}
-use Rattle.ir_model.specs.Names.{is_local}
-use Rattle.ir_model.specs.declared.instr.Instr.{Instr}
-use Rattle.ir_model.specs.declared.operand.Allocator.{Allocator}
-use Rattle.ir_model.specs.declared.operand.Arg.{Arg}
-use Rattle.ir_model.specs.declared.operand.Callee.{Callee}
-use Rattle.ir_model.specs.declared.operand.Intrinsic.{Intrinsic}
+use Rattle.ir_paths.specs.ir_model.Names.{is_local}
+use Rattle.ir_paths.specs.ir_model.declared.instr.Instr.{Instr}
+use Rattle.ir_paths.specs.ir_model.declared.operand.Allocator.{Allocator}
+use Rattle.ir_paths.specs.ir_model.declared.operand.Arg.{Arg}
+use Rattle.ir_paths.specs.ir_model.declared.operand.Callee.{Callee}
+use Rattle.ir_paths.specs.ir_model.declared.operand.Intrinsic.{Intrinsic}
 use Rattle.ir_paths.specs.Slots.{is_in_args, occurs_in_term}
 use Rattle.ir_paths.specs.Windows.{operand_at}
 use Rattle.run_step.specs.Step.{AtInstr, AtTerm, Fetched, Nowhere}

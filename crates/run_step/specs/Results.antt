@@ -1,6 +1,6 @@
 -- Results in sequence.
 use Rattle.std.specs.Prelude.{Bool, true, false, Some, None, Ok, Err, Option, Result}
-use Rattle.ir_base.specs.declared.cause.Cause.{Cause}
+use Rattle.ir_paths.specs.ir_base.declared.cause.Cause.{Cause}
 
 abbrev pub and_then : {A B : Type 0} → Result A Cause → (A → Result B Cause) → Result B Cause
 and_then (Err cause) f = Err cause

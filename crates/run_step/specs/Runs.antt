@@ -1,11 +1,11 @@
 -- What is seen of a run.
 pub use Rattle.run_agreement.specs.Machines.{Seen, SeenEvent, iterate}
 use Rattle.std.specs.Prelude.{map, slice_get, Some, None, Option}
-use Rattle.ir_base.specs.declared.name.Name.{Name}
-use Rattle.ir_base.specs.declared.outcome.Event.{Event}
-use Rattle.ir_base.specs.declared.outcome.Outcome.{Outcome}
-use Rattle.ir_model.specs.declared.module.Declaration.{Declaration}
-use Rattle.ir_model.specs.declared.module.Module.{Module}
+use Rattle.ir_paths.specs.ir_base.declared.name.Name.{Name}
+use Rattle.ir_paths.specs.ir_base.declared.outcome.Event.{Event}
+use Rattle.ir_paths.specs.ir_base.declared.outcome.Outcome.{Outcome}
+use Rattle.ir_paths.specs.ir_model.declared.module.Declaration.{Declaration}
+use Rattle.ir_paths.specs.ir_model.declared.module.Module.{Module}
 use Rattle.run_step.specs.declared.world.World.{World}
 
 abbrev pub name_of_declaration : Option Declaration → Name

@@ -6,33 +6,33 @@ use Rattle.run_memory.specs.declared.block.Life.{Life}
 use Rattle.run_memory.specs.declared.block.MemoryBlock.{MemoryBlock}
 use Rattle.run_memory.specs.declared.pointer.Pointer.{Pointer}
 use Rattle.run_memory.specs.declared.pointer.Value.{Value}
-use Rattle.ir_base.specs.declared.cause.Cause.{Cause}
-use Rattle.ir_base.specs.declared.ops.CastOp.{CastOp}
-use Rattle.ir_base.specs.declared.ops.Pred.{Pred}
-use Rattle.ir_base.specs.declared.outcome.Outcome.{Outcome}
-use Rattle.ir_base.specs.declared.outcome.Item.{Item}
-use Rattle.ir_base.specs.declared.outcome.Place.{Place}
-use Rattle.ir_base.specs.declared.outcome.Word.{Word}
-use Rattle.run_ints.specs.Numbers.{binary, cast, icmp}
-use Rattle.run_ints.specs.declared.num.Num.{Num}
-use Rattle.ir_model.specs.Layout.{same_type, size_of}
-use Rattle.ir_model.specs.Names.{declaration_named, function_named, is_local}
-use Rattle.ir_model.specs.Ty.{Ty, int, ptr}
-use Rattle.ir_model.specs.declared.instr.Case.{Case}
-use Rattle.ir_model.specs.declared.instr.Incoming.{Incoming}
-use Rattle.ir_model.specs.declared.instr.Instr.{Instr}
-use Rattle.ir_model.specs.declared.instr.Phi.{Phi}
-use Rattle.ir_model.specs.declared.instr.Terminator.{Terminator}
-use Rattle.ir_model.specs.declared.module.Block.{Block}
-use Rattle.ir_model.specs.declared.module.Function.{Function}
-use Rattle.ir_model.specs.declared.module.GlobalItem.{GlobalItem}
-use Rattle.ir_model.specs.declared.module.Module.{Module}
-use Rattle.ir_model.specs.declared.module.Param.{Param}
-use Rattle.ir_model.specs.declared.operand.Allocator.{Allocator}
-use Rattle.ir_model.specs.declared.operand.Arg.{Arg}
-use Rattle.ir_model.specs.declared.operand.Callee.{Callee}
-use Rattle.ir_model.specs.declared.operand.Intrinsic.{Intrinsic}
-use Rattle.ir_model.specs.declared.operand.Operand.{Operand}
+use Rattle.ir_paths.specs.ir_base.declared.cause.Cause.{Cause}
+use Rattle.ir_paths.specs.ir_base.declared.ops.CastOp.{CastOp}
+use Rattle.ir_paths.specs.ir_base.declared.ops.Pred.{Pred}
+use Rattle.ir_paths.specs.ir_base.declared.outcome.Outcome.{Outcome}
+use Rattle.ir_paths.specs.ir_base.declared.outcome.Item.{Item}
+use Rattle.ir_paths.specs.ir_base.declared.outcome.Place.{Place}
+use Rattle.ir_paths.specs.ir_base.declared.outcome.Word.{Word}
+use Rattle.run_memory.specs.run_ints.Numbers.{binary, cast, icmp}
+use Rattle.run_memory.specs.run_ints.declared.num.Num.{Num}
+use Rattle.ir_paths.specs.ir_model.Layout.{same_type, size_of}
+use Rattle.ir_paths.specs.ir_model.Names.{declaration_named, function_named, is_local}
+use Rattle.ir_paths.specs.ir_model.Ty.{Ty, int, ptr}
+use Rattle.ir_paths.specs.ir_model.declared.instr.Case.{Case}
+use Rattle.ir_paths.specs.ir_model.declared.instr.Incoming.{Incoming}
+use Rattle.ir_paths.specs.ir_model.declared.instr.Instr.{Instr}
+use Rattle.ir_paths.specs.ir_model.declared.instr.Phi.{Phi}
+use Rattle.ir_paths.specs.ir_model.declared.instr.Terminator.{Terminator}
+use Rattle.ir_paths.specs.ir_model.declared.module.Block.{Block}
+use Rattle.ir_paths.specs.ir_model.declared.module.Function.{Function}
+use Rattle.ir_paths.specs.ir_model.declared.module.GlobalItem.{GlobalItem}
+use Rattle.ir_paths.specs.ir_model.declared.module.Module.{Module}
+use Rattle.ir_paths.specs.ir_model.declared.module.Param.{Param}
+use Rattle.ir_paths.specs.ir_model.declared.operand.Allocator.{Allocator}
+use Rattle.ir_paths.specs.ir_model.declared.operand.Arg.{Arg}
+use Rattle.ir_paths.specs.ir_model.declared.operand.Callee.{Callee}
+use Rattle.ir_paths.specs.ir_model.declared.operand.Intrinsic.{Intrinsic}
+use Rattle.ir_paths.specs.ir_model.declared.operand.Operand.{Operand}
 use Rattle.run_step.specs.Values.{Env, access_of, address, arg_value, arg_values, distance, element, indices_of, literal, nth, number_at, number_of_width, operand_value, pointer_to, stored, truth_value, value_in, value_of, with_result, with_value}
 use Rattle.run_step.specs.declared.world.Slot.{Slot}
 use Rattle.run_step.specs.declared.world.World.{World}

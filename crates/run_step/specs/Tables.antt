@@ -1,9 +1,9 @@
 -- What the tables of a program say.
 use Rattle.std.specs.Prelude.{ℕ, Bool, true, false, List, slice_get, Some, None, Option, option_map, ◌||◌, ◌≡◌}
-use Rattle.ir_base.specs.declared.name.Name.{Name}
+use Rattle.ir_paths.specs.ir_base.declared.name.Name.{Name}
 use Rattle.indexmap.specs.IndexMap.{IndexMap, get}
-use Rattle.ir_model.specs.Names.{first_where, position_of, same_name}
-use Rattle.ir_model.specs.declared.module.Function.{Function}
+use Rattle.ir_paths.specs.ir_model.Names.{first_where, position_of, same_name}
+use Rattle.ir_paths.specs.ir_model.declared.module.Function.{Function}
 use Rattle.run_step.specs.Step.{has_markers}
 use Rattle.run_step.specs.declared.function_table.FunctionTable.{FunctionTable}
 

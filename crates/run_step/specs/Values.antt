@@ -7,16 +7,16 @@ use Rattle.run_memory.specs.declared.pointer.Access.{Access}
 use Rattle.run_memory.specs.declared.pointer.Offset.{Offset}
 use Rattle.run_memory.specs.declared.pointer.Pointer.{Pointer}
 use Rattle.run_memory.specs.declared.pointer.Value.{Value}
-use Rattle.ir_base.specs.declared.name.Name.{Name}
-use Rattle.ir_base.specs.declared.outcome.Word.{Word}
-use Rattle.run_ints.specs.Numbers.{bits_of, signed_of, truth, word_of}
-use Rattle.run_ints.specs.declared.num.Num.{Num}
-use Rattle.ir_model.specs.Layout.{field_offset, field_type, size_of, unnamed}
-use Rattle.ir_model.specs.Names.{declaration_named, function_named, global_named}
-use Rattle.ir_model.specs.Ty.{Ty, array, int, structure}
-use Rattle.ir_model.specs.declared.module.Module.{Module}
-use Rattle.ir_model.specs.declared.operand.Arg.{Arg}
-use Rattle.ir_model.specs.declared.operand.Operand.{Operand}
+use Rattle.ir_paths.specs.ir_base.declared.name.Name.{Name}
+use Rattle.ir_paths.specs.ir_base.declared.outcome.Word.{Word}
+use Rattle.run_memory.specs.run_ints.Numbers.{bits_of, signed_of, truth, word_of}
+use Rattle.run_memory.specs.run_ints.declared.num.Num.{Num}
+use Rattle.ir_paths.specs.ir_model.Layout.{field_offset, field_type, size_of, unnamed}
+use Rattle.ir_paths.specs.ir_model.Names.{declaration_named, function_named, global_named}
+use Rattle.ir_paths.specs.ir_model.Ty.{Ty, array, int, structure}
+use Rattle.ir_paths.specs.ir_model.declared.module.Module.{Module}
+use Rattle.ir_paths.specs.ir_model.declared.operand.Arg.{Arg}
+use Rattle.ir_paths.specs.ir_model.declared.operand.Operand.{Operand}
 
 -- the values of an activation, by the names of its function: none where a name has no value yet
 abbrev pub Env : Type 0

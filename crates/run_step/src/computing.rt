@@ -1,17 +1,17 @@
 //! Operations on values.
 
 ghost use Rattle.std.specs.Prelude.{◌≡◌};
-ghost use Rattle.run_ints.specs.Numbers.{binary as binary_of, icmp as icmp_of};
-ghost use Rattle.ir_model.specs.TypeView.{bits_of};
+ghost use Rattle.run_memory.specs.run_ints.Numbers.{binary as binary_of, icmp as icmp_of};
+ghost use Rattle.ir_paths.specs.ir_model.TypeView.{bits_of};
 ghost use Rattle.run_step.specs.Values.{number_at as number_at_type, number_of_width};
 ghost use Rattle.run_step.specs.Step.{cast_to, chosen, by_pred};
 
 use crate::operand::{from_number, number_at, to_number};
 use crate::width::bits;
-use ir_base::{BinOp, CastOp, Cause, Flags, Pred};
-use ir_model::{IntWidth, IrType, Node};
-use run_ints::{Num, binary, cast, icmp};
+use ir_paths::ir_base_library::{BinOp, CastOp, Cause, Flags, Pred};
+use ir_paths::ir_model_library::{IntWidth, IrType, Node};
 use run_memory::Value;
+use run_memory::run_ints_library::{Num, binary, cast, icmp};
 
 fn compute_at(
     width: IntWidth,

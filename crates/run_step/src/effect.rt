@@ -1,8 +1,8 @@
 //! What comes of an instruction.
 
 use crate::world::Slot;
-use ir_base::{Cause, FuncId, Items, ValueId};
-use ir_model::Intrinsic;
+use ir_paths::ir_base_library::{Cause, FuncId, Items, ValueId};
+use ir_paths::ir_model_library::Intrinsic;
 use run_memory::Value;
 
 /// What comes of an instruction. Only `Done` and `NewSlot` have changed the world and the activation's values.

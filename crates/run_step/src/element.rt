@@ -1,15 +1,15 @@
 //! getelementptr.
 
 ghost use Rattle.std.specs.Prelude.{◌≡◌, slice_get};
-ghost use Rattle.ir_model.specs.Layout.{unnamed as unnamed_of};
-ghost use Rattle.run_ints.specs.Words.{IsNum};
+ghost use Rattle.ir_paths.specs.ir_model.Layout.{unnamed as unnamed_of};
+ghost use Rattle.run_memory.specs.run_ints.Words.{IsNum};
 ghost use Rattle.run_step.specs.Values.{index_of as index_of_number, number_at as number_at_type, plus as plus_of, times as times_of, is_in_bounds, element as element_of, arg_value, part_at as part_at_index, inner_distance as inner_distance_of, distance as distance_of, indices_of};
 
 use crate::operand::{Values, number_at};
 use crate::program::Program;
-use ir_base::CastOp;
-use ir_model::{Arg, IrType, Node};
-use run_ints::{Num, cast};
+use ir_paths::ir_base_library::CastOp;
+use ir_paths::ir_model_library::{Arg, IrType, Node};
+use run_memory::run_ints_library::{Num, cast};
 use run_memory::{Memory, Offset, Pointer, Value};
 
 /// An index with its sign, none where it is poison.

@@ -1,14 +1,14 @@
 //! The sizes of types, and where their parts lie.
 
 ghost use Rattle.std.specs.Prelude.{◌≡◌, ◌≤◌, ℕ, option_map};
-ghost use Rattle.ir_model.specs.Layout.{Extent as LayoutExtent, extent_of, extent_in, extent_at, extent_or, rounded_up, with_field, padded, array_extent, plain_extent, fields_extent, size_of as size_of_type, field_offset as offset_of_field};
-ghost use Rattle.ir_model.specs.Ty.{to_tys};
+ghost use Rattle.ir_paths.specs.ir_model.Layout.{Extent as LayoutExtent, extent_of, extent_in, extent_at, extent_or, rounded_up, with_field, padded, array_extent, plain_extent, fields_extent, size_of as size_of_type, field_offset as offset_of_field};
+ghost use Rattle.ir_paths.specs.ir_model.Ty.{to_tys};
 ghost use Rattle.run_step.specs.Values.{capped};
 ghost use Rattle.run_step.specs.Effects.{capped_extent};
 
 use crate::program::Program;
 use crate::width::bits;
-use ir_model::{IrType, Node};
+use ir_paths::ir_model_library::{IrType, Node};
 
 /// A size, 2^64 - 1 where it is more, and an alignment, in bytes.
 #[derive(Clone, Copy, Debug, Drop)]

@@ -5,8 +5,8 @@ ghost use Rattle.run_step.specs.Tables.{HaveTables, IsTableOf};
 
 use crate::labels::positions_of;
 use crate::markers::markers_of;
-use ir_base::{BlockId, Items};
-use ir_model::Function;
+use ir_paths::ir_base_library::{BlockId, Items};
+use ir_paths::ir_model_library::Function;
 use std::alloc::{AllocError, Global};
 
 /// For each name of a function the position of the block with that label, and whether the name is that of an alloca with

@@ -2,12 +2,12 @@
 
 ghost use Rattle.std.specs.Prelude.{◌≡◌, IfOk, replicate, false};
 ghost use Rattle.std.specs.List.{list_any};
-ghost use Rattle.ir_model.specs.Names.{is_local as is_local_of};
+ghost use Rattle.ir_paths.specs.ir_model.Names.{is_local as is_local_of};
 ghost use Rattle.run_step.specs.Step.{is_lifetime as is_lifetime_callee, is_marker_of as is_marker_of_name, has_markers as has_markers_of};
 ghost use Rattle.run_step.specs.Tables.{HasMarks, IsMarked};
 
-use ir_base::{Items, ValueId};
-use ir_model::{Arg, Block, Callee, Function, Instr, Intrinsic, Operand};
+use ir_paths::ir_base_library::{Items, ValueId};
+use ir_paths::ir_model_library::{Arg, Block, Callee, Function, Instr, Intrinsic, Operand};
 use std::alloc::{AllocError, Global};
 
 fn is_lifetime(callee: &Callee) -> bool

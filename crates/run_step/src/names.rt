@@ -1,14 +1,14 @@
 //! Tables of names.
 
 ghost use Rattle.std.specs.Prelude.{◌≡◌, IfOk, OnOk};
-ghost use Rattle.ir_base.specs.declared.name.Name.{Name as TheName};
+ghost use Rattle.ir_paths.specs.ir_base.declared.name.Name.{Name as TheName};
 ghost use Rattle.run_step.specs.Tables.{FindsFirst, or_at};
-ghost use Rattle.ir_model.specs.Names.{same_name};
+ghost use Rattle.ir_paths.specs.ir_model.Names.{same_name};
 ghost use Rattle.indexmap.specs.IndexMap.{get};
 
 use indexmap::IndexMap;
-use ir_base::{Data, Name};
-use ir_model::{Declaration, Function, GlobalItem, TypeItem};
+use ir_paths::ir_base_library::{Data, Name};
+use ir_paths::ir_model_library::{Declaration, Function, GlobalItem, TypeItem};
 use std::alloc::{AllocError, Global};
 
 /// A position for each name.

@@ -2,16 +2,16 @@
 
 ghost use Rattle.std.specs.Prelude.{◌≡◌, ◌≤◌, IfOk, []};
 ghost use Rattle.run_step.specs.Values.{literal as literal_of, value_in, value_of as value_of_number, number_of_width, number_at as number_at_type, address as address_in, stored, access_of as access_of_type, truth_value, pointer_to as pointer_to_block, operand_value, arg_value, arg_values, nth};
-ghost use Rattle.ir_model.specs.TypeView.{bits_of};
-ghost use Rattle.run_ints.specs.Words.{IsNum, IsNumOf};
-ghost use Rattle.ir_model.specs.Ty.{int, ptr};
+ghost use Rattle.ir_paths.specs.ir_model.TypeView.{bits_of};
+ghost use Rattle.run_memory.specs.run_ints.Words.{IsNum, IsNumOf};
+ghost use Rattle.ir_paths.specs.ir_model.Ty.{int, ptr};
 ghost use Rattle.run_memory.specs.Memory.{access_bytes};
 
 use crate::program::Program;
 use crate::width::{bits, cut, greatest};
-use ir_base::{Items, ValueId, Word};
-use ir_model::{Arg, GlobalItem, IntWidth, IrType, Node, Operand};
-use run_ints::Num;
+use ir_paths::ir_base_library::{Items, ValueId, Word};
+use ir_paths::ir_model_library::{Arg, GlobalItem, IntWidth, IrType, Node, Operand};
+use run_memory::run_ints_library::Num;
 use run_memory::{Access, BlockId, Offset, Pointer, Value};
 use std::alloc::{AllocError, Global};
 

@@ -1,15 +1,15 @@
 //! A module as a machine runs it.
 
 ghost use Rattle.std.specs.Prelude.{◌≡◌, IfOk, Some, None, Option, slice_get, ℕ, List, ◌+◌, ◌<◌, length};
-ghost use Rattle.ir_model.specs.Ty.{ptr};
+ghost use Rattle.ir_paths.specs.ir_model.Ty.{ptr};
 ghost use Rattle.run_step.specs.Tables.{FindsFirst, HaveTables};
 
 use crate::function_table::{FunctionTable, all_tables};
 use crate::labels::{position, search};
 use crate::markers::has_markers;
 use crate::names::{NameTable, find, table_of};
-use ir_base::{BlockId, FuncId, Items, Name, ValueId};
-use ir_model::{Function, IrType, Module};
+use ir_paths::ir_base_library::{BlockId, FuncId, Items, Name, ValueId};
+use ir_paths::ir_model_library::{Function, IrType, Module};
 use run_memory::{Offset, Pointer, Value};
 use std::alloc::{AllocError, Global};
 
@@ -33,8 +33,8 @@ pub struct Program {
 }
 
 impl Program {
-    ghost use Rattle.ir_model.specs.Names.{function_named, declaration_named, global_named, position_of, function_at};
-    ghost use Rattle.ir_model.specs.Layout.{type_named};
+    ghost use Rattle.ir_paths.specs.ir_model.Names.{function_named, declaration_named, global_named, position_of, function_at};
+    ghost use Rattle.ir_paths.specs.ir_model.Layout.{type_named};
     ghost use Rattle.std.specs.Option.{option_copied};
     ghost use Rattle.run_step.specs.Values.{address_of};
     ghost use Rattle.run_step.specs.Step.{answer, has_markers as has_markers_of};

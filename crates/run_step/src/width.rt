@@ -1,10 +1,10 @@
 //! Widths of integers, and whole numbers cut to them.
 
 ghost use Rattle.std.specs.Prelude.{◌≡◌, ◌+◌, ◌%◌, ◌^◌, ◌≤◌, ◌<◌, ℕ};
-ghost use Rattle.run_ints.specs.Numbers.{bits_of as bits_in};
-ghost use Rattle.ir_model.specs.TypeView.{bits_of};
+ghost use Rattle.run_memory.specs.run_ints.Numbers.{bits_of as bits_in};
+ghost use Rattle.ir_paths.specs.ir_model.TypeView.{bits_of};
 
-use ir_model::IntWidth;
+use ir_paths::ir_model_library::IntWidth;
 
 /// How many bits the width has.
 pub fn bits(width: IntWidth) -> u32

@@ -1,6 +1,6 @@
 //! What all activations of a run share.
 
-use ir_base::{Event, Items, ValueId};
+use ir_paths::ir_base_library::{Event, Items, ValueId};
 use run_memory::{BlockId, Memory};
 
 /// What all activations share: the memory, the events so far, and how many answers and how many calls of `malloc` and

@@ -1,5 +1,5 @@
 use Rattle.std.proofs.Common.{◌∙◌, subst}
-use Rattle.flow_solver.specs.Paths.{IsListed}
+use Rattle.flow_bits.specs.flow_solver.Paths.{IsListed}
 use Rattle.flow_blocks.proofs.Bounds.{successors_bounded}
 use Rattle.flow_blocks.proofs.reaching.after_end.Goals as goal
 

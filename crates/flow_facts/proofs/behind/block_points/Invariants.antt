@@ -1,5 +1,5 @@
 use Rattle.std.proofs.Common.{◌≡◌, ◌++◌, ◌-◌}
-use Rattle.ir_paths.specs.Paths.{block_points}
+use Rattle.flow_points.specs.ir_paths.Paths.{block_points}
 use Rattle.flow_facts.proofs.behind.block_points.Given as goal
 
 abbrev pub invariant-loop-back : goal.invariant-loop-back

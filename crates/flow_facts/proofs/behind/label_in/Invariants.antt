@@ -1,5 +1,5 @@
 use Rattle.std.proofs.Common.{◌≡◌, drop}
-use Rattle.ir_paths.specs.Windows.{label_in}
+use Rattle.flow_points.specs.ir_paths.Windows.{label_in}
 use Rattle.flow_facts.proofs.behind.label_in.Given as goal
 
 abbrev pub invariant-loop-case : goal.invariant-loop-case

@@ -1,6 +1,6 @@
 use Rattle.std.proofs.Common.{List, ◌++◌, ap, flat_map, subst, sym, true, ◌∙◌}
-use Rattle.ir_paths.specs.Slots.{end_points}
-use Rattle.ir_paths.specs.declared.point.Point.{Point}
+use Rattle.flow_points.specs.ir_paths.Slots.{end_points}
+use Rattle.flow_points.specs.ir_paths.declared.point.Point.{Point}
 use Rattle.flow_facts.proofs.Reaching.{are-behind, are-first}
 use Rattle.flow_facts.specs.Slots.{AreFirst, outside_if, firsts_from}
 use Rattle.flow_points.specs.Reached.{AreReached}

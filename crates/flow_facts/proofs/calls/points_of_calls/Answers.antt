@@ -1,7 +1,7 @@
 use Rattle.std.proofs.Common.{ap, sym, ◌∙◌, List, ◌++◌}
 use Rattle.ir_model.specs.declared.instr.Instr.{Instr}
 use Rattle.ir_model.specs.declared.module.Block.{Block}
-use Rattle.ir_paths.specs.Windows.{is_call_of, points_from}
+use Rattle.flow_points.specs.ir_paths.Windows.{is_call_of, points_from}
 use Rattle.flow_facts.proofs.Points.{pushed-block}
 use Rattle.flow_facts.proofs.calls.points_of_calls.Goals as goal
 

@@ -1,5 +1,5 @@
 use Rattle.std.proofs.Common.{◌∙◌, sym}
-use Rattle.ir_paths.specs.Windows.{is_call_of}
+use Rattle.flow_points.specs.ir_paths.Windows.{is_call_of}
 use Rattle.flow_facts.proofs.Points.{pushed-none, pushed-one}
 use Rattle.flow_facts.proofs.calls.push_calls.Goals as goal
 use Rattle.flow_facts.proofs.calls.push_calls.Goals.{else-is_call_of, then-is_call_of+in_ok-push}

@@ -1,5 +1,5 @@
 use Rattle.std.proofs.Common.{◌≡◌, ◌++◌, take}
-use Rattle.ir_paths.specs.Windows.{is_call_of, points_from}
+use Rattle.flow_points.specs.ir_paths.Windows.{is_call_of, points_from}
 use Rattle.flow_facts.proofs.calls.push_calls.Given as goal
 
 abbrev pub invariant-loop-at : goal.invariant-loop-at

@@ -1,4 +1,4 @@
-use Rattle.ir_paths.specs.Slots.{exposes}
+use Rattle.flow_points.specs.ir_paths.Slots.{exposes}
 use Rattle.flow_facts.proofs.Adding.{more-step}
 use Rattle.flow_facts.proofs.names.push_instrs.Goals as goal
 

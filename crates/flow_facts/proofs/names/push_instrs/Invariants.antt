@@ -1,6 +1,6 @@
 use Rattle.std.proofs.Common.{take}
 use Rattle.std.specs.List.{list_any}
-use Rattle.ir_paths.specs.Slots.{exposes}
+use Rattle.flow_points.specs.ir_paths.Slots.{exposes}
 use Rattle.flow_facts.specs.Slots.{HasMore}
 use Rattle.flow_facts.proofs.names.push_instrs.Given as goal
 

@@ -1,7 +1,7 @@
 use Rattle.std.proofs.Common.{◌≡◌, ℕ, take, Some}
 use Rattle.std.specs.Prelude.{◌==◌}
 use Rattle.std.specs.HashMap.{get}
-use Rattle.ir_paths.specs.Windows.{is_suspend_of, points_from}
+use Rattle.flow_points.specs.ir_paths.Windows.{is_suspend_of, points_from}
 use Rattle.flow_facts.specs.Tokens.{or_head}
 use Rattle.flow_facts.proofs.tokens.note_all.Given as goal
 

@@ -3,7 +3,7 @@ use Rattle.std.specs.Prelude.{slice_get, ◌==◌}
 use Rattle.std.specs.HashMap.{get}
 use Rattle.ir_model.specs.declared.instr.Instr.{Instr}
 use Rattle.ir_model.specs.declared.module.Block.{Block}
-use Rattle.ir_paths.specs.Windows.{is_suspend_of, points_from, points_in}
+use Rattle.flow_points.specs.ir_paths.Windows.{is_suspend_of, points_from, points_in}
 use Rattle.flow_facts.specs.Tokens.{or_head}
 use Rattle.flow_facts.proofs.Heads.{head-block}
 use Rattle.flow_facts.proofs.Points.{take-all}

@@ -1,7 +1,7 @@
 use Rattle.std.proofs.Common.{◌≡◌, ℕ, take, Some}
 use Rattle.std.specs.Prelude.{slice_get, ◌==◌}
 use Rattle.std.specs.HashMap.{get}
-use Rattle.ir_paths.specs.Windows.{is_suspend_of, points_in}
+use Rattle.flow_points.specs.ir_paths.Windows.{is_suspend_of, points_in}
 use Rattle.flow_facts.proofs.tokens.tokens_of.Given as goal
 
 abbrev pub invariant-loop-block : goal.invariant-loop-block

@@ -2,7 +2,7 @@ use Rattle.std.proofs.Common.{ap, arith, get_or, subst, sym, ◌∙◌}
 use Rattle.std.specs.Prelude.{All}
 use Rattle.std.specs.List.{filter_map}
 use Rattle.std.proofs.lemmas.List.Elements.{All-push}
-use Rattle.ir_paths.specs.Facts.{IsWindow}
+use Rattle.flow_points.specs.ir_paths.Facts.{IsWindow}
 use Rattle.flow_points.specs.Reached.{IsGraphOf}
 use Rattle.flow_facts.proofs.Points.{no_point, read-again, take-all}
 use Rattle.flow_facts.proofs.Saves.{pairs_of, saves-none, saves-one, with_suspend}

@@ -1,7 +1,7 @@
 use Rattle.std.proofs.Common.{◌≡◌, map, take}
 use Rattle.std.specs.Prelude.{All}
 use Rattle.std.specs.List.{filter_map}
-use Rattle.ir_paths.specs.Facts.{IsWindow}
+use Rattle.flow_points.specs.ir_paths.Facts.{IsWindow}
 use Rattle.flow_points.specs.Reached.{IsGraphOf}
 use Rattle.flow_facts.proofs.Saves.{with_suspend}
 use Rattle.flow_facts.proofs.windows.windows_of.Given as goal

@@ -1,6 +1,6 @@
 use Rattle.std.proofs.Common.{◌++◌, ◌∷◌, ◌∙◌, List, [], ap, arith, length, replicate, subst, sym, ℕ}
 use Rattle.std.specs.Prelude.{slice_get}
-use Rattle.ir_model.specs.declared.module.Block.{Block}
+use Rattle.ir_paths.specs.ir_model.declared.module.Block.{Block}
 use Rattle.ir_paths.specs.declared.point.Point.{Point}
 use Rattle.flow_points.specs.Edges.{AreIncoming}
 use Rattle.flow_points.proofs.Filing.{entries-of-row, filed-last, filed-next, filed-start}

@@ -1,5 +1,5 @@
 use Rattle.std.proofs.Common.{◌∙◌, List, ap, filter, length}
-use Rattle.flow_blocks.proofs.Making.{of_ok}
+use Rattle.rule_uses.proofs.flow_blocks.Making.{of_ok}
 use Rattle.ir_model.specs.declared.module.Block.{Block}
 use Rattle.frame_crossing.proofs.FarValues.{far_once}
 use Rattle.frame_crossing.specs.Words.{is_far}

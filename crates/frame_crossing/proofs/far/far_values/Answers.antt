@@ -1,4 +1,4 @@
-use Rattle.flow_blocks.proofs.Making.{of_ok}
+use Rattle.rule_uses.proofs.flow_blocks.Making.{of_ok}
 use Rattle.frame_crossing.proofs.OneWalking.{table_far}
 use Rattle.frame_crossing.proofs.far.far_values.Goals as goal
 

@@ -1,5 +1,5 @@
 use Rattle.std.proofs.Common.{◌∙◌, ap, ◌++◌, List, ℕ}
-use Rattle.flow_blocks.proofs.Making.{graph_has_nodes}
+use Rattle.rule_uses.proofs.flow_blocks.Making.{graph_has_nodes}
 use Rattle.frame_crossing.specs.Words.{made_starts}
 use Rattle.frame_crossing.proofs.ChunkWords.{made_within}
 use Rattle.frame_crossing.proofs.needed.seen_words.Goals as goal

@@ -1,6 +1,6 @@
 use Rattle.std.proofs.Common.{◌∙◌, List, ℕ, ap, length, refl}
 use Rattle.std.specs.Prelude.{slice_set}
-use Rattle.flow_blocks.proofs.Making.{of_ok}
+use Rattle.rule_uses.proofs.flow_blocks.Making.{of_ok}
 use Rattle.frame_crossing.proofs.ChunkWords.{chunk_told}
 use Rattle.frame_crossing.proofs.pairs.chunk_words.Goals as goal
 

@@ -1,6 +1,6 @@
 use Rattle.std.proofs.Common.{arith, subst}
-use Rattle.flow_facts.proofs.Above.{AreBelow}
-use Rattle.flow_facts.proofs.Points.{take-all}
+use Rattle.rule_slots.proofs.flow_facts.Above.{AreBelow}
+use Rattle.rule_slots.proofs.flow_facts.Points.{take-all}
 use Rattle.frame_slots.proofs.addresses.above_names.Goals as goal
 
 pub returns : goal.returns

@@ -1,4 +1,4 @@
-use Rattle.flow_facts.proofs.Above.{AreBelow}
+use Rattle.rule_slots.proofs.flow_facts.Above.{AreBelow}
 use Rattle.std.proofs.Common.{take}
 use Rattle.frame_slots.proofs.addresses.above_names.Given as goal
 

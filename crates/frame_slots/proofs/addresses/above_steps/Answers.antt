@@ -1,7 +1,7 @@
 use Rattle.std.proofs.Common.{arith, get_or, subst}
 use Rattle.flow_solver.specs.Paths.{HasNodes}
-use Rattle.flow_facts.proofs.Above.{nodes-more}
-use Rattle.flow_facts.proofs.Points.{read-again, take-all}
+use Rattle.rule_slots.proofs.flow_facts.Above.{nodes-more}
+use Rattle.rule_slots.proofs.flow_facts.Points.{read-again, take-all}
 use Rattle.frame_slots.proofs.addresses.above_steps.Goals as goal
 
 pub loop-from-preserved : goal.loop-from-preserved

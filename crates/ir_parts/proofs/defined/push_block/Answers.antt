@@ -1,5 +1,5 @@
 use Rattle.std.proofs.Common.{◌∙◌, ap, true}
-use Rattle.ir_base.specs.declared.outcome.Place.{Place}
+use Rattle.ir_model.specs.ir_base.declared.outcome.Place.{Place}
 use Rattle.ir_parts.specs.Locals.{local_at}
 use Rattle.ir_parts.proofs.LocalsIn.{block_pushed}
 use Rattle.ir_parts.proofs.defined.push_block.Goals as goal

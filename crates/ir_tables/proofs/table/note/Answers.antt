@@ -1,8 +1,8 @@
 use Rattle.std.proofs.Common.{◌∙◌, ap, sym, ℕ, Bool, cond, Option, Some}
-use Rattle.ir_base.specs.declared.name.Name.{Name}
+use Rattle.ir_model.specs.ir_base.declared.name.Name.{Name}
 use Rattle.indexmap.specs.IndexMap.{get}
 use Rattle.std.specs.Map.{lookup}
-use Rattle.ir_base.specs.contracts.name.NamePartialEq.TheImpl.{eq-value}
+use Rattle.ir_model.specs.ir_base.contracts.name.NamePartialEq.TheImpl.{eq-value}
 use Rattle.ir_model.specs.Names.{same_name}
 use Rattle.ir_tables.proofs.Tables.{new-position, old-position, lookup-is, eq-is}
 use Rattle.ir_tables.proofs.table.note.Goals as goal

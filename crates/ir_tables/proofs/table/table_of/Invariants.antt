@@ -1,5 +1,5 @@
 use Rattle.std.proofs.Common.{◌≡◌, take}
-use Rattle.ir_base.specs.declared.name.Name.{Name}
+use Rattle.ir_model.specs.ir_base.declared.name.Name.{Name}
 use Rattle.indexmap.specs.IndexMap.{get}
 use Rattle.ir_model.specs.Names.{first_where, same_name}
 use Rattle.ir_tables.proofs.table.table_of.Given as goal

@@ -1,7 +1,7 @@
 use Rattle.pass_elide_proof.specs.Elision.{elided}
 use Rattle.pass_elide_runs.proofs.Shaped.{shaped_runs, shaped_step, shapes_of}
 use Rattle.pass_elide_runs.proofs.shapes.given_frames_are_of_shapes.Goals as goal
-use Rattle.pass_proofs.specs.run_framed.Framed.{framed_state_at}
+use Rattle.pass_elide_proof.specs.pass_proofs.run_framed.Framed.{framed_state_at}
 
 pub returns-clause-step : goal.returns-clause-step
 returns-clause-step c e t keeps h = shaped_step e keeps t h

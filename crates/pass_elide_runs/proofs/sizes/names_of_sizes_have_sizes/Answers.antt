@@ -1,7 +1,7 @@
 use Rattle.pass_elide_proof.specs.Elision.{framed}
 use Rattle.pass_elide_runs.proofs.SizeNames.{size_in, sizes_in_runs}
 use Rattle.pass_elide_runs.proofs.sizes.names_of_sizes_have_sizes.Goals as goal
-use Rattle.pass_proofs.specs.run_framed.Framed.{framed_state_at}
+use Rattle.pass_elide_proof.specs.pass_proofs.run_framed.Framed.{framed_state_at}
 
 pub returns : goal.returns
 returns c e entry args n begins small fine =

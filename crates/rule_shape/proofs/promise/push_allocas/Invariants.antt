@@ -1,5 +1,5 @@
 use Rattle.std.proofs.Common.{◌≡◌, ◌++◌, drop}
-use Rattle.ir_paths.specs.Slots.{allocas_in}
+use Rattle.rule_windows.specs.ir_paths.Slots.{allocas_in}
 use Rattle.rule_shape.proofs.promise.push_allocas.Given as goal
 
 abbrev pub invariant-loop-instr : goal.invariant-loop-instr

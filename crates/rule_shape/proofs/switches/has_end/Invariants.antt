@@ -1,7 +1,7 @@
 use Rattle.std.proofs.Common.{◌≡◌, drop}
 use Rattle.std.specs.List.{list_any}
 use Rattle.ir_model.specs.declared.operand.Intrinsic.{Intrinsic}
-use Rattle.ir_paths.specs.Windows.{is_call_of}
+use Rattle.rule_windows.specs.ir_paths.Windows.{is_call_of}
 use Rattle.rule_shape.proofs.switches.has_end.Given as goal
 
 abbrev pub invariant-loop-instr : goal.invariant-loop-instr

@@ -1,6 +1,6 @@
 use Rattle.std.proofs.Common.{ℕ, List, sym, subst, ◌∙◌}
 use Rattle.flow_bits.specs.Reaching.{StartAt}
-use Rattle.flow_blocks.proofs.Making.{graph_has_nodes}
+use Rattle.rule_uses.proofs.flow_blocks.Making.{graph_has_nodes}
 use Rattle.flow_solver.specs.declared.graph.Graph.{Graph}
 use Rattle.rule_window_values.proofs.Reaching.{starts_within}
 use Rattle.rule_window_values.specs.Words.{starts_of}

@@ -1,5 +1,5 @@
 use Rattle.std.proofs.Common.{◌≡◌, ℕ, drop}
-use Rattle.flow_blocks.specs.Words.{word_at}
+use Rattle.rule_uses.specs.flow_blocks.Words.{word_at}
 use Rattle.rule_window_values.specs.Words.{own_word}
 use Rattle.rule_window_values.proofs.words.own_words.Given as goal
 

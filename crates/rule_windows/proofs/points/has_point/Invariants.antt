@@ -1,5 +1,5 @@
 use Rattle.std.proofs.Common.{◌≡◌, drop}
-use Rattle.ir_paths.specs.Paths.{has_point}
+use Rattle.flow_points.specs.ir_paths.Paths.{has_point}
 use Rattle.rule_windows.proofs.points.has_point.Given as goal
 
 abbrev pub invariant-loop-one : goal.invariant-loop-one

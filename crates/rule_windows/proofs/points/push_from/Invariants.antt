@@ -1,5 +1,5 @@
 use Rattle.std.proofs.Common.{◌≡◌, ◌++◌, drop}
-use Rattle.ir_paths.specs.Windows.{points_from}
+use Rattle.flow_points.specs.ir_paths.Windows.{points_from}
 use Rattle.rule_windows.proofs.points.push_from.Given as goal
 
 abbrev pub invariant-loop-instr : goal.invariant-loop-instr

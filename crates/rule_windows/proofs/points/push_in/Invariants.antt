@@ -1,5 +1,5 @@
 use Rattle.std.proofs.Common.{◌≡◌, ◌++◌, drop}
-use Rattle.ir_paths.specs.Windows.{points_in}
+use Rattle.flow_points.specs.ir_paths.Windows.{points_in}
 use Rattle.rule_windows.proofs.points.push_in.Given as goal
 
 abbrev pub invariant-loop-block : goal.invariant-loop-block

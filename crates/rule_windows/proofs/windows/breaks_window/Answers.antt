@@ -1,6 +1,6 @@
 use Rattle.std.proofs.Common.{subst}
 use Rattle.std.specs.Prelude.{Option}
-use Rattle.ir_paths.specs.declared.point.Point.{Point}
+use Rattle.flow_points.specs.ir_paths.declared.point.Point.{Point}
 use Rattle.rule_windows.proofs.Between.{breaks_some}
 use Rattle.rule_windows.specs.Windows.{IsOnly, suspends_of}
 use Rattle.rule_windows.proofs.windows.breaks_window.Goals as goal

@@ -1,6 +1,6 @@
 use Rattle.std.proofs.Common.{List, [], ◌∷◌, ap, refl, ◌∙◌}
-use Rattle.ir_paths.specs.Paths.{has_point}
-use Rattle.ir_paths.specs.declared.point.Point.{Point}
+use Rattle.flow_points.specs.ir_paths.Paths.{has_point}
+use Rattle.flow_points.specs.ir_paths.declared.point.Point.{Point}
 use Rattle.rule_windows.proofs.Between.{has_call_is}
 use Rattle.rule_windows.proofs.windows.has_call.Goals as goal
 

@@ -1,6 +1,6 @@
 use Rattle.std.proofs.Common.{List, [], ◌∷◌, ap, refl, ◌∙◌}
 use Rattle.std.specs.List.{list_any}
-use Rattle.ir_paths.specs.declared.point.Point.{Point}
+use Rattle.flow_points.specs.ir_paths.declared.point.Point.{Point}
 use Rattle.rule_windows.proofs.Between.{has_leaving_edge_is}
 use Rattle.rule_windows.specs.Windows.{is_off}
 use Rattle.rule_windows.proofs.windows.has_leaving_edge.Goals as goal

@@ -1,6 +1,6 @@
 use Rattle.std.proofs.Common.{List, ap, sym, ◌∙◌}
-use Rattle.ir_paths.specs.Paths.{has_point}
-use Rattle.ir_paths.specs.declared.point.Point.{Point}
+use Rattle.flow_points.specs.ir_paths.Paths.{has_point}
+use Rattle.flow_points.specs.ir_paths.declared.point.Point.{Point}
 use Rattle.rule_windows.proofs.Between.{not_wrong, wrong_back, wrong_leaving}
 use Rattle.rule_windows.specs.Windows.{has_way_back}
 use Rattle.rule_windows.proofs.windows.is_wrong.Goals as goal

@@ -3,7 +3,7 @@ use Rattle.std.specs.Prelude.{IfErr, Result}
 use Rattle.run_memory.specs.declared.pointer.Value.{Value}
 use Rattle.ir_model.specs.declared.operand.Arg.{Arg}
 use Rattle.ir_model.specs.declared.operand.Intrinsic.{Intrinsic}
-use Rattle.run_step.specs.Values.{arg_values, nth}
+use Rattle.run_source_tables.specs.run_step.Values.{arg_values, nth}
 use Rattle.run_source.specs.Source.{Continues, coro, resume}
 use Rattle.run_source.specs.SourceEffects.{given_of, IsStop}
 use Rattle.run_source.specs.declared.effects.Stop.{Stop}

@@ -1,5 +1,5 @@
 use Rattle.std.proofs.Common.{◌≡◌, ◌≤◌, length, reverse, take}
-use Rattle.run_step.specs.Step.{without_slots}
+use Rattle.run_source_tables.specs.run_step.Step.{without_slots}
 use Rattle.run_source.proofs.ending.kill_all.Given as goal
 
 abbrev pub invariant-loop-left : goal.invariant-loop-left

@@ -3,7 +3,7 @@ use Rattle.std.specs.Prelude.{filter, not}
 use Rattle.run_source.specs.Source.{is_among}
 use Rattle.run_source.specs.SourceEffects.{given_of}
 use Rattle.run_source.specs.State.{own_facts}
-use Rattle.run_step.specs.declared.world.Slot.{Slot}
+use Rattle.run_source_tables.specs.run_step.declared.world.Slot.{Slot}
 use Rattle.run_source.proofs.Beginning.{begun-is}
 use Rattle.run_source.proofs.frames.start_at.Goals as goal
 

@@ -1,5 +1,5 @@
 use Rattle.std.proofs.Common.{◌≡◌}
-use Rattle.run_step.specs.Runs.{iterate}
+use Rattle.run_source_tables.specs.run_step.Runs.{iterate}
 use Rattle.run_source.specs.Source.{step}
 use Rattle.run_source.specs.SourceEffects.{given_of}
 use Rattle.run_source.proofs.progress.run_state.Given as goal

@@ -1,6 +1,6 @@
 use Rattle.std.proofs.Common.{◌≡◌, ◌∙◌, ◌+◌, ◌∷◌, ap, refl, List}
 use Rattle.std.specs.Prelude.{slice_get, slice_set}
-use Rattle.run_step.specs.Values.{Env}
+use Rattle.run_source_tables.specs.run_step.Values.{Env}
 use Rattle.run_source.specs.declared.state.Instance.{Instance}
 use Rattle.run_source.specs.declared.state.State.{State}
 use Rattle.run_source.specs.declared.state.Status.{Status}

@@ -1,6 +1,6 @@
 use Rattle.run_memory.specs.Memory.{owner_rights}
 use Rattle.ir_model.specs.declared.instr.Instr.{Instr}
-use Rattle.run_step.specs.Step.{instr_action}
+use Rattle.run_source_tables.specs.run_step.Step.{instr_action}
 use Rattle.run_source.specs.Source.{context_of}
 use Rattle.run_source.specs.State.{work_of}
 use Rattle.run_source.specs.SourceEffects.{given_of}

@@ -1,8 +1,8 @@
 use Rattle.std.proofs.Common.{◌≡◌, ◌∙◌, ap, subst, Option, Some}
 use Rattle.std.specs.Prelude.{IfNone, IfSome, length}
 use Rattle.run_memory.specs.Memory.{owner_rights}
-use Rattle.run_step.specs.Effects.{slot_action, work}
-use Rattle.run_step.specs.declared.world.Slot.{Slot}
+use Rattle.run_source_tables.specs.run_step.Effects.{slot_action, work}
+use Rattle.run_source_tables.specs.run_step.declared.world.Slot.{Slot}
 use Rattle.run_source.specs.Source.{act, continue}
 use Rattle.run_source.specs.SourceEffects.{given_of}
 use Rattle.run_source.proofs.Slots.{all-kept, in-placed, taken-up}

@@ -1,7 +1,7 @@
 use Rattle.std.proofs.Common.{◌≡◌, ◌∙◌, ap, subst, Option, Some}
 use Rattle.std.specs.Prelude.{IfSome, length}
-use Rattle.run_step.specs.Effects.{slot_action, work}
-use Rattle.run_step.specs.declared.world.Slot.{Slot}
+use Rattle.run_source_tables.specs.run_step.Effects.{slot_action, work}
+use Rattle.run_source_tables.specs.run_step.declared.world.Slot.{Slot}
 use Rattle.run_source.specs.SourceEffects.{own_slot}
 use Rattle.run_source.proofs.OwnSlots.{own-put}
 use Rattle.run_source.proofs.stepping.alloca_own.Goals as goal

@@ -1,6 +1,6 @@
 use Rattle.std.proofs.Common.{◌≡◌, refl}
-use Rattle.run_step.specs.Effects.{work}
-use Rattle.run_step.specs.Step.{instr_action}
+use Rattle.run_source_tables.specs.run_step.Effects.{work}
+use Rattle.run_source_tables.specs.run_step.Step.{instr_action}
 use Rattle.run_source.specs.Source.{context_of}
 use Rattle.run_source.specs.State.{function_of, work_of}
 use Rattle.run_source.specs.SourceEffects.{given_of}

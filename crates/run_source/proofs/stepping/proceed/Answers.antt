@@ -1,6 +1,6 @@
 use Rattle.std.proofs.Common.{◌≡◌, ◌∙◌, ap, sym, [], None}
 use Rattle.run_memory.specs.Memory.{owner_rights}
-use Rattle.run_step.specs.Step.{AtTerm, action_of, fetch, term_action}
+use Rattle.run_source_tables.specs.run_step.Step.{AtTerm, action_of, fetch, term_action}
 use Rattle.run_source.specs.Source.{context_of}
 use Rattle.run_source.specs.State.{function_of, work_of}
 use Rattle.run_source.specs.SourceEffects.{given_of}

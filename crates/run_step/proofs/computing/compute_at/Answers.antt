@@ -1,4 +1,4 @@
-use Rattle.ir_model.specs.TypeView.{bits_of}
+use Rattle.ir_paths.specs.ir_model.TypeView.{bits_of}
 use Rattle.run_step.proofs.Numbers.{is_num, one_width}
 use Rattle.run_step.proofs.computing.compute_at.Goals as goal
 

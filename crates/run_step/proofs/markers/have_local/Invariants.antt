@@ -1,6 +1,6 @@
 use Rattle.std.proofs.Common.{◌≡◌, drop}
 use Rattle.std.specs.List.{list_any}
-use Rattle.ir_model.specs.Names.{is_local}
+use Rattle.ir_paths.specs.ir_model.Names.{is_local}
 use Rattle.run_step.proofs.markers.have_local.Given as goal
 
 abbrev pub invariant-loop-arg : goal.invariant-loop-arg

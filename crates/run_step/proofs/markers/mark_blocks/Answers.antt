@@ -1,6 +1,6 @@
 use Rattle.std.proofs.Common.{arith, ℕ}
 use Rattle.std.specs.List.{list_any}
-use Rattle.ir_model.specs.declared.module.Block.{Block}
+use Rattle.ir_paths.specs.ir_model.declared.module.Block.{Block}
 use Rattle.run_step.specs.Step.{is_marker_of}
 use Rattle.run_step.proofs.Marking.{marked-all}
 use Rattle.run_step.proofs.markers.mark_blocks.Goals as goal

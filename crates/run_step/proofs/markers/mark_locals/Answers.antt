@@ -1,6 +1,6 @@
 use Rattle.std.proofs.Common.{arith, ℕ}
-use Rattle.ir_model.specs.Names.{is_local}
-use Rattle.ir_model.specs.declared.operand.Arg.{Arg}
+use Rattle.ir_paths.specs.ir_model.Names.{is_local}
+use Rattle.ir_paths.specs.ir_model.declared.operand.Arg.{Arg}
 use Rattle.run_step.proofs.Marking.{marked-all}
 use Rattle.run_step.proofs.markers.mark_locals.Goals as goal
 

@@ -1,6 +1,6 @@
 use Rattle.std.proofs.Common.{◌≡◌, take}
 use Rattle.std.specs.List.{list_any}
-use Rattle.ir_model.specs.Names.{is_local}
+use Rattle.ir_paths.specs.ir_model.Names.{is_local}
 use Rattle.run_step.specs.Tables.{IsMarked}
 use Rattle.run_step.proofs.markers.mark_locals.Given as goal
 

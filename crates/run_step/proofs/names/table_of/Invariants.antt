@@ -1,7 +1,7 @@
 use Rattle.std.proofs.Common.{◌≡◌, take}
-use Rattle.ir_base.specs.declared.name.Name.{Name}
+use Rattle.ir_paths.specs.ir_base.declared.name.Name.{Name}
 use Rattle.indexmap.specs.IndexMap.{get}
-use Rattle.ir_model.specs.Names.{first_where, same_name}
+use Rattle.ir_paths.specs.ir_model.Names.{first_where, same_name}
 use Rattle.run_step.proofs.names.table_of.Given as goal
 
 abbrev pub invariant-loop-at : goal.invariant-loop-at

@@ -1,5 +1,5 @@
 use Rattle.std.proofs.Common.{◌≡◌, drop}
-use Rattle.ir_parts.specs.Contents.{arg_operands}
+use Rattle.rule_windows.specs.ir_parts.Contents.{arg_operands}
 use Rattle.rule_shape.specs.Uses.{counted_all}
 use Rattle.rule_shape.proofs.uses.Uses.add_args.Given as goal
 

@@ -1,5 +1,5 @@
 use Rattle.std.proofs.Common.{◌≡◌, ◌∙◌, ap}
-use Rattle.run_step.specs.Runs.{iterate}
+use Rattle.run_source_tables.specs.run_step.Runs.{iterate}
 use Rattle.run_source.specs.Machines.{SourceRun}
 use Rattle.run_source.specs.Source.{first_state, state_at, step}
 use Rattle.run_source_tables.specs.Given.{Given}

@@ -1,8 +1,8 @@
 use Rattle.std.proofs.Common.{◌≡◌, ◌<◌, ◌∙◌, ◌∷◌, ap, arith, length, List, Some, None, refl, sym, true, false}
 use Rattle.std.specs.Prelude.{slice_set}
 use Rattle.ir_paths.specs.declared.point.Point.{Point}
-use Rattle.run_step.specs.Values.{Env}
-use Rattle.run_step.specs.declared.world.Slot.{Slot}
+use Rattle.run_source_tables.specs.run_step.Values.{Env}
+use Rattle.run_source_tables.specs.run_step.declared.world.Slot.{Slot}
 use Rattle.run_source.specs.declared.state.Instance.{Instance}
 use Rattle.run_source.specs.declared.state.Status.{Status}
 use Rattle.run_source.proofs.Indexes.{not-there, put-indexed, put-is, same-there}

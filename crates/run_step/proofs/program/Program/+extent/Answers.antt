@@ -1,7 +1,7 @@
 use Rattle.std.proofs.Common.{◌≡◌, ◌∙◌, ap, sym, refl, ◌-◌}
-use Rattle.ir_model.specs.Layout.{extent_at, extent_in, fields_extent, no_fields}
-use Rattle.ir_model.specs.Ty.{structure, named, to_tys}
-use Rattle.ir_model.specs.TypeView.{ty_of}
+use Rattle.ir_paths.specs.ir_model.Layout.{extent_at, extent_in, fields_extent, no_fields}
+use Rattle.ir_paths.specs.ir_model.Ty.{structure, named, to_tys}
+use Rattle.ir_paths.specs.ir_model.TypeView.{ty_of}
 use Rattle.std.specs.Prelude.{option_map}
 use Rattle.run_step.specs.Effects.{capped_extent}
 use Rattle.run_step.proofs.Parts.{rest-is}

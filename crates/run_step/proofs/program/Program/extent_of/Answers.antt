@@ -1,4 +1,4 @@
-use Rattle.ir_model.specs.Layout.{extent_of}
+use Rattle.ir_paths.specs.ir_model.Layout.{extent_of}
 use Rattle.run_step.proofs.Extents.{or-none, or-some}
 use Rattle.run_step.proofs.program.Program.extent_of.Goals as goal
 

@@ -1,6 +1,6 @@
 use Rattle.std.proofs.Common.{refl, arith}
-use Rattle.ir_model.specs.Layout.{extent_of, extent_or, field_offset, no_fields, with_field}
-use Rattle.ir_model.specs.Ty.{to_tys}
+use Rattle.ir_paths.specs.ir_model.Layout.{extent_of, extent_or, field_offset, no_fields, with_field}
+use Rattle.ir_paths.specs.ir_model.Ty.{to_tys}
 use Rattle.run_step.proofs.Extents.{offset-here, offset-next, offset-last}
 use Rattle.run_step.proofs.program.Program.field_offset.Goals as goal
 

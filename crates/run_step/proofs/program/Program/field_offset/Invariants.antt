@@ -1,7 +1,7 @@
 use Rattle.std.proofs.Common.{◌≡◌, drop}
-use Rattle.ir_model.specs.Layout.{Extent, field_offset}
-use Rattle.ir_model.specs.Layout.{field_offset_from}
-use Rattle.ir_model.specs.Ty.{to_tys}
+use Rattle.ir_paths.specs.ir_model.Layout.{Extent, field_offset}
+use Rattle.ir_paths.specs.ir_model.Layout.{field_offset_from}
+use Rattle.ir_paths.specs.ir_model.Ty.{to_tys}
 use Rattle.run_step.specs.Effects.{capped_extent}
 use Rattle.run_step.proofs.program.Program.field_offset.Given as goal
 

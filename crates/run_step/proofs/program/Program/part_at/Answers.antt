@@ -1,7 +1,7 @@
 use Rattle.std.proofs.Common.{◌≡◌, ◌∙◌, ap, sym, Some}
 use Rattle.std.proofs.lemmas.Option.{slice_get-get_or, slice_get_past}
-use Rattle.ir_model.specs.Ty.{array, structure, to_tys}
-use Rattle.ir_model.specs.TypeView.{ty_of}
+use Rattle.ir_paths.specs.ir_model.Ty.{array, structure, to_tys}
+use Rattle.ir_paths.specs.ir_model.TypeView.{ty_of}
 use Rattle.run_step.proofs.Extents.{array-part, struct-some-type, struct-none-type}
 use Rattle.run_step.proofs.program.Program.part_at.Goals as goal
 
