@@ -1,5 +1,6 @@
 -- What libraries below say, for those above.
 pub use Rattle.pass_frames_meaning.specs.run_types as run_types
+pub mod Calls
 pub mod kinds
 pub mod known
 pub mod made

@@ -13,6 +13,7 @@ use Rattle.compiler_theorem.proofs.theorem.Tables.{source_tables}
 use Rattle.compiler_theorem.specs.theorem.Anew.{Anew, IsAnewOf}
 use Rattle.compiler_theorem.specs.theorem.Entries.{IsEntry, IsEntryCall, Run}
 use Rattle.compiler_theorem.specs.theorem.Lowered.{HasFewBytes, IsLowered, Lowered, early, framed_run, lowered_from, plain_run, printed_from, source_run, split_from}
+use Rattle.compiler_theorem.specs.Calls.{KeepsFrames}
 use Rattle.compiler_theorem.specs.theorem.Theorem.{KeepsMeaning, KeepsRuns}
 use Rattle.compiler.specs.ir_model.declared.module.Module.{Module}
 use Rattle.pass_frames_meaning.specs.run_types.States.{AreArguments}
@@ -122,3 +123,43 @@ pub keeps_meaning : (l : Lowered) (low : IsLowered l) → HasFewBytes l → (r :
     → KeepsMeaning l r other
 keeps_meaning l low few r other entry fits =
     let tables = source_tables l low in meaning tables.0 l low few tables.1 r other entry fits
+
+-- so its framed form keeps the meaning, within the factors of the first pass and of frames
+sixteen : (s : ℕ) → 4 * (4 * s) ≡ 2 * (8 * s)
+sixteen s = grind arith
+
+pub frames_kept : (l : Lowered) (low : IsLowered l) → HasFewBytes l → (r : Run) → IsEntryCall l.source r → KeepsFrames l r
+frames_kept l low few r call =
+    let tables = source_tables l low in
+    record {
+      agrees = subst (λ k. AgreesWithin k (at (source_run l r)) (at (framed_run l l.framed r)))
+          (sixteen (size_factor l.source)) (framed_within tables.0 l low few tables.1 r call);
+      shared = somewhere_shown tables.0 l low few tables.1 r call;
+      apart = λ n fine. live_apart l low.source r n;
+    }
+
+-- and so do its parts
+pub parts_kept : (l : Lowered) (low : IsLowered l) → HasFewBytes l → (r : Run) (other : ℕ) → IsEntryCall l.source r
+    → IsEntry l.source (split_from l l.framed) r.entry other
+    → AgreesWithin 4 (at (framed_run l l.framed r)) (at (plain_run (split_from l l.framed) r other))
+parts_kept l low few r other call entry =
+    framed_agrees l low (good_layouts l low)
+    (is_ready l.text l.source low.source.stands low.source.accepted l.share l.layouts low.laid l.framed low.is_framed)
+    few r other call entry
+
+-- from the framed form to what is printed
+pub printed_within : (l : Lowered) (low : IsLowered l) → HasFewBytes l → (r : Run) (other : ℕ)
+    → IsEntry l.source (printed_from l l.framed) r.entry other → AreArguments l.source r.entry r.args
+    → AgreesWithin 4 (at (framed_run l l.framed r)) (at (plain_run (printed_from l l.framed) r other))
+printed_within l low few r other entry fits =
+    let lowered = entry_lowered l l.framed r.entry other entry in
+    let parts = entry_split l l.framed r.entry other lowered in
+    compose_within (4 * 1) 1 (at (framed_run l l.framed r)) (at (plain_run (lowered_from l l.framed) r other))
+    (at (plain_run (printed_from l l.framed) r other))
+    (compose_within 4 1 (at (framed_run l l.framed r)) (at (plain_run (split_from l l.framed) r other))
+    (at (plain_run (lowered_from l l.framed) r other))
+    (parts_kept l low few r other (record { callable = entry.callable; fits = fits }) parts)
+    (cleaned_agrees l.text l.source low.source.stands low.source.accepted l.share l.layouts low.laid l.framed
+    low.is_framed other r.args r.answers))
+    (printed_agrees l.text l.source low.source.bytes low.source.stands low.source.accepted l.share l.layouts
+    low.laid l.framed low.is_framed low.few other r.args r.answers).1

@@ -29,11 +29,13 @@ prices_of l low a =
     frame_prices (building l low.is_framed []) a.flags (edged l) (names_of_functions l.source.functions)
     (most_operands_of_functions l.source.functions + most_phis_of_functions l.source.functions)
 
--- | Pass | from | to | costs |
--- | saves written out, edges with blocks, what is needed handed on | Source | Kept | 4 |
--- | slots made anew and frames built, by prices that fit | Kept | Framed | 4 * (1 + p + q), on average |
--- | functions split | Framed | Plain | 4 |
--- | calls of coro.id gone, then names in order | Plain | Plain | 1 |
+-- | Pass | from | to | costs | law | standing |
+-- | saves written out, edges with blocks, what is needed handed on | Source | Kept | 4 | `sources_agree_with_framed_forms` | proved |
+-- | slots made anew and frames built, by prices | Kept | Framed | 4 * (1 + p + q), on average | the same, `framed` | proved |
+-- | calls give frames, e in one function | Framed | Framed | 1 + e | `eliding` of `ElidedSteps` | open |
+-- | functions split | Framed | Plain | 4 | `framed_forms_agree_with_their_parts` | proved if no call gives a frame |
+-- | calls of coro.id gone | Plain | Plain | 1 | `cleaned_sources_keep_meaning` | proved |
+-- | names in order | Plain | Plain | 1 | `printed_names_keep_meaning` | proved |
 
 -- a state of the framed run in which the slots and values of a state of the source stand
 pub record IsSomewhereShown (l : Lowered) (r : Run) (n : ℕ) : Type 0 where
