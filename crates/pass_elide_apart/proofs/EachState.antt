@@ -1,4 +1,4 @@
--- In each state of a framed run instances have no slots, and activations that execute their allocas again go on at labels
+-- In each state of a framed run instances have no slots. Activations that execute their allocas again go on at labels
 -- behind suspends.
 use Rattle.std.proofs.Common.{◌≡◌, ◌≢◌, ◌⊎◌, inl, inr, ⊎_elim, ◌∙◌, ◌++◌, ℕ, Bool, true, false, cond, not, List, [], ◌∷◌, length, Result, Ok, Err, ap, refl, subst, if◌then◌else◌, ◌&&◌, ◌==◌}
 use Rattle.std.specs.List.{list_all}

@@ -294,7 +294,8 @@ module _ (g : FramedGiven) (ends : (func : ℕ) → EndsBeforeRets (function_at 
       on (inl done) = done
       on (inr way) = onward s (next s) refl refl refl refl refl way h
   stays s _ runs is fine q h (LeadsTo.Begins args result mem memory block start acts alone taken) =
-      onward s (gives (begun g.given (with_memory s memory) block start) result mem) refl refl refl refl refl (further s _ acts refl tt h) h
+      onward s (gives (begun g.given (with_memory s memory) block start) result mem) refl refl refl refl refl
+      (further s _ acts refl tt h) h
   stays s _ runs is fine q h (LeadsTo.Releases args result v acts) =
       let k = changed_stack s (λ (x : Instance). record x { released = true }) (own_instance s) in
       onward s (gives (release s) result v) (ap (λ (a : Activation). a.func) k.top)
@@ -303,7 +304,8 @@ module _ (g : FramedGiven) (ends : (func : ℕ) → EndsBeforeRets (function_at 
   stays s _ runs is fine q h (LeadsTo.Saves args result i x save suspend acts own unfreed) =
       onward s (next (saved_at s i x save suspend)) refl refl refl refl refl (further s _ acts refl tt h) h
   stays s _ runs is fine q h (LeadsTo.Suspends args result i x save suspend acts own unfreed) =
-      onward s (gives (saved_at s i x save suspend) result (integer 8 (negsuc 0))) refl refl refl refl refl (further s _ acts refl tt h) h
+      onward s (gives (saved_at s i x save suspend) result (integer 8 (negsuc 0))) refl refl refl refl refl
+      (further s _ acts refl tt h) h
   stays s _ runs is fine q h (LeadsTo.Wakes i args result y label acts sleeps_there) =
       on (passed s u runs is fine i args result acts h)
     where
