@@ -1,0 +1,48 @@
+-- What is carried through both runs, and what isn't derived yet of their states.
+use Rattle.std.specs.Prelude.{◌≡◌, ◌+◌, ℕ, true, false, List, slice_get, Some}
+use Rattle.pass_elide_apart.specs.pass_elide_edges.States.{AllStandApart}
+use Rattle.pass_elide_apart.specs.pass_elide_proof.Assembling.{elided_after, framed_after}
+use Rattle.pass_elide_apart.specs.pass_elide_proof.Counts.{uncounted}
+use Rattle.pass_elide_apart.specs.pass_elide_proof.Elision.{Elision}
+use Rattle.pass_elide_apart.specs.pass_elide_proof.Invariant.{begins_heap, lives_in}
+use Rattle.pass_elide_apart.specs.pass_elide_proof.Statement.{AreRelatedOrOver, elided_run, framed_run}
+use Rattle.pass_elide_kept.specs.Kept.{AreKept}
+use Rattle.pass_elide_meaning.specs.Lacks.{LacksFramed, LacksGiving}
+use Rattle.pass_elide_apart.specs.pass_proofs.ir_base.declared.outcome.Outcome.{Outcome}
+use Rattle.pass_elide_apart.specs.pass_proofs.ir_base.declared.outcome.Word.{Word}
+use Rattle.pass_elide_apart.specs.pass_proofs.run_agreement.Costs.{AgreesBy, IsNear}
+use Rattle.pass_elide_apart.specs.pass_proofs.run_source.State.{is_finished}
+use Rattle.pass_elide_apart.specs.pass_proofs.run_source.declared.state.Instance.{Instance}
+use Rattle.pass_elide_apart.specs.pass_proofs.run_source.declared.state.State.{State}
+
+-- The states are related and handles are kept. Activations are in blocks of their own only as the relation says.
+pub record AreCarried (e : Elision) (s t : State) : Type 0 where
+  pub kept : AreKept e s t
+  pub apart : AllStandApart e s t
+
+-- what isn't derived yet of two states to which both runs come
+pub record LacksStates (e : Elision) (s t : State) : Type 0 where
+  pub framed : LacksFramed e s
+  pub giving : LacksGiving e t
+
+-- of all that are carried while both runs go on
+abbrev pub LacksRuns : Elision → ℕ → List Word → Type 0
+LacksRuns e entry args =
+    (n m : ℕ) → AreCarried e (framed_after e entry args n) (elided_after e entry args m)
+    → (framed_after e entry args n).outcome ≡ Outcome.Running
+    → (elided_after e entry args m).outcome ≡ Outcome.Running
+    → LacksStates e (framed_after e entry args n) (elided_after e entry args m)
+
+-- ---- the statements, of one call of an entry
+
+-- the runs agree by prices of at most one step and one for each site of a function
+abbrev pub AgreesWithElided : Elision → ℕ → ℕ → List Word → Type 0
+AgreesWithElided e most entry args =
+    AgreesBy (AreRelatedOrOver e) (IsNear (elided_run e entry args) (1 + most) (AreRelatedOrOver e))
+    (uncounted (framed_run e entry args)) (λ s. 1 + most) (uncounted (elided_run e entry args)) (λ t. 1)
+
+-- The block of each frame that isn't in an allocator's block lives while its instance isn't Finished.
+abbrev pub DoFramesLive : State → Type 0
+DoFramesLive t =
+    (i : ℕ) (x : Instance) → slice_get t.instances i ≡ Some x → begins_heap t.world.memory x ≡ false
+    → is_finished x.status ≡ false → lives_in (slice_get t.world.memory x.block) ≡ true

@@ -1,0 +1,74 @@
+//! The statements of elision, of each call of an entry.
+
+ghost use Rattle.pass_elide_apart.specs.pass_elide_proof.Assembling.{KnowsSteps, elided_after, framed_after};
+ghost use Rattle.pass_elide_apart.specs.pass_elide_proof.Counts.{LosesCalls};
+ghost use Rattle.pass_elide_apart.specs.pass_elide_proof.Elision.{Elision};
+ghost use Rattle.pass_elide_apart.specs.pass_elide_proof.Statement.{AreRelated, IsEntryCall, elided_run, framed_run};
+ghost use Rattle.pass_elide_meaning.specs.Lacks.{LacksFramed, LacksGiving, TakesSizes};
+ghost use Rattle.pass_elide_theorem.specs.Carried.{AgreesWithElided, AreCarried, DoFramesLive, LacksRuns};
+ghost use Rattle.pass_elide_theorem.specs.Ready.{IsElisionReady};
+ghost use Rattle.pass_elide_apart.specs.pass_proofs.ir_base.declared.outcome.Outcome.{Outcome};
+ghost use Rattle.pass_elide_apart.specs.pass_proofs.ir_base.declared.outcome.Word.{Word};
+ghost use Rattle.pass_elide_apart.specs.pass_proofs.ir_model.declared.module.Module.{Module};
+ghost use Rattle.pass_elide_apart.specs.pass_proofs.run_source.declared.state.State.{State};
+ghost use Rattle.pass_elide_apart.specs.pass_elide_edges.States.{EndsFramed};
+ghost use Rattle.std.specs.Prelude.{List, ◌≡◌, ℕ};
+
+use pass_elide_kept::keeping::{destroyed_ends_have_freed, related_states_stay_related};
+use pass_elide_kept::starting::runs_start_kept;
+use pass_elide_meaning::states::named_sizes_lack_nothing;
+
+/// What is carried through both runs is had where they start.
+pub fn runs_start_carried()
+    ensures { (e : Elision) (source : Module) (most entry : ℕ) (args : List Word) → IsElisionReady e source most
+        → IsEntryCall e entry args → AreCarried e (framed_after e entry args 0) (elided_after e entry args 0) }
+{
+    runs_start_kept();
+}
+
+/// From what is carried each step of the framed run that isn't undefined is of a known kind. Behind it the next states
+/// are carried.
+pub fn carried_states_know_steps()
+    ensures { (e : Elision) (source : Module) (most entry : ℕ) (args : List Word) → IsElisionReady e source most
+        → IsEntryCall e entry args → LacksRuns e entry args → KnowsSteps e entry args (AreCarried e) }
+{
+    runs_start_kept();
+    destroyed_ends_have_freed();
+    related_states_stay_related();
+}
+
+/// So both runs of a call of an entry agree, at a price of at most one step and one for each site of a function. Where
+/// both have returned, the second made fewer allocator calls by the calls that it executed without allocation.
+pub fn elided_entry_calls_keep_states()
+    ensures states { (e : Elision) (source : Module) (most entry : ℕ) (args : List Word) → IsElisionReady e source most
+        → IsEntryCall e entry args → LacksRuns e entry args → AgreesWithElided e most entry args }
+    ensures calls { (e : Elision) (source : Module) (most entry : ℕ) (args : List Word) → IsElisionReady e source most
+        → IsEntryCall e entry args → LacksRuns e entry args
+        → LosesCalls (framed_run e entry args) (elided_run e entry args) }
+{
+    carried_states_know_steps();
+}
+
+/// In each state of the run that gives frames that stands beside one of the framed run, the block of each frame that
+/// was given lives while its instance isn't Finished.
+pub fn given_frames_live_beside()
+    ensures related { (e : Elision) (s t : State) → AreRelated e s t → EndsFramed e s → DoFramesLive t }
+    ensures runs { (e : Elision) (source : Module) (most entry : ℕ) (args : List Word) (n m : ℕ)
+        → IsElisionReady e source most
+        → AreCarried e (framed_after e entry args n) (elided_after e entry args m)
+        → DoFramesLive (elided_after e entry args m) }
+{}
+
+/// Runs lack nothing whose states lack nothing. Of the framed run none does where allocators take names of coro.size.
+pub fn runs_lack_nothing()
+    ensures states { (e : Elision) (entry : ℕ) (args : List Word)
+        → ((n : ℕ) → (framed_after e entry args n).outcome ≡ Outcome.Running
+        → LacksFramed e (framed_after e entry args n))
+        → ((m : ℕ) → (elided_after e entry args m).outcome ≡ Outcome.Running
+        → LacksGiving e (elided_after e entry args m)) → LacksRuns e entry args }
+    ensures named { (e : Elision) (entry : ℕ) (args : List Word) → TakesSizes e
+        → ((m : ℕ) → (elided_after e entry args m).outcome ≡ Outcome.Running
+        → LacksGiving e (elided_after e entry args m)) → LacksRuns e entry args }
+{
+    named_sizes_lack_nothing();
+}
