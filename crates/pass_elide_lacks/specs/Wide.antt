@@ -1,0 +1,52 @@
+-- An entry that hands its parameter to an allocator. No call of it gives a frame.
+use Rattle.std.specs.Prelude.{false, [], ◌∷◌, Some, codes, pos}
+use Rattle.pass_elide_edges.specs.pass_elide_proof.Elision.{Elision, no_shape}
+use Rattle.pass_elide_edges.specs.pass_elide_proof.pass_proofs.ir_base.declared.name.Name.{Name}
+use Rattle.pass_elide_edges.specs.pass_elide_proof.pass_proofs.ir_model.Ty.{int, ptr}
+use Rattle.pass_elide_edges.specs.pass_elide_proof.pass_proofs.ir_model.declared.instr.Instr.{Instr}
+use Rattle.pass_elide_edges.specs.pass_elide_proof.pass_proofs.ir_model.declared.instr.Terminator.{Terminator}
+use Rattle.pass_elide_edges.specs.pass_elide_proof.pass_proofs.ir_model.declared.module.Function.{Function}
+use Rattle.pass_elide_edges.specs.pass_elide_proof.pass_proofs.ir_model.declared.module.Module.{Module}
+use Rattle.pass_elide_edges.specs.pass_elide_proof.pass_proofs.ir_model.declared.operand.Allocator.{Allocator}
+use Rattle.pass_elide_edges.specs.pass_elide_proof.pass_proofs.ir_model.declared.operand.Callee.{Callee}
+use Rattle.pass_elide_edges.specs.pass_elide_proof.pass_proofs.ir_model.declared.operand.Operand.{Operand}
+
+abbrev pub a_wide_caller : Function
+a_wide_caller =
+    record {
+      name = Name.Text (codes "main");
+      result = Some (int 32);
+      params = record { ty = int 64; name = 0 } ∷ [];
+      coroutine = false;
+      blocks =
+          record {
+            label = 1;
+            phis = [];
+            instrs =
+                (Instr.Call (Some 2) false (Some ptr) (Callee.Allocator Allocator.Malloc)
+                (record { ty = int 64; value = Operand.Local 0 } ∷ []))
+                ∷ [];
+            term = Terminator.Ret (Some (record { ty = int 32; value = Operand.Number (pos 0) }));
+          }
+          ∷ [];
+      names = Name.Text (codes "n") ∷ Name.Text (codes "entry") ∷ Name.Text (codes "p") ∷ [];
+    }
+
+abbrev pub a_wide_module : Module
+a_wide_module =
+    record {
+      types = [];
+      globals = [];
+      declarations = record { name = Name.Text (codes "malloc"); result = Some ptr; params = int 64 ∷ [] } ∷ [];
+      functions = a_wide_caller ∷ [];
+    }
+
+abbrev pub the_wide_elision : Elision
+the_wide_elision =
+    record {
+      code = a_wide_module;
+      layouts = record { coroutines = [] };
+      sites = [];
+      answers = [];
+      shape = λ func. no_shape;
+    }
