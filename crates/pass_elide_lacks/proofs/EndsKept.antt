@@ -79,6 +79,6 @@ module _ (e : Elision) (keeps : KeepsPlaces e) (more : KeepsMore e) (k : KeepsRu
     allocas = allocas;
     destroyed = destroyed;
     rets = λ value mode there.
-        no_ret (framed e) endings.returns k.ends k.switches s
-        (out_in_runs (framed e) endings.returns k.ends k.switches entry args n fine) value mode there;
+        no_ret (framed e) endings.returns k.switches s
+        (out_in_runs (framed e) endings.returns k.switches entry args n fine) value mode there;
   }

@@ -192,7 +192,8 @@ module _ (room : Rooms) (f : Function) (flat : (block at : ℕ) (i : Instr) → 
         (first, front_once low (function_frames room f) to at name i j other there gives mine)
     once at name block to i (New j there mine from) (Own p x other is same) gives =
         let lt = sets block p name x other
-        (sym (given_result (name_at room f block p) (room_at room f block p x) x) ∙ (sym (ap result_of same) ∙ gives)) in
+        (sym (given_result (name_at room f block p) (room_at room f block p x) x)
+        ∙ (sym (ap result_of same) ∙ gives)) in
         absurd (omega (arith, lt, from))
     once at name block to i (Old p al is) (Ahead first other) gives =
         let lt = old_low p name al in
@@ -200,7 +201,8 @@ module _ (room : Rooms) (f : Function) (flat : (block at : ℕ) (i : Instr) → 
         absurd (omega (arith, lt, from))
     once at name block to i (Old p al is) (Own q x other to_is same) gives =
         let one = names.once p name block q x al other
-        (sym (given_result (name_at room f block q) (room_at room f block q x) x) ∙ (sym (ap result_of same) ∙ gives)) in
+        (sym (given_result (name_at room f block q) (room_at room f block q x) x)
+        ∙ (sym (ap result_of same) ∙ gives)) in
         (one.0, to_is ∙ ((λ n. ahead room f (one.0 n) + one.1 n) ∙ sym is))
 
     phis_past : (at name block : ℕ) → IsOfWhich at name
@@ -235,7 +237,8 @@ module _ (room : Rooms) (f : Function) (flat : (block at : ℕ) (i : Instr) → 
 
     module _ (marks : MarksAllocas f) (block at : ℕ) (j : Intrinsic) (result : Option ℕ) (must_tail : Bool)
         (ty : Option Ty) (args : List Arg) (marker : (j ≡ Intrinsic.LifetimeStart) ⊎ (j ≡ Intrinsic.LifetimeEnd)) where
-      by_place : Place block at (Instr.Call result must_tail ty (Callee.Intrinsic j) args) → MarksOld h low block at args
+      by_place : Place block at (Instr.Call result must_tail ty (Callee.Intrinsic j) args)
+          → MarksOld h low block at args
       by_place (Ahead first there) =
           let x = front at (Instr.Call result must_tail ty (Callee.Intrinsic j) args) there in
           absurd (no_alloca x.name x.align (array x.size (int 8)) result must_tail ty (Callee.Intrinsic j) args

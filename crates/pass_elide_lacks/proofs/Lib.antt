@@ -1,4 +1,5 @@
 pub mod Asking
+pub mod Parameters
 pub mod AsideStays
 pub mod Flat
 pub mod FlatNames

@@ -95,13 +95,14 @@ module _ (f : Function) (one : HasOneEnd f) where
       by (Some k) eo =
           let x = first_stands holds f.blocks k eo in
           let y = any_stands calls x.element.instrs x.passes in
-          one p (record { block = k; at = y.0 }) c
+          ap (λ (q : Point). q.block)
+          (one p (record { block = k; at = y.0 }) c
           (record {
             instr = y.1.element;
             stands = fetched f k y.0 y.1.element
                 (ap (λ (o : Option Block). slice_get (instrs_in o) y.0) x.there ∙ y.1.there);
             is = y.1.passes;
-          })
+          }))
 
   pub end_in_block : (p : Point) → IsCallAt Intrinsic.CoroEnd f p → p.block ≡ end_block f
   end_in_block p c = by (slice_get f.blocks p.block) refl

@@ -1,10 +1,11 @@
 -- Rules K1, K2 and K5 give what is asked of ends and rets.
-use Rattle.std.proofs.Common.{◌≡◌, inr, ℕ, true, false, None, ap, refl}
-use Rattle.pass_elide_lacks.proofs.EndPaths.{call_there}
-use Rattle.pass_elide_lacks.specs.Ends.{HasOneEnd, ReturnsBehindEnd}
+use Rattle.std.proofs.Common.{◌≡◌, inr, ℕ, true, false, None, refl}
+use Rattle.pass_elide_lacks.proofs.EndPaths.{call_there, suspend_out}
+use Rattle.pass_elide_lacks.specs.Ends.{EndsBeforeRets, HasOneEnd}
+use Rattle.pass_elide_runs.specs.Ends.{EndsOnce}
 use Rattle.pass_elide_edges.proofs.pass_elide_proof.pass_proofs.ir_paths.Search.{or_left, or_right}
-use Rattle.pass_elide_edges.proofs.pass_elide_proof.pass_proofs.kept.sources.Closed.{no_return}
-use Rattle.pass_elide_edges.proofs.pass_elide_proof.pass_proofs.kept.sources.Names.{StaysInside, end_inside, none_outside, suspend_inside}
+use Rattle.pass_elide_edges.proofs.pass_elide_proof.pass_proofs.kept.sources.Closed.{no_return, not_behind_end, save_ends, suspend_ends}
+use Rattle.pass_elide_edges.proofs.pass_elide_proof.pass_proofs.kept.sources.Names.{StaysInside, end_inside, none_outside, save_inside, suspend_inside}
 use Rattle.pass_elide_edges.proofs.pass_elide_proof.pass_proofs.rule_laws.rules.path_rules.Outside.{of_outside}
 use Rattle.pass_elide_edges.proofs.pass_elide_proof.pass_proofs.rule_laws.rules.source_rules.Once.{one_end}
 use Rattle.pass_elide_edges.proofs.pass_elide_proof.pass_proofs.rule_laws.rules.sources.Places.{instr_there}
@@ -17,10 +18,17 @@ use Rattle.pass_elide_edges.specs.pass_elide_proof.pass_proofs.ir_paths.declared
 use Rattle.pass_elide_edges.specs.pass_elide_proof.pass_proofs.pass_kept_proof.SuspendRules.{IsCallAt}
 use Rattle.pass_elide_edges.specs.pass_elide_proof.pass_proofs.rule_laws.rules.function_rules.Kept.{KeepsFunctionRules}
 use Rattle.pass_elide_edges.specs.pass_elide_proof.pass_proofs.rule_shape.OneOfEach.{wrong_call}
-use Rattle.pass_elide_edges.specs.pass_elide_proof.pass_proofs.rule_windows.Outside.{IsFirstOutside, needs_begin}
+use Rattle.pass_elide_edges.specs.pass_elide_proof.pass_proofs.rule_windows.Outside.{IsFirstOutside, ends_with_it, needs_begin}
+use Rattle.pass_elide_edges.specs.pass_elide_proof.pass_proofs.rule_windows.Sets.{IsWithoutBegin}
 
 suspend_needs : (i : Instr) → is_call_of Intrinsic.CoroSuspend i ≡ true → needs_begin i ≡ true
 suspend_needs i is = or_right (is_call_of Intrinsic.CoroSave i) _ (or_left (is_call_of Intrinsic.CoroSuspend i) _ is)
+
+end_ends : (i : Instr) → is_call_of Intrinsic.CoroEnd i ≡ true → ends_with_it i ≡ true
+end_ends i is =
+    or_right (is_call_of Intrinsic.CoroBegin i) _
+    (or_right (is_call_of Intrinsic.CoroSave i) _
+    (or_right (is_call_of Intrinsic.CoroSuspend i) _ (or_right (is_call_of Intrinsic.CoroFree i) _ is)))
 
 begin_inside : StaysInside Intrinsic.CoroBegin
 begin_inside Intrinsic.CoroBegin e = refl
@@ -31,33 +39,46 @@ module _ (k : ℕ) (f : Function) (coroutine : f.coroutine ≡ true) (calls : wr
     (outside : IsFirstOutside k f None) where
   one : HasOneEnd f
   one p q c d =
-      ap (λ (z : Point). z.block)
-      (one_end k f coroutine calls p q c.instr d.instr (instr_there f p.block p.at c.instr c.stands)
-      (instr_there f q.block q.at d.instr d.stands) c.is d.is)
+      one_end k f coroutine calls p q c.instr d.instr (instr_there f p.block p.at c.instr c.stands)
+      (instr_there f q.block q.at d.instr d.stands) c.is d.is
 
-  returns : ReturnsBehindEnd f
-  returns = record {
-    rets = λ block at value there out.
-        no_return k f coroutine outside (record { block = block; at = at }) value there out;
-    begins = λ p c without.
-        (of_outside k f coroutine outside).instrs p c.instr (instr_there f p.block p.at c.instr c.stands)
-        (inr (suspend_needs c.instr c.is, without));
+  once : EndsOnce f
+  once = record {
+    saves = not_behind_end k f coroutine outside Intrinsic.CoroSave save_ends;
+    suspends = not_behind_end k f coroutine outside Intrinsic.CoroSuspend suspend_ends;
+    ends = not_behind_end k f coroutine outside Intrinsic.CoroEnd end_ends;
   }
 
-  pub inside_ends : HasOneEnd f × ReturnsBehindEnd f
-  inside_ends = (one, returns)
+  begun : (p : Point) → IsCallAt Intrinsic.CoroSuspend f p → IsWithoutBegin f p → ⊥
+  begun p c without =
+      (of_outside k f coroutine outside).instrs p c.instr (instr_there f p.block p.at c.instr c.stands)
+      (inr (suspend_needs c.instr c.is, without))
+
+  before : EndsBeforeRets f
+  before = record {
+    suspends = λ p reached c. suspend_out f p reached c (begun p c) (λ past. once.suspends p past c);
+    returns = λ p value there out. no_return k f coroutine outside p value there out;
+  }
+
+  pub inside_ends : HasOneEnd f × EndsBeforeRets f × EndsOnce f
+  inside_ends = (one, before, once)
 
 -- a function that is no coroutine
 module _ (m : Module) (k : ℕ) (f : Function) (rules : KeepsFunctionRules m k f) (plain : f.coroutine ≡ false) where
   none : (j : Intrinsic) → StaysInside j → (p : Point) → IsCallAt j f p → ⊥
   none j inside p c = none_outside m k f rules plain p.block p.at c.instr j inside c.stands c.is
 
-  pub outside_ends : HasOneEnd f × ReturnsBehindEnd f
+  pub outside_ends : HasOneEnd f × EndsBeforeRets f × EndsOnce f
   outside_ends = (
     (λ p q c d. absurd (none Intrinsic.CoroEnd end_inside p c)),
     record {
-      rets = λ block at value there out.
+      suspends = λ p reached c. absurd (none Intrinsic.CoroSuspend suspend_inside p c);
+      returns = λ p value there out.
           none Intrinsic.CoroBegin begin_inside out.start (call_there Intrinsic.CoroBegin f out.start out.is_start);
-      begins = λ p c without. none Intrinsic.CoroSuspend suspend_inside p c;
+    },
+    record {
+      saves = λ p past c. none Intrinsic.CoroSave save_inside p c;
+      suspends = λ p past c. none Intrinsic.CoroSuspend suspend_inside p c;
+      ends = λ p past c. none Intrinsic.CoroEnd end_inside p c;
     },
   )

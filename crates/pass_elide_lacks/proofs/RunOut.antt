@@ -1,15 +1,14 @@
 -- A resumed activation stands where a path leads from begin without the end, in each state of a framed run.
 use Rattle.std.proofs.Common.{◌≡◌, ◌⊎◌, inl, inr, ◌∙◌, ◌+◌, ℕ, suc, Bool, true, false, List, ◌∷◌, length, Err, None, Ok, Option, Result, Some, ap, if◌then◌else◌, refl, sym, subst, arith}
 use Rattle.std.specs.Prelude.{unwrap_or}
-use Rattle.pass_elide_lacks.proofs.EndPaths.{no_end, out_behind, out_on, suspend_out, term_apart}
-use Rattle.pass_elide_lacks.specs.Ends.{HasRunOut, HaveRunOut, IsRunOut, ReturnsBehindEnd}
+use Rattle.pass_elide_lacks.proofs.EndPaths.{no_end, out_behind, out_on, term_apart}
+use Rattle.pass_elide_lacks.specs.Ends.{HasRunOut, HaveRunOut, IsRunOut, EndsBeforeRets}
 use Rattle.pass_elide_runs.proofs.Acts.{IsInstr, branches_to, instr_of}
 use Rattle.pass_elide_runs.proofs.KnownModes.{IsAsleep, asleep}
 use Rattle.pass_elide_runs.proofs.Led.{sound_there, state_reached}
 use Rattle.pass_elide_runs.proofs.Runs.{runs_keep_by}
 use Rattle.pass_elide_runs.proofs.Stacks.{Comes, changed_stack, comes, ended_stack, gone_stack, woken_at, woken_on}
 use Rattle.pass_elide_runs.proofs.WakesBy.{IsWoken, wakes_by}
-use Rattle.pass_elide_runs.specs.Ends.{EndsOnce}
 use Rattle.pass_elide_edges.proofs.pass_elide_proof.ReleasingActs.{goto_there}
 use Rattle.pass_elide_edges.specs.pass_elide_proof.StepCases.{ActsBy, CallsGiven, LeadsTo, ended}
 use Rattle.pass_elide_edges.specs.pass_elide_proof.pass_proofs.ir_base.declared.cause.Cause.{Cause}
@@ -261,16 +260,14 @@ module _ (g : FramedGiven) where
 
   -- ---- steps
 
-  module _ (rets : (func : ℕ) → ReturnsBehindEnd (function_at m func))
-      (once : (func : ℕ) → EndsOnce (function_at m func)) (switches : AllHaveSwitches m) where
+  module _ (rets : (func : ℕ) → EndsBeforeRets (function_at m func)) (switches : AllHaveSwitches m) where
     -- the labels of a suspend
     woken_out : (s : State) (q : IsReachedState g.given s) (u : State) (w : IsWoken g s u)
         → RunsOut (function_at m w.sleeper.instance.coroutine)
         (entry_point (function_at m w.sleeper.instance.coroutine) w.label)
     woken_out s q u w =
         out_behind f p w.label status.1 switch.term switch.stands (by w.at)
-        (suspend_out f p status.0 status.1 ((rets func).begins p status.1)
-        (λ after. (once func).suspends p after status.1))
+        ((rets func).suspends p status.0 status.1)
       where
         func : ℕ
         func = w.sleeper.instance.coroutine
@@ -446,4 +443,4 @@ module _ (g : FramedGiven) where
     -- a resumed activation comes to no ret
     pub no_ret : (s : State) → HaveRunOut m s → (value : Option Arg) → s.top.mode ≡ Mode.Resumed
         → fetch (function_at m s.top.func) s.top.block s.top.at ≡ AtTerm (Terminator.Ret value) → ⊥
-    no_ret s h value mode there = (rets s.top.func).rets s.top.block s.top.at value there (h.0.resumed mode)
+    no_ret s h value mode there = (rets s.top.func).returns (here s) value there (h.0.resumed mode)

@@ -6,7 +6,8 @@ use Rattle.elide_sites.specs.Destroyed.{FreesWhenDestroyed, IsOn, Start, Step, h
 use Rattle.elide_sites.specs.declared.destroyed.Way.{Way}
 use Rattle.elide_sites.specs.elide_shape.Edges.{edges_of}
 use Rattle.elide_sites.specs.elide_shape.declared.edges.Edge.{Edge}
-use Rattle.pass_elide_lacks.specs.Ends.{HasOneEnd, KeepsEndings, ReturnsBehindEnd}
+use Rattle.pass_elide_lacks.proofs.EndPaths.{suspend_out}
+use Rattle.pass_elide_lacks.specs.Ends.{EndsBeforeRets, HasOneEnd, KeepsEndings}
 use Rattle.pass_elide_edges.proofs.pass_elide_proof.CallersWorked.{worked_save}
 use Rattle.pass_elide_edges.proofs.pass_elide_proof.Facts.{not_both, some_none}
 use Rattle.pass_elide_edges.proofs.pass_elide_proof.PlacingChecked.{or_other, unset}
@@ -26,8 +27,9 @@ use Rattle.pass_elide_edges.specs.pass_elide_proof.pass_proofs.ir_model.declared
 use Rattle.pass_elide_edges.specs.pass_elide_proof.pass_proofs.ir_paths.Paths.{Leads, has_point, led_to, same_point}
 use Rattle.pass_elide_edges.specs.pass_elide_proof.pass_proofs.ir_paths.Windows.{is_call_of, points_where}
 use Rattle.pass_elide_edges.specs.pass_elide_proof.pass_proofs.ir_paths.declared.point.Point.{Point}
+use Rattle.pass_elide_edges.specs.pass_elide_proof.pass_proofs.pass_kept_proof.SuspendRules.{IsCallAt}
 use Rattle.pass_elide_edges.specs.pass_elide_proof.pass_proofs.rule_windows.Points.{begins, ends, entry}
-use Rattle.pass_elide_edges.specs.pass_elide_proof.pass_proofs.rule_windows.Sets.{IsWithoutBegin, RunsOut}
+use Rattle.pass_elide_edges.specs.pass_elide_proof.pass_proofs.rule_windows.Sets.{IsAfterEnd, IsWithoutBegin, RunsOut}
 use Rattle.pass_elide_edges.specs.pass_elide_proof.pass_proofs.run_step.Step.{AtTerm, Fetched, fetch}
 use Rattle.run_slots.proofs.run_hooks.pass_renewed_proof.Left.{call_listed}
 
@@ -69,7 +71,7 @@ one_coroutine : HasOneEnd a_coroutine
 one_coroutine p q c d =
     let first = one_of (at_point 10 0) p (call_listed a_coroutine Intrinsic.CoroEnd p c) in
     let second = one_of (at_point 10 0) q (call_listed a_coroutine Intrinsic.CoroEnd q d) in
-    ap (λ (z : Point). z.block) (first ∙ sym second)
+    first ∙ sym second
 
 one : (func : ℕ) → HasOneEnd (function_in the_elision func)
 one zero = one_coroutine
@@ -108,22 +110,33 @@ early_calm p without = by without.path
         (led_to-complete a_coroutine (begins a_coroutine) entry p
         (subst (λ (z : Point). Leads a_coroutine (begins a_coroutine) z p) (one_of entry r.start r.is_start) r.path))
 
-returns : (func : ℕ) → ReturnsBehindEnd (function_in the_elision func)
+after_calm : (p : Point) → IsAfterEnd a_coroutine p → no_suspend_at p ≡ true
+after_calm p past =
+    listed_points no_suspend_at (led_to a_coroutine [] (at_point 10 0)) p refl
+    (led_to-complete a_coroutine [] (at_point 10 0) p
+    (subst (λ (z : Point). Leads a_coroutine [] z p) (one_of (at_point 10 0) past.start past.is_start) past.path))
+
+no_suspend : (p : Point) → IsCallAt Intrinsic.CoroSuspend a_coroutine p → no_suspend_at p ≡ true → ⊥
+no_suspend p c calm =
+    not_both (has_point suspends p) (call_listed a_coroutine Intrinsic.CoroSuspend p c)
+    (unset (has_point suspends p) calm)
+
+returns : (func : ℕ) → EndsBeforeRets (function_in the_elision func)
 returns zero = record {
-  rets = λ block at value there out.
-      not_both (is_ret (fetch a_coroutine block at)) (ap is_ret there)
-      (unset (is_ret (fetch a_coroutine block at)) (out_calm (at_point block at) out));
-  begins = λ p c without.
-      not_both (has_point suspends p) (call_listed a_coroutine Intrinsic.CoroSuspend p c)
-      (unset (has_point suspends p) (early_calm p without));
+  suspends = λ p reached c.
+      suspend_out a_coroutine p reached c (λ without. no_suspend p c (early_calm p without))
+      (λ past. no_suspend p c (after_calm p past));
+  returns = λ p value there out.
+      not_both (is_ret (fetch a_coroutine p.block p.at)) (ap is_ret there)
+      (unset (is_ret (fetch a_coroutine p.block p.at)) (out_calm p out));
 }
 returns (suc zero) = record {
-  rets = λ block at value there out. never out.is_start;
-  begins = λ p c without. never (call_listed a_caller Intrinsic.CoroSuspend p c);
+  suspends = λ p reached c. absurd (never (call_listed a_caller Intrinsic.CoroSuspend p c));
+  returns = λ p value there out. never out.is_start;
 }
 returns (suc (suc n)) = record {
-  rets = λ block at value there out. never out.is_start;
-  begins = λ p c without. never (call_listed no_function Intrinsic.CoroSuspend p c);
+  suspends = λ p reached c. absurd (never (call_listed no_function Intrinsic.CoroSuspend p c));
+  returns = λ p value there out. never out.is_start;
 }
 
 -- ---- ways from edges of a suspend

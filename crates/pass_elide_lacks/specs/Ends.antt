@@ -12,8 +12,9 @@ use Rattle.pass_elide_edges.specs.pass_elide_proof.pass_proofs.ir_model.declared
 use Rattle.pass_elide_edges.specs.pass_elide_proof.pass_proofs.ir_model.declared.operand.Intrinsic.{Intrinsic}
 use Rattle.pass_elide_edges.specs.pass_elide_proof.pass_proofs.ir_paths.Paths.{entry_point}
 use Rattle.pass_elide_edges.specs.pass_elide_proof.pass_proofs.ir_paths.declared.point.Point.{Point}
+use Rattle.pass_elide_edges.specs.pass_elide_proof.pass_proofs.pass_kept_proof.Needed.{IsReached}
 use Rattle.pass_elide_edges.specs.pass_elide_proof.pass_proofs.pass_kept_proof.SuspendRules.{IsCallAt}
-use Rattle.pass_elide_edges.specs.pass_elide_proof.pass_proofs.rule_windows.Sets.{IsWithoutBegin, RunsOut}
+use Rattle.pass_elide_edges.specs.pass_elide_proof.pass_proofs.rule_windows.Sets.{RunsOut}
 use Rattle.pass_elide_edges.specs.pass_elide_proof.pass_proofs.run_laws.changed.Changed.{Each}
 use Rattle.pass_elide_edges.specs.pass_elide_proof.pass_proofs.run_source.declared.state.Activation.{Activation}
 use Rattle.pass_elide_edges.specs.pass_elide_proof.pass_proofs.run_source.declared.state.Mode.{Mode}
@@ -24,20 +25,19 @@ use Rattle.pass_elide_edges.specs.pass_elide_proof.pass_proofs.run_step.Step.{At
 
 -- K2: a function has one coro.end
 abbrev pub HasOneEnd : Function → Type 0
-HasOneEnd f =
-    (p q : Point) → IsCallAt Intrinsic.CoroEnd f p → IsCallAt Intrinsic.CoroEnd f q → p.block ≡ q.block
+HasOneEnd f = (p q : Point) → IsCallAt Intrinsic.CoroEnd f p → IsCallAt Intrinsic.CoroEnd f q → p ≡ q
 
--- K5: no ret stands behind begin without the end between, and no suspend where a path leads without begin
-pub record ReturnsBehindEnd (f : Function) : Type 0 where
-  pub rets : (block at : ℕ) (value : Option Arg) → fetch f block at ≡ AtTerm (Terminator.Ret value)
-      → RunsOut f (record { block = block; at = at }) → ⊥
-  pub begins : (p : Point) → IsCallAt Intrinsic.CoroSuspend f p → IsWithoutBegin f p → ⊥
+-- K5: a suspend to which a path leads stands behind begin and not behind the end, and no ret stands so
+pub record EndsBeforeRets (f : Function) : Type 0 where
+  pub suspends : (p : Point) → IsReached f p.block p.at → IsCallAt Intrinsic.CoroSuspend f p → RunsOut f p
+  pub returns : (p : Point) (value : Option Arg) → fetch f p.block p.at ≡ AtTerm (Terminator.Ret value) → RunsOut f p
+      → ⊥
 
 -- ---- the module
 
 pub record KeepsEndings (e : Elision) : Type 0 where
   pub one : (func : ℕ) → HasOneEnd (function_in e func)
-  pub returns : (func : ℕ) → ReturnsBehindEnd (function_in e func)
+  pub returns : (func : ℕ) → EndsBeforeRets (function_in e func)
   -- a coroutine that may be given its frame hands what coro.free gives to a deallocator at once, when it is destroyed
   pub at_once : (func : ℕ) → HasShape e func → FreesAtOnce (function_in e func) (e.shape func)
   pub freed : (func : ℕ) → HasShape e func → FreesWhenDestroyed (function_in e func)

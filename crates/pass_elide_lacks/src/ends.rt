@@ -20,17 +20,18 @@ ghost use Rattle.pass_elide_edges.specs.pass_elide_proof.pass_proofs.run_source.
 ghost use Rattle.pass_elide_edges.specs.pass_elide_proof.pass_proofs.run_step.Step.{AtTerm, fetch};
 ghost use Rattle.pass_elide_kept.specs.Runs.{EndsInBlock, IsKeptFramed};
 ghost use Rattle.pass_elide_known.specs.Keeping.{KeepsMore};
-ghost use Rattle.pass_elide_lacks.specs.Ends.{HasOneEnd, HaveRunOut, KeepsEndings, ReturnsBehindEnd};
+ghost use Rattle.pass_elide_lacks.specs.Ends.{EndsBeforeRets, HasOneEnd, HaveRunOut, KeepsEndings};
+ghost use Rattle.pass_elide_runs.specs.Ends.{EndsOnce};
 ghost use Rattle.pass_elide_runs.specs.Keeps.{KeepsRuns};
 ghost use Rattle.std.specs.Prelude.{List, None, Option, false, true, ◌≡◌, ℕ};
 
-/// A coroutine that breaks neither K2 nor K5 has one coro.end, and returns behind it. A function that is no coroutine
-/// has neither begin, suspend nor end (K1).
+/// A coroutine that breaks neither K2 nor K5 has one coro.end, and returns behind it. No save, suspend or end stands
+/// behind the end. A function that is no coroutine has neither begin, save, suspend nor end (K1).
 pub fn rules_give_ends()
     ensures coroutine { (k : ℕ) (f : Function) → f.coroutine ≡ true → wrong_call k f ≡ None → IsFirstOutside k f None
-        → HasOneEnd f × ReturnsBehindEnd f }
+        → HasOneEnd f × EndsBeforeRets f × EndsOnce f }
     ensures plain { (m : Module) (k : ℕ) (f : Function) → KeepsFunctionRules m k f → f.coroutine ≡ false
-        → HasOneEnd f × ReturnsBehindEnd f }
+        → HasOneEnd f × EndsBeforeRets f × EndsOnce f }
 {}
 
 /// Where a function has one coro.end, that stands in its end block.
@@ -42,11 +43,11 @@ pub fn ends_stand_in_the_end_block()
 /// comes to no ret.
 pub fn resumed_activations_come_to_no_ret()
     ensures paths { (e : Elision) (entry : ℕ) (args : List Word) (n : ℕ) → KeepsRuns e
-        → ((func : ℕ) → ReturnsBehindEnd (function_in e func))
+        → ((func : ℕ) → EndsBeforeRets (function_in e func))
         → IsFine (framed_state_at (framed e) entry args n).outcome
         → HaveRunOut e.code (framed_state_at (framed e) entry args n) }
     ensures rets { (e : Elision) (entry : ℕ) (args : List Word) (n : ℕ) → KeepsRuns e
-        → ((func : ℕ) → ReturnsBehindEnd (function_in e func))
+        → ((func : ℕ) → EndsBeforeRets (function_in e func))
         → IsFine (framed_state_at (framed e) entry args n).outcome → (value : Option Arg)
         → (framed_state_at (framed e) entry args n).top.mode ≡ Mode.Resumed
         → fetch (function_of (framed e).given (framed_state_at (framed e) entry args n))
