@@ -1,0 +1,4 @@
+pub mod Form
+pub mod Ruled
+pub mod Ways
+pub mod Blocks
