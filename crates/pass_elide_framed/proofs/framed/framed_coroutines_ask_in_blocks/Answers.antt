@@ -1,0 +1,8 @@
+use Rattle.pass_elide_framed.proofs.Asked.{framed_asks, framed_frees}
+use Rattle.pass_elide_framed.proofs.framed.framed_coroutines_ask_in_blocks.Goals as goal
+
+pub returns-clause-asks : goal.returns-clause-asks
+returns-clause-asks c = framed_asks
+
+pub returns-clause-frees : goal.returns-clause-frees
+returns-clause-frees c = framed_frees

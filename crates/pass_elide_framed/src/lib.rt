@@ -1,0 +1,4 @@
+//! Framed forms of accepted sources have what laws on elision ask of modules.
+#![tactic(auto)]
+
+pub mod framed;
