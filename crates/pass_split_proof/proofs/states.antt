@@ -8,11 +8,12 @@ pub mod Judged
 pub mod Killed
 pub mod OwnHomes
 pub mod Refilled
+pub mod SameKind
 pub mod Saved
 pub mod Standing
 pub mod Started
 pub mod Statuses
 pub mod Twins
 pub mod Values
-pub mod Written
 pub mod Worked
+pub mod Written

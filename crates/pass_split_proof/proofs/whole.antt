@@ -4,4 +4,6 @@ pub mod Here
 pub mod Places
 pub mod Quiet
 pub mod Runs
+pub mod Starts
+pub mod Ungiven
 pub mod Woken

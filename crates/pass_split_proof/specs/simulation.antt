@@ -1,4 +1,5 @@
 pub mod Followed
 pub mod Given
+pub mod Knowing
 pub mod Premises
 pub mod Statement

@@ -2,10 +2,11 @@
 //!
 //! Frames of earlier instances may lie in the same block. What they leave to a new one is `LeavesRoom`.
 
-ghost use Rattle.std.specs.Prelude.{ℕ, ◌≡◌, true, List, [], ◌∷◌, Some, slice_get};
+ghost use Rattle.std.specs.Prelude.{ℕ, ◌≡◌, true, false, List, [], ◌∷◌, Some, slice_get};
 ghost use Rattle.pass_proofs.specs.ir_base.declared.outcome.Outcome.{Outcome};
 ghost use Rattle.pass_proofs.specs.ir_base.declared.outcome.Word.{Word};
 ghost use Rattle.pass_proofs.specs.pass_intrinsics.declared.shape.Part.{Part};
+ghost use Rattle.pass_split_proof.specs.code.Positions.{is_given};
 ghost use Rattle.pass_split_proof.specs.given_begins.Beginning.{HasBegunWithin, IsAtGivenBegin};
 ghost use Rattle.pass_split_proof.specs.given_begins.Room.{BeginsAt, ChangesOwner, HasRoom, IsBegun, IsPlaceFor};
 ghost use Rattle.pass_split_proof.specs.given_begins.Runs.{AreAllLaidOut, GivesBlocks, NestsNoFrames};
@@ -47,7 +48,7 @@ pub fn given_frames_begin_beside()
     ensures { (g : FramedGiven) (xs : List Instance) (x : Instance) (m n : List MemoryBlock) → HasRoom g xs x m n
         → AreFrames g xs m n → AreBeside g xs m n → IsLaidOut g x.coroutine → IsBegun x → (resumes : Value)
         (destroyer : Part) → is_destroyer destroyer ≡ true → StandsThere g x.coroutine destroyer
-        → BeginsAt g xs x m n resumes destroyer }
+        → is_given destroyer ≡ true → BeginsAt g xs x m n resumes destroyer }
 {}
 
 /// There is room in a place that each earlier frame of the block leaves.
@@ -70,16 +71,16 @@ pub fn begins_of_given_frames_are_followed()
 /// begins in a field of its caller's frame. Behind each begin the memories stand beside each other.
 pub fn given_begins_are_worked_beside()
     ensures first { (given : TheGiven) (resumes : Value) (destroyer : Part) → is_destroyer destroyer ≡ true
-        → StandsThere (frame_given given) 0 destroyer
+        → StandsThere (frame_given given) 0 destroyer → is_given destroyer ≡ true
         → BeginsAt (frame_given given) [] an_instance (an_owned_stack_block ∷ []) (a_stack_block ∷ []) resumes
         destroyer }
     ensures again { (given : TheGiven) (resumes : Value) (destroyer : Part) → is_destroyer destroyer ≡ true
-        → StandsThere (frame_given given) 0 destroyer
+        → StandsThere (frame_given given) 0 destroyer → is_given destroyer ≡ true
         → BeginsAt (frame_given given) (an_older ∷ []) an_instance (an_owned_stack_block ∷ [])
         (begun_in_stack given resumes destroyer) resumes destroyer }
     ensures nested { (given : TheGiven) (resumes : Value) (destroyer other : Part) → is_destroyer destroyer ≡ true
-        → StandsThere (nested_given given) 1 destroyer → is_destroyer other ≡ true
-        → StandsThere (nested_given given) 0 other
+        → StandsThere (nested_given given) 1 destroyer → is_given destroyer ≡ false → is_destroyer other ≡ true
+        → StandsThere (nested_given given) 0 other → is_given other ≡ true
         → BeginsAt (nested_given given) (a_caller ∷ []) a_callee callers_memory (callers_begun given resumes destroyer)
         resumes other }
 {}

@@ -14,7 +14,8 @@ ghost use Rattle.pass_split_proof.specs.states.Saved.{SavesIn};
 ghost use Rattle.pass_split_proof.specs.states.Values.{AreValuesOf};
 ghost use Rattle.pass_proofs.specs.pass_intrinsics.declared.shape.Part.{Part};
 ghost use Rattle.pass_split_proof.specs.states.Begun.{BeginsIn, IsFreshBlock, IsNewInstance};
-ghost use Rattle.pass_split_proof.specs.states.Instances.{AreFrames, AreLaidFrames, IsHeaded, IsLaidOut, StandsThere, in_state, is_destroyer, is_held, resumer_of};
+ghost use Rattle.pass_split_proof.specs.code.Positions.{is_given};
+ghost use Rattle.pass_split_proof.specs.states.Instances.{AreFrames, AreLaidFrames, IsHeadedIn, IsLaidOut, StandsThere, in_state, is_destroyer, is_held, resumer_of};
 ghost use Rattle.pass_split_proof.specs.states.Memories.{AreBeside, AreContents, AreTwins, AreWorldsBeside, homes_of, plain_kind};
 ghost use Rattle.pass_proofs.specs.run_framed.Framed.{FramedGiven, frame_rights, layout_of};
 ghost use Rattle.pass_proofs.specs.run_laws.access.Changed.{KeepsFree};
@@ -77,6 +78,7 @@ pub fn coroutines_begin_beside()
         → AreBeside g instances m n → IsLaidOut g x.coroutine
         → (layout_of g.layouts x.coroutine).size ≡ size → IsNewInstance x → 16 ≤ u.size → (resumes : Value)
         (destroyer : Part) → is_destroyer destroyer ≡ true → StandsThere g x.coroutine destroyer
+        → is_given destroyer ≡ false
         → BeginsIn g instances x (with_block m x.block (owned_to size)) n resumes destroyer }
 {}
 
@@ -110,7 +112,7 @@ pub fn instances_change_beside()
     ensures frames { (g : FramedGiven) (instances : List Instance) (m n : List MemoryBlock) (i : ℕ) (x : Instance)
         → slice_get instances i ≡ Some x → (status : TheStatus) (saved : Option TheSaved) (released : Bool)
         → (is_held m (in_state x status saved released) ≡ true → is_held m x ≡ true) → AreFrames g instances m n
-        → (is_held m (in_state x status saved released) ≡ true → IsHeaded g n (in_state x status saved released))
+        → (is_held m (in_state x status saved released) ≡ true → IsHeadedIn g m n (in_state x status saved released))
         → AreFrames g (slice_set instances i (in_state x status saved released)) m n }
 {}
 

@@ -21,7 +21,8 @@ ghost use Rattle.pass_proofs.specs.run_source.declared.state.Activation.{Activat
 ghost use Rattle.pass_proofs.specs.run_source.declared.state.State.{State as TheState};
 ghost use Rattle.pass_proofs.specs.run_source_tables.Given.{Given as TheGiven};
 ghost use Rattle.pass_proofs.specs.pass_intrinsics.declared.shape.Part.{Part};
-ghost use Rattle.pass_split_proof.specs.states.Instances.{IsLaidOut, in_state, is_held, part_position, resumer_of, shape_at};
+ghost use Rattle.pass_split_proof.specs.states.Instances.{IsLaidOut, destroyer_of, in_state, is_given_in, is_held, part_position, resumer_of, shape_at};
+ghost use Rattle.pass_split_proof.specs.code.Positions.{is_given};
 ghost use Rattle.pass_split_proof.specs.steps.Calls.{IsCallee};
 ghost use Rattle.pass_proofs.specs.run_laws.embedded.Related.{AreValues};
 ghost use Rattle.pass_proofs.specs.ir_paths.Slots.{allocas_of};
@@ -46,6 +47,7 @@ ghost use Rattle.pass_split_proof.specs.steps.Calling.{IsCallable, calling};
 ghost use Rattle.pass_proofs.specs.run_laws.access.Lines.{Holds, StandAt, pointer_at};
 ghost use Rattle.pass_proofs.specs.run_memory.declared.pointer.Pointer.{Pointer};
 ghost use Rattle.pass_split_proof.specs.simulation.Followed.{IsFollowed};
+ghost use Rattle.pass_split_proof.specs.simulation.Knowing.{is_for_some};
 ghost use Rattle.pass_proofs.specs.ir_model.declared.instr.Terminator.{Terminator};
 ghost use Rattle.pass_proofs.specs.ir_model.declared.operand.Intrinsic.{Intrinsic};
 ghost use Rattle.pass_proofs.specs.pass_intrinsics.Cuts.{goes_on};
@@ -260,7 +262,8 @@ pub fn begins_leave_states_related()
         (p : TheOperand) (code : HasBeginCode g h s t r p) (x : Instance) (u : MemoryBlock) (size : ℕ)
         → x.coroutine ≡ s.top.func → slice_get s.world.memory x.block ≡ Some u → IsFreshBlock size u
         → IsLaidOut g x.coroutine → (layout_of g.layouts x.coroutine).size ≡ size → IsNewInstance x → 16 ≤ u.size
-        → value_at (plain_context h t) (plain_work t) ptr p ≡ pointer_at x.block 0 → is_entering s.top.mode ≡ false
+        → value_at (plain_context h t) (plain_work t) ptr p ≡ pointer_at x.block 0
+        → is_given (destroyer_of r.top.part) ≡ false → is_entering s.top.mode ≡ false
         → AreRelated g h (begun_to s x (with_block s.world.memory x.block (owned_to size))
         (with_value s.top.values (shape_at g s.top.func).begin (pointer_at x.block 0)))
         (stands_at t (position_of (plain_function h t) code.mark) 0 (begun_work g r.top.part (plain_work t) code.name x
@@ -269,7 +272,8 @@ pub fn begins_leave_states_related()
         (p : TheOperand) (code : HasBeginCode g h s t r p) (x : Instance) (u : MemoryBlock) (size : ℕ)
         → x.coroutine ≡ s.top.func → slice_get s.world.memory x.block ≡ Some u → IsFreshBlock size u
         → IsLaidOut g x.coroutine → (layout_of g.layouts x.coroutine).size ≡ size → IsNewInstance x → 16 ≤ u.size
-        → value_at (plain_context h t) (plain_work t) ptr p ≡ pointer_at x.block 0 → t.outcome ≡ Outcome.Running
+        → value_at (plain_context h t) (plain_work t) ptr p ≡ pointer_at x.block 0
+        → is_given (destroyer_of r.top.part) ≡ false → t.outcome ≡ Outcome.Running
         → iterate (plain_step h) 5 t ≡ stands_at t (position_of (plain_function h t) code.mark) 0
         (begun_work g r.top.part (plain_work t) code.name x s.top.func) }
 {}
@@ -329,7 +333,9 @@ pub fn called_parts_follow()
         → framed_step g s ≡ continue_framed g s w.number w.instance w.suspend w.values label
         → weight (fetched_at g s) ≡ 4
         → StartsWithEnd (function_at g.given.code w.instance.coroutine) (shape_at g w.instance.coroutine).end
-        → HasCalled g h s t r w.instance part → IsFollowed g h s t }
+        → HasCalled g h s t r w.instance part
+        → (is_for_some part ≡ true
+        → is_given part ≡ is_given_in (slice_get s.world.memory w.instance.block) w.instance) → IsFollowed g h s t }
 {}
 
 /// A resume that stays in its part has called the part that goes on, in two steps.

@@ -17,6 +17,7 @@ use Rattle.pass_split_proof.proofs.begins.SaveFollowed.{held_block}
 use Rattle.pass_split_proof.proofs.giving.Constants.{not_again}
 use Rattle.pass_split_proof.proofs.giving.Given.{none_given}
 use Rattle.pass_split_proof.proofs.held.Moves.{ok_is}
+use Rattle.pass_split_proof.proofs.simulation.Knowing.{goes_knows, new_kept, same_places, set_kept}
 use Rattle.pass_split_proof.proofs.states.Twins.{twin_at}
 use Rattle.pass_split_proof.proofs.states.Values.{values_set}
 use Rattle.pass_split_proof.proofs.steps.Followed.{fine_ok, framed_does, here_on, many_followed}
@@ -28,9 +29,10 @@ use Rattle.pass_split_proof.proofs.waking.Addressed.{leads}
 use Rattle.pass_split_proof.specs.asking.Asking.{IsAsking, IsFrameThere}
 use Rattle.pass_split_proof.specs.places.Places.{IsPlace}
 use Rattle.pass_split_proof.specs.simulation.Followed.{IsFollowed}
+use Rattle.pass_split_proof.specs.simulation.Knowing.{KnowsGiven}
 use Rattle.pass_split_proof.specs.states.Activations.{Inside}
 use Rattle.pass_split_proof.specs.states.Going.{stands_at}
-use Rattle.pass_split_proof.specs.states.Instances.{IsHeaded, IsSavedAt, part_position}
+use Rattle.pass_split_proof.specs.states.Instances.{IsHeadedIn, IsSavedAt, part_position}
 use Rattle.pass_split_proof.specs.states.Memories.{homes_of}
 use Rattle.pass_split_proof.specs.states.Related.{AreRelated, IsOn, credit_of, fetched_at, weight}
 use Rattle.pass_split_proof.specs.states.Values.{AreValuesOf}
@@ -138,7 +140,7 @@ module _ (g : FramedGiven) (h : PlainGiven) (s : State) (t : PlainState) (r : Ar
   is = does ∙ ap (or_undefined g.given s) next.1 ∙ told_is.1
 
   -- what the header names
-  headed : IsHeaded g t.world.memory x
+  headed : IsHeadedIn g s.world.memory t.world.memory x
   headed = r.frames.headed w.number x w.there (there w)
 
   saved : IsSavedAt g t.world.memory x w.suspend
@@ -284,6 +286,13 @@ module _ (g : FramedGiven) (h : PlainGiven) (s : State) (t : PlainState) (r : Ar
         (subst (λ (y : Fetched). 2 + credit_of (gives s (Some name) truth) ≤ weight y + credit_of s) (sym k.at.there)
         (reach (credit_of s))) on_way
         (subst (AreRelated g h (gives s (Some name) truth)) (sym (ap (plain_step h) step_one ∙ step_two)) related)
+        (λ know. subst (KnowsGiven g (gives s (Some name) truth)) (sym (ap (plain_step h) step_one ∙ step_two))
+        (goes_knows g s t s.instances s.world.memory two.values (record { each = λ b e. refl })
+        (same_places s.instances s.world.memory) know
+        (λ frame mode. set_kept g h s t r one.values truth s.top.block s.top.at (here k.at.result) k.at.there name e
+        frame mode
+        ∙ new_kept g h s t r t.top.values header t.top.block t.top.at (load_pointer n k.at.arg.value) code.stands.0 n
+        refl frame mode)))
       where
         reach : (n : ℕ) → 2 + n ≤ 4 + n
         reach n = omega arith

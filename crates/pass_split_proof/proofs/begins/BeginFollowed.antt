@@ -1,7 +1,7 @@
 -- A begin of a ramp is followed in its part, in five steps.
 use Rattle.std.proofs.Common.{◌≡◌, ℕ, ◌+◌, ◌<◌, ◌≤◌, ◌^◌, true, false, List, ◌∷◌, length, Option, Some, refl, sym, ap, ◌∙◌, subst, arith, if◌then◌else◌}
 use Rattle.std.proofs.lemmas.Bool.{false≢true}
-use Rattle.std.specs.Prelude.{is_none, ◌&&◌}
+use Rattle.std.specs.Prelude.{is_none, not, slice_get, ◌&&◌, ◌||◌, ◌==◌}
 use Rattle.std.proofs.lemmas.Option.{slice_get_within}
 use Rattle.pass_proofs.specs.ir_base.declared.outcome.Outcome.{Outcome}
 use Rattle.pass_proofs.specs.ir_model.Ty.{Ty, ptr}
@@ -18,16 +18,22 @@ use Rattle.pass_proofs.specs.pass_split.Pieces.{begins_again}
 use Rattle.pass_split_proof.proofs.begins.Begun.{HasBegun, has_begun}
 use Rattle.pass_split_proof.proofs.begins.Calm.{IsQuiet, line_quiet}
 use Rattle.pass_split_proof.proofs.begins.SaveCode.{IsMarked, marked, shape_is}
+use Rattle.pass_split_proof.proofs.simulation.Knowing.{more_calls, more_know, newest_knows, same_extends}
+use Rattle.pass_split_proof.proofs.states.SameKind.{given_kept}
 use Rattle.pass_split_proof.proofs.states.OwnHomes.{own_pointer}
+use Rattle.pass_split_proof.proofs.states.Written.{length-changed}
 use Rattle.pass_split_proof.proofs.steps.BegunStates.{begin_related, begin_steps, runs}
 use Rattle.pass_split_proof.proofs.steps.Followed.{framed_does, many_followed}
 use Rattle.pass_split_proof.proofs.steps.Operands.{operand_stands}
 use Rattle.pass_split_proof.specs.begins.Beginning.{IsAtBegin}
 use Rattle.pass_split_proof.specs.places.Places.{Remain}
 use Rattle.pass_split_proof.specs.simulation.Followed.{IsFollowed}
+use Rattle.pass_split_proof.specs.simulation.Knowing.{KnowsGiven}
 use Rattle.pass_split_proof.specs.states.Activations.{RunsPart, is_entering}
 use Rattle.pass_split_proof.specs.states.Begun.{IsNewInstance}
-use Rattle.pass_split_proof.specs.states.Instances.{StandsThere, address_of_part, destroyer_of, shape_at}
+use Rattle.pass_split_proof.specs.code.Positions.{is_given}
+use Rattle.pass_split_proof.specs.states.Going.{stands_at}
+use Rattle.pass_split_proof.specs.states.Instances.{StandsThere, address_of_part, destroyer_of, is_given_in, shape_at}
 use Rattle.pass_split_proof.specs.states.Memories.{homes_of}
 use Rattle.pass_split_proof.specs.states.Related.{AreRelated, IsOn, credit_of, is_ramp, left_of_call, left_of_calls, weight}
 use Rattle.pass_split_proof.specs.steps.Begins.{HasBeginCode, begun_to}
@@ -36,8 +42,10 @@ use Rattle.pass_proofs.specs.run_framed.Framed.{FramedGiven, framed_begin, frame
 use Rattle.pass_proofs.specs.run_laws.access.Lines.{pointer_at}
 use Rattle.pass_proofs.specs.run_laws.changed.Changed.{Each}
 use Rattle.pass_proofs.specs.run_laws.memory.Pointers.{IsValue}
-use Rattle.pass_proofs.specs.run_memory.Memory.{owned_to, with_block}
+use Rattle.pass_proofs.specs.run_memory.Memory.{owned_to, same_kind, with_block}
 use Rattle.pass_proofs.specs.run_memory.Pointers.{offset_of}
+use Rattle.pass_proofs.specs.run_memory.declared.block.Kind.{Kind}
+use Rattle.pass_proofs.specs.run_memory.declared.block.MemoryBlock.{MemoryBlock}
 use Rattle.pass_proofs.specs.run_memory.declared.pointer.Pointer.{Pointer}
 use Rattle.pass_proofs.specs.run_memory.declared.pointer.Value.{Value}
 use Rattle.run_access_worked.specs.run_plain.Plain.{PlainGiven, plain_context, plain_function, plain_step, plain_work}
@@ -48,7 +56,7 @@ use Rattle.pass_proofs.specs.run_source.declared.state.Instance.{Instance}
 use Rattle.pass_proofs.specs.run_source.declared.state.Mode.{Mode}
 use Rattle.pass_proofs.specs.run_source.declared.state.State.{State}
 use Rattle.pass_proofs.specs.run_step.Step.{AtInstr, Coro, Fetched, value_at}
-use Rattle.pass_proofs.specs.run_step.Values.{address_of, operand_value, with_value}
+use Rattle.pass_proofs.specs.run_step.Values.{Env, address_of, operand_value, with_value}
 use Rattle.pass_proofs.specs.run_step.declared.world.Slot.{Slot}
 
 module _ (g : FramedGiven) (h : PlainGiven) (s : State) (t : PlainState) (r : AreRelated g h s t)
@@ -144,6 +152,10 @@ module _ (g : FramedGiven) (h : PlainGiven) (s : State) (t : PlainState) (r : Ar
       more : (n a b : ℕ) → n + 1 ≤ a → a ≡ b → n < b
       more n a b le e = omega (arith, le, e)
 
+  -- a destroy is to call the part for frames that were allocated
+  own_part : is_given (destroyer_of r.top.part) ≡ false
+  own_part = ap (λ (p : Part). is_given (destroyer_of p)) part_is
+
   -- ---- the memory's address in the part
 
   stands : IsValue (homes_of s.world.memory) (pointer_at begun.block 0)
@@ -181,15 +193,59 @@ module _ (g : FramedGiven) (h : PlainGiven) (s : State) (t : PlainState) (r : Ar
   related = subst (λ (z : State). AreRelated g h z (iterate (plain_step h) 5 t)) (sym same_state)
       (subst (AreRelated g h w)
       (sym (begin_steps g h s t r k.memory.value has_code x begun.source size refl begun.there begun.fresh k.laid k.sized
-      new roomy leads (r.outcome ∙ goes)))
+      new roomy leads own_part (r.outcome ∙ goes)))
       (begin_related g h s t r k.memory.value has_code x begun.source size refl begun.there begun.fresh k.laid k.sized new
-      roomy leads settled))
+      roomy leads own_part settled))
+
+  -- ---- what is known of frames that callers give
+
+  abbrev behind : List MemoryBlock
+  behind = with_block s.world.memory begun.block (owned_to size)
+
+  kinds : (c : ℕ) (z : Instance) → is_given_in (slice_get behind c) z ≡ is_given_in (slice_get s.world.memory c) z
+  kinds c z = given_kept (owned_to size) (λ y. refl) s.world.memory begun.block c z
+
+  -- the frame wasn't given
+  ungiven : is_given_in (slice_get behind begun.block) x ≡ false
+  ungiven = kinds begun.block x ∙ ap (λ (o : Option MemoryBlock). is_given_in o x) begun.there
+      ∙ ap (λ (y : Kind). same_kind y Kind.Stack || not (0 == 0)) begun.fresh.kind
+
+  no_frame : (mode : Mode) (frame : Value) → mode ≡ Mode.Ramp → mode ≡ Mode.GivenRamp frame → ⊥
+  no_frame mode frame e f = absurd (other (sym e ∙ f))
+    where
+      other : Mode.Ramp ≡ Mode.GivenRamp frame → ⊥
+      other h = cc
+
+  abbrev values : Env
+  values = with_value (with_value t.top.values (shape_at g s.top.func).begin (pointer_at x.block 0)) has_code.name
+      (pointer_at x.block 8)
+
+  knows_behind : KnowsGiven g s t
+      → KnowsGiven g w (stands_at t t.top.block 0 (record { world = t.world; values = values }))
+  knows_behind know = (
+    (
+      newest_knows g s.instances x behind s.top.func s.top.mode t.top.func values r.top.part r.top.func
+          (ungiven ∙ sym (ap is_given part_is)) (λ frame e. absurd (no_frame s.top.mode frame k.mode e)),
+      more_know g h.code s.instances x s.world.memory behind (homes_of s.world.memory)
+          (same_extends s.world.memory behind (length-changed s.world.memory begun.block (owned_to size)))
+          (λ i z e. kinds z.block z) s.top.result s.below t.below r.below know.0.1,
+    ),
+    more_calls g s.instances x s.world.memory behind (λ i z e. kinds z.block z)
+        (λ held. absurd (false≢true (sym ungiven ∙ held))) know.1,
+  )
+
+  knows : KnowsGiven g s t → KnowsGiven g u (iterate (plain_step h) 5 t)
+  knows know = subst (λ (z : State). KnowsGiven g z (iterate (plain_step h) 5 t)) (sym same_state)
+      (subst (KnowsGiven g w)
+      (sym (begin_steps g h s t r k.memory.value has_code x begun.source size refl begun.there begun.fresh k.laid k.sized
+      new roomy leads own_part (r.outcome ∙ goes)))
+      (knows_behind know))
 
   quiet : (n : ℕ) → n ≤ 4 → IsQuiet t (iterate (plain_step h) n t)
   quiet n le = line_quiet h (begin_stores (shape_at g s.top.func) r.top.part has_code.name k.memory.value) t _
       (r.outcome ∙ goes) has_code.stands.stand
       (runs g h s t r k.memory.value has_code x begun.source size refl begun.there begun.fresh k.laid k.sized new roomy
-      leads)
+      leads own_part)
       (refl, (refl, (refl, (refl, tt)))) n le
 
   on_way : (n : ℕ) → n < 5 → IsOn s (iterate (plain_step h) n t)
@@ -214,7 +270,7 @@ module _ (g : FramedGiven) (h : PlainGiven) (s : State) (t : PlainState) (r : Ar
   pub begin_followed : IsFollowed g h s t
   begin_followed = many_followed g h s t r goes 5 u (omega arith) (omega arith) begun.is
       (subst (λ (y : Fetched). 5 + credit_of u ≤ weight y + credit_of s) (sym k.there)
-      (pays (left_of_call s.top) (left_of_call u.top) (left_of_calls s.below) left_one left_none)) on_way related
+      (pays (left_of_call s.top) (left_of_call u.top) (left_of_calls s.below) left_one left_none)) on_way related knows
     where
       pays : (a b n : ℕ) → a ≡ 1 → b ≡ 0 → 5 + (b + n) ≤ 4 + (a + n)
       pays a b n e z = omega (arith, e, z)

@@ -1,7 +1,7 @@
 -- A save is followed in its part, in four steps.
 use Rattle.std.proofs.Common.{◌≡◌, ℕ, ◌+◌, ◌<◌, ◌≤◌, ◌^◌, Bool, true, false, List, length, Option, Some, None, Ok, Err, Result, refl, sym, ap, ◌∙◌, subst, arith}
 use Rattle.std.proofs.lemmas.Bool.{and_parts, false≢true}
-use Rattle.std.specs.Prelude.{not, option_and_then, option_map, slice_get, ◌&&◌}
+use Rattle.std.specs.Prelude.{not, option_and_then, option_map, pos, slice_get, slice_set, ◌&&◌}
 use Rattle.pass_proofs.specs.ir_base.declared.cause.Cause.{Cause}
 use Rattle.pass_proofs.specs.ir_base.declared.outcome.Outcome.{Outcome}
 use Rattle.pass_proofs.specs.ir_model.Names.{function_at}
@@ -10,10 +10,12 @@ use Rattle.pass_proofs.specs.ir_model.declared.operand.Callee.{Callee}
 use Rattle.pass_proofs.specs.ir_model.declared.operand.Intrinsic.{Intrinsic}
 use Rattle.pass_proofs.specs.ir_paths.Windows.{suspend_of}
 use Rattle.pass_proofs.specs.ir_paths.declared.point.Point.{Point}
-use Rattle.pass_proofs.specs.pass_intrinsics.Lowered.{number_of_save, save_stores}
+use Rattle.pass_proofs.specs.ir_model.declared.operand.Operand.{Operand}
+use Rattle.pass_proofs.specs.pass_intrinsics.Lowered.{address, number_of_save, save_stores}
 use Rattle.pass_proofs.specs.pass_intrinsics.declared.shape.Shape.{Shape}
 use Rattle.pass_split_proof.proofs.begins.Calm.{IsQuiet, line_quiet}
 use Rattle.pass_split_proof.proofs.begins.SaveCode.{save_code, save_number}
+use Rattle.pass_split_proof.proofs.simulation.Knowing.{goes_knows, new_kept, set_places}
 use Rattle.pass_split_proof.proofs.states.Judged.{numbering}
 use Rattle.pass_split_proof.proofs.states.Twins.{twin_at}
 use Rattle.pass_split_proof.proofs.steps.Followed.{framed_does, many_followed}
@@ -22,7 +24,8 @@ use Rattle.pass_split_proof.specs.begins.Saving.{IsAtSave}
 use Rattle.pass_proofs.specs.split.rules.Reached.{IsLedTo}
 use Rattle.pass_split_proof.specs.code.Numbers.{IsNumbered}
 use Rattle.pass_split_proof.specs.simulation.Followed.{IsFollowed}
-use Rattle.pass_split_proof.specs.states.Instances.{IsLaidOut, is_given_in, is_held, is_held_in, lives_in, resumer_of, shape_at}
+use Rattle.pass_split_proof.specs.simulation.Knowing.{KnowsGiven}
+use Rattle.pass_split_proof.specs.states.Instances.{IsLaidOut, in_state, is_given_in, is_held, is_held_in, lives_in, resumer_of, shape_at}
 use Rattle.pass_split_proof.specs.states.Related.{AreRelated, IsOn, credit_of, weight}
 use Rattle.pass_split_proof.specs.steps.Saves.{HasSaveCode, saved_work}
 use Rattle.pass_proofs.specs.run_agreement.Machines.{IsFine, iterate}
@@ -40,7 +43,8 @@ use Rattle.pass_proofs.specs.run_source.declared.state.State.{State}
 use Rattle.pass_proofs.specs.run_source.declared.state.Status.{Status}
 use Rattle.pass_proofs.specs.run_step.Results.{and_then, found, ok_if}
 use Rattle.pass_proofs.specs.run_step.Step.{AtInstr, Coro, Fetched, Work}
-use Rattle.pass_proofs.specs.run_step.Values.{value_in}
+use Rattle.pass_proofs.specs.run_memory.declared.pointer.Value.{Value}
+use Rattle.pass_proofs.specs.run_step.Values.{value_in, with_value}
 
 -- ---- the framed run
 
@@ -212,6 +216,23 @@ module _ (g : FramedGiven) (h : PlainGiven) (s : State) (t : PlainState) (r : Ar
   abbrev w : Work
   w = saved_work g (plain_work t) code.name x number.0 (resumer_of g x.coroutine counted.0.suspend)
 
+  -- what is known of frames that callers give
+  abbrev at_index : Value
+  at_index = pointer_at x.block (x.start + (layout_of g.layouts x.coroutine).index)
+
+  knows : KnowsGiven g s t → KnowsGiven g u (iterate (plain_step h) 4 t)
+  knows know = subst (KnowsGiven g u)
+      (sym (save_steps g h s t r saved.number x number.0 code saved.there mine at_begin held laid small saved.suspend
+      counted.0 counted.1 kept (r.outcome ∙ runs)))
+      (goes_knows g s t
+      (slice_set s.instances saved.number (in_state x (Status.Suspended saved.suspend s.top.values) kept x.released))
+      s.world.memory (with_value t.top.values code.name at_index) (record { each = λ b e. refl })
+      (set_places s.instances s.world.memory saved.number x
+      (in_state x (Status.Suspended saved.suspend s.top.values) kept x.released) saved.there refl refl) know
+      (new_kept g h s t r t.top.values at_index t.top.block t.top.at
+      (address code.name (Operand.Local (shape_at g s.top.func).begin) (pos (shape_at g s.top.func).index))
+      code.stands.stand.0 code.name refl))
+
   quiet : (n : ℕ) → n ≤ 3 → IsQuiet t (iterate (plain_step h) n t)
   quiet n le = line_quiet h (save_stores (shape_at g s.top.func) code.name number.0) t w (r.outcome ∙ runs)
       code.stands.stand
@@ -233,7 +254,7 @@ module _ (g : FramedGiven) (h : PlainGiven) (s : State) (t : PlainState) (r : Ar
   pub save_followed : IsFollowed g h s t
   save_followed = many_followed g h s t r runs 4 u (omega arith) (omega arith) saved.is
       (subst (λ (y : Fetched). 4 + credit_of u ≤ weight y + credit_of s) (sym k.there) (reach (credit_of s))) on_way
-      related
+      related knows
     where
       reach : (n : ℕ) → 4 + n ≤ 4 + n
       reach n = omega arith

@@ -9,6 +9,10 @@ use Rattle.pass_proofs.specs.ir_model.declared.operand.Arg.{Arg}
 use Rattle.pass_proofs.specs.ir_model.declared.operand.Callee.{Callee}
 use Rattle.pass_proofs.specs.pass_intrinsics.declared.shape.Part.{Part}
 use Rattle.pass_proofs.specs.pass_split.Pieces.{begins_again}
+use Rattle.pass_proofs.specs.pass_intrinsics.Shapes.{given_name}
+use Rattle.pass_split_proof.proofs.simulation.Knowing.{calls_knows, result_unset}
+use Rattle.pass_split_proof.specs.simulation.Knowing.{KnowsGiven}
+use Rattle.pass_proofs.specs.run_source.declared.state.Mode.{Mode}
 use Rattle.pass_split_proof.proofs.steps.Calling.{IsCounted, counted_is, counted_related}
 use Rattle.pass_split_proof.proofs.steps.Entered.{calls_related}
 use Rattle.pass_split_proof.proofs.steps.Followed.{call_followed, framed_does}
@@ -18,7 +22,7 @@ use Rattle.pass_split_proof.proofs.steps.Settled.{plain_does}
 use Rattle.pass_split_proof.specs.calling.Named.{IsAtCall}
 use Rattle.pass_split_proof.specs.simulation.Followed.{IsFollowed}
 use Rattle.pass_split_proof.specs.states.Activations.{Inside}
-use Rattle.pass_split_proof.specs.states.Instances.{part_position}
+use Rattle.pass_split_proof.specs.states.Instances.{part_position, shape_at}
 use Rattle.pass_split_proof.specs.states.Memories.{homes_of}
 use Rattle.pass_split_proof.specs.states.Related.{AreRelated, is_ramp, left_of_call, left_of_calls, weight}
 use Rattle.pass_split_proof.specs.steps.Operands.{IsReadable}
@@ -26,14 +30,20 @@ use Rattle.pass_proofs.specs.run_framed.Framed.{FramedGiven, enter_given, framed
 use Rattle.pass_proofs.specs.run_laws.changed.Changed.{Each, values_of}
 use Rattle.pass_proofs.specs.run_laws.embedded.Related.{AreValues}
 use Rattle.pass_proofs.specs.run_memory.declared.pointer.Value.{Value}
-use Rattle.run_access_worked.specs.run_plain.Plain.{PlainGiven, counted, plain_call, plain_context, plain_step, plain_work}
+use Rattle.run_access_worked.specs.run_plain.Plain.{PlainGiven, counted, plain_call, plain_called, plain_context, plain_step, plain_work}
 use Rattle.run_access_worked.specs.run_plain.declared.state.PlainState.{PlainState}
-use Rattle.pass_proofs.specs.run_source.Source.{enter}
+use Rattle.pass_proofs.specs.run_source.Source.{enter, mode_of}
 use Rattle.pass_proofs.specs.run_source.State.{function_of, work_of}
 use Rattle.pass_proofs.specs.run_source.declared.state.Activation.{Activation}
 use Rattle.pass_proofs.specs.run_source.declared.state.State.{State}
 use Rattle.pass_proofs.specs.run_step.Step.{AtInstr, Enter, Fetched, action_of, named_call}
 use Rattle.pass_proofs.specs.run_step.Values.{arg_values}
+
+-- a call by the name of a function gives no frame
+called_ungiven : (coroutine : Bool) (frame : Value) → (if coroutine then Mode.Ramp else Mode.Plain)
+    ≡ Mode.GivenRamp frame → ⊥
+called_ungiven true frame e = cc
+called_ungiven false frame e = cc
 
 -- a call makes at most one ramp more that hasn't begun
 pub left_low : (a : Activation) → left_of_call a ≤ 1
@@ -110,12 +120,21 @@ module _ (g : FramedGiven) (h : PlainGiven) (s : State) (t : PlainState) (r : Ar
         (Inside s.top.mode k.settled copied.1)
         (record { before = s.top.at; at = refl; instr = i; there = k.there; is = refl }) k.others))
 
+    know : KnowsGiven g s t
+        → KnowsGiven g (enter g.given s k.func vs k.result) (counted h to (plain_call h t to us k.result false))
+    know known = subst (KnowsGiven g (enter g.given s k.func vs k.result)) (sym tally.is)
+        (calls_knows g h s t k.func (mode_of (function_at g.given.code k.func)) k.result to
+        (plain_called h.code to us k.result).values known
+        (λ frame e. absurd (called_ungiven (function_at g.given.code k.func).coroutine frame e))
+        (λ frame e sets. result_unset g h s t r frame e s.top.block s.top.at i k.there
+        (given_name (shape_at g s.top.func)) sets refl))
+
     pub call_to_followed : IsFollowed g h s t
     call_to_followed = call_followed g h s t r runs (enter g.given s k.func vs k.result)
         (counted h to (plain_call h t to us k.result false)) is goes
         (subst (λ (x : Fetched). 2 ≤ weight x) (sym k.there) (omega arith))
         (more (left_of_call (enter g.given s k.func vs k.result).top) (left_of_call s.top) (left_of_calls s.below)
-        (left_low (enter g.given s k.func vs k.result).top)) related
+        (left_low (enter g.given s k.func vs k.result).top)) related know
       where
         more : (n a b : ℕ) → n ≤ 1 → n + (a + b) ≤ 1 + (a + b)
         more n a b low = omega arith

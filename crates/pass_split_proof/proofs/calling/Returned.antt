@@ -7,8 +7,10 @@ use Rattle.pass_proofs.specs.ir_base.declared.outcome.Outcome.{Outcome}
 use Rattle.pass_proofs.specs.ir_model.Names.{function_at}
 use Rattle.pass_proofs.specs.ir_model.declared.instr.Terminator.{Terminator}
 use Rattle.pass_proofs.specs.ir_model.declared.operand.Arg.{Arg}
+use Rattle.pass_split_proof.proofs.simulation.Knowing.{back_knows, over_knows}
+use Rattle.pass_split_proof.specs.simulation.Knowing.{KnowsGiven}
 use Rattle.pass_split_proof.proofs.branching.Terminators.{code}
-use Rattle.pass_split_proof.proofs.steps.Calls.{frames_gone, homes_stay, length_gone, returns_related, world_gone}
+use Rattle.pass_split_proof.proofs.steps.Calls.{ext, frames_gone, homes_stay, length_gone, returns_related, world_gone}
 use Rattle.pass_split_proof.proofs.steps.Followed.{framed_does, one_followed}
 use Rattle.pass_split_proof.proofs.steps.Operands.{operand_stands}
 use Rattle.pass_split_proof.proofs.steps.Settled.{plain_does}
@@ -82,7 +84,8 @@ module _ (g : FramedGiven) (h : PlainGiven) (s : State) (t : PlainState) (r : Ar
     (stands : IsValue (homes_of z.world.memory) (unwrap_or v Value.Poison) (unwrap_or u Value.Poison))
     (same : (o : Outcome) → outcome_of v ≡ Ok o → outcome_of u ≡ Ok o)
     (ours : framed_step g s ≡ or_undefined g.given s (return z v))
-    (theirs : plain_step h t ≡ plain_or_undefined h t (plain_pop (plain_returned t) u t.below)) where
+    (theirs : plain_step h t ≡ plain_or_undefined h t (plain_pop (plain_returned t) u t.below))
+    (knows : KnowsGiven g s t → KnowsGiven g z t) where
   -- of the run
   over_by : (x : Result Outcome Cause) → outcome_of v ≡ x → z.below ≡ [] → t.below ≡ [] → IsFollowed g h s t
   over_by (Err c) e none none_too = absurd (subst (λ (y : State). IsFine y.outcome) (ours
@@ -100,6 +103,7 @@ module _ (g : FramedGiven) (h : PlainGiven) (s : State) (t : PlainState) (r : Ar
       ∙ ap (λ (x : Result Outcome Cause). plain_or_undefined h t (and_then x (λ (o : Outcome).
       Ok (record (plain_returned t) { outcome = o })))) (same o e))
       low (over_related g h z t rz settled o none none_too)
+      (λ know. over_knows g z t (ext g h z t rz None None) o o (knows know))
 
   -- to the activation below
   back_to : (a : Activation) (rest : List Activation) (b : PlainActivation) (bs : List PlainActivation)
@@ -115,6 +119,8 @@ module _ (g : FramedGiven) (h : PlainGiven) (s : State) (t : PlainState) (r : Ar
       (more (left_of_calls (a ∷ rest)) (left_of_call z.top) (left_of_calls z.below) (credit_of s)
       (ap left_of_calls ours_below) low)
       (returns_related g h z t rz v u a b waits stands rest bs all)
+      (λ know. back_knows g z t (ext g h z t rz None None) v u a rest b bs ours_below theirs_below rz.top.result
+      (knows know))
     where
       more : (n k l c : ℕ) → l ≡ n → k + l ≤ c → n ≤ c
       more n k l c e le = omega (arith, e, le)
@@ -147,7 +153,7 @@ module _ (g : FramedGiven) (h : PlainGiven) (s : State) (t : PlainState) (r : Ar
   return_followed None k = both_return g h s t r runs fine s r k.settled (reach (credit_of s)) None None tt (λ o e. e)
       (framed_does g s (AtTerm (Terminator.Ret None)) (Return None) runs k.there refl refl)
       (plain_does h t (AtTerm (Terminator.Ret None)) (Return None) (r.outcome ∙ runs)
-      (code g h s t r (Terminator.Ret None) runs fine k).0 refl)
+      (code g h s t r (Terminator.Ret None) runs fine k).0 refl) (λ know. know)
   return_followed (Some arg) k =
       let v = arg_value g.given.code s.top.values arg in
       let u = arg_value h.code t.top.values arg in
@@ -156,4 +162,4 @@ module _ (g : FramedGiven) (h : PlainGiven) (s : State) (t : PlainState) (r : Ar
       both_return g h s t r runs fine s r k.settled (reach (credit_of s)) (Some v) (Some u) stands (same_outcome v u stands)
       (framed_does g s (AtTerm (Terminator.Ret (Some arg))) (Return (Some v)) runs k.there refl refl)
       (plain_does h t (AtTerm (Terminator.Ret (Some arg))) (Return (Some u)) (r.outcome ∙ runs)
-      (code g h s t r (Terminator.Ret (Some arg)) runs fine k).0 refl)
+      (code g h s t r (Terminator.Ret (Some arg)) runs fine k).0 refl) (λ know. know)

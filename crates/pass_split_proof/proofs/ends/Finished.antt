@@ -2,6 +2,7 @@
 use Rattle.std.proofs.Common.{◌≡◌, ℕ, inr, Bool, true, false, List, Option, Some, None, refl, ap, ◌∙◌, if◌then◌else◌}
 use Rattle.std.proofs.lemmas.Bool.{and_from, and_parts, false≢true}
 use Rattle.std.specs.Prelude.{not, option_and_then, option_map, slice_get, slice_set, ◌&&◌, ◌||◌, ◌==◌}
+use Rattle.pass_split_proof.proofs.simulation.Knowing.{KeepsPlaces, same_places, set_places}
 use Rattle.pass_split_proof.proofs.states.Advanced.{KeepsFrames, same_frames}
 use Rattle.pass_split_proof.proofs.states.Judged.{numbering}
 use Rattle.pass_split_proof.proofs.states.Statuses.{runs_headed, status_beside, status_frames}
@@ -30,6 +31,7 @@ pub record HasEnded (g : FramedGiven) (h : PlainGiven) (s : State) (t : PlainSta
   pub beside : AreBeside g instances s.world.memory t.world.memory
   pub frames : AreFrames g instances s.world.memory t.world.memory
   pub keeps : KeepsFrames s.instances instances
+  pub places : KeepsPlaces s.instances instances s.world.memory s.world.memory
 
 abbrev pub finished : Instance → Instance
 finished x = record x { status = Status.Finished }
@@ -61,6 +63,7 @@ module _ (g : FramedGiven) (h : PlainGiven) (s : State) (t : PlainState) (r : Ar
     beside = r.world.memory;
     frames = r.frames;
     keeps = same_frames s.instances;
+    places = same_places s.instances s.world.memory;
   }
 
   chosen : (b : Bool) → s.top.has_left ≡ b → (if s.top.has_left then s else framed_finish s) ≡
@@ -96,6 +99,7 @@ module _ (g : FramedGiven) (h : PlainGiven) (s : State) (t : PlainState) (r : Ar
           (λ held. runs_headed g s.instances s.world.memory t.world.memory i x there Status.Finished x.last_save
           x.released (r.frames.headed i x there (held_too (slice_get s.world.memory x.block) x held)) (inr refl));
       keeps = state_frames s.instances i x Status.Finished x.last_save x.released there;
+      places = set_places s.instances s.world.memory i x (finished x) there refl refl;
     }
 
   module _ (allocated : HasOwnFrame s) where

@@ -8,12 +8,14 @@ use Rattle.pass_proofs.specs.ir_model.declared.instr.Instr.{Instr}
 use Rattle.pass_proofs.specs.ir_model.declared.module.Function.{Function}
 use Rattle.pass_proofs.specs.pass_front.Front.{allocas_of}
 use Rattle.pass_split_proof.proofs.making.Allocas.{fewer_markers, made, made_too, makes_slot, no_allocator, slot, slot_made}
+use Rattle.pass_split_proof.proofs.simulation.Knowing.{turns_knows}
 use Rattle.pass_split_proof.proofs.states.Advanced.{all_beside_on, frame_on, same_frames}
 use Rattle.pass_split_proof.proofs.states.Fresh.{got_before}
 use Rattle.pass_split_proof.proofs.steps.Followed.{one_followed}
-use Rattle.pass_split_proof.proofs.steps.Slots.{grows, homes_grow, slot_beside, slot_frames, stand}
+use Rattle.pass_split_proof.proofs.steps.Slots.{grows, homes_grow, slot_beside, slot_frames, slot_places, stand}
 use Rattle.pass_split_proof.specs.entering.Entering.{IsMakingAgain}
 use Rattle.pass_split_proof.specs.simulation.Followed.{IsFollowed}
+use Rattle.pass_split_proof.specs.simulation.Knowing.{KnowsGiven}
 use Rattle.pass_split_proof.specs.states.Activations.{IsReturning, Making, RunsPart}
 use Rattle.pass_split_proof.specs.states.Instances.{IsIndexed, index_length}
 use Rattle.pass_split_proof.specs.states.Memories.{homes_of, plain_kind}
@@ -28,6 +30,7 @@ use Rattle.pass_proofs.specs.run_laws.memory.Standing.{blank_block}
 use Rattle.pass_proofs.specs.run_memory.Memory.{digits, ended, fresh, owner_rights}
 use Rattle.pass_proofs.specs.run_memory.declared.block.Kind.{Kind}
 use Rattle.pass_proofs.specs.run_memory.declared.block.MemoryBlock.{MemoryBlock}
+use Rattle.pass_proofs.specs.run_memory.declared.pointer.Value.{Value}
 use Rattle.run_access_worked.specs.run_plain.Plain.{PlainGiven, plain_settled, plain_slot}
 use Rattle.run_access_worked.specs.run_plain.declared.state.PlainState.{PlainState}
 use Rattle.pass_proofs.specs.run_source.State.{function_of, settled, with_slots}
@@ -183,9 +186,18 @@ module _ (g : FramedGiven) (h : PlainGiven) (s : State) (t : PlainState) (r : Ar
         chain : (a b c : ℕ) → a ≤ b → b ≤ c → a ≤ c
         chain a b c p q = omega arith
 
+    no_ramp : (frame : Value) → Mode.Entering from label ≡ Mode.GivenRamp frame → ⊥
+    no_ramp frame e = cc
+
+    knows : KnowsGiven g s t → KnowsGiven g u w
+    knows = turns_knows g s t s.instances work.world.memory work_too.values
+        (homes_grow g h s t r (Some k.alloca.name) size k.alloca.align (alloca_kind f) marked too s.world.allocs)
+        (slot_places g h s t r (Some k.alloca.name) size k.alloca.align (alloca_kind f) marked too s.world.allocs)
+        (Mode.Entering from label) no_ramp
+
     pub again_followed : IsFollowed g h s t
     again_followed = one_followed g h s t r runs u w is (makes_slot g h s t r runs fine k.alloca here)
-        (fewer (left_of_call s.top) (left_of_calls s.below)) related
+        (fewer (left_of_call s.top) (left_of_calls s.below)) related knows
       where
         fewer : (a n : ℕ) → 0 + n ≤ a + n
         fewer a n = omega arith

@@ -16,17 +16,19 @@ use Rattle.pass_split_proof.proofs.begins.SaveCode.{shape_is}
 use Rattle.pass_split_proof.proofs.entering.Again.{here, indexed, old, unlike}
 use Rattle.pass_split_proof.proofs.giving.Frames.{block_there}
 use Rattle.pass_split_proof.proofs.making.Allocas.{fewer_markers, made, made_too, makes_slot, slot, slot_made}
+use Rattle.pass_split_proof.proofs.simulation.Knowing.{turns_knows}
 use Rattle.pass_split_proof.proofs.states.Advanced.{all_beside_on, frame_on, same_frames}
 use Rattle.pass_split_proof.proofs.states.Twins.{twin_at}
 use Rattle.pass_split_proof.proofs.steps.Dispatched.{leads_on, quiet_on}
 use Rattle.pass_split_proof.proofs.steps.Followed.{here_on}
 use Rattle.pass_split_proof.proofs.steps.Saves.{values_extra}
-use Rattle.pass_split_proof.proofs.steps.Slots.{grows, homes_grow, slot_beside, slot_frames, stand}
+use Rattle.pass_split_proof.proofs.steps.Slots.{grows, homes_grow, slot_beside, slot_frames, slot_places, stand}
 use Rattle.pass_split_proof.proofs.steps.WokenStates.{is_edge, none_entering, returns_there}
 use Rattle.pass_split_proof.specs.code.Entry.{GoesBack, HasEntry}
 use Rattle.pass_split_proof.specs.entering.Entering.{GoesBehind, IsMakingAgain}
 use Rattle.pass_split_proof.specs.places.Places.{Enters, IsPlace, Leads, Straight, ThroughDone, entering}
 use Rattle.pass_split_proof.specs.simulation.Followed.{IsFollowed, ShowsOn}
+use Rattle.pass_split_proof.specs.simulation.Knowing.{KnowsGiven}
 use Rattle.pass_split_proof.specs.states.Activations.{HasFrame, Inside, RunsPart}
 use Rattle.pass_split_proof.specs.states.Going.{stands_at}
 use Rattle.pass_split_proof.specs.states.Instances.{index_length, part_position, shape_at}
@@ -40,6 +42,7 @@ use Rattle.pass_proofs.proofs.run_laws.memory.Written.{same_some}
 use Rattle.pass_proofs.proofs.run_laws.transfer.Sets.{set_elsewhere, set_length}
 use Rattle.pass_proofs.specs.run_laws.access.Lines.{Holds, pointer_at}
 use Rattle.pass_proofs.specs.run_memory.Memory.{digits, owner_rights}
+use Rattle.pass_proofs.specs.run_memory.declared.pointer.Value.{Value}
 use Rattle.run_access_worked.specs.run_plain.Plain.{PlainGiven, plain_go_to, plain_settled, plain_slot, plain_step, plain_work}
 use Rattle.run_access_worked.specs.run_plain.declared.state.PlainState.{PlainState}
 use Rattle.pass_proofs.specs.run_source.State.{frame_address_of, function_of, settled, with_slots}
@@ -305,6 +308,15 @@ module _ (g : FramedGiven) (h : PlainGiven) (s : State) (t : PlainState) (r : Ar
         chain : (a b c : ℕ) → a ≤ b → b ≤ c → a ≤ c
         chain a b c p q = omega arith
 
+    no_ramp : (frame : Value) → Mode.Resumed ≡ Mode.GivenRamp frame → ⊥
+    no_ramp frame e = cc
+
+    knows : KnowsGiven g s t → KnowsGiven g going arrived
+    knows = turns_knows g s t s.instances work.world.memory after.values
+        (homes_grow g h s t r (Some k.alloca.name) size k.alloca.align (alloca_kind f) marked too s.world.allocs)
+        (slot_places g h s t r (Some k.alloca.name) size k.alloca.align (alloca_kind f) marked too s.world.allocs)
+        Mode.Resumed no_ramp
+
     -- ---- the account
 
     on_quiet : (i : ℕ) → i < 4 → IsOn s (iterate (plain_step h) i w)
@@ -352,6 +364,8 @@ module _ (g : FramedGiven) (h : PlainGiven) (s : State) (t : PlainState) (r : Ar
       passes = on_way;
       related = subst (λ (y : State). AreRelated g h y (iterate (plain_step h) 5 t)) (sym is_going)
           (subst (AreRelated g h going) (sym (ap (iterate (plain_step h) 4) makes ∙ arrives)) related);
+      keeps = λ know. subst (λ (y : State). KnowsGiven g y (iterate (plain_step h) 5 t)) (sym is_going)
+          (subst (KnowsGiven g going) (sym (ap (iterate (plain_step h) 4) makes ∙ arrives)) (knows know));
     }
       where
         fits : (a n : ℕ) → 5 + (0 + n) ≤ 4 + 1 + (a + n)

@@ -16,7 +16,9 @@ use Rattle.pass_split_proof.proofs.held.Freed.{Killed, killed_ok, unkilled_disow
 use Rattle.pass_split_proof.proofs.held.LetGo.{unkilled_at}
 use Rattle.pass_split_proof.proofs.held.Moves.{ok_same}
 use Rattle.pass_split_proof.proofs.making.Allocators.{first_stands}
+use Rattle.pass_split_proof.proofs.simulation.Knowing.{KeepsPlaces, goes_knows, memory_places, places_then, same_places, set_places}
 use Rattle.pass_split_proof.proofs.states.Advanced.{KeepsFrames, advanced, same_frames}
+use Rattle.pass_split_proof.proofs.states.SameKind.{given_kept}
 use Rattle.pass_split_proof.proofs.states.Killed.{dead_beside, dead_frames, kills}
 use Rattle.pass_split_proof.proofs.states.OwnHomes.{own_pointer, own_seen}
 use Rattle.pass_split_proof.proofs.states.Written.{length-changed}
@@ -93,6 +95,7 @@ module _ (g : FramedGiven) (h : PlainGiven) (s : State) (t : PlainState) (r : Ar
     beside : AreBeside g instances memory others
     frames : AreFrames g instances memory others
     keeps : KeepsFrames s.instances instances
+    places : KeepsPlaces s.instances instances m memory
     long : length memory ≡ length m
 
   -- the part is given the same address
@@ -122,6 +125,8 @@ module _ (g : FramedGiven) (h : PlainGiven) (s : State) (t : PlainState) (r : Ar
         beside = dead_beside killed_block killed_block kills g s.instances m n b r.frames.laid r.world.memory;
         frames = dead_frames killed_block killed_block kills g s.instances m n b r.frames;
         keeps = same_frames s.instances;
+        places = memory_places s.instances m (killed m b)
+            (λ i x f. given_kept killed_block (λ z. refl) m b x.block x);
         long = length-changed m b killed_block;
       }
 
@@ -156,6 +161,10 @@ module _ (g : FramedGiven) (h : PlainGiven) (s : State) (t : PlainState) (r : Ar
           beside = freed_beside g s.instances m n i x there r.frames r.world.memory;
           frames = freed_frames g s.instances m n i x there r.frames;
           keeps = freed_keeps g s.instances m n i x there;
+          places = places_then s.instances ys ys m m (killed m x.block)
+              (set_places s.instances m i x (freed g s.instances m n i x there) there refl refl)
+              (memory_places ys m (killed m x.block)
+              (λ j z f. given_kept killed_block (λ d. refl) m x.block z.block z));
           long = length-changed m x.block killed_block;
         }
 
@@ -189,6 +198,7 @@ module _ (g : FramedGiven) (h : PlainGiven) (s : State) (t : PlainState) (r : Ar
     beside = r.world.memory;
     frames = r.frames;
     keeps = same_frames s.instances;
+    places = same_places s.instances m;
     long = refl;
   }
 
@@ -269,3 +279,6 @@ module _ (g : FramedGiven) (h : PlainGiven) (s : State) (t : PlainState) (r : Ar
       (plain_does h t (AtInstr i) (Deallocate (address (nth us 0))) (r.outcome ∙ runs) copied.0
       (action_is (plain_work t) k.result us k.allocator k.is) ∙ theirs)
       (same (credit_of s) (credit_of s) refl) related
+      (λ know. goes_knows g s t both.instances both.memory t.top.values
+      (subst (λ (l : ℕ). Extends (homes_of s.world.memory) (own_homes 0 l)) (sym both.long)
+      (record { each = λ b e. refl })) both.places know (λ frame e. refl))

@@ -99,6 +99,8 @@ module _ (g : FramedGiven) (xs : List Instance) (x : Instance) (m n : List Memor
     live = live;
     writable = ap (λ (k : Kind). same_kind k Kind.Constant) stack;
     owned = λ e. absurd (no_allocator u.kind stack e);
+    given = ap (λ (o : Option MemoryBlock). is_given_in o x) there
+        ∙ ap (λ (k : Kind). same_kind k Kind.Stack || not (x.start == 0)) stack;
     lies = lies;
     laid = all;
     leave = λ i z e same. let p = one i z e same in Reused p.0 p.1 (gone z same (over i z e same));

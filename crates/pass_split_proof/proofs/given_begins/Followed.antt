@@ -1,6 +1,6 @@
 -- A begin of a ramp that was given its frame is followed in its part, in five steps.
 use Rattle.std.proofs.Common.{◌≡◌, ℕ, ◌+◌, ◌<◌, ◌≤◌, ◌^◌, true, false, List, length, Option, Some, refl, sym, ap, ◌∙◌, subst, arith, if◌then◌else◌}
-use Rattle.std.specs.Prelude.{is_none, ◌&&◌}
+use Rattle.std.specs.Prelude.{is_none, pos, slice_get, ◌&&◌}
 use Rattle.std.proofs.lemmas.Option.{slice_get_within}
 use Rattle.pass_proofs.specs.ir_base.declared.outcome.Outcome.{Outcome}
 use Rattle.pass_proofs.specs.ir_model.Ty.{ptr}
@@ -10,7 +10,7 @@ use Rattle.pass_proofs.specs.ir_model.declared.module.Function.{Function}
 use Rattle.pass_proofs.specs.ir_model.declared.operand.Callee.{Callee}
 use Rattle.pass_proofs.specs.ir_model.declared.operand.Intrinsic.{Intrinsic}
 use Rattle.pass_proofs.specs.ir_model.declared.operand.Operand.{Operand}
-use Rattle.pass_proofs.specs.pass_intrinsics.Lowered.{begin_stores, destroyed_by, lowered}
+use Rattle.pass_proofs.specs.pass_intrinsics.Lowered.{address, begin_stores, destroyed_by, lowered}
 use Rattle.pass_proofs.specs.pass_intrinsics.Shapes.{begun_label, given_name}
 use Rattle.pass_proofs.specs.pass_intrinsics.declared.shape.Part.{Part}
 use Rattle.pass_proofs.specs.pass_intrinsics.declared.shape.Shape.{Shape}
@@ -20,6 +20,8 @@ use Rattle.pass_split_proof.proofs.begins.SaveCode.{IsMarked, marked, shape_is}
 use Rattle.pass_split_proof.proofs.given_begins.Owners.{owner_beside, owner_frames}
 use Rattle.pass_split_proof.proofs.given_begins.States.{given_begin_related, given_begin_steps, line_runs}
 use Rattle.pass_split_proof.proofs.given_begins.Within.{has_begun_within}
+use Rattle.pass_split_proof.proofs.simulation.Knowing.{more_calls, more_know, new_kept, newest_knows, same_extends}
+use Rattle.pass_split_proof.proofs.states.SameKind.{given_kept}
 use Rattle.pass_split_proof.proofs.states.OwnHomes.{own_pointer}
 use Rattle.pass_split_proof.proofs.states.Twins.{twin_at}
 use Rattle.pass_split_proof.proofs.states.Written.{length-changed}
@@ -28,8 +30,11 @@ use Rattle.pass_split_proof.specs.given_begins.Beginning.{BeginsWithin, HasBegun
 use Rattle.pass_split_proof.specs.given_begins.Room.{HasRoom, IsBegun}
 use Rattle.pass_split_proof.specs.places.Places.{Remain}
 use Rattle.pass_split_proof.specs.simulation.Followed.{IsFollowed}
+use Rattle.pass_split_proof.specs.simulation.Knowing.{KnowsGiven}
 use Rattle.pass_split_proof.specs.states.Activations.{RunsPart, is_entering}
-use Rattle.pass_split_proof.specs.states.Instances.{AreFrames, StandsThere, address_of_part, destroyer_of, shape_at}
+use Rattle.pass_split_proof.specs.code.Positions.{is_given}
+use Rattle.pass_split_proof.specs.states.Going.{stands_at}
+use Rattle.pass_split_proof.specs.states.Instances.{AreFrames, StandsThere, address_of_part, destroyer_of, is_given_in, shape_at}
 use Rattle.pass_split_proof.specs.states.Memories.{AreBeside, homes_of}
 use Rattle.pass_split_proof.specs.states.Related.{AreRelated, IsOn, credit_of, is_ramp, left_of_call, left_of_calls, weight}
 use Rattle.pass_split_proof.specs.steps.Begins.{HasBeginCode, begun_to}
@@ -37,7 +42,8 @@ use Rattle.pass_proofs.specs.run_agreement.Machines.{IsFine, iterate}
 use Rattle.pass_proofs.specs.run_framed.Framed.{FramedGiven, framed_begin, framed_step, layout_of}
 use Rattle.pass_proofs.specs.run_laws.access.Lines.{pointer_at}
 use Rattle.pass_proofs.specs.run_laws.changed.Changed.{Each}
-use Rattle.pass_proofs.specs.run_laws.memory.Pointers.{IsValue}
+use Rattle.pass_proofs.proofs.run_laws.memory.Homes.{value_on}
+use Rattle.pass_proofs.specs.run_laws.memory.Pointers.{Extends, IsValue}
 use Rattle.pass_proofs.specs.run_memory.Memory.{owned_to}
 use Rattle.pass_proofs.specs.run_memory.Pointers.{offset_of}
 use Rattle.pass_proofs.specs.run_memory.declared.block.Kind.{Kind}
@@ -52,7 +58,7 @@ use Rattle.pass_proofs.specs.run_source.declared.state.Instance.{Instance}
 use Rattle.pass_proofs.specs.run_source.declared.state.Mode.{Mode}
 use Rattle.pass_proofs.specs.run_source.declared.state.State.{State}
 use Rattle.pass_proofs.specs.run_step.Step.{AtInstr, Coro, Fetched, value_at}
-use Rattle.pass_proofs.specs.run_step.Values.{address_of, arg_values, nth, value_in, with_value}
+use Rattle.pass_proofs.specs.run_step.Values.{Env, address_of, arg_values, nth, value_in, with_value}
 use Rattle.pass_proofs.specs.run_step.declared.world.Slot.{Slot}
 
 -- what the begin makes of the memory keeps what there is
@@ -211,6 +217,10 @@ module _ (g : FramedGiven) (h : PlainGiven) (s : State) (t : PlainState) (r : Ar
         low : (n : ℕ) → n + 16 < 2 ^ 64 → n < 2 ^ 64
         low n lt = omega arith
 
+    -- a destroy is to call the part for frames that were given
+    right : is_given (destroyer_of r.top.part) ≡ true
+    right = ap (λ (p : Part). is_given (destroyer_of p)) part_is
+
     -- ---- both runs
 
     abbrev at_start : Value
@@ -229,14 +239,70 @@ module _ (g : FramedGiven) (h : PlainGiven) (s : State) (t : PlainState) (r : Ar
     related = subst (λ (z : State). AreRelated g h z (iterate (plain_step h) 5 t)) (sym same_state)
         (subst (AreRelated g h w)
         (sym (given_begin_steps g h s t r memory has_code x begun.after refl many frames beside room k.laid new known small
-        leads (r.outcome ∙ goes)))
+        leads right (r.outcome ∙ goes)))
         (given_begin_related g h s t r memory has_code x begun.after refl many frames beside room k.laid new known small
-        leads settled))
+        leads right settled))
+
+    -- ---- what is known of frames that callers give
+
+    kinds : (c : ℕ) (z : Instance)
+        → is_given_in (slice_get begun.after c) z ≡ is_given_in (slice_get s.world.memory c) z
+    kinds c z = by begun.after begun.within
+      where
+        by : (after : List MemoryBlock) → BeginsWithin g s begun.block begun.start after
+            → is_given_in (slice_get after c) z ≡ is_given_in (slice_get s.world.memory c) z
+        by after (InBlock b zero there given is) = ap (λ (m : List MemoryBlock). is_given_in (slice_get m c) z) is
+            ∙ given_kept (owned_to (own_frame g.given s).size) (λ y. refl) s.world.memory begun.block c z
+        by after (InField fits live is) = ap (λ (m : List MemoryBlock). is_given_in (slice_get m c) z) is
+
+    ext : Extends (homes_of s.world.memory) (homes_of begun.after)
+    ext = same_extends s.world.memory begun.after many
+
+    abbrev at_second : Value
+    at_second = pointer_at begun.block (begun.start + 8)
+
+    abbrev with_frame : Env
+    with_frame = with_value t.top.values (shape_at g s.top.func).begin at_start
+
+    abbrev values : Env
+    values = with_value with_frame has_code.name at_second
+
+    -- neither name is that of what the part was given
+    kept : (frame : Value) → s.top.mode ≡ Mode.GivenRamp frame → value_in values (given_name (shape_at g s.top.func))
+        ≡ value_in t.top.values (given_name (shape_at g s.top.func))
+    kept frame e = new_kept g h s t r with_frame at_second t.top.block (t.top.at + 1 + 1)
+        (address has_code.name (Operand.Local (shape_at g s.top.func).begin) (pos 8)) has_code.stands.stand.1.1.0
+        has_code.name refl frame e
+        ∙ new_kept g h s t r t.top.values at_start t.top.block t.top.at
+        (address (shape_at g s.top.func).begin memory (pos 0)) has_code.stands.stand.0 (shape_at g s.top.func).begin refl
+        frame e
+
+    knows_behind : KnowsGiven g s t
+        → KnowsGiven g w (stands_at t t.top.block 0 (record { world = t.world; values = values }))
+    knows_behind know = (
+      (
+        newest_knows g s.instances x begun.after s.top.func s.top.mode t.top.func values r.top.part r.top.func
+            (room.given ∙ sym (ap is_given part_is))
+            (λ frame e. subst (λ (v : Value). IsValue (homes_of begun.after) frame v) (sym (kept frame e))
+            (value_on (homes_of s.world.memory) (homes_of begun.after) ext frame
+            (value_in t.top.values (given_name (shape_at g s.top.func))) (know.0.0.given frame e))),
+        more_know g h.code s.instances x s.world.memory begun.after (homes_of s.world.memory) ext
+            (λ i z e. kinds z.block z) s.top.result s.below t.below r.below know.0.1,
+      ),
+      more_calls g s.instances x s.world.memory begun.after (λ i z e. kinds z.block z) (λ held. k.stands) know.1,
+    )
+
+    knows : KnowsGiven g s t → KnowsGiven g u (iterate (plain_step h) 5 t)
+    knows know = subst (λ (z : State). KnowsGiven g z (iterate (plain_step h) 5 t)) (sym same_state)
+        (subst (KnowsGiven g w)
+        (sym (given_begin_steps g h s t r memory has_code x begun.after refl many frames beside room k.laid new known small
+        leads right (r.outcome ∙ goes)))
+        (knows_behind know))
 
     quiet : (n : ℕ) → n ≤ 4 → IsQuiet t (iterate (plain_step h) n t)
     quiet n le = line_quiet h (begin_stores (shape_at g s.top.func) r.top.part has_code.name memory) t _
         (r.outcome ∙ goes) has_code.stands.stand
-        (line_runs g h s t r memory has_code x begun.after refl many frames beside room k.laid new known small leads)
+        (line_runs g h s t r memory has_code x begun.after refl many frames beside room k.laid new known small leads right)
         (refl, (refl, (refl, (refl, tt)))) n le
 
     on_way : (n : ℕ) → n < 5 → IsOn s (iterate (plain_step h) n t)
@@ -261,7 +327,7 @@ module _ (g : FramedGiven) (h : PlainGiven) (s : State) (t : PlainState) (r : Ar
     pub given_begin_followed : IsFollowed g h s t
     given_begin_followed = many_followed g h s t r goes 5 u (omega arith) (omega arith) begun.is
         (subst (λ (y : Fetched). 5 + credit_of u ≤ weight y + credit_of s) (sym k.there)
-        (pays (left_of_call s.top) (left_of_call u.top) (left_of_calls s.below) left_one left_none)) on_way related
+        (pays (left_of_call s.top) (left_of_call u.top) (left_of_calls s.below) left_one left_none)) on_way related knows
       where
         pays : (a b n : ℕ) → a ≡ 1 → b ≡ 0 → 5 + (b + n) ≤ 4 + (a + n)
         pays a b n e z = omega (arith, e, z)

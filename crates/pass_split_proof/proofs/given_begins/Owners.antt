@@ -2,7 +2,8 @@
 use Rattle.std.proofs.Common.{◌≡◌, ℕ, ◌<◌, ⊎_elim, List, Option, Some, None, refl, sym, ap, ◌∙◌, subst}
 use Rattle.std.specs.Prelude.{slice_get, is_some}
 use Rattle.std.proofs.lemmas.Bool.{cases_eq}
-use Rattle.pass_split_proof.proofs.states.Closed.{lies_by}
+use Rattle.pass_split_proof.proofs.states.Closed.{headed_on, lies_by}
+use Rattle.pass_split_proof.proofs.states.SameKind.{given_kept}
 use Rattle.pass_split_proof.proofs.states.Standing.{open_bytes, twins_stand}
 use Rattle.pass_split_proof.proofs.states.Written.{length-changed}
 use Rattle.pass_split_proof.specs.given_begins.Room.{ChangesOwner}
@@ -85,7 +86,8 @@ module _ (g : FramedGiven) (xs : List Instance) (m n : List MemoryBlock) (b : �
   pub owner_frames : AreFrames g xs m n → AreFrames g xs after n
   owner_frames frames = record {
     laid = owner_laid frames.laid;
-    headed = λ i z e held. frames.headed i z e (sym (held_same z) ∙ held);
+    headed = λ i z e held. headed_on g m after n z (given_kept f (λ y. ap (λ (q : MemoryBlock). q.kind) (change y)) m b
+        z.block z) (frames.headed i z e (sym (held_same z) ∙ held));
   }
 
   module _ (beside : AreBeside g xs m n) (frames : AreLaidFrames g xs m) where

@@ -77,6 +77,7 @@ module _ (g : FramedGiven) (xs : List Instance) (x : Instance) (m n : List Memor
     live = place.live;
     writable = place.writable;
     owned = place.owned;
+    given = place.given;
     lies = place.lies;
     clear = clear;
     opened = stands;

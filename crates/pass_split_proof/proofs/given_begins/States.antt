@@ -23,6 +23,7 @@ use Rattle.pass_split_proof.specs.given_begins.Beginning.{begun_work_at}
 use Rattle.pass_split_proof.specs.given_begins.Room.{BeginsAt, HasRoom, IsBegun, with_header_at}
 use Rattle.pass_split_proof.specs.states.Activations.{Inside, is_entering}
 use Rattle.pass_split_proof.specs.states.Going.{stands_at}
+use Rattle.pass_split_proof.specs.code.Positions.{is_given}
 use Rattle.pass_split_proof.specs.states.Instances.{AreFrames, IsLaidOut, StandsThere, address_of_part, destroyer_of, is_destroyer, part_position, shape_at}
 use Rattle.pass_split_proof.specs.states.Memories.{AreBeside, homes_of}
 use Rattle.pass_split_proof.specs.states.Related.{AreRelated}
@@ -55,7 +56,8 @@ module _ (g : FramedGiven) (h : PlainGiven) (s : State) (t : PlainState) (r : Ar
     (frames : AreFrames g s.instances after t.world.memory) (beside : AreBeside g s.instances after t.world.memory)
     (room : HasRoom g s.instances x after t.world.memory) (laid : IsLaidOut g x.coroutine) (new : IsBegun x)
     (known : x.block < length s.world.memory) (small : x.start + 16 < 2 ^ 64)
-    (leads : value_at (plain_context h t) (plain_work t) ptr p ≡ pointer_at x.block x.start) where
+    (leads : value_at (plain_context h t) (plain_work t) ptr p ≡ pointer_at x.block x.start)
+    (right : is_given (destroyer_of r.top.part) ≡ true) where
   abbrev shape : Shape
   shape = shape_at g s.top.func
 
@@ -67,7 +69,7 @@ module _ (g : FramedGiven) (h : PlainGiven) (s : State) (t : PlainState) (r : Ar
 
   stored : BeginsAt g s.instances x after t.world.memory resumes destroyer
   stored = begins_at g s.instances x after t.world.memory room frames beside laid new resumes destroyer
-      (destroys r.top.part) (subst (λ (k : ℕ). StandsThere g k destroyer) (sym mine) code.standing)
+      (destroys r.top.part) (subst (λ (k : ℕ). StandsThere g k destroyer) (sym mine) code.standing) right
     where
       destroys : (part : Part) → is_destroyer (destroyer_of part) ≡ true
       destroys Part.Ramp = refl

@@ -11,7 +11,8 @@ use Rattle.pass_split_proof.proofs.states.Judged.{control_closed, control_covere
 use Rattle.pass_split_proof.proofs.states.Standing.{open_bytes, twins_stand}
 use Rattle.pass_split_proof.proofs.states.Written.{range_holds}
 use Rattle.pass_split_proof.specs.given_begins.Room.{BeginsAt, HasRoom, IsBegun, with_header_at}
-use Rattle.pass_split_proof.specs.states.Instances.{AreFrames, AreLaidFrames, IsControl, IsHeaded, IsLaidOut, LiesAligned, StandsThere, address_of_part, is_destroyer, is_held, lives_in}
+use Rattle.pass_split_proof.specs.states.Instances.{AreFrames, AreLaidFrames, IsControl, IsHeadedIn, IsLaidOut, LiesAligned, StandsThere, address_of_part, is_destroyer, is_held, lives_in}
+use Rattle.pass_split_proof.specs.code.Positions.{is_given}
 use Rattle.pass_split_proof.specs.states.Memories.{AreBeside, homes_of}
 use Rattle.run_access_worked.proofs.Begun.{get_more, judge_more}
 use Rattle.pass_proofs.specs.run_framed.Framed.{FramedGiven, covers, frame_rights, is_open_byte, layout_of}
@@ -176,7 +177,7 @@ module _ (g : FramedGiven) (xs : List Instance) (x : Instance) (m n : List Memor
     -- ---- the header
 
     module _ (resumes : Value) (destroyer : Part) (is : is_destroyer destroyer ≡ true)
-        (standing : StandsThere g x.coroutine destroyer) where
+        (standing : StandsThere g x.coroutine destroyer) (right : is_given destroyer ≡ true) where
       abbrev destroys : Value
       destroys = address_of_part g x.coroutine destroyer
 
@@ -257,11 +258,12 @@ module _ (g : FramedGiven) (xs : List Instance) (x : Instance) (m n : List Memor
       stored = write_held owner_rights one x.block (x.start + 8) 8 room_two.0 room_two.1.0 owner_rights_fit
           (encode 8 destroys) (length-encode 8 destroys ∙ sym room_two.1.1)
 
-      new_headed : IsHeaded g two x
+      new_headed : IsHeadedIn g m two x
       new_headed = record {
         destroyer = destroyer;
         stands = standing;
         is = is;
+        right = right ∙ sym room.given;
         destroys = stored;
         saved = λ suspend values e. absurd (running (sym new.runs ∙ e));
       }
@@ -270,7 +272,7 @@ module _ (g : FramedGiven) (xs : List Instance) (x : Instance) (m n : List Memor
           running e = cc
 
       old_headed : (i : ℕ) (z : Instance) → i < length xs → slice_get xs i ≡ Some z → slice_get more i ≡ Some z
-          → is_held m z ≡ true → IsHeaded g two z
+          → is_held m z ≡ true → IsHeadedIn g m two z
       old_headed i z lt e e' held' =
           let was = frames.headed i z e held' in
           let first = headed_held g n one z (others_move g more m n before lies (length xs) x (get_new xs x) held x.start 8
@@ -297,8 +299,8 @@ module _ (g : FramedGiven) (xs : List Instance) (x : Instance) (m n : List Memor
         beside = beside_two;
         frames = record {
           laid = lies;
-          headed = λ i z e held'. more_parted xs x (λ (w : Instance). is_held m w ≡ true → IsHeaded g two w) i z e
+          headed = λ i z e held'. more_parted xs x (λ (w : Instance). is_held m w ≡ true → IsHeadedIn g m two w) i z e
               (λ lt f h. old_headed i z lt f e h)
-              (λ at f h. subst (IsHeaded g two) (sym f) new_headed) held';
+              (λ at f h. subst (IsHeadedIn g m two) (sym f) new_headed) held';
         };
       }

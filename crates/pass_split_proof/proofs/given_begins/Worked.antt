@@ -16,6 +16,9 @@ use Rattle.pass_split_proof.proofs.states.Standing.{twins_stand}
 use Rattle.pass_split_proof.proofs.states.Started.{frames_start}
 use Rattle.pass_split_proof.proofs.states.Statuses.{status_beside, status_frames}
 use Rattle.pass_split_proof.proofs.states.Worked.{index_is, laid as worked_laid}
+use Rattle.pass_split_proof.proofs.states.Headed.{begins}
+use Rattle.pass_split_proof.specs.code.Positions.{is_given}
+use Rattle.pass_split_proof.specs.states.Begun.{BeginsIn}
 use Rattle.pass_split_proof.specs.given_begins.Room.{Around, BeginsAt, IsAround, IsBegun, IsPlaceFor, LeavesRoom, Reused}
 use Rattle.pass_split_proof.specs.given_begins.Worked.{a_callee, a_caller, a_callers_layout, a_stack_block, an_older, an_owned_stack_block, begun_in_stack, callers_begun, callers_memory, nested_given}
 use Rattle.pass_split_proof.specs.states.Instances.{AreFrames, IsLaidOut, LiesAligned, StandsThere, index_length, is_destroyer}
@@ -78,7 +81,7 @@ begun_new = record { slots = refl; runs = refl; unfreed = refl }
 -- ---- in a stack block
 
 module _ (given : Given) (resumes : Value) (destroyer : Part) (is : is_destroyer destroyer ≡ true)
-    (standing : StandsThere (frame_given given) 0 destroyer) where
+    (standing : StandsThere (frame_given given) 0 destroyer) (right : is_given destroyer ≡ true) where
   abbrev g : FramedGiven
   g = frame_given given
 
@@ -106,6 +109,7 @@ module _ (given : Given) (resumes : Value) (destroyer : Part) (is : is_destroyer
     live = refl;
     writable = refl;
     owned = λ e. absurd (no_allocator e);
+    given = refl;
     lies = stack_lies;
     laid = λ i z e. none_in i z e;
     leave = λ i z e same. none_in i z e;
@@ -114,7 +118,7 @@ module _ (given : Given) (resumes : Value) (destroyer : Part) (is : is_destroyer
 
   pub first : BeginsAt g [] an_instance owned plain resumes destroyer
   first = begins_at g [] an_instance owned plain (has_room g [] an_instance owned plain first_place stack_beside)
-      (frames_start g owned plain) stack_beside (worked_laid given) begun_new resumes destroyer is standing
+      (frames_start g owned plain) stack_beside (worked_laid given) begun_new resumes destroyer is standing right
 
   -- the first instance is over
   abbrev later : List MemoryBlock
@@ -138,6 +142,7 @@ module _ (given : Given) (resumes : Value) (destroyer : Part) (is : is_destroyer
     live = refl;
     writable = refl;
     owned = λ e. absurd (no_allocator e);
+    given = refl;
     lies = stack_lies;
     laid = λ i z e. subst (λ (w : Instance). IsLaidOut g w.coroutine) (sym (the_one an_older i z e)) (worked_laid given);
     leave = λ i z e same. subst (LeavesRoom g owned an_instance) (sym (the_one an_older i z e)) (Reused refl refl refl);
@@ -148,7 +153,7 @@ module _ (given : Given) (resumes : Value) (destroyer : Part) (is : is_destroyer
   pub again : BeginsAt g (an_older ∷ []) an_instance owned later resumes destroyer
   again = begins_at g (an_older ∷ []) an_instance owned later
       (has_room g (an_older ∷ []) an_instance owned later again_place over_beside) over_frames over_beside
-      (worked_laid given) begun_new resumes destroyer is standing
+      (worked_laid given) begun_new resumes destroyer is standing right
 
 -- ---- in a field
 
@@ -207,61 +212,20 @@ module _ (given : Given) where
       field (suc (suc a)) x e o = absurd (cc)
 
   module _ (resumes : Value) (destroyer other : Part) (is : is_destroyer destroyer ≡ true)
-      (standing : StandsThere n 1 destroyer) (is' : is_destroyer other ≡ true) (standing' : StandsThere n 0 other) where
+      (standing : StandsThere n 1 destroyer) (own : is_given destroyer ≡ false) (is' : is_destroyer other ≡ true)
+      (standing' : StandsThere n 0 other) (right : is_given other ≡ true) where
     abbrev blank : List MemoryBlock
     blank = blank_block 64 16 Kind.Allocator ∷ []
 
     blank_beside : AreBeside n [] blank blank
     blank_beside = one_beside n 64 16 Kind.Allocator (blank_twin 64 16 Kind.Allocator (omega arith) (λ e. refl))
 
-    callers_twins : AreTwins callers_memory blank
-    callers_twins = record { each = at; long = refl }
-      where
-        twin : IsTwin (blank_block 64 16 Kind.Allocator) (blank_block 64 16 Kind.Allocator)
-        twin = blank_twin 64 16 Kind.Allocator (omega arith) (λ e. refl)
-
-        at : (b : ℕ) → AreTwinsAt (slice_get callers_memory b) (slice_get blank b)
-        at zero = record {
-          is = twin.is;
-          life = twin.life;
-          long = twin.long;
-          full = twin.full;
-          small = twin.small;
-          sixteen = twin.sixteen;
-        }
-        at (suc b) = tt
-
-    only_block : (b : ℕ) (u : MemoryBlock) → slice_get callers_memory b ≡ Some u → u ≡ owned_block 64 16 64
-    only_block zero u e = sym (same_some (owned_block 64 16 64) u e)
-    only_block (suc b) u e = absurd (cc)
-
-    owned_beside : AreBeside n [] callers_memory blank
-    owned_beside = record {
-      twins = callers_twins;
-      stands = twins_stand n [] callers_memory blank callers_twins (λ i x y e there. none_in i x e)
-          (λ b i u v e at live lt opened.
-          let is = only_block b u e in
-          blank_byte (own_homes 0 1) u 64 i (byte_of v i) (ap (λ (z : MemoryBlock). z.bytes) is)
-          (subst (λ (k : ℕ). i < k) (ap (λ (z : MemoryBlock). z.size) is) lt));
-    }
-
-    callers_place : IsPlaceFor n [] a_caller callers_memory blank
-    callers_place = record {
-      block = owned_block 64 16 64;
-      there = refl;
-      live = refl;
-      writable = refl;
-      owned = λ e. refl;
-      lies = record { alignment = inl refl; block = omega arith; start = refl; inside = omega arith };
-      laid = λ i z e. none_in i z e;
-      leave = λ i z e same. none_in i z e;
-      stand = λ at i z v e. absurd (cc);
-    }
-
-    pub caller : BeginsAt n [] a_caller callers_memory blank resumes destroyer
-    caller = begins_at n [] a_caller callers_memory blank
-        (has_room n [] a_caller callers_memory blank callers_place owned_beside) (frames_start n callers_memory blank)
-        owned_beside callers_laid (record { slots = refl; runs = refl; unfreed = refl }) resumes destroyer is standing
+    -- the caller's frame was allocated
+    pub caller : BeginsIn n [] a_caller callers_memory blank resumes destroyer
+    caller = begins n [] a_caller blank blank (blank_block 64 16 Kind.Allocator) 64 refl
+        (record { live = refl; kind = refl; unowned = refl; room = omega arith }) (frames_start n blank blank)
+        blank_beside callers_laid refl (record { start = refl; slots = refl; runs = refl; unfreed = refl }) (omega arith)
+        resumes destroyer is standing own
 
     abbrev called : List MemoryBlock
     called = callers_begun given resumes destroyer
@@ -287,6 +251,7 @@ module _ (given : Given) where
       live = refl;
       writable = refl;
       owned = λ e. refl;
+      given = refl;
       lies = record { alignment = inl refl; block = omega arith; start = refl; inside = omega arith };
       laid = λ i z e. subst (λ (w : Instance). IsLaidOut n w.coroutine) (sym (the_one a_caller i z e)) callers_laid;
       leave = λ i z e same. subst (LeavesRoom n callers_memory a_callee) (sym (the_one a_caller i z e)) (Around around);
@@ -297,4 +262,4 @@ module _ (given : Given) where
     pub callee : BeginsAt n (a_caller ∷ []) a_callee callers_memory called resumes other
     callee = begins_at n (a_caller ∷ []) a_callee callers_memory called
         (has_room n (a_caller ∷ []) a_callee callers_memory called callees_place caller.beside) caller.frames
-        caller.beside callees_laid (record { slots = refl; runs = refl; unfreed = refl }) resumes other is' standing'
+        caller.beside callees_laid (record { slots = refl; runs = refl; unfreed = refl }) resumes other is' standing' right

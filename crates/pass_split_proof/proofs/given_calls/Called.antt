@@ -14,6 +14,8 @@ use Rattle.pass_proofs.specs.ir_model.declared.operand.Callee.{Callee}
 use Rattle.pass_proofs.specs.pass_intrinsics.Shapes.{given_name}
 use Rattle.pass_proofs.specs.pass_intrinsics.declared.shape.Part.{Part}
 use Rattle.pass_proofs.specs.pass_split.Pieces.{begins_again}
+use Rattle.pass_split_proof.proofs.simulation.Knowing.{calls_knows, result_unset}
+use Rattle.pass_split_proof.specs.simulation.Knowing.{KnowsGiven}
 use Rattle.pass_split_proof.proofs.calling.Called.{args_stand, left_low}
 use Rattle.pass_split_proof.proofs.given_calls.Entered.{given_entries_stand, given_entry}
 use Rattle.pass_split_proof.proofs.states.Advanced.{same_frames}
@@ -155,14 +157,6 @@ module _ (g : FramedGiven) (h : PlainGiven) (s : State) (t : PlainState) (r : Ar
       no_entering : (from label : ℕ) → Mode.GivenRamp (last_value vs) ≡ Mode.Entering from label → ⊥
       no_entering from label e = false≢true (ap is_entering e)
 
-  pub given_call_followed : IsFollowed g h s t
-  given_call_followed = call_followed g h s t r runs (push s a) (counted h to entered) is goes
-      (subst (λ (x : Fetched). 2 ≤ weight x) (sym k.there) (omega arith))
-      (more (left_of_call a) (left_of_call s.top) (left_of_calls s.below) (left_low a)) related
-    where
-      more : (n a b : ℕ) → n ≤ 1 → n + (a + b) ≤ 1 + (a + b)
-      more n a b low = omega arith
-
   -- ---- the frame's address
 
   abbrev given : ℕ
@@ -177,10 +171,12 @@ module _ (g : FramedGiven) (h : PlainGiven) (s : State) (t : PlainState) (r : Ar
       before : (n k : ℕ) → n ≡ suc k → n - 1 ≡ k
       before n k e = omega arith
 
-  there : value_in (plain_step h t).top.values given ≡ nth us few
-  there = ap (λ (z : PlainState). value_in z.top.values given) (goes ∙ tally.is)
-      ∙ given_entry (function_at g.given.code k.func) (function_at h.code to) (homes_of s.world.memory) vs us
+  there_called : value_in (plain_called h.code to us k.result).values given ≡ nth us few
+  there_called = given_entry (function_at g.given.code k.func) (function_at h.code to) (homes_of s.world.memory) vs us
       (record { ty = ptr; name = given }) k.callee.params (many_values h.code t.top.values k.args ∙ k.many) k.callee.room
+
+  there : value_in (plain_step h t).top.values given ≡ nth us few
+  there = ap (λ (z : PlainState). value_in z.top.values given) (goes ∙ tally.is) ∙ there_called
 
   pub given_frame : IsGivenFrame g (framed_step g s) (plain_step h t)
   given_frame = subst (λ (z : State). IsGivenFrame g z (plain_step h t)) (sym is) (record {
@@ -191,3 +187,30 @@ module _ (g : FramedGiven) (h : PlainGiven) (s : State) (t : PlainState) (r : Ar
         (subst (λ (u : Value). IsValue (homes_of s.world.memory) (nth vs few) u) (sym there)
         (nth_kept (homes_of s.world.memory) vs us few stand));
   })
+
+  -- ---- the step
+
+  stands_given : (frame : Value) → Mode.GivenRamp (last_value vs) ≡ Mode.GivenRamp frame
+      → IsValue (homes_of s.world.memory) frame (value_in (plain_called h.code to us k.result).values given)
+  stands_given frame e = subst (λ (v : Value). IsValue (homes_of s.world.memory) v
+      (value_in (plain_called h.code to us k.result).values given)) (sym last_is ∙ same e)
+      (subst (λ (u : Value). IsValue (homes_of s.world.memory) (nth vs few) u) (sym there_called)
+      (nth_kept (homes_of s.world.memory) vs us few stand))
+    where
+      same : Mode.GivenRamp (last_value vs) ≡ Mode.GivenRamp frame → last_value vs ≡ frame
+      same e = cc
+
+  know : KnowsGiven g s t → KnowsGiven g (push s a) (counted h to entered)
+  know known = subst (KnowsGiven g (push s a)) (sym tally.is)
+      (calls_knows g h s t k.func (Mode.GivenRamp (last_value vs)) k.result to
+      (plain_called h.code to us k.result).values known stands_given
+      (λ frame e sets. result_unset g h s t r frame e s.top.block s.top.at i k.there
+      (given_name (shape_at g s.top.func)) sets refl))
+
+  pub given_call_followed : IsFollowed g h s t
+  given_call_followed = call_followed g h s t r runs (push s a) (counted h to entered) is goes
+      (subst (λ (x : Fetched). 2 ≤ weight x) (sym k.there) (omega arith))
+      (more (left_of_call a) (left_of_call s.top) (left_of_calls s.below) (left_low a)) related know
+    where
+      more : (n a b : ℕ) → n ≤ 1 → n + (a + b) ≤ 1 + (a + b)
+      more n a b low = omega arith

@@ -17,6 +17,7 @@ use Rattle.pass_split_proof.proofs.giving.Constants.{not_again}
 use Rattle.pass_split_proof.proofs.giving.Given.{nothing_there}
 use Rattle.pass_split_proof.proofs.giving.Small.{truth_done}
 use Rattle.pass_split_proof.proofs.silent.Measure.{next_lower}
+use Rattle.pass_split_proof.proofs.simulation.Knowing.{goes_knows, set_kept}
 use Rattle.pass_split_proof.proofs.states.Advanced.{advanced}
 use Rattle.pass_split_proof.proofs.states.Values.{values_set}
 use Rattle.pass_split_proof.proofs.steps.Followed.{framed_does, none_followed, one_followed}
@@ -127,6 +128,7 @@ module _ (g : FramedGiven) (h : PlainGiven) (s : State) (t : PlainState) (r : Ar
           lowered = λ n. refl;
         })
         k.place (k.there ∙ ap (λ (o : Option ℕ). AtInstr (at_end o k.must_tail k.ty k.args)) e))))
+        (λ know. goes_knows g s t ys ended.memory t.top.values ext ended.places know (λ frame e. refl))
 
     -- with one
     module _ (name : ℕ) (e : k.result ≡ Some name) where
@@ -167,6 +169,9 @@ module _ (g : FramedGiven) (h : PlainGiven) (s : State) (t : PlainState) (r : Ar
           (set_elsewhere t.top.values name r.top.shape.begin (truth_value false)
           (λ n. k.others (e ∙ ap (λ (a : ℕ). Some a) n)))
           (Inside s.top.mode k.settled copied.1))
+          (λ know. goes_knows g s t ys ended.memory (with_value t.top.values name (truth_value false)) ext
+          ended.places know (set_kept g h s t r t.top.values (truth_value false) s.top.block s.top.at
+          (at_end k.result k.must_tail k.ty k.args) k.there name e))
 
     by_result : (o : Option ℕ) → k.result ≡ o → IsFollowed g h s t
     by_result None e = none_ends e

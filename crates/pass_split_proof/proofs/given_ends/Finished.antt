@@ -4,7 +4,9 @@ use Rattle.std.proofs.Common.{◌≡◌, ℕ, inr, Bool, true, false, List, leng
 use Rattle.std.proofs.lemmas.Bool.{and_parts}
 use Rattle.std.specs.Prelude.{option_and_then, option_map, slice_get, slice_set, ◌&&◌, ◌==◌}
 use Rattle.pass_split_proof.proofs.ends.Finished.{finished, finishing, held_too}
+use Rattle.pass_split_proof.proofs.simulation.Knowing.{KeepsPlaces, memory_places, places_then, same_places, set_places}
 use Rattle.pass_split_proof.proofs.states.Advanced.{KeepsFrames, same_frames}
+use Rattle.pass_split_proof.proofs.states.SameKind.{given_kept}
 use Rattle.pass_split_proof.proofs.states.Judged.{numbering}
 use Rattle.pass_split_proof.proofs.states.Statuses.{runs_headed, status_beside, status_frames}
 use Rattle.pass_split_proof.proofs.states.Written.{length-changed}
@@ -35,6 +37,7 @@ pub record HasLetGo (g : FramedGiven) (h : PlainGiven) (s : State) (t : PlainSta
   pub beside : AreBeside g instances memory t.world.memory
   pub frames : AreFrames g instances memory t.world.memory
   pub keeps : KeepsFrames s.instances instances
+  pub places : KeepsPlaces s.instances instances s.world.memory memory
 
 module _ (g : FramedGiven) (h : PlainGiven) (s : State) (t : PlainState) (r : AreRelated g h s t) where
   as_it_was : (if s.top.has_left then s else framed_finish s) ≡ s → HasLetGo g h s t
@@ -46,6 +49,7 @@ module _ (g : FramedGiven) (h : PlainGiven) (s : State) (t : PlainState) (r : Ar
     beside = r.world.memory;
     frames = r.frames;
     keeps = same_frames s.instances;
+    places = same_places s.instances s.world.memory;
   }
 
   chosen : (b : Bool) → s.top.has_left ≡ b → (if s.top.has_left then s else framed_finish s) ≡
@@ -85,6 +89,9 @@ module _ (g : FramedGiven) (h : PlainGiven) (s : State) (t : PlainState) (r : Ar
     keeps : KeepsFrames s.instances ys
     keeps = state_frames s.instances i x Status.Finished x.last_save x.released there
 
+    places : KeepsPlaces s.instances ys s.world.memory s.world.memory
+    places = set_places s.instances s.world.memory i x (finished x) there refl refl
+
     ends : s.top.has_left ≡ false → (b : Bool) → (is_stack_block s.world.memory x.block && (x.start == 0)) ≡ b
         → HasLetGo g h s t
     ends e false given = record {
@@ -95,6 +102,7 @@ module _ (g : FramedGiven) (h : PlainGiven) (s : State) (t : PlainState) (r : Ar
       beside = beside;
       frames = frames;
       keeps = keeps;
+      places = places;
     }
     ends e true given =
         let stack = (and_parts (is_stack_block s.world.memory x.block) (x.start == 0) given).0 in
@@ -106,6 +114,9 @@ module _ (g : FramedGiven) (h : PlainGiven) (s : State) (t : PlainState) (r : Ar
           beside = disowned_beside g ys s.world.memory t.world.memory x.block stack frames.laid beside;
           frames = disowned_frames g ys s.world.memory t.world.memory x.block stack frames;
           keeps = keeps;
+          places = places_then s.instances ys ys s.world.memory s.world.memory (disown s.world.memory x.block) places
+              (memory_places ys s.world.memory (disown s.world.memory x.block)
+              (λ j y f. given_kept disowned (λ z. refl) s.world.memory x.block y.block y));
         }
 
   by_instance : s.top.has_left ≡ false → (o : Option ℕ) → s.top.instance ≡ o → HasLetGo g h s t

@@ -10,6 +10,7 @@ use Rattle.pass_proofs.specs.ir_model.declared.operand.Operand.{Operand}
 use Rattle.pass_proofs.specs.pass_intrinsics.Lowered.{address, freed_by}
 use Rattle.pass_proofs.specs.pass_intrinsics.declared.shape.Part.{Part}
 use Rattle.pass_proofs.specs.pass_intrinsics.declared.shape.Shape.{Shape}
+use Rattle.pass_split_proof.proofs.simulation.Knowing.{KeepsPlaces, goes_knows, set_kept, set_places}
 use Rattle.pass_split_proof.proofs.giving.Constants.{not_again}
 use Rattle.pass_split_proof.proofs.giving.Frames.{found, has}
 use Rattle.pass_split_proof.proofs.giving.Freed.{released, saved_too}
@@ -138,6 +139,9 @@ module _ (g : FramedGiven) (h : PlainGiven) (s : State) (t : PlainState) (r : Ar
     frames = status_frames g s.instances s.world.memory t.world.memory i x there x.status x.last_save true (λ held. held)
         r.frames (λ held. saved_too g t.world.memory x (r.frames.headed i x there held))
 
+    places : KeepsPlaces s.instances ys s.world.memory s.world.memory
+    places = set_places s.instances s.world.memory i x (released x) there refl refl
+
     keeps : KeepsFrames s.instances ys
     keeps = state_frames s.instances i x x.status x.last_save true there
 
@@ -151,6 +155,8 @@ module _ (g : FramedGiven) (h : PlainGiven) (s : State) (t : PlainState) (r : Ar
         (at None)
         (record { begins = not_again r.top.part (at None) refl; cut = λ after. refl; lowered = λ n. refl })
         k.place (k.there ∙ ap (λ (o : Option ℕ). AtInstr (at o)) e))))
+        (λ know. goes_knows g s t ys s.world.memory t.top.values (record { each = λ b e. refl }) places know
+        (λ frame e. refl))
 
     module _ (name : ℕ) (e : k.result ≡ Some name) where
       copied : IsCopied r.top.shape r.top.part f q s.top.block s.top.at t.top.block t.top.at (here name)
@@ -174,6 +180,8 @@ module _ (g : FramedGiven) (h : PlainGiven) (s : State) (t : PlainState) (r : Ar
           stand (set_length s.top.values name v) (set_length t.top.values name v)
           (set_elsewhere t.top.values name r.top.shape.begin v (λ n. k.others (e ∙ ap (λ (a : ℕ). Some a) n)))
           (Inside s.top.mode k.settled copied.1))
+          (λ know. goes_knows g s t ys s.world.memory (with_value t.top.values name v) (record { each = λ b e. refl })
+          places know (set_kept g h s t r t.top.values v s.top.block s.top.at (at k.result) k.there name e))
 
     some_by : (o : Option ℕ) → k.result ≡ o → IsFollowed g h s t
     some_by None e = some_none e

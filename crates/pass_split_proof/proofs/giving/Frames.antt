@@ -80,7 +80,7 @@ module _ (g : FramedGiven) (h : PlainGiven) (s : State) (t : PlainState) (r : Ar
         (advanced g h s t r (work_of s) (plain_work t) s.instances s.top.block (s.top.at + 1) t.top.block
         (t.top.at + 1) s.top.has_left k.settled r.world r.frames (same_frames s.instances)
         (reach (length s.world.memory)) (record { each = λ b e. refl }) r.top.values refl refl refl
-        (Inside s.top.mode k.settled copied.1))
+        (Inside s.top.mode k.settled copied.1)) (λ know. know)
 
   -- ---- the frame's address
 

@@ -11,6 +11,7 @@ use Rattle.pass_proofs.specs.ir_model.declared.operand.Operand.{Operand}
 use Rattle.pass_proofs.specs.pass_intrinsics.Lowered.{address, freed_by, number_arg}
 use Rattle.pass_proofs.specs.pass_intrinsics.declared.shape.Part.{Part}
 use Rattle.pass_proofs.specs.pass_intrinsics.declared.shape.Shape.{Shape}
+use Rattle.pass_split_proof.proofs.simulation.Knowing.{KeepsPlaces, goes_knows, set_kept, set_places}
 use Rattle.pass_split_proof.proofs.giving.Constants.{not_again}
 use Rattle.pass_split_proof.proofs.giving.Frames.{found, gives_address, has, stands}
 use Rattle.pass_split_proof.proofs.giving.Given.{call_here, none_given, nothing_there, one_given}
@@ -58,10 +59,12 @@ abbrev pub released : Instance → Instance
 released x = record x { released = true }
 
 -- a released instance has its frame where it had it
-pub saved_too : (g : FramedGiven) (n : List MemoryBlock) (x : Instance) → IsHeaded g n x → IsHeaded g n (released x)
+pub saved_too : {given : Bool} (g : FramedGiven) (n : List MemoryBlock) (x : Instance) → IsHeaded g n given x
+    → IsHeaded g n given (released x)
 saved_too g n x k = record {
   destroyer = k.destroyer;
   is = k.is;
+  right = k.right;
   stands = k.stands;
   destroys = k.destroys;
   saved = λ suspend values e. let w = k.saved suspend values e in record {
@@ -158,6 +161,9 @@ module _ (g : FramedGiven) (h : PlainGiven) (s : State) (t : PlainState) (r : Ar
     frames = status_frames g s.instances s.world.memory t.world.memory i x there x.status x.last_save true (λ held. held)
         r.frames (λ held. saved_too g t.world.memory x (r.frames.headed i x there held))
 
+    places : KeepsPlaces s.instances ys s.world.memory s.world.memory
+    places = set_places s.instances s.world.memory i x (released x) there refl refl
+
     keeps : KeepsFrames s.instances ys
     keeps = state_frames s.instances i x x.status x.last_save true there
 
@@ -171,6 +177,8 @@ module _ (g : FramedGiven) (h : PlainGiven) (s : State) (t : PlainState) (r : Ar
         (at None)
         (record { begins = not_again r.top.part (at None) refl; cut = λ after. refl; lowered = λ n. refl })
         k.place (k.there ∙ ap (λ (o : Option ℕ). AtInstr (at o)) e))))
+        (λ know. goes_knows g s t ys s.world.memory t.top.values (record { each = λ b e. refl }) places know
+        (λ frame e. refl))
 
     module _ (name : ℕ) (e : k.result ≡ Some name) where
       copied : IsCopied r.top.shape r.top.part f q s.top.block s.top.at t.top.block t.top.at (here name)
@@ -195,6 +203,8 @@ module _ (g : FramedGiven) (h : PlainGiven) (s : State) (t : PlainState) (r : Ar
           stand (set_length s.top.values name v) (set_length t.top.values name u)
           (set_elsewhere t.top.values name r.top.shape.begin u (λ n. k.others (e ∙ ap (λ (a : ℕ). Some a) n)))
           (Inside s.top.mode k.settled copied.1))
+          (λ know. goes_knows g s t ys s.world.memory (with_value t.top.values name u) (record { each = λ b e. refl })
+          places know (set_kept g h s t r t.top.values u s.top.block s.top.at (at k.result) k.there name e))
 
     some_by : (o : Option ℕ) → k.result ≡ o → IsFollowed g h s t
     some_by None e = some_none e

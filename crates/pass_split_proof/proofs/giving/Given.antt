@@ -14,6 +14,8 @@ use Rattle.pass_proofs.specs.pass_intrinsics.declared.cuts.Cut.{Cut}
 use Rattle.pass_proofs.specs.pass_intrinsics.declared.shape.Part.{Part}
 use Rattle.pass_proofs.specs.pass_intrinsics.declared.shape.Shape.{Shape}
 use Rattle.pass_proofs.specs.pass_split.Pieces.{begins_again}
+use Rattle.pass_split_proof.proofs.simulation.Knowing.{goes_knows, same_places, set_kept}
+use Rattle.pass_proofs.specs.run_step.Values.{with_value}
 use Rattle.pass_split_proof.proofs.places.Coded.{has_code}
 use Rattle.pass_split_proof.proofs.silent.Measure.{next_lower}
 use Rattle.pass_split_proof.proofs.states.Advanced.{advanced, same_frames}
@@ -99,7 +101,7 @@ module _ (g : FramedGiven) (h : PlainGiven) (s : State) (t : PlainState) (r : Ar
       (next_lower f s.top.block s.top.at (call_here None) there)
       (advanced g h s t r (work_of s) (plain_work t) s.instances s.top.block (s.top.at + 1) t.top.block t.top.at
       s.top.has_left k.settled r.world r.frames (same_frames s.instances) (reach (length s.world.memory))
-      (record { each = λ b e. refl }) r.top.values refl refl refl (Inside s.top.mode k.settled place))
+      (record { each = λ b e. refl }) r.top.values refl refl refl (Inside s.top.mode k.settled place)) (λ know. know)
     where
       there : fetch f s.top.block s.top.at ≡ AtInstr (call_here None)
       there = k.there ∙ ap (λ (o : Option ℕ). AtInstr (call_here o)) e
@@ -119,6 +121,9 @@ module _ (g : FramedGiven) (h : PlainGiven) (s : State) (t : PlainState) (r : Ar
       (reach (credit_of s))
       (given_related g h s t r name v u stands (λ n. k.others (e ∙ ap (λ (a : ℕ). Some a) n)) k.settled
       (Inside s.top.mode k.settled copied.1))
+      (λ know. goes_knows g s t s.instances s.world.memory (with_value t.top.values name u)
+      (record { each = λ b e. refl }) (same_places s.instances s.world.memory) know
+      (set_kept g h s t r t.top.values u s.top.block s.top.at (call_here (Some name)) there name refl))
     where
       there : fetch f s.top.block s.top.at ≡ AtInstr (call_here (Some name))
       there = k.there ∙ ap (λ (o : Option ℕ). AtInstr (call_here o)) e

@@ -10,12 +10,16 @@ use Rattle.pass_proofs.specs.ir_model.declared.module.Function.{Function}
 use Rattle.pass_proofs.specs.pass_intrinsics.declared.shape.Part.{Part}
 use Rattle.pass_proofs.specs.pass_intrinsics.declared.shape.Shape.{Shape}
 use Rattle.pass_proofs.specs.split.rules.Parted.{IsCleanup, IsDestroy, IsGivenRamp, IsPartOf, IsRamp, IsResume}
+use Rattle.pass_split_proof.proofs.simulation.Knowing.{result_unset}
+use Rattle.pass_proofs.specs.pass_intrinsics.Shapes.{given_name}
+use Rattle.pass_split_proof.specs.states.Instances.{shape_at}
+use Rattle.pass_split_proof.specs.simulation.Knowing.{KnowsGiven}
 use Rattle.pass_split_proof.proofs.giving.Constants.{not_again}
 use Rattle.pass_split_proof.proofs.making.Markers.{markers_from}
 use Rattle.pass_split_proof.proofs.steps.Followed.{framed_does, one_followed}
 use Rattle.pass_split_proof.proofs.steps.Ordinary.{IsCopied, alone}
 use Rattle.pass_split_proof.proofs.steps.Settled.{plain_does}
-use Rattle.pass_split_proof.proofs.steps.Slots.{blocks_related, slot_related}
+use Rattle.pass_split_proof.proofs.steps.Slots.{blocks_know, blocks_related, slot_related}
 use Rattle.pass_split_proof.specs.making.Blocks.{IsAlloca, IsAtAlloca}
 use Rattle.pass_split_proof.specs.places.Places.{IsCodeOf, OfCoroutine, OfPlain}
 use Rattle.pass_split_proof.specs.simulation.Followed.{IsFollowed}
@@ -159,13 +163,20 @@ module _ (g : FramedGiven) (h : PlainGiven) (s : State) (t : PlainState) (r : Ar
       same : Some k.alloca.name ≡ Some r.top.shape.begin → k.alloca.name ≡ r.top.shape.begin
       same e = cc
 
+  know_made : KnowsGiven g s t → KnowsGiven g (settled s work) (plain_settled t work_too)
+  know_made = blocks_know g h s t r (Some k.alloca.name) (size_of g.given.code k.alloca.ty) k.alloca.align
+      (alloca_kind (function_of g.given s)) (has_markers (function_of g.given s) k.alloca.name)
+      (has_markers (function_at h.code t.top.func) k.alloca.name) s.world.allocs
+      (λ frame e sets. result_unset g h s t r frame e s.top.block s.top.at here k.alloca.there
+      (given_name (shape_at g s.top.func)) sets refl)
+
   pub alloca_followed : IsFollowed g h s t
   alloca_followed = one_followed g h s t r runs (with_slots (settled s work) (new ∷ s.top.slots))
       (plain_slot (plain_settled t work_too) new)
       (slot_made g h s t r runs fine k.alloca ∙ slot_on g (settled s work) new s.top.mode k.settled)
       (makes_slot g h s t r runs fine k.alloca copied.0) (reach (credit_of s))
       (slot_related g h (settled s work) (plain_settled t work_too) made_related new
-      (k.alloca.among (length s.world.memory)) k.settled)
+      (k.alloca.among (length s.world.memory)) k.settled) know_made
     where
       reach : (n : ℕ) → n ≤ n
       reach n = omega arith

@@ -8,12 +8,15 @@ use Rattle.pass_proofs.specs.ir_model.declared.instr.Instr.{Instr}
 use Rattle.pass_proofs.specs.ir_model.declared.module.Function.{Function}
 use Rattle.pass_proofs.specs.ir_model.declared.operand.Allocator.{Allocator}
 use Rattle.pass_proofs.specs.ir_model.declared.operand.Callee.{Callee}
+use Rattle.pass_split_proof.proofs.simulation.Knowing.{result_unset}
+use Rattle.pass_proofs.specs.pass_intrinsics.Shapes.{given_name}
+use Rattle.pass_split_proof.specs.states.Instances.{shape_at}
 use Rattle.pass_split_proof.proofs.calling.Called.{args_stand}
 use Rattle.pass_split_proof.proofs.giving.Constants.{not_again}
 use Rattle.pass_split_proof.proofs.steps.Followed.{framed_does, one_followed}
 use Rattle.pass_split_proof.proofs.steps.Ordinary.{IsCopied, alone}
 use Rattle.pass_split_proof.proofs.steps.Settled.{plain_does}
-use Rattle.pass_split_proof.proofs.steps.Slots.{blocks_related}
+use Rattle.pass_split_proof.proofs.steps.Slots.{blocks_know, blocks_related}
 use Rattle.pass_split_proof.specs.making.Blocks.{IsAtAllocator, allocates}
 use Rattle.pass_split_proof.specs.simulation.Followed.{IsFollowed}
 use Rattle.pass_split_proof.specs.states.Activations.{Inside}
@@ -99,6 +102,9 @@ module _ (g : FramedGiven) (h : PlainGiven) (s : State) (t : PlainState) (r : Ar
         (blocks_related g h s t r k.result x.bits 16 Kind.Allocator false false (risen s.world.allocs)
         (λ same. same) (k.small x e)
         (λ same. refl) k.settled k.others (Inside s.top.mode k.settled copied.1))
+        (blocks_know g h s t r k.result x.bits 16 Kind.Allocator false false (risen s.world.allocs)
+        (λ frame e sets. result_unset g h s t r frame e s.top.block s.top.at i k.there
+        (given_name (shape_at g s.top.func)) sets refl))
       where
         reach : (n : ℕ) → n ≤ n
         reach n = omega arith

@@ -6,6 +6,9 @@ use Rattle.pass_proofs.specs.ir_model.declared.instr.Instr.{Instr}
 use Rattle.pass_proofs.specs.ir_model.declared.module.Function.{Function}
 use Rattle.pass_proofs.specs.ir_model.declared.operand.Callee.{Callee}
 use Rattle.pass_proofs.specs.ir_model.declared.operand.Intrinsic.{Intrinsic}
+use Rattle.pass_split_proof.proofs.simulation.Knowing.{goes_knows, memory_places}
+use Rattle.pass_split_proof.proofs.states.SameKind.{given_kept}
+use Rattle.pass_split_proof.proofs.held.Memory.{ended_kind, started_kind}
 use Rattle.pass_split_proof.proofs.calling.Called.{args_stand}
 use Rattle.pass_split_proof.proofs.giving.Constants.{not_again}
 use Rattle.pass_split_proof.proofs.marking.Started.{started_beside, started_frames}
@@ -56,7 +59,7 @@ same_block n b o u stands = ap block_of stands.1
 
 module _ (g : FramedGiven) (h : PlainGiven) (s : State) (t : PlainState) (r : AreRelated g h s t)
     (runs : s.outcome ≡ Outcome.Running) (x : Intrinsic) (k : IsAtMarker g h s t r x)
-    (change : MemoryBlock → MemoryBlock) where
+    (change : MemoryBlock → MemoryBlock) (kind : (y : MemoryBlock) → (change y).kind ≡ y.kind) where
   abbrev f : Function
   f = function_of g.given s
 
@@ -127,14 +130,18 @@ module _ (g : FramedGiven) (h : PlainGiven) (s : State) (t : PlainState) (r : Ar
         (framed_does g s (AtInstr marker) (Done made) runs k.there refl ours)
         (plain_does h t (AtInstr marker) (Done made_too) (r.outcome ∙ runs) copied.0 theirs)
         (same (credit_of s) (credit_of s) refl) related
+        (λ know. goes_knows g s t s.instances (changing m k.block) t.top.values
+        (subst (λ (l : ℕ). Extends (homes_of m) (own_homes 0 l)) (sym long) (record { each = λ b e. refl }))
+        (memory_places s.instances m (changing m k.block) (λ i x e. given_kept change kind m k.block x.block x)) know
+        (λ frame e. refl))
 
 module _ (g : FramedGiven) (h : PlainGiven) (s : State) (t : PlainState) (r : AreRelated g h s t)
     (runs : s.outcome ≡ Outcome.Running) where
   abbrev ending : IsAtMarker g h s t r Intrinsic.LifetimeEnd → Instr
-  ending k = marker g h s t r runs Intrinsic.LifetimeEnd k ended
+  ending k = marker g h s t r runs Intrinsic.LifetimeEnd k ended ended_kind
 
   pub end_followed : IsAtMarker g h s t r Intrinsic.LifetimeEnd → IsFollowed g h s t
-  end_followed k = marker_followed g h s t r runs Intrinsic.LifetimeEnd k ended (λ c w. refl)
+  end_followed k = marker_followed g h s t r runs Intrinsic.LifetimeEnd k ended ended_kind (λ c w. refl)
       (alone r.top.shape r.top.part (function_of g.given s) (function_at h.code t.top.func) s.top.block s.top.at
       t.top.block t.top.at (ending k) (ending k)
       (record { begins = not_again r.top.part (ending k) refl; cut = λ after. refl; lowered = λ n. refl }) k.place
@@ -143,11 +150,11 @@ module _ (g : FramedGiven) (h : PlainGiven) (s : State) (t : PlainState) (r : Ar
       (dead_frames ended ended ends g s.instances s.world.memory t.world.memory k.block r.frames)
 
   abbrev starting : IsAtMarker g h s t r Intrinsic.LifetimeStart → Instr
-  starting k = marker g h s t r runs Intrinsic.LifetimeStart k started
+  starting k = marker g h s t r runs Intrinsic.LifetimeStart k started started_kind
 
   pub start_followed : (k : IsAtMarker g h s t r Intrinsic.LifetimeStart)
       → HoldsNoFrame s.instances s.world.memory k.block → IsFollowed g h s t
-  start_followed k clear = marker_followed g h s t r runs Intrinsic.LifetimeStart k started (λ c w. refl)
+  start_followed k clear = marker_followed g h s t r runs Intrinsic.LifetimeStart k started started_kind (λ c w. refl)
       (alone r.top.shape r.top.part (function_of g.given s) (function_at h.code t.top.func) s.top.block s.top.at
       t.top.block t.top.at (starting k) (starting k)
       (record { begins = not_again r.top.part (starting k) refl; cut = λ after. refl; lowered = λ n. refl }) k.place

@@ -3,12 +3,12 @@ use Rattle.std.proofs.Common.{◌≡◌, ◌≢◌, ℕ, zero, suc, ◌<◌, ◌
 use Rattle.std.specs.Prelude.{slice_get}
 use Rattle.std.proofs.lemmas.Bool.{cases_eq, false≢true}
 use Rattle.std.proofs.lemmas.List.{length-replicate}
-use Rattle.pass_split_proof.proofs.states.Closed.{headed_held, lies_by}
+use Rattle.pass_split_proof.proofs.states.Closed.{headed_held, headed_on, lies_by}
 use Rattle.pass_split_proof.proofs.states.Killed.{changed_twins, left_too}
 use Rattle.pass_split_proof.proofs.states.Standing.{open_bytes, twins_stand}
 use Rattle.pass_split_proof.proofs.states.Written.{length-changed}
 use Rattle.pass_split_proof.specs.marking.Markers.{HoldsNoFrame}
-use Rattle.pass_split_proof.specs.states.Instances.{AreFrames, AreLaidFrames, is_held, is_held_in}
+use Rattle.pass_split_proof.specs.states.Instances.{AreFrames, AreLaidFrames, is_given_in, is_held, is_held_in}
 use Rattle.pass_split_proof.specs.states.Memories.{AreBeside, AreTwins, IsTwin, homes_of}
 use Rattle.pass_proofs.specs.run_framed.Framed.{FramedGiven}
 use Rattle.pass_proofs.proofs.run_laws.access.Held.{same_held}
@@ -168,10 +168,12 @@ module _ (g : FramedGiven) (xs : List Instance) (m n : List MemoryBlock) (b : �
   pub started_frames : AreFrames g xs m n → AreFrames g xs k l
   started_frames frames = record {
     laid = started_laid frames.laid;
-    headed = λ i x e held. headed_held g n l x
+    headed = λ i x e held. headed_on g m k l x
+        (ap (λ (o : Option MemoryBlock). is_given_in o x) (changed_elsewhere m b x.block started (elsewhere i x e held)))
+        (headed_held g n l x
         (λ o most bytes some control holds. same_held owner_rights n l x.block o most bytes
         (changed_elsewhere n b x.block started (elsewhere i x e held)) holds)
-        (frames.headed i x e (was_held i x e held));
+        (frames.headed i x e (was_held i x e held)));
   }
 
   pub started_beside : AreLaidFrames g xs m → AreBeside g xs m n → AreBeside g xs k l

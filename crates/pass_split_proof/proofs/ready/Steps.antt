@@ -28,7 +28,7 @@ module _ (ls : Layouts) (m : Module) (w : IsFollowable ls m) (answers : List ℤ
       → ArePlacesMet (framed_given m ls.coroutines answers) (parts_given ls m answers) s t r
   places_met s t r = record {
     term = terms_ready ls m w answers s t r;
-    ordinary = ordinary_ready ls m w answers s t r;
+    ordinary = λ i here p ungiven. ordinary_ready ls m w answers s t r i here p;
     called = call_ready ls m w answers s t r;
     alloca = alloca_ready ls m w answers s t r;
     allocator = allocator_ready ls m w answers s t r;

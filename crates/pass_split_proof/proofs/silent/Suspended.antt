@@ -136,7 +136,7 @@ module _ (g : FramedGiven) (h : PlainGiven) (s : State) (t : PlainState) (r : Ar
 
   pub no_step : s.outcome ≡ Outcome.Running → AreRelated g h (behind_suspend g s k) t → IsFollowed g h s t
   no_step runs related = none_followed g h s t r runs (behind_suspend g s k) (suspend_is g s k runs)
-      (reach (credit_of s)) (next_lower f s.top.block s.top.at (suspend_here g s k) k.there) related
+      (reach (credit_of s)) (next_lower f s.top.block s.top.at (suspend_here g s k) k.there) related (λ know. know)
     where
       reach : (n : ℕ) → n ≤ n
       reach n = omega arith

@@ -1,4 +1,5 @@
--- Where each step of the framed run is followed in the parts the runs agree by what their steps cost.
+-- Where each step of the framed run is followed in the parts, from states that know something more and to such states,
+-- the runs agree by what their steps cost.
 use Rattle.std.proofs.Common.{◌≡◌, ℕ, zero, suc, ◌+◌, ◌-◌, ◌<◌, ◌≤◌, ◌⊎◌, inl, inr, ⊎_elim, List, map, refl, sym, ap, ◌∙◌, subst, arith}
 use Rattle.std.specs.Prelude.{ℤ}
 use Rattle.std.proofs.lemmas.Bool.{cases_lt}
@@ -10,7 +11,7 @@ use Rattle.pass_cleanup.specs.Cleaned.{plain_machine}
 use Rattle.pass_split_proof.proofs.simulation.Agreement.{price_within}
 use Rattle.pass_split_proof.proofs.simulation.Weights.{weight_some, weight_within}
 use Rattle.pass_split_proof.specs.first_exits.Parted.{parted_module}
-use Rattle.pass_split_proof.specs.simulation.Followed.{AreStepsFollowed, IsFollowed, ShowsOn}
+use Rattle.pass_split_proof.specs.simulation.Followed.{AreStepsFollowed, AreStepsFollowedBy, IsFollowed, IsFollowedBy, ShowsOn}
 use Rattle.pass_split_proof.specs.simulation.Statement.{IsEntryOfParts, PartsKeepStates, parts_given}
 use Rattle.pass_split_proof.specs.states.Related.{AreRelated, Follows, IsFollowing, IsOn, credit_of, fetched_at, is_behind_suspend, measure, part_price, weight}
 use Rattle.pass_proofs.proofs.run_agreement.Costs.{weaken_by}
@@ -82,7 +83,8 @@ plain_stays h t over = on t.outcome refl
 
 -- ---- one step of the framed run, and those of the parts
 
-module _ (ls : Layouts) (m : Module) (entry other : ℕ) (args : List Word) (answers : List ℤ) where
+module _ (ls : Layouts) (m : Module) (entry other : ℕ) (args : List Word) (answers : List ℤ)
+    (Knows : State → PlainState → Type 0) where
   abbrev g : FramedGiven
   g = framed_given m ls.coroutines answers
 
@@ -114,12 +116,16 @@ module _ (ls : Layouts) (m : Module) (entry other : ℕ) (args : List Word) (ans
   -- the parts follow a state that the framed run comes to
   record IsKept (c : ℕ) (s : State) (t : PlainState) : Type 0 where
     follows : IsFollowing g h c s t
+    knows : Knows s (iterate (plain_step h) follows.behind t)
     index : ℕ
     reached : s ≡ framed_state_at g entry args index
 
   module _ (c : ℕ) (s : State) (t : PlainState) (r : IsFollowing g h c s t)
-      (f : IsFollowed g h s (iterate (plain_step h) r.behind t)) (index : ℕ)
+      (k : IsFollowedBy g h Knows s (iterate (plain_step h) r.behind t)) (index : ℕ)
       (reached : s ≡ framed_state_at (framed_given m ls.coroutines answers) entry args index) where
+    abbrev f : IsFollowed g h s (iterate (plain_step h) r.behind t)
+    f = k.followed
+
     abbrev b : ℕ
     b = r.behind
 
@@ -229,6 +235,7 @@ module _ (ls : Layouts) (m : Module) (entry other : ℕ) (args : List Word) (ans
     on_run = ap (framed_step g) reached ∙ sym (iterate-add (framed_step g) index 1 (first_state m entry args))
 
     advances : AdvanceBy ours (part_price g) theirs (λ t. 1) IsKept (IsNear theirs 9 (AreRelated g h)) (measure g) c s t
+    unfolding following
     advances = record {
       steps = taken;
       credit = credit_of next;
@@ -237,7 +244,12 @@ module _ (ls : Layouts) (m : Module) (entry other : ℕ) (args : List Word) (ans
           (room c s t r) r.calls);
       goes_on = ⊎_elim (λ lt. inl (some_steps b n d lt)) inr f.goes_on;
       between = λ i pos lt. inl (passed i (less b n d i lt));
-      related = record { follows = following; index = index + 1; reached = on_run };
+      related = record {
+        follows = following;
+        knows = subst (Knows next) way k.knows;
+        index = index + 1;
+        reached = on_run;
+      };
     }
       where
         less : (b n d i : ℕ) → i < (b + n) - d → i < b + n
@@ -272,7 +284,8 @@ module _ (ls : Layouts) (m : Module) (entry other : ℕ) (args : List Word) (ans
       few b le = omega arith
 
   module _ (start : AreRelated g h (first_state m entry args) (plain_first (parted_module ls m) other args))
-      (all : AreStepsFollowed g h entry args) where
+      (known : Knows (first_state m entry args) (plain_first (parted_module ls m) other args))
+      (all : AreStepsFollowedBy g h Knows entry args) where
     begins : IsFollowing g h 0 ours.start theirs.start
     begins = record {
       behind = 0;
@@ -287,33 +300,47 @@ module _ (ls : Layouts) (m : Module) (entry other : ℕ) (args : List Word) (ans
 
     -- a step of the run is followed
     followed : (s : State) (u : PlainState) (index : ℕ) → s ≡ framed_state_at g entry args index → AreRelated g h s u
-        → s.outcome ≡ Outcome.Running → IsFine (framed_step g s).outcome → IsFollowed g h s u
-    followed s u index reached = subst (λ (x : State). AreRelated g h x u → x.outcome ≡ Outcome.Running
-        → IsFine (framed_step g x).outcome → IsFollowed g h x u) (sym reached) (all index u)
+        → Knows s u → s.outcome ≡ Outcome.Running → IsFine (framed_step g s).outcome → IsFollowedBy g h Knows s u
+    followed s u index reached = subst (λ (x : State). AreRelated g h x u → Knows x u → x.outcome ≡ Outcome.Running
+        → IsFine (framed_step g x).outcome → IsFollowedBy g h Knows x u) (sym reached) (all index u)
 
     simulates : SimulatesBy ours (part_price g) theirs (λ t. 1) IsKept (IsNear theirs 9 (AreRelated g h)) (measure g)
+    unfolding begins
     simulates = record {
-      begin = record { follows = begins; index = 0; reached = refl };
+      begin = record { follows = begins; knows = known; index = 0; reached = refl };
       same = λ c s t k. shows c s t k.follows;
       counts = λ c s t k. counts c s t k.follows;
       holds = λ c s t k. near c s t k.follows;
       advance = λ c s t k runs fine. advances c s t k.follows
           (followed s (iterate (plain_step h) k.follows.behind t) k.index k.reached k.follows.related
-          (running_is s.outcome runs) fine) k.index k.reached;
+          k.knows (running_is s.outcome runs) fine) k.index k.reached;
       stays_a = framed_stays g;
       stays_b = plain_stays h;
     }
 
-    pub assembled : AgreesBy (Follows (framed_given m ls.coroutines answers) (parts_given ls m answers))
+    pub assembled_by : AgreesBy (Follows (framed_given m ls.coroutines answers) (parts_given ls m answers))
         (IsNear (plain_machine (parted_module ls m) other args answers) 9
         (AreRelated (framed_given m ls.coroutines answers) (parts_given ls m answers)))
         (framed_machine m ls entry args answers) (part_price (framed_given m ls.coroutines answers))
         (plain_machine (parted_module ls m) other args answers) (λ t. 1)
-    assembled = weaken_by (λ s t. (c : ℕ) × IsKept c s t) (IsNear theirs 9 (AreRelated g h)) (Follows g h)
+    assembled_by = weaken_by (λ s t. (c : ℕ) × IsKept c s t) (IsNear theirs 9 (AreRelated g h)) (Follows g h)
         (IsNear theirs 9 (AreRelated g h)) ours (part_price g) (part_price g) theirs (λ t. 1) (λ t. 1)
         (λ s t k. (k.0, k.1.follows)) (λ s t v. v) (λ n fine. omega arith) (λ n. omega arith)
         (lockstep_by ours (part_price g) theirs (λ t. 1) IsKept (IsNear theirs 9 (AreRelated g h)) (measure g)
         simulates)
+
+-- where nothing more is known
+pub assembled : (ls : Layouts) (m : Module) (entry other : ℕ) (args : List Word) (answers : List ℤ)
+    → AreRelated (framed_given m ls.coroutines answers) (parts_given ls m answers) (first_state m entry args)
+    (plain_first (parted_module ls m) other args)
+    → AreStepsFollowed (framed_given m ls.coroutines answers) (parts_given ls m answers) entry args
+    → AgreesBy (Follows (framed_given m ls.coroutines answers) (parts_given ls m answers))
+    (IsNear (plain_machine (parted_module ls m) other args answers) 9
+    (AreRelated (framed_given m ls.coroutines answers) (parts_given ls m answers)))
+    (framed_machine m ls entry args answers) (part_price (framed_given m ls.coroutines answers))
+    (plain_machine (parted_module ls m) other args answers) (λ t. 1)
+assembled ls m entry other args answers start all = assembled_by ls m entry other args answers (λ s t. Unit {0}) start tt
+    (λ n t r known runs fine. record { followed = all n t r runs fine; knows = tt })
 
 -- the whole
 pub followed_keep : (ls : Layouts) (m : Module)

@@ -1,5 +1,5 @@
 -- The control bytes of frames stay where a step keeps what is closed to the framed run.
-use Rattle.std.proofs.Common.{◌≡◌, ℕ, ◌+◌, ◌<◌, ◌≤◌, inl, inr, true, false, List, length, Option, Some, None, refl, sym, ap, ◌∙◌, subst, arith}
+use Rattle.std.proofs.Common.{◌≡◌, ℕ, ◌+◌, ◌<◌, ◌≤◌, inl, inr, Bool, true, false, List, length, Option, Some, None, refl, sym, ap, ◌∙◌, subst, arith}
 use Rattle.std.specs.Prelude.{slice_get, is_some}
 use Rattle.std.proofs.lemmas.Bool.{false≢true}
 use Rattle.std.proofs.lemmas.Option.{slice_get_within}
@@ -7,7 +7,7 @@ use Rattle.pass_proofs.specs.ir_model.declared.ir_type.IntWidth.{IntWidth}
 use Rattle.pass_proofs.specs.ir_paths.declared.point.Point.{Point}
 use Rattle.pass_proofs.specs.pass_intrinsics.Shapes.{index_bytes}
 use Rattle.pass_split_proof.proofs.states.OwnHomes.{own_home}
-use Rattle.pass_split_proof.specs.states.Instances.{AreFrames, AreLaidFrames, IsControl, IsHeaded, IsIndexed, IsSavedAt, LiesAligned, address_of_part, index_length, is_held, is_held_in, resumer_of, shape_at}
+use Rattle.pass_split_proof.specs.states.Instances.{AreFrames, AreLaidFrames, IsControl, IsHeaded, IsHeadedIn, IsIndexed, IsSavedAt, LiesAligned, address_of_part, index_length, is_given_in, is_held, is_held_in, resumer_of, shape_at}
 use Rattle.pass_split_proof.specs.states.Memories.{homes_of}
 use Rattle.pass_proofs.specs.run_framed.Framed.{FramedGiven, frame_rights, layout_of}
 use Rattle.pass_proofs.proofs.run_laws.access.Done.{free_held}
@@ -92,15 +92,22 @@ module _ (g : FramedGiven) (n l : List MemoryBlock) (x : Instance) (move : Moves
     index = index_held h.number h.index;
   }
 
-  pub headed_held : IsHeaded g n x → IsHeaded g l x
+  pub headed_held : {given : Bool} → IsHeaded g n given x → IsHeaded g l given x
   headed_held h = record {
     destroyer = h.destroyer;
     stands = h.stands;
     is = h.is;
+    right = h.right;
     destroys = pointer_held (x.start + 8) (address_of_part g x.coroutine h.destroyer) (omega arith)
         (omega arith) h.destroys;
     saved = λ suspend values e. saved_held suspend (h.saved suspend values e);
   }
+
+-- so it is where the frame lies in a block of the same kind
+pub headed_on : (g : FramedGiven) (m k n : List MemoryBlock) (x : Instance)
+    → is_given_in (slice_get k x.block) x ≡ is_given_in (slice_get m x.block) x → IsHeadedIn g m n x
+    → IsHeadedIn g k n x
+headed_on g m k n x same h = subst (λ (b : Bool). IsHeaded g n b x) (sym same) h
 
 -- what is closed to the framed run stays, and so do they
 pub closed_moves : (g : FramedGiven) (instances : List Instance) (m n l : List MemoryBlock) (x : Instance)
@@ -127,6 +134,12 @@ held_refilled x None None r = refl
 held_refilled x None (Some y) r = absurd r
 held_refilled x (Some z) None r = absurd r
 held_refilled x (Some z) (Some y) r = ap (λ (u : MemoryBlock). is_held_in (Some u) x) r
+
+pub given_refilled : (x : Instance) (a b : Option MemoryBlock) → IsRefilled a b → is_given_in b x ≡ is_given_in a x
+given_refilled x None None r = refl
+given_refilled x None (Some y) r = absurd r
+given_refilled x (Some z) None r = absurd r
+given_refilled x (Some z) (Some y) r = ap (λ (u : MemoryBlock). is_given_in (Some u) x) r
 
 -- a block that was there, as it was but for its bytes
 record Was (o : Option MemoryBlock) (y : MemoryBlock) : Type 0 where
@@ -188,6 +201,7 @@ frames_stay g instances m n k l frames refilled free = record {
   laid = laid_stay g instances m k frames.laid refilled;
   headed = λ i x e held.
       let was = was_held g instances m k frames.laid refilled x held in
-      headed_held g n l x (closed_moves g instances m n l x (λ y at. frames.laid.closed i x y at e was) free)
-      (frames.headed i x e was);
+      headed_on g m k l x (given_refilled x (slice_get m x.block) (slice_get k x.block) (refilled.each x.block))
+      (headed_held g n l x (closed_moves g instances m n l x (λ y at. frames.laid.closed i x y at e was) free)
+      (frames.headed i x e was));
 }

@@ -4,10 +4,10 @@ use Rattle.std.specs.Prelude.{slice_get}
 use Rattle.std.proofs.lemmas.Bool.{cases_eq, cases_lt}
 use Rattle.std.proofs.lemmas.List.{length-replicate}
 use Rattle.std.proofs.lemmas.Option.{slice_get_within}
-use Rattle.pass_split_proof.proofs.states.Closed.{headed_held}
+use Rattle.pass_split_proof.proofs.states.Closed.{headed_held, headed_on}
 use Rattle.pass_split_proof.proofs.states.OwnHomes.{own_extends}
 use Rattle.pass_split_proof.proofs.states.Standing.{open_bytes, twins_stand}
-use Rattle.pass_split_proof.specs.states.Instances.{AreFrames, AreLaidFrames, is_held, is_held_in}
+use Rattle.pass_split_proof.specs.states.Instances.{AreFrames, AreLaidFrames, is_given_in, is_held, is_held_in}
 use Rattle.pass_split_proof.specs.states.Memories.{AreBeside, AreTwins, AreTwinsAt, IsTwin, homes_of, plain_kind}
 use Rattle.pass_proofs.specs.run_framed.Framed.{FramedGiven}
 use Rattle.pass_proofs.proofs.run_laws.access.Held.{grown_held}
@@ -128,8 +128,10 @@ module _ (g : FramedGiven) (xs : List Instance) (m n : List MemoryBlock) (size a
   pub fresh_frames : AreFrames g xs m n → AreFrames g xs source target
   fresh_frames frames = record {
     laid = fresh_laid frames.laid;
-    headed = λ i z e held. headed_held g n target z (λ o most bytes some control h. grown_held owner_rights n
-        (y ∷ []) z.block o most bytes h) (frames.headed i z e (sym (fresh_held frames.laid i z e) ∙ held));
+    headed = λ i z e held. headed_on g m source target z
+        (ap (λ (o : Option MemoryBlock). is_given_in o z) (got_before m x z.block (frames.laid.known i z e)))
+        (headed_held g n target z (λ o most bytes some control h. grown_held owner_rights n
+        (y ∷ []) z.block o most bytes h) (frames.headed i z e (sym (fresh_held frames.laid i z e) ∙ held)));
   }
 
   twins : AreTwins m n → AreTwins source target

@@ -1,17 +1,19 @@
 -- The header of a coroutine that begins is stored, and the memories stand beside each other.
-use Rattle.std.proofs.Common.{◌≡◌, ◌≢◌, ℕ, ◌+◌, ◌%◌, ◌<◌, ◌≤◌, ◌⊎◌, inl, inr, true, false, not, List, [], ◌∷◌, ◌++◌, length, Option, Some, refl, sym, ap, ◌∙◌, subst, arith}
+use Rattle.std.proofs.Common.{◌≡◌, ◌≢◌, ℕ, ◌+◌, ◌%◌, ◌<◌, ◌≤◌, ◌⊎◌, inl, inr, true, false, not, List, [], ◌∷◌, ◌++◌, length, Option, Some, refl, sym, ap, ◌∙◌, subst, arith, ◌||◌, ◌==◌}
 use Rattle.std.specs.Prelude.{slice_get}
-use Rattle.std.proofs.lemmas.Bool.{and_from, and_right}
+use Rattle.std.proofs.lemmas.Bool.{and_from, and_right, eq-eqb}
 use Rattle.pass_proofs.specs.ir_paths.declared.point.Point.{Point}
 use Rattle.pass_proofs.specs.pass_intrinsics.declared.shape.Part.{Part}
 use Rattle.pass_split_proof.proofs.states.Begun.{begun_beside, laid_more, old_held, parted}
-use Rattle.pass_split_proof.proofs.states.Closed.{headed_held}
+use Rattle.pass_split_proof.proofs.states.Closed.{headed_held, headed_on}
 use Rattle.pass_split_proof.proofs.states.Controls.{control_beside, others_move}
 use Rattle.pass_split_proof.proofs.states.Judged.{get_new}
+use Rattle.pass_split_proof.proofs.states.SameKind.{given_kept}
 use Rattle.pass_split_proof.proofs.states.Twins.{twin_at}
 use Rattle.pass_split_proof.proofs.states.Written.{range_holds}
 use Rattle.pass_split_proof.specs.states.Begun.{BeginsIn, IsFreshBlock, IsNewInstance, with_header}
-use Rattle.pass_split_proof.specs.states.Instances.{AreFrames, AreLaidFrames, IsControl, IsHeaded, IsLaidOut, StandsThere, address_of_part, is_destroyer, is_held, lives_in}
+use Rattle.pass_split_proof.specs.states.Instances.{AreFrames, AreLaidFrames, IsControl, IsHeadedIn, IsLaidOut, StandsThere, address_of_part, is_destroyer, is_given_in, is_held, lives_in}
+use Rattle.pass_split_proof.specs.code.Positions.{is_given}
 use Rattle.pass_split_proof.specs.states.Memories.{AreBeside}
 use Rattle.pass_proofs.specs.run_framed.Framed.{FramedGiven, layout_of}
 use Rattle.pass_proofs.proofs.run_laws.access.Ranges.{write_held}
@@ -46,7 +48,7 @@ module _ (g : FramedGiven) (xs : List Instance) (x : Instance) (m n : List Memor
     (beside : AreBeside g xs m n)
     (laid : IsLaidOut g x.coroutine) (sized : (layout_of g.layouts x.coroutine).size ≡ size) (new : IsNewInstance x)
     (roomy : 16 ≤ u.size) (resumes : Value) (destroyer : Part) (is : is_destroyer destroyer ≡ true)
-    (standing : StandsThere g x.coroutine destroyer) where
+    (standing : StandsThere g x.coroutine destroyer) (own : is_given destroyer ≡ false) where
   abbrev more : List Instance
   more = xs ++ x ∷ []
 
@@ -133,11 +135,17 @@ module _ (g : FramedGiven) (xs : List Instance) (x : Instance) (m n : List Memor
       start : (s : ℕ) → s ≡ 0 → 8 ≡ s + 8
       start s e = omega arith
 
-  new_headed : IsHeaded g two x
+  -- the frame wasn't given
+  ungiven : is_given_in (slice_get source x.block) x ≡ false
+  ungiven = ap (λ (o : Option MemoryBlock). is_given_in o x) owned_there
+      ∙ ap (λ (k : Kind). same_kind k Kind.Stack || not (x.start == 0)) fresh.kind ∙ ap not (eq-eqb x.start 0 new.start)
+
+  new_headed : IsHeadedIn g source two x
   new_headed = record {
     destroyer = destroyer;
     stands = standing;
     is = is;
+    right = own ∙ sym ungiven;
     destroys = stored;
     saved = λ suspend values e. absurd
         (runs (sym new.runs ∙ e));
@@ -147,11 +155,12 @@ module _ (g : FramedGiven) (xs : List Instance) (x : Instance) (m n : List Memor
       runs e = cc
 
   old_headed : (i : ℕ) (z : Instance) → i < length xs → slice_get xs i ≡ Some z → slice_get more i ≡ Some z
-      → is_held source z ≡ true → IsHeaded g two z
+      → is_held source z ≡ true → IsHeadedIn g source two z
   old_headed i z lt e e' held' =
-      let was = frames.headed i z e
+      let was : IsHeadedIn g source n z = headed_on g m source n z (given_kept (owned_to size) (λ y. refl) m x.block z.block z)
+      (frames.headed i z e
       (sym (old_held g xs x m n u size there fresh frames.laid beside laid sized new.start new.slots new.unfreed i
-      z e) ∙ held') in
+      z e) ∙ held')) in
       let first = headed_held g n one z (others_move g more source n before lies (length xs) x (get_new xs x) held 0 8
       room_one.0 (encode 8 resumes) room_one.1.0
       (length-encode 8 resumes ∙ sym room_one.1.1) (some_of room_one.0 room_one.1.1) (λ k lt. in_header 0 (inl refl) k
@@ -177,8 +186,8 @@ module _ (g : FramedGiven) (xs : List Instance) (x : Instance) (m n : List Memor
     frames = record {
       laid = lies;
       headed = λ i z e held'. parted g xs x m n u size there fresh frames.laid beside laid sized new.start new.slots
-          new.unfreed (λ (w : Instance). is_held source w ≡ true → IsHeaded g two w) i z e
+          new.unfreed (λ (w : Instance). is_held source w ≡ true → IsHeadedIn g source two w) i z e
           (λ lt f h. old_headed i z lt f e h)
-          (λ at f h. subst (IsHeaded g two) (sym f) new_headed) held';
+          (λ at f h. subst (IsHeadedIn g source two) (sym f) new_headed) held';
     };
   }

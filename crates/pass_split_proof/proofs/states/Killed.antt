@@ -3,10 +3,10 @@ use Rattle.std.proofs.Common.{◌≡◌, ◌≢◌, ℕ, zero, suc, ◌<◌, ◌
 use Rattle.std.specs.Prelude.{slice_get}
 use Rattle.std.specs.Option.{option_map_or}
 use Rattle.std.proofs.lemmas.Bool.{and_parts, cases_eq, false≢true}
-use Rattle.pass_split_proof.proofs.states.Closed.{headed_held, lies_by}
+use Rattle.pass_split_proof.proofs.states.Closed.{headed_held, headed_on, lies_by}
 use Rattle.pass_split_proof.proofs.states.Standing.{open_bytes, twins_stand}
 use Rattle.pass_split_proof.proofs.states.Written.{length-changed}
-use Rattle.pass_split_proof.specs.states.Instances.{AreFrames, AreLaidFrames, LiesAligned, is_held, is_held_in}
+use Rattle.pass_split_proof.specs.states.Instances.{AreFrames, AreLaidFrames, LiesAligned, is_given_in, is_held, is_held_in}
 use Rattle.pass_split_proof.specs.states.Memories.{AreBeside, AreTwins, AreTwinsAt, IsTwin, LivesAs}
 use Rattle.pass_proofs.specs.run_framed.Framed.{FramedGiven}
 use Rattle.pass_proofs.proofs.run_laws.access.Held.{same_held}
@@ -256,10 +256,12 @@ module _ (f h : MemoryBlock → MemoryBlock) (death : IsDeath f h) (g : FramedGi
   pub dead_frames : AreFrames g xs m n → AreFrames g xs (with_block m b f) (with_block n b h)
   dead_frames frames = record {
     laid = dead_laid frames.laid;
-    headed = λ i z e held. headed_held g n (with_block n b h) z
+    headed = λ i z e held. headed_on g m (with_block m b f) (with_block n b h) z
+        (ap (λ (o : Option MemoryBlock). is_given_in o z) (changed_elsewhere m b z.block f (held_elsewhere z held)))
+        (headed_held g n (with_block n b h) z
         (λ o most bytes some control holds. same_held owner_rights n (with_block n b h) z.block o most bytes
         (changed_elsewhere n b z.block h (held_elsewhere z held)) holds)
-        (frames.headed i z e (was_held z held));
+        (frames.headed i z e (was_held z held)));
   }
 
   -- the memories stand beside each other without the block

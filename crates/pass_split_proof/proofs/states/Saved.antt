@@ -16,7 +16,7 @@ use Rattle.pass_split_proof.proofs.states.Twins.{twin_at}
 use Rattle.pass_split_proof.proofs.states.Written.{range_holds}
 use Rattle.pass_split_proof.specs.code.Numbers.{IsNumbered}
 use Rattle.pass_proofs.specs.split.rules.Reached.{IsLedTo}
-use Rattle.pass_split_proof.specs.states.Instances.{AreFrames, IsControl, IsHeaded, IsLaidOut, IsSavedAt, LiesAligned, address_of_part, in_state, index_length, is_held, lives_in, resumer_of, shape_at}
+use Rattle.pass_split_proof.specs.states.Instances.{AreFrames, IsControl, IsHeadedIn, IsLaidOut, IsSavedAt, LiesAligned, address_of_part, in_state, index_length, is_held, lives_in, resumer_of, shape_at}
 use Rattle.pass_split_proof.specs.states.Memories.{AreBeside, plain_kind}
 use Rattle.pass_split_proof.specs.states.Saved.{SavesIn, index_at, with_index, with_save}
 use Rattle.pass_proofs.specs.run_framed.Framed.{FramedGiven, layout_of}
@@ -114,7 +114,7 @@ module _ (g : FramedGiven) (xs : List Instance) (i : ℕ) (x : Instance) (m n : 
   abbrev two : List MemoryBlock
   two = with_save g n x number resumes
 
-  header : IsHeaded g n x
+  header : IsHeadedIn g m n x
   header = frames.headed i x e held
 
   here : HasBlock m x.block
@@ -282,16 +282,17 @@ module _ (g : FramedGiven) (xs : List Instance) (i : ℕ) (x : Instance) (m n : 
     index = record { holds = index_stored };
   }
 
-  now_headed : IsHeaded g two now
+  now_headed : IsHeadedIn g m two now
   now_headed = record {
     destroyer = header.destroyer;
     stands = header.stands;
     is = header.is;
+    right = header.right;
     destroys = destroys_stored;
     saved = λ point vs f. subst (IsSavedAt g two now) (same_suspend suspend point values vs f) saved_there;
   }
 
-  others_headed : (j : ℕ) (z : Instance) → slice_get xs j ≡ Some z → j ≢ i → is_held m z ≡ true → IsHeaded g two z
+  others_headed : (j : ℕ) (z : Instance) → slice_get xs j ≡ Some z → j ≢ i → is_held m z ≡ true → IsHeadedIn g m two z
   others_headed j z f ne h = headed_held g one two z
       (others_move g xs m one beside_one frames.laid i x e held x.start 8 room_two.0 (encode 8 resumes) room_two.1.0
       long_pointer (some_of room_two.0 8 room_two.1.1 (omega arith)) pointer_control j z ne f h)
@@ -314,7 +315,7 @@ module _ (g : FramedGiven) (xs : List Instance) (i : ℕ) (x : Instance) (m n : 
     frames = record {
       laid = status_laid g xs m two i x e (Status.Suspended suspend values) saved released (λ h. held) frames.laid;
       headed = λ j z f h. ⊎_elim
-          (λ k. subst (IsHeaded g two) (sym k.1) now_headed)
+          (λ k. subst (IsHeadedIn g m two) (sym k.1) now_headed)
           (λ k. others_headed j z k.0 k.1 h)
           (set_cases xs i j now z f);
     };

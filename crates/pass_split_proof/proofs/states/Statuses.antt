@@ -3,7 +3,7 @@ use Rattle.std.proofs.Common.{◌≡◌, ℕ, ◌<◌, ◌⊎◌, ⊎_elim, Bool
 use Rattle.std.specs.Prelude.{slice_get, slice_set, is_some}
 use Rattle.pass_proofs.proofs.flow_solver.Lists.{set_cases}
 use Rattle.pass_proofs.specs.ir_paths.declared.point.Point.{Point}
-use Rattle.pass_split_proof.specs.states.Instances.{AreFrames, AreLaidFrames, IsControl, IsHeaded, LiesAligned, is_held}
+use Rattle.pass_split_proof.specs.states.Instances.{AreFrames, AreLaidFrames, IsControl, IsHeaded, IsHeadedIn, LiesAligned, is_held}
 use Rattle.pass_split_proof.specs.states.Memories.{AreBeside, homes_of}
 use Rattle.run_access_worked.proofs.Ended.{rights_same, set_frames}
 use Rattle.pass_proofs.specs.run_framed.Framed.{FramedGiven, frame_rights}
@@ -100,10 +100,10 @@ module _ (g : FramedGiven) (xs : List Instance) (m n : List MemoryBlock) (i : �
         back old z c = sym c.0
 
     -- and so do the frames, where the changed one holds what it should
-    pub changed_frames : AreFrames g xs m n → (is_held m now ≡ true → IsHeaded g n now) → AreFrames g after m n
+    pub changed_frames : AreFrames g xs m n → (is_held m now ≡ true → IsHeadedIn g m n now) → AreFrames g after m n
     changed_frames frames headed = record {
       laid = changed_laid frames.laid;
-      headed = λ j z f h. each_of (λ (w : Instance). is_held m w ≡ true → IsHeaded g n w) j z f headed
+      headed = λ j z f h. each_of (λ (w : Instance). is_held m w ≡ true → IsHeadedIn g m n w) j z f headed
           (λ f' h'. frames.headed j z f' h') h;
     }
 
@@ -129,16 +129,18 @@ module _ (g : FramedGiven) (xs : List Instance) (m n : List MemoryBlock) (i : �
     status_laid frames = changed_laid g xs m n i x e status saved released x.freed held (λ f. f)
         (λ y freed there kind. frames.gone i x y e freed there kind) frames
 
-    pub status_frames : AreFrames g xs m n → (is_held m other ≡ true → IsHeaded g n other) → AreFrames g others m n
+    pub status_frames : AreFrames g xs m n → (is_held m other ≡ true → IsHeadedIn g m n other) → AreFrames g others m n
     status_frames frames headed = changed_frames g xs m n i x e status saved released x.freed held (λ f. f)
         (λ y freed there kind. frames.laid.gone i x y e freed there kind) frames headed
 
   -- a running instance has no index that anyone asks for
-  pub runs_headed : IsHeaded g n x → (status ≡ Status.Running) ⊎ (status ≡ Status.Finished) → IsHeaded g n other
+  pub runs_headed : {given : Bool} → IsHeaded g n given x → (status ≡ Status.Running) ⊎ (status ≡ Status.Finished)
+      → IsHeaded g n given other
   runs_headed h is = record {
     destroyer = h.destroyer;
     stands = h.stands;
     is = h.is;
+    right = h.right;
     destroys = h.destroys;
     saved = λ suspend values e. absurd (⊎_elim (λ s. none (sym s ∙ e)) (λ s. none' (sym s ∙ e)) is);
   }

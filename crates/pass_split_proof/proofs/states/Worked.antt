@@ -110,4 +110,4 @@ module _ (given : Given) where
         slots = refl;
         runs = refl;
         unfreed = refl;
-      }) (omega arith) resumes Part.Destroy refl (λ e. absurd (false≢true e))
+      }) (omega arith) resumes Part.Destroy refl (λ e. absurd (false≢true e)) refl

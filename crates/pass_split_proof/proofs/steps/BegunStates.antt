@@ -21,6 +21,7 @@ use Rattle.pass_split_proof.proofs.steps.Saves.{set_there, values_extra}
 use Rattle.pass_proofs.proofs.addresses.numbers.Done.{address_done}
 use Rattle.pass_split_proof.proofs.steps.Small.{pointer_stored}
 use Rattle.pass_split_proof.specs.states.Activations.{Inside, is_entering}
+use Rattle.pass_split_proof.specs.code.Positions.{is_given}
 use Rattle.pass_split_proof.specs.states.Begun.{BeginsIn, IsFreshBlock, IsNewInstance, with_header}
 use Rattle.pass_split_proof.specs.states.Going.{stands_at}
 use Rattle.pass_split_proof.specs.states.Instances.{IsLaidOut, StandsThere, address_of_part, destroyer_of, is_destroyer, part_position, shape_at}
@@ -61,7 +62,8 @@ module _ (g : FramedGiven) (h : PlainGiven) (s : State) (t : PlainState) (r : Ar
     (there : slice_get s.world.memory x.block ≡ Some u) (fresh : IsFreshBlock size u)
     (laid : IsLaidOut g x.coroutine) (sized : (layout_of g.layouts x.coroutine).size ≡ size) (new : IsNewInstance x)
     (roomy : 16 ≤ u.size)
-    (leads : value_at (plain_context h t) (plain_work t) ptr p ≡ pointer_at x.block 0) where
+    (leads : value_at (plain_context h t) (plain_work t) ptr p ≡ pointer_at x.block 0)
+    (own : is_given (destroyer_of r.top.part) ≡ false) where
   abbrev shape : Shape
   shape = shape_at g s.top.func
 
@@ -77,7 +79,7 @@ module _ (g : FramedGiven) (h : PlainGiven) (s : State) (t : PlainState) (r : Ar
   stored : BeginsIn g s.instances x source t.world.memory resumes (destroyer_of r.top.part)
   stored = begins g s.instances x s.world.memory t.world.memory u size there fresh r.frames r.world.memory laid sized
       new roomy resumes destroyer (destroys r.top.part)
-      (subst (λ (k : ℕ). StandsThere g k destroyer) (sym mine) code.standing)
+      (subst (λ (k : ℕ). StandsThere g k destroyer) (sym mine) code.standing) own
     where
       destroys : (part : Part) → is_destroyer (destroyer_of part) ≡ true
       destroys Part.Ramp = refl

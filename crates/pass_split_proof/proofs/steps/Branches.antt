@@ -11,6 +11,9 @@ use Rattle.pass_proofs.specs.ir_model.declared.module.Function.{Function}
 use Rattle.pass_proofs.specs.ir_model.declared.module.Module.{Module}
 use Rattle.pass_proofs.specs.ir_model.declared.operand.Operand.{Operand}
 use Rattle.pass_proofs.specs.ir_paths.declared.point.Window.{Window}
+use Rattle.pass_proofs.specs.pass_intrinsics.Shapes.{given_name}
+use Rattle.pass_split_proof.proofs.simulation.Knowing.{goes_knows, left_places, phis_unset}
+use Rattle.pass_split_proof.specs.simulation.Knowing.{KnowsGiven}
 use Rattle.pass_split_proof.proofs.states.Advanced.{KeepsFrames, advanced, same_frames}
 use Rattle.pass_split_proof.proofs.states.Judged.{numbering}
 use Rattle.pass_split_proof.proofs.states.Statuses.{runs_headed, status_beside, status_frames}
@@ -18,7 +21,7 @@ use Rattle.pass_split_proof.proofs.steps.Operands.{all_elsewhere, all_length, ph
 use Rattle.pass_split_proof.specs.places.Places.{Enters, entering}
 use Rattle.pass_split_proof.specs.states.Activations.{Inside, is_entering}
 use Rattle.pass_split_proof.specs.states.Going.{goes_to, stands_at}
-use Rattle.pass_split_proof.specs.states.Instances.{AreFrames, is_given_in, is_held_in}
+use Rattle.pass_split_proof.specs.states.Instances.{AreFrames, is_given_in, is_held_in, shape_at}
 use Rattle.pass_split_proof.specs.states.Memories.{AreBeside, homes_of}
 use Rattle.pass_split_proof.specs.states.Related.{AreRelated}
 use Rattle.pass_split_proof.specs.states.Values.{AreValuesOf}
@@ -215,7 +218,32 @@ module _ (g : FramedGiven) (h : PlainGiven) (s : State) (t : PlainState) (r : Ar
         (others phis readable.others))
         (Inside s.top.mode mode enters.place)))
 
+    given_others : (at : ℕ) (ps : List Phi) → Each (λ (p : Phi). p.result ≡ at → ⊥) ps
+        → Each (λ (p : ℕ × Value). p.0 ≡ at → ⊥) (phi_values h.code t.top.values from ps)
+    given_others at [] k = tt
+    given_others at (p ∷ ps) k = (k.0, given_others at ps k.1)
+
+    -- what is known of given frames stays
+    pub edges_know_from : (u : State) → Entered g.given s label u → KnowsGiven g s t
+        → KnowsGiven g u (plain_go_to h (stands_at t piece 0 (plain_work t)) label)
+    edges_know_from u entered known = subst (λ (x : State). KnowsGiven g x
+        (plain_go_to h (stands_at t piece 0 (plain_work t)) label)) (sym entered.is)
+        (subst (λ (vs : Env). KnowsGiven g (goes_to s s.world entered.instances (position_of f label) 0
+        (with_all s.top.values (phi_values g.given.code s.top.values from phis)) entered.left)
+        (stands_at t (position_of q label) 0 (record { world = t.world; values = vs }))) (sym taken_in_part)
+        (goes_knows g s t entered.instances s.world.memory
+        (with_all t.top.values (phi_values h.code t.top.values from phis)) (record { each = λ b e. refl })
+        (left_places s.world.memory s.instances entered.instances entered.was) known
+        (λ frame e. all_elsewhere t.top.values (phi_values h.code t.top.values from phis)
+        (given_name (shape_at g s.top.func)) (given_others (given_name (shape_at g s.top.func)) phis
+        (phis_unset g h s t r frame e (position_of f label))))))
+
   -- from the block in which it stands
+  pub edges_know : Enters r.top.shape r.top.part f q s.top.block t.top.block label
+      → AreReadablePhis g.given.code h.code f from r.top.shape.begin phis → is_entering s.top.mode ≡ false
+      → (u : State) → Entered g.given s label u → KnowsGiven g s t → KnowsGiven g u (plain_go_to h t label)
+  edges_know = edges_know_from t.top.block
+
   pub edges_related : Enters r.top.shape r.top.part f q s.top.block t.top.block label
       → AreReadablePhis g.given.code h.code f from r.top.shape.begin phis → is_entering s.top.mode ≡ false
       → (u : State) → Entered g.given s label u → AreRelated g h u (plain_go_to h t label)

@@ -10,11 +10,12 @@ use Rattle.pass_proofs.specs.ir_model.declared.operand.Callee.{Callee}
 use Rattle.pass_proofs.specs.ir_model.declared.operand.Intrinsic.{Intrinsic}
 use Rattle.pass_proofs.specs.pass_intrinsics.Shapes.{is_end}
 use Rattle.pass_split_proof.proofs.simulation.Weights.{weight_some}
-use Rattle.pass_split_proof.proofs.steps.Branches.{edges_from, edges_related, left_by}
-use Rattle.pass_split_proof.proofs.steps.Ordinary.{steps_beside}
+use Rattle.pass_split_proof.proofs.steps.Branches.{edges_from, edges_know, edges_know_from, edges_related, left_by}
+use Rattle.pass_split_proof.proofs.steps.Ordinary.{steps_beside, steps_know}
 use Rattle.pass_split_proof.proofs.steps.Settled.{plain_does}
 use Rattle.pass_split_proof.specs.places.Places.{Enters, JumpsOn, StartsWithEnd}
 use Rattle.pass_split_proof.specs.simulation.Followed.{IsFollowed, ShowsOn}
+use Rattle.pass_split_proof.specs.simulation.Knowing.{KnowsGiven}
 use Rattle.pass_split_proof.specs.states.Activations.{is_entering}
 use Rattle.pass_split_proof.specs.states.Going.{stands_at}
 use Rattle.pass_split_proof.specs.states.Related.{AreRelated, IsOn, credit_of, fetched_at, is_behind_suspend, measure, part_price, price_of, weight}
@@ -66,8 +67,8 @@ module _ (g : FramedGiven) (h : PlainGiven) (s : State) (t : PlainState) (r : Ar
   pub many_followed : (n : ℕ) (u : State) → n ≤ 9 → 0 < n → framed_step g s ≡ u
       → n + credit_of u ≤ weight (fetched_at g s) + credit_of s
       → ((i : ℕ) → i < n → IsOn s (iterate (plain_step h) i t)) → AreRelated g h u (iterate (plain_step h) n t)
-      → IsFollowed g h s t
-  many_followed n u short pos is few passes related = record {
+      → (KnowsGiven g s t → KnowsGiven g u (iterate (plain_step h) n t)) → IsFollowed g h s t
+  many_followed n u short pos is few passes related keeps = record {
     steps = n;
     debt = 0;
     within = omega arith;
@@ -78,6 +79,7 @@ module _ (g : FramedGiven) (h : PlainGiven) (s : State) (t : PlainState) (r : Ar
     goes_on = inl pos;
     passes = passes;
     related = subst (λ (x : State). AreRelated g h x (iterate (plain_step h) n t)) (sym is) related;
+    keeps = λ k. subst (λ (x : State). KnowsGiven g x (iterate (plain_step h) n t)) (sym is) (keeps k);
   }
     where
       none_more : (n c w k : ℕ) → n + c ≤ w + k → n + c ≤ w + 0 + k
@@ -85,10 +87,10 @@ module _ (g : FramedGiven) (h : PlainGiven) (s : State) (t : PlainState) (r : Ar
 
   -- one step, behind which no ramp more waits for its begin
   pub one_followed : (u : State) (w : PlainState) → framed_step g s ≡ u → plain_step h t ≡ w
-      → credit_of u ≤ credit_of s → AreRelated g h u w → IsFollowed g h s t
-  one_followed u w is goes few related = many_followed 1 u (omega arith) (omega arith) is
+      → credit_of u ≤ credit_of s → AreRelated g h u w → (KnowsGiven g s t → KnowsGiven g u w) → IsFollowed g h s t
+  one_followed u w is goes few related keeps = many_followed 1 u (omega arith) (omega arith) is
       (one_more (credit_of u) (weight (fetched_at g s)) (credit_of s) few (weight_some (fetched_at g s)))
-      on_way (subst (AreRelated g h u) (sym goes) related)
+      on_way (subst (AreRelated g h u) (sym goes) related) (λ k. subst (KnowsGiven g u) (sym goes) (keeps k))
     where
       one_more : (c w k : ℕ) → c ≤ k → 1 ≤ w → 1 + c ≤ w + k
       one_more c w k le some = omega arith
@@ -102,10 +104,11 @@ module _ (g : FramedGiven) (h : PlainGiven) (s : State) (t : PlainState) (r : Ar
 
   -- one step that makes another activation, which may be a ramp's
   pub call_followed : (u : State) (w : PlainState) → framed_step g s ≡ u → plain_step h t ≡ w
-      → 2 ≤ weight (fetched_at g s) → credit_of u ≤ 1 + credit_of s → AreRelated g h u w → IsFollowed g h s t
-  call_followed u w is goes heavy few related = many_followed 1 u (omega arith) (omega arith) is
+      → 2 ≤ weight (fetched_at g s) → credit_of u ≤ 1 + credit_of s → AreRelated g h u w
+      → (KnowsGiven g s t → KnowsGiven g u w) → IsFollowed g h s t
+  call_followed u w is goes heavy few related keeps = many_followed 1 u (omega arith) (omega arith) is
       (one_more (credit_of u) (weight (fetched_at g s)) (credit_of s) few heavy)
-      on_way (subst (AreRelated g h u) (sym goes) related)
+      on_way (subst (AreRelated g h u) (sym goes) related) (λ k. subst (KnowsGiven g u) (sym goes) (keeps k))
     where
       one_more : (c w k : ℕ) → c ≤ 1 + k → 2 ≤ w → 1 + c ≤ w + k
       one_more c w k le some = omega arith
@@ -119,8 +122,8 @@ module _ (g : FramedGiven) (h : PlainGiven) (s : State) (t : PlainState) (r : Ar
 
   -- no step, where the measure falls
   pub none_followed : (u : State) → framed_step g s ≡ u → credit_of u ≤ credit_of s → measure g u < measure g s
-      → AreRelated g h u t → IsFollowed g h s t
-  none_followed u is few falls related = record {
+      → AreRelated g h u t → (KnowsGiven g s t → KnowsGiven g u t) → IsFollowed g h s t
+  none_followed u is few falls related keeps = record {
     steps = 0;
     debt = 0;
     within = omega arith;
@@ -131,6 +134,7 @@ module _ (g : FramedGiven) (h : PlainGiven) (s : State) (t : PlainState) (r : Ar
     goes_on = inr (subst (λ (x : State). measure g x < measure g s) (sym is) falls);
     passes = λ i lt. absurd (none i lt);
     related = subst (λ (x : State). AreRelated g h x t) (sym is) related;
+    keeps = λ k. subst (λ (x : State). KnowsGiven g x t) (sym is) (keeps k);
   }
     where
       none_more : (c w k : ℕ) → c ≤ k → 0 + c ≤ w + 0 + k
@@ -146,7 +150,7 @@ module _ (g : FramedGiven) (h : PlainGiven) (s : State) (t : PlainState) (r : Ar
       → action_of (framed_context g s) (work_of s) (AtInstr i) ≡ Done v → IsFollowed g h s t
   ordinary_followed functions i k given v does = one_followed (settled s v) (plain_step h t)
       (framed_does g s (AtInstr i) (Done v) runs k.there given does) refl (same (credit_of s))
-      (steps_beside functions g h s t r i k v does)
+      (steps_beside functions g h s t r i k v does) (steps_know functions g h s t r i k v does)
     where
       same : (k : ℕ) → k ≤ k
       same k = omega arith
@@ -186,6 +190,7 @@ module _ (g : FramedGiven) (h : PlainGiven) (s : State) (t : PlainState) (r : Ar
         → IsFollowed g h s t
     straight_followed enters steps = one_followed next.0 (plain_go_to h t label) is steps same_credit
         (edges_related g h s t r label enters readable mode next.0 entered)
+        (edges_know g h s t r label enters readable mode next.0 entered)
 
     -- through the mark of the end, for whose jump the end has room
     module _ (mark : ℕ) (on : JumpsOn (plain_function h t) mark label)
@@ -243,6 +248,9 @@ module _ (g : FramedGiven) (h : PlainGiven) (s : State) (t : PlainState) (r : Ar
         related = subst (λ (x : State). AreRelated g h x (iterate (plain_step h) 2 t)) (sym is)
             (subst (AreRelated g h next.0) (sym (ap (plain_step h) steps ∙ jumps))
             (edges_from g h s t r label mark enters readable mode next.0 entered));
+        keeps = λ k. subst (λ (x : State). KnowsGiven g x (iterate (plain_step h) 2 t)) (sym is)
+            (subst (KnowsGiven g next.0) (sym (ap (plain_step h) steps ∙ jumps))
+            (edges_know_from g h s t r label mark enters readable mode next.0 entered k));
       }
         where
           two_more : (c w k : ℕ) → c ≤ k → 1 ≤ w → 2 + c ≤ w + 1 + k

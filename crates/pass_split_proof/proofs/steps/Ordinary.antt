@@ -16,7 +16,12 @@ use Rattle.pass_proofs.specs.pass_intrinsics.declared.shape.Part.{Part}
 use Rattle.pass_proofs.specs.pass_intrinsics.declared.shape.Shape.{Shape}
 use Rattle.pass_split_proof.proofs.places.Coded.{has_code}
 use Rattle.pass_split_proof.proofs.steps.Ready.{done}
-use Rattle.pass_split_proof.proofs.steps.Settled.{settled_related, settles}
+use Rattle.pass_split_proof.proofs.ready.Begins.{gives_result}
+use Rattle.pass_split_proof.proofs.simulation.Knowing.{result_unset}
+use Rattle.pass_split_proof.proofs.steps.Settled.{settled_knows, settled_related, settles}
+use Rattle.pass_split_proof.specs.simulation.Knowing.{KnowsGiven}
+use Rattle.pass_split_proof.specs.states.Instances.{shape_at}
+use Rattle.pass_proofs.specs.pass_intrinsics.Shapes.{given_name}
 use Rattle.pass_split_proof.specs.places.Places.{BeginsAgain, HasCode, IsCode, IsPlace, Marks, Returns, Stays, Suspends, Transfers}
 use Rattle.pass_split_proof.specs.states.Activations.{Inside}
 use Rattle.pass_split_proof.specs.states.Related.{AreRelated}
@@ -26,7 +31,7 @@ use Rattle.pass_split_proof.specs.steps.Ready.{IsReadyInPart}
 use Rattle.pass_proofs.specs.pass_split.Pieces.{begins_again, is_begin}
 use Rattle.pass_proofs.specs.run_framed.Framed.{FramedGiven, framed_context}
 use Rattle.pass_proofs.specs.run_laws.access.Lines.{StandAt}
-use Rattle.run_access_worked.specs.run_plain.Plain.{PlainGiven, plain_context, plain_function, plain_work}
+use Rattle.run_access_worked.specs.run_plain.Plain.{PlainGiven, plain_context, plain_function, plain_step, plain_work}
 use Rattle.run_access_worked.specs.run_plain.declared.state.PlainState.{PlainState}
 use Rattle.pass_proofs.specs.run_source.State.{function_of, settled, work_of}
 use Rattle.pass_proofs.specs.run_source.declared.state.State.{State}
@@ -170,3 +175,10 @@ module _ (functions : ℕ → ℕ) (g : FramedGiven) (h : PlainGiven) (s : State
         (sym (settles g h s t r (AtInstr i) (AtInstr i) v too k.others k.settled k.running code.0))
         (settled_related g h s t r (AtInstr i) (AtInstr i) v too k.others k.settled
         (Inside s.top.mode k.settled code.1))
+
+    pub steps_know : KnowsGiven g s t → KnowsGiven g (settled s v) (plain_step h t)
+    steps_know known = subst (λ (u : PlainState). KnowsGiven g (settled s v) u)
+        (sym (settles g h s t r (AtInstr i) (AtInstr i) v too k.others k.settled k.running code.0))
+        (settled_knows g h s t r (AtInstr i) (AtInstr i) v too k.others k.settled
+        (λ frame e sets. result_unset g h s t r frame e s.top.block s.top.at i k.there
+        (given_name (shape_at g s.top.func)) (gives_result i (given_name (shape_at g s.top.func)) sets) refl) known)

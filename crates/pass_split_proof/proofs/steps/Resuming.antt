@@ -10,10 +10,12 @@ use Rattle.pass_proofs.specs.ir_model.declared.operand.Callee.{Callee}
 use Rattle.pass_proofs.specs.ir_model.declared.operand.Intrinsic.{Intrinsic}
 use Rattle.pass_proofs.specs.ir_paths.Windows.{resume_label}
 use Rattle.pass_proofs.specs.pass_intrinsics.Cuts.{cut_at, goes_on, next_suspend, transfers}
-use Rattle.pass_proofs.specs.pass_intrinsics.Lowered.{resume_call}
+use Rattle.pass_proofs.specs.pass_intrinsics.Lowered.{load_pointer, resume_call}
+use Rattle.pass_proofs.specs.pass_intrinsics.Shapes.{given_name}
 use Rattle.pass_proofs.specs.pass_intrinsics.declared.cuts.Cut.{Cut}
 use Rattle.pass_proofs.specs.pass_intrinsics.declared.shape.Part.{Part}
 use Rattle.pass_split_proof.proofs.places.Coded.{has_code}
+use Rattle.pass_split_proof.proofs.simulation.Knowing.{new_kept}
 use Rattle.pass_split_proof.proofs.steps.Calling.{resume_calls, resume_quiet}
 use Rattle.pass_split_proof.proofs.steps.Followed.{fine_ok, framed_does}
 use Rattle.pass_split_proof.proofs.steps.Saves.{values_extra}
@@ -26,7 +28,7 @@ use Rattle.pass_split_proof.specs.places.Places.{AreNew, IsPlace, BeginsAgain, H
 use Rattle.pass_split_proof.specs.simulation.Followed.{IsFollowed}
 use Rattle.pass_split_proof.specs.states.Activations.{Inside, IsBehind, IsLeaving, IsPlaced, Passed}
 use Rattle.pass_split_proof.specs.states.Going.{placed_at, stands_at}
-use Rattle.pass_split_proof.specs.states.Instances.{part_position, address_of_part, resumer_of}
+use Rattle.pass_split_proof.specs.states.Instances.{part_position, address_of_part, resumer_of, shape_at}
 use Rattle.pass_split_proof.specs.states.Memories.{homes_of}
 use Rattle.pass_split_proof.specs.states.Related.{AreRelated, fetched_at, weight}
 use Rattle.pass_split_proof.specs.states.Values.{AreValuesOf}
@@ -144,6 +146,10 @@ module _ (g : FramedGiven) (h : PlainGiven) (s : State) (t : PlainState) (r : Ar
           other : (n l b : ℕ) → l ≤ n → b < l → n ≡ b → ⊥
           other n l b le lt e = omega arith
 
+      given_stays : (frame : Value) → s.top.mode ≡ Mode.GivenRamp frame → value_in after (given_name (shape_at g s.top.func))
+          ≡ value_in t.top.values (given_name (shape_at g s.top.func))
+      given_stays = new_kept g h s t r t.top.values callee block at (load_pointer n k.arg.value) line.0 n refl
+
     -- it stays: the part goes on behind the call
     pub staying : (n : ℕ) → AreNew f q n 1 → StandAt q t.top.block t.top.at (resume_call n k.arg.value)
         → IsPlace r.top.shape r.top.part f q s.top.block (s.top.at + 1) t.top.block (t.top.at + 2)
@@ -160,6 +166,7 @@ module _ (g : FramedGiven) (h : PlainGiven) (s : State) (t : PlainState) (r : Ar
       kept = kept t.top.block t.top.at n new line;
       long = set_length t.top.values n callee;
       begin = begin_stays t.top.block t.top.at n new line;
+      given = given_stays t.top.block t.top.at n new line;
       waiting = Inside s.top.mode k.settled (subst (λ (o : ℕ). IsPlace r.top.shape r.top.part f q s.top.block
           (s.top.at + 1) t.top.block o) (two_more t.top.at) place);
       behind = behind;
@@ -203,6 +210,7 @@ module _ (g : FramedGiven) (h : PlainGiven) (s : State) (t : PlainState) (r : Ar
         kept = kept pass 0 n new line;
         long = set_length t.top.values n callee;
         begin = begin_stays pass 0 n new line;
+        given = given_stays pass 0 n new line;
         waiting = subst (λ (mode : Mode). IsPlaced r.top.shape r.top.part f q (record s.top { at = s.top.at + 1 })
             (placed_at t.top pass 2 (after pass 0 n new line)) mode) (sym resumed) (Passed ret leaving);
         behind = behind;
@@ -267,6 +275,7 @@ module _ (g : FramedGiven) (h : PlainGiven) (s : State) (t : PlainState) (r : Ar
         = woken_followed g h s t r k.running k.settled p w Part.Resume label wakes.waking is
         heavy wakes.ends
         (staying w wakes stored (r.frames.laid.known w.number w.instance w.there) small_start n new line place)
+        (λ some. absurd (false≢true some))
 
     pub passes_followed : (pass n : ℕ) → AreNew f q n 1 → plain_step h t ≡ stands_at t pass 0 (plain_work t)
         → StandAt q pass 0 (resume_call n k.arg.value) → fetch q pass 2 ≡ AtTerm (Terminator.Ret None)
@@ -276,7 +285,7 @@ module _ (g : FramedGiven) (h : PlainGiven) (s : State) (t : PlainState) (r : Ar
         Part.Resume label wakes.waking is heavy wakes.ends
         (passing w wakes stored (r.frames.laid.known w.number w.instance w.there) small_start pass n new jumps
         line ret
-        leaving resumed)
+        leaving resumed) (λ some. absurd (false≢true some))
 
     -- by the code that stands there
     code : HasCode r.top.shape r.top.part f q s.top.block s.top.at t.top.block t.top.at here

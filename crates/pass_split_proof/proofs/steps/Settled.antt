@@ -1,12 +1,17 @@
 -- An instruction that is done in both runs leaves the states beside each other.
 use Rattle.std.proofs.Common.{◌≡◌, ℕ, ◌+◌, ◌≤◌, false, length, Some, refl, sym, ap, ◌∙◌, subst, arith}
+use Rattle.std.specs.Prelude.{slice_get}
 use Rattle.pass_proofs.specs.ir_base.declared.outcome.Outcome.{Outcome}
 use Rattle.pass_proofs.specs.ir_model.Names.{function_at}
+use Rattle.pass_proofs.specs.pass_intrinsics.Shapes.{given_name}
 use Rattle.pass_split_proof.proofs.states.Advanced.{advanced, same_frames}
-use Rattle.pass_split_proof.proofs.states.Closed.{frames_stay}
+use Rattle.pass_split_proof.proofs.simulation.Knowing.{goes_knows, memory_places}
+use Rattle.pass_split_proof.proofs.states.Closed.{frames_stay, given_refilled}
 use Rattle.pass_split_proof.proofs.states.Values.{values_set}
 use Rattle.pass_split_proof.specs.states.Activations.{IsPlaced, is_entering}
+use Rattle.pass_split_proof.specs.simulation.Knowing.{KnowsGiven}
 use Rattle.pass_split_proof.specs.states.Going.{moved_to, placed_at}
+use Rattle.pass_split_proof.specs.states.Instances.{shape_at}
 use Rattle.pass_split_proof.specs.states.Memories.{homes_of}
 use Rattle.pass_split_proof.specs.states.Related.{AreRelated}
 use Rattle.pass_split_proof.specs.states.Values.{AreValuesOf}
@@ -18,7 +23,9 @@ use Rattle.pass_proofs.specs.run_laws.memory.Standing.{own_homes}
 use Rattle.pass_proofs.specs.run_laws.transfer.Transfer.{given_at}
 use Rattle.run_access_worked.specs.run_plain.Plain.{PlainGiven, plain_advance, plain_context, plain_function, plain_or_undefined, plain_act, plain_settled, plain_step, plain_work}
 use Rattle.run_access_worked.specs.run_plain.declared.state.PlainState.{PlainState}
+use Rattle.pass_proofs.specs.run_memory.declared.pointer.Value.{Value}
 use Rattle.pass_proofs.specs.run_source.State.{settled, work_of}
+use Rattle.pass_proofs.specs.run_source.declared.state.Mode.{Mode}
 use Rattle.pass_proofs.specs.run_source.declared.state.State.{State}
 use Rattle.pass_proofs.specs.run_step.Step.{Action, Done, Fetched, Work, action_of, fetch}
 
@@ -57,6 +64,15 @@ module _ (g : FramedGiven) (h : PlainGiven) (s : State) (t : PlainState) (r : Ar
     where
       long : length s.world.memory ≤ length v.world.memory
       long = let e = as_many s.world.memory v.world.memory d.refilled in omega arith
+
+  -- what is known of given frames stays, where the parameter for one isn't set
+  pub settled_knows : ((frame : Value) → s.top.mode ≡ Mode.GivenRamp frame
+      → given_at here ≡ Some (given_name (shape_at g s.top.func)) → ⊥)
+      → KnowsGiven g s t → KnowsGiven g (settled s v) (plain_settled t d.work)
+  settled_knows unset known = goes_knows g s t s.instances v.world.memory d.work.values ext
+      (memory_places s.instances s.world.memory v.world.memory (λ i x e. given_refilled x
+      (slice_get s.world.memory x.block) (slice_get v.world.memory x.block) (d.refilled.each x.block))) known
+      (λ frame e. d.set.target (given_name (shape_at g s.top.func)) (unset frame e))
 
   pub settles : t.outcome ≡ Outcome.Running → fetch (plain_function h t) t.top.block t.top.at ≡ there
       → plain_step h t ≡ plain_settled t d.work

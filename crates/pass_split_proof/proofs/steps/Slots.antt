@@ -1,13 +1,20 @@
 -- An alloca makes a slot in both runs.
 use Rattle.std.proofs.Common.{◌≡◌, ℕ, suc, ◌+◌, ◌<◌, ◌≤◌, ◌^◌, Bool, true, false, List, ◌∷◌, length, Option, Some, refl, sym, ap, ◌∙◌, subst, arith}
+use Rattle.std.specs.Prelude.{slice_get}
 use Rattle.std.proofs.lemmas.Bool.{false≢true}
 use Rattle.pass_proofs.specs.ir_model.Names.{function_at}
 use Rattle.pass_proofs.specs.ir_model.declared.module.Function.{Function}
 use Rattle.pass_proofs.specs.ir_paths.Slots.{allocas_of}
 use Rattle.pass_proofs.specs.pass_intrinsics.declared.shape.Part.{Part}
 use Rattle.pass_proofs.specs.pass_intrinsics.declared.shape.Shape.{Shape}
+use Rattle.pass_proofs.specs.pass_intrinsics.Shapes.{given_name}
+use Rattle.pass_split_proof.proofs.simulation.Knowing.{KeepsPlaces, goes_knows, memory_places}
+use Rattle.pass_split_proof.specs.simulation.Knowing.{KnowsGiven}
+use Rattle.pass_proofs.specs.run_memory.declared.pointer.Value.{Value}
 use Rattle.pass_split_proof.proofs.states.Advanced.{advanced, same_frames}
-use Rattle.pass_split_proof.proofs.states.Fresh.{fresh_beside, fresh_frames, grown_length}
+use Rattle.pass_split_proof.proofs.states.Fresh.{fresh_beside, fresh_frames, got_before, grown_length}
+use Rattle.pass_split_proof.proofs.states.SameKind.{given_kept}
+use Rattle.pass_split_proof.proofs.held.Memory.{ended_kind}
 use Rattle.pass_split_proof.proofs.states.Killed.{all_stay, dead_beside, dead_frames, ends, ends_alone, stays}
 use Rattle.pass_split_proof.proofs.states.OwnHomes.{own_extends}
 use Rattle.pass_split_proof.proofs.states.Values.{values_on, values_set}
@@ -16,7 +23,7 @@ use Rattle.pass_split_proof.proofs.steps.Calls.{result_elsewhere, result_length}
 use Rattle.pass_split_proof.proofs.steps.Operands.{block_itself}
 use Rattle.pass_split_proof.specs.states.Activations.{AtEnd, AtSuspend, AtSwitch, Inside, IsPlaced, Making, Passed, Stopping, is_entering}
 use Rattle.pass_split_proof.specs.states.Going.{moved_to, placed_at}
-use Rattle.pass_split_proof.specs.states.Instances.{AreFrames}
+use Rattle.pass_split_proof.specs.states.Instances.{AreFrames, is_given_in, shape_at}
 use Rattle.pass_split_proof.specs.states.Memories.{AreBeside, homes_of, plain_kind}
 use Rattle.pass_split_proof.specs.states.Related.{AreRelated}
 use Rattle.pass_split_proof.specs.states.Values.{AreValuesOf}
@@ -145,6 +152,14 @@ module _ (g : FramedGiven) (xs : List Instance) (m n : List MemoryBlock) (size a
       (dead_frames ended ended ends g xs made_source made_target (length m)
       (fresh_frames g xs m n size align kind small unlike frames))
 
+-- the block of a frame is of the kind that it was of
+pub slot_given : (m : List MemoryBlock) (size align : ℕ) (kind : Kind) (marked : Bool) (c : ℕ) (z : Instance)
+    → c < length m → is_given_in (slice_get (slot_memory m size align kind marked) c) z ≡ is_given_in (slice_get m c) z
+slot_given m size align kind true c z lt = given_kept ended ended_kind (fresh m size align kind) (length m) c z
+    ∙ ap (λ (o : Option MemoryBlock). is_given_in o z) (got_before m (blank_block size align kind) c lt)
+slot_given m size align kind false c z lt = ap (λ (o : Option MemoryBlock). is_given_in o z)
+    (got_before m (blank_block size align kind) c lt)
+
 module _ (g : FramedGiven) (h : PlainGiven) (s : State) (t : PlainState) (r : AreRelated g h s t) (result : Option ℕ)
     (size align : ℕ) (kind : Kind) (marked too : Bool) (count : ℕ) where
   -- what comes of the works
@@ -175,6 +190,18 @@ module _ (g : FramedGiven) (h : PlainGiven) (s : State) (t : PlainState) (r : Ar
       (pointer_to (length s.world.memory)) (pointer_to (length s.world.memory))
       (block_itself (length made.world.memory) (length s.world.memory)
       (let e = slot_length s.world.memory size align kind marked in omega arith))))
+
+  pub slot_places : KeepsPlaces s.instances s.instances s.world.memory made.world.memory
+  slot_places = memory_places s.instances s.world.memory made.world.memory (λ i x e. slot_given s.world.memory size align
+      kind marked x.block x (r.frames.laid.known i x e))
+
+  -- what is known of given frames stays
+  pub blocks_know : ((frame : Value) → s.top.mode ≡ Mode.GivenRamp frame
+      → result ≡ Some (given_name (shape_at g s.top.func)) → ⊥)
+      → KnowsGiven g s t → KnowsGiven g (settled s made) (plain_settled t made_too)
+  blocks_know unset know = goes_knows g s t s.instances made.world.memory made_too.values homes_grow slot_places know
+      (λ frame e. result_elsewhere t.top.values result (pointer_to (length t.world.memory))
+      (given_name (shape_at g s.top.func)) (unset frame e))
 
   -- both runs go on with the block
   pub blocks_related : (too ≡ true → marked ≡ true) → size < 2 ^ 64 → (kind ≡ Kind.Allocator → align ≡ 16) → is_entering s.top.mode ≡ false

@@ -2,16 +2,18 @@
 use Rattle.std.proofs.Common.{◌≡◌, ℕ, zero, suc, ◌+◌, ◌-◌, ◌<◌, ◌≤◌, inl, inr, ⊎_elim, Bool, true, false, List, [], ◌∷◌, length, replicate, Option, None, Some, refl, sym, ap, ◌∙◌, subst, arith}
 use Rattle.std.specs.Prelude.{slice_get, slice_set, ◌||◌, ◌==◌}
 use Rattle.std.proofs.lemmas.List.{length-replicate}
+use Rattle.std.proofs.lemmas.Option.{slice_get_within}
 use Rattle.std.proofs.lemmas.Bool.{cases_lt, eq-eqb, or_left, or_right}
 use Rattle.pass_proofs.specs.ir_base.declared.outcome.Outcome.{Outcome}
 use Rattle.pass_proofs.specs.ir_model.Names.{function_at, position_of}
 use Rattle.pass_proofs.specs.ir_model.declared.instr.Phi.{Phi}
 use Rattle.pass_proofs.specs.ir_model.declared.module.Function.{Function}
 use Rattle.pass_proofs.specs.pass_front.Front.{allocas_of}
-use Rattle.pass_proofs.specs.pass_intrinsics.Shapes.{back_label, index_name, slot_name, suspends_of}
+use Rattle.pass_proofs.specs.pass_intrinsics.Shapes.{back_label, given_name, index_name, slot_name, suspends_of}
 use Rattle.pass_proofs.specs.pass_intrinsics.declared.shape.Part.{Part}
 use Rattle.pass_proofs.specs.pass_intrinsics.declared.shape.Shape.{Shape}
 use Rattle.pass_proofs.specs.pass_intrinsics.declared.shape.SuspendPoint.{SuspendPoint}
+use Rattle.pass_split_proof.proofs.simulation.Knowing.{KeepsPlaces, calls_know, frame_knows, frames_know, set_places, waking_knows}
 use Rattle.pass_split_proof.proofs.steps.Calling.{IsCounted, counted_is, counted_related}
 use Rattle.pass_split_proof.proofs.steps.Calls.{result_length}
 use Rattle.pass_split_proof.proofs.steps.Dispatched.{leads_on, quiet_on}
@@ -21,10 +23,12 @@ use Rattle.pass_split_proof.proofs.steps.Waking.{index_inside, ours, returning, 
 use Rattle.pass_split_proof.proofs.states.Values.{entry_length}
 use Rattle.pass_split_proof.specs.code.Entry.{GoesBack}
 use Rattle.pass_split_proof.specs.places.Places.{Enters, Leads, StartsWithEnd, Straight, ThroughDone, entering}
+use Rattle.pass_split_proof.specs.code.Positions.{is_given}
 use Rattle.pass_split_proof.specs.simulation.Followed.{IsFollowed, ShowsOn}
+use Rattle.pass_split_proof.specs.simulation.Knowing.{KnowCalls, KnowFrames, KnowsFrame, KnowsGiven, LeavesGiven, is_for_some}
 use Rattle.pass_split_proof.specs.states.Activations.{Inside, IsReturning, Making, is_entering}
 use Rattle.pass_split_proof.specs.states.Going.{placed_at, stands_at}
-use Rattle.pass_split_proof.specs.states.Instances.{part_position, shape_at}
+use Rattle.pass_split_proof.specs.states.Instances.{is_given_in, part_position, shape_at}
 use Rattle.pass_split_proof.specs.states.Memories.{homes_of}
 use Rattle.pass_split_proof.specs.states.Related.{AreRelated, IsOn, credit_of, fetched_at, is_behind_suspend, is_return_label, left_of_calls, part_price, price_of, weight}
 use Rattle.pass_split_proof.specs.states.Values.{AreValuesOf}
@@ -93,7 +97,9 @@ module _ (g : FramedGiven) (h : PlainGiven) (s : State) (t : PlainState) (r : Ar
     (is : framed_step g s ≡ continue_framed g s w.number w.instance w.suspend w.values label)
     (heavy : weight (fetched_at g s) ≡ 4)
     (ends : StartsWithEnd (function_at g.given.code w.instance.coroutine) (shape_at g w.instance.coroutine).end)
-    (c : HasCalled g h s t r w.instance part) where
+    (c : HasCalled g h s t r w.instance part)
+    (right : is_for_some part ≡ true
+    → is_given part ≡ is_given_in (slice_get s.world.memory w.instance.block) w.instance) where
   abbrev calls : ℕ
   calls = c.calls
 
@@ -167,6 +173,37 @@ module _ (g : FramedGiven) (h : PlainGiven) (s : State) (t : PlainState) (r : Ar
       zero_more : (n : ℕ) → n ≡ 0 + n
       zero_more n = omega arith
 
+  -- ---- what is known of frames that callers give
+
+  unnamed : (name : ℕ) → None ≡ Some name → ⊥
+  unnamed name e = cc
+
+  places : KeepsPlaces s.instances ys s.world.memory s.world.memory
+  places = set_places s.instances s.world.memory w.number x (record x { status = Status.Running }) w.there refl refl
+
+  knows : (mode : Mode) → ((other : Value) → mode ≡ Mode.GivenRamp other → ⊥) → (values : Env) → KnowsGiven g s t
+      → (KnowsFrame g ys s.world.memory func mode (Some w.number) part_at values
+      × (KnowsFrame g ys s.world.memory s.top.func s.top.mode s.top.instance t.top.func c.values
+      × (LeavesGiven g None s.top.func s.top.mode
+      × KnowFrames g ys s.world.memory s.top.result s.below t.below)))
+      × KnowCalls g ys s.world.memory
+  knows mode none values know = (
+    (
+      waking_knows g s.instances s.world.memory w.number (record x { status = Status.Running }) func mode part_at values
+          part (slice_get_within s.instances w.number x w.there) refl right none,
+      (
+        frame_knows g s.instances ys s.world.memory s.world.memory (record { each = λ b e. refl }) places s.top.func
+            s.top.mode s.top.instance t.top.func t.top.values c.values know.0.0 c.given,
+        (
+          λ other e sets. absurd (unnamed (given_name (shape_at g s.top.func)) sets),
+          frames_know g s.instances ys s.world.memory s.world.memory (record { each = λ b e. refl }) places
+              s.top.result s.below t.below know.0.1,
+        ),
+      ),
+    ),
+    calls_know g s.instances ys s.world.memory s.world.memory (record { each = λ b e. refl }) places know.1,
+  )
+
   -- ---- among the allocas
 
   module _ (allocas : 0 < count) where
@@ -199,12 +236,16 @@ module _ (g : FramedGiven) (h : PlainGiven) (s : State) (t : PlainState) (r : Ar
             subst (λ (q : ℕ × ℕ). IsReturning g shape part f ys t.world.memory (Some w.number) q.0 q.1)
             (λ i. (a i, b i)) (returning g h s t r p w part label k)
 
+    no_ramp : (other : Value) → Mode.Entering w.suspend.block label ≡ Mode.GivenRamp other → ⊥
+    no_ramp other e = cc
+
     pub making_followed : IsFollowed g h s t
     making_followed = many_followed g h s t r runs calls making (low calls few) c.some is_making
         (subst (λ (n : ℕ). calls + credit_of making ≤ n + credit_of s) (sym heavy)
         (subst (λ (n : ℕ). calls + n ≤ 4 + left_of_calls (s.top ∷ s.below)) same_credit
         (fits calls (left_of_calls (s.top ∷ s.below)) few)))
         (λ i lt. on_quiet (c.quiet i lt)) (subst (AreRelated g h making) (sym comes_in) makes)
+        (λ know. subst (KnowsGiven g making) (sym comes_in) (knows mode no_ramp start know))
       where
         low : (n : ℕ) → n ≤ 3 → n ≤ 9
         low n le = omega arith
@@ -376,6 +417,9 @@ module _ (g : FramedGiven) (h : PlainGiven) (s : State) (t : PlainState) (r : Ar
       has_room : calls + weight (fetched_at g going) ≤ part_price g going
       has_room = light (is_behind_suspend g going) (fetched_at g going) behind_suspend k.own.light
 
+      resumed_no_ramp : (other : Value) → Mode.Resumed ≡ Mode.GivenRamp other → ⊥
+      resumed_no_ramp other e = cc
+
       pub straight_going : IsFollowed g h s t
       straight_going = record {
         steps = calls + 4;
@@ -394,6 +438,8 @@ module _ (g : FramedGiven) (h : PlainGiven) (s : State) (t : PlainState) (r : Ar
         passes = on_way;
         related = subst (λ (y : State). AreRelated g h y (iterate (plain_step h) (calls + 4) t)) (sym is_going)
             (subst (AreRelated g h going) (sym whole) goes);
+        keeps = λ know. subst (λ (y : State). KnowsGiven g y (iterate (plain_step h) (calls + 4) t)) (sym is_going)
+            (subst (KnowsGiven g going) (sym whole) (knows Mode.Resumed resumed_no_ramp work.values know));
       }
         where
           within : (n : ℕ) → n ≤ n + 4

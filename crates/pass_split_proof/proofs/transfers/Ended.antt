@@ -2,6 +2,9 @@
 use Rattle.std.proofs.Common.{◌≡◌, ℕ, ◌≤◌, Bool, true, false, not, List, length, Option, Some, None, refl, sym, subst, inr, arith, if◌then◌else◌, ◌&&◌, ◌==◌}
 use Rattle.std.specs.Prelude.{slice_get, slice_set}
 use Rattle.std.proofs.lemmas.Bool.{and_from, and_parts, false≢true}
+use Rattle.pass_split_proof.proofs.simulation.Knowing.{goes_knows, memory_places, places_then, set_places}
+use Rattle.pass_split_proof.specs.simulation.Knowing.{KnowsGiven}
+use Rattle.pass_split_proof.proofs.states.SameKind.{given_kept}
 use Rattle.pass_split_proof.proofs.states.Advanced.{advanced}
 use Rattle.pass_split_proof.proofs.states.Statuses.{runs_headed, status_beside, status_frames}
 use Rattle.pass_split_proof.proofs.states.Written.{length-changed}
@@ -53,6 +56,7 @@ module _ (g : FramedGiven) (h : PlainGiven) (s : State) (t : PlainState) (r : Ar
     pub memory : List MemoryBlock
     pub is : after ≡ changed_to s instances memory
     pub related : AreRelated g h (changed_to s instances memory) t
+    pub knows : KnowsGiven g s t → KnowsGiven g (changed_to s instances memory) t
 
   -- an instance that is Finished
   module _ (i : ℕ) (x : Instance) (there : slice_get s.instances i ≡ Some x) where
@@ -95,6 +99,17 @@ module _ (g : FramedGiven) (h : PlainGiven) (s : State) (t : PlainState) (r : Ar
         same_long : {a b : ℕ} → a ≡ b → b ≤ a
         same_long e = omega arith
 
+    knows_by : (k : List MemoryBlock) → length k ≡ length s.world.memory
+        → ((j : ℕ) (y : Instance) → slice_get ys j ≡ Some y
+        → is_given_in (slice_get k y.block) y ≡ is_given_in (slice_get s.world.memory y.block) y)
+        → KnowsGiven g s t → KnowsGiven g (changed_to s ys k) t
+    knows_by k long same know = goes_knows g s t ys k t.top.values
+        (subst (λ (l : ℕ). Extends (homes_of s.world.memory) (own_homes 0 l)) (sym long)
+        (record { each = λ b e. refl }))
+        (places_then s.instances ys ys s.world.memory s.world.memory k
+        (set_places s.instances s.world.memory i x now there refl refl)
+        (memory_places ys s.world.memory k same)) know (λ frame e. refl)
+
     -- the block of a frame that was given is owned no more
     by_block : (c : Bool) → (is_stack_block s.world.memory x.block && (x.start == 0)) ≡ c
         → Ended (if c then with_memory (with_memory (with_instance s i (record x { status = Status.Finished }))
@@ -109,12 +124,15 @@ module _ (g : FramedGiven) (h : PlainGiven) (s : State) (t : PlainState) (r : Ar
           by_memory (disown s.world.memory x.block) (length-changed s.world.memory x.block disowned)
           (disowned_beside g ys s.world.memory t.world.memory x.block stack frames.laid beside)
           (disowned_frames g ys s.world.memory t.world.memory x.block stack frames);
+      knows = knows_by (disown s.world.memory x.block) (length-changed s.world.memory x.block disowned)
+          (λ j y f. given_kept disowned (λ z. refl) s.world.memory x.block y.block y);
     }
     by_block false e = record {
       instances = ys;
       memory = s.world.memory;
       is = refl;
       related = by_memory s.world.memory refl beside frames;
+      knows = knows_by s.world.memory refl (λ j y f. refl);
     }
 
   abbrev finish_by : Option (ℕ × Instance) → List Slot → State
@@ -122,12 +140,24 @@ module _ (g : FramedGiven) (h : PlainGiven) (s : State) (t : PlainState) (r : Ar
       (without_slots s.world.memory slots)) o
 
   finished : (o : Option (ℕ × Instance)) → own_instance s ≡ o → Ended (finish_by o (slots_of o))
-  finished None e = record { instances = s.instances; memory = s.world.memory; is = refl; related = r }
+  finished None e = record {
+    instances = s.instances;
+    memory = s.world.memory;
+    is = refl;
+    related = r;
+    knows = λ know. know;
+  }
   finished (Some (i, x)) e =
       let there = own_there s i x e in
       subst (λ (slots : List Slot). Ended (finish_by (Some (i, x)) slots)) (sym (r.frames.laid.slots i x there))
       (by_block i x there (is_stack_block s.world.memory x.block && (x.start == 0)) refl)
 
   pub ended : (left : Bool) → Ended (if left then s else framed_finish s)
-  ended true = record { instances = s.instances; memory = s.world.memory; is = refl; related = r }
+  ended true = record {
+    instances = s.instances;
+    memory = s.world.memory;
+    is = refl;
+    related = r;
+    knows = λ know. know;
+  }
   ended false = finished (own_instance s) refl

@@ -8,7 +8,8 @@ use Rattle.pass_proofs.specs.ir_model.declared.operand.Arg.{Arg}
 use Rattle.pass_proofs.specs.ir_model.declared.operand.Callee.{Callee}
 use Rattle.pass_proofs.specs.ir_model.declared.operand.Intrinsic.{Intrinsic}
 use Rattle.pass_proofs.specs.pass_intrinsics.Shapes.{is_end}
-use Rattle.pass_split_proof.proofs.steps.Calls.{returns_related}
+use Rattle.pass_split_proof.proofs.simulation.Knowing.{back_knows, over_knows}
+use Rattle.pass_split_proof.proofs.steps.Calls.{ext, returns_related}
 use Rattle.pass_split_proof.proofs.steps.Followed.{framed_does, one_followed}
 use Rattle.pass_split_proof.proofs.steps.Settled.{plain_does}
 use Rattle.pass_split_proof.proofs.transfers.Bottom.{bottom_related}
@@ -77,6 +78,8 @@ module _ (g : FramedGiven) (h : PlainGiven) (s : State) (t : PlainState) (r : Ar
       (does ∙ ap (λ (b : List Activation). or_undefined g.given s (pop (returned u) None b)) e)
       (part_does ∙ ap (λ (b : List PlainActivation). plain_or_undefined h t (plain_pop (plain_returned t) None b)) f)
       (same (credit_of s)) (bottom_related g h u t finish.related settled (Outcome.Returned None))
+      (λ know. over_knows g u t (ext g h u t finish.related None None) (Outcome.Returned None) (Outcome.Returned None)
+      (finish.knows know))
   by_below [] (b ∷ bs) e f waiting = absurd waiting
   by_below (a ∷ rest) [] e f waiting = absurd waiting
   by_below (a ∷ rest) (b ∷ bs) e f waiting = one_followed g h s t r k.running _ _
@@ -85,6 +88,8 @@ module _ (g : FramedGiven) (h : PlainGiven) (s : State) (t : PlainState) (r : Ar
       (subst (λ (c : List Activation). left_of_calls (a ∷ rest) ≤ left_of_calls (s.top ∷ c)) (sym e)
       (more (left_of_call s.top) (left_of_calls (a ∷ rest))))
       (returns_related g h u t finish.related None None a b waiting.0 tt rest bs waiting.1)
+      (λ know. back_knows g u t (ext g h u t finish.related None None) None None a rest b bs e f
+      finish.related.top.result (finish.knows know))
     where
       more : (x n : ℕ) → n ≤ x + n
       more x n = omega arith

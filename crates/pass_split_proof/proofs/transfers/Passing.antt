@@ -20,6 +20,7 @@ use Rattle.pass_proofs.specs.pass_intrinsics.Cuts.{goes_on, token_in}
 use Rattle.pass_proofs.specs.pass_intrinsics.Shapes.{save_of, token_of}
 use Rattle.pass_proofs.specs.pass_intrinsics.declared.shape.Part.{Part}
 use Rattle.pass_proofs.specs.pass_intrinsics.declared.shape.Shape.{Shape}
+use Rattle.pass_split_proof.proofs.simulation.Knowing.{goes_knows, left_places}
 use Rattle.pass_split_proof.proofs.places.Transfers.{end_first}
 use Rattle.pass_split_proof.proofs.steps.Branches.{left_by}
 use Rattle.pass_split_proof.proofs.steps.Followed.{fine_ok, framed_does, none_followed}
@@ -193,6 +194,7 @@ module _ (g : FramedGiven) (h : PlainGiven) (s : State) (t : PlainState) (r : Ar
         (moved_to s.top s.top.block (s.top.at + 1) values s.top.has_left) t.top mode) (sym k.mode)
         (Passed k.returns (AtSwitch g.given.code stop.arg stop.cases
         (record { before = s.top.at; at = refl; instr = i; there = here; is = is }) stop.switch stop.both value))))
+        (λ know. know)
 
   -- ---- over the switch
 
@@ -231,6 +233,8 @@ module _ (g : FramedGiven) (h : PlainGiven) (s : State) (t : PlainState) (r : Ar
         (subst (λ (mode : Mode). IsPlaced r.top.shape r.top.part f q
         (moved_to s.top (position_of f end) 0 s.top.values entered.left) t.top mode) (sym k.mode)
         (Passed k.returns (AtEnd refl refl))))
+        (λ know. goes_knows g s t entered.instances s.world.memory t.top.values (record { each = λ b e. refl })
+        (left_places s.world.memory s.instances entered.instances entered.was) know (λ frame e. refl))
 
   -- ---- all three
 

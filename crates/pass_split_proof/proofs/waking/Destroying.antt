@@ -1,6 +1,7 @@
 -- A destroy is followed in a part: it calls the part that the header names.
 use Rattle.std.proofs.Common.{◌≡◌, ℕ, ◌+◌, ◌<◌, ◌≤◌, ◌^◌, false, List, ◌∷◌, length, Ok, Some, refl, sym, ap, ◌∙◌, subst, arith}
 use Rattle.std.proofs.lemmas.Bool.{false≢true}
+use Rattle.std.specs.Prelude.{pos}
 use Rattle.pass_proofs.specs.ir_model.Names.{function_at}
 use Rattle.pass_proofs.specs.ir_model.declared.instr.Instr.{Instr}
 use Rattle.pass_proofs.specs.ir_model.declared.instr.Terminator.{Terminator}
@@ -9,10 +10,12 @@ use Rattle.pass_proofs.specs.ir_model.declared.operand.Callee.{Callee}
 use Rattle.pass_proofs.specs.ir_model.declared.operand.Intrinsic.{Intrinsic}
 use Rattle.pass_proofs.specs.ir_paths.Windows.{destroy_label}
 use Rattle.pass_proofs.specs.pass_intrinsics.Cuts.{cut_at}
-use Rattle.pass_proofs.specs.pass_intrinsics.Lowered.{destroy_call}
+use Rattle.pass_proofs.specs.ir_model.declared.operand.Operand.{Operand}
+use Rattle.pass_proofs.specs.pass_intrinsics.Lowered.{address, destroy_call, load_pointer}
 use Rattle.pass_proofs.specs.pass_intrinsics.declared.cuts.Cut.{Cut}
 use Rattle.pass_proofs.specs.pass_intrinsics.declared.shape.Part.{Part}
 use Rattle.pass_split_proof.proofs.places.Coded.{has_code}
+use Rattle.pass_split_proof.proofs.simulation.Knowing.{new_kept}
 use Rattle.pass_split_proof.proofs.steps.Calling.{destroy_calls, destroy_quiet}
 use Rattle.pass_split_proof.proofs.steps.Followed.{fine_ok, framed_does}
 use Rattle.pass_split_proof.proofs.steps.Saves.{values_extra}
@@ -24,7 +27,7 @@ use Rattle.pass_split_proof.proofs.waking.Cut.{begins_none, marks_stays, returns
 use Rattle.pass_split_proof.specs.places.Places.{AreNew, BeginsAgain, HasCode, IsCode, IsPlace, Marks, Returns, Stays, Suspends, Transfers}
 use Rattle.pass_split_proof.specs.simulation.Followed.{IsFollowed}
 use Rattle.pass_split_proof.specs.states.Activations.{Inside, IsBehind}
-use Rattle.pass_split_proof.specs.states.Instances.{IsHeaded, part_position}
+use Rattle.pass_split_proof.specs.states.Instances.{IsHeadedIn, part_position}
 use Rattle.pass_split_proof.specs.states.Memories.{homes_of}
 use Rattle.pass_split_proof.specs.states.Related.{AreRelated, fetched_at, weight}
 use Rattle.pass_split_proof.specs.states.Values.{AreValuesOf}
@@ -153,6 +156,10 @@ module _ (g : FramedGiven) (h : PlainGiven) (s : State) (t : PlainState) (r : Ar
       kept = kept;
       long = set_length (with_value t.top.values n header) (n + 1) callee ∙ set_length t.top.values n header;
       begin = begin_stays;
+      given = λ frame e. new_kept g h s t r (with_value t.top.values n header) callee t.top.block (t.top.at + 1)
+          (load_pointer (n + 1) (Operand.Local n)) line.1.0 (n + 1) refl frame e
+          ∙ new_kept g h s t r t.top.values header t.top.block t.top.at (address n k.arg.value (pos 8)) line.0 n refl
+          frame e;
       waiting = Inside s.top.mode k.settled (subst (λ (o : ℕ). IsPlace r.top.shape r.top.part f q s.top.block
           (s.top.at + 1) t.top.block o) (three_more t.top.at) place);
       behind = behind;
@@ -184,7 +191,7 @@ module _ (g : FramedGiven) (h : PlainGiven) (s : State) (t : PlainState) (r : Ar
     is = does ∙ ap (or_undefined g.given s) next.1 ∙ goes.1
 
     -- the part that the header names
-    headed : IsHeaded g t.world.memory w.instance
+    headed : IsHeadedIn g s.world.memory t.world.memory w.instance
     headed = r.frames.headed w.number w.instance w.there (can goes.0).held
 
     wakes : CanWake g h s t p w headed.destroyer label
@@ -204,7 +211,7 @@ module _ (g : FramedGiven) (h : PlainGiven) (s : State) (t : PlainState) (r : Ar
         heavy wakes.ends
         (called w headed.destroyer wakes.takes headed.destroys
         (r.frames.laid.known w.number w.instance w.there) inside
-        n new line place)
+        n new line place) (λ some. headed.right)
 
     -- by the code that stands there
     code : HasCode r.top.shape r.top.part f q s.top.block s.top.at t.top.block t.top.at here

@@ -11,7 +11,8 @@ use Rattle.pass_split_proof.proofs.branching.Stopped.{stop_followed}
 use Rattle.pass_split_proof.proofs.entering.Again.{again_followed}
 use Rattle.pass_split_proof.proofs.entering.Last.{last_followed}
 use Rattle.pass_split_proof.proofs.transfers.Passing.{passing_followed}
-use Rattle.pass_split_proof.proofs.whole.Here.{AreUngiven, IsHeldState, here_followed, shape_is}
+use Rattle.pass_split_proof.proofs.whole.Here.{IsGivingState, here_followed}
+use Rattle.pass_split_proof.proofs.begins.SaveCode.{shape_is}
 use Rattle.pass_split_proof.specs.own_blocks.Own.{FitsMode}
 use Rattle.pass_split_proof.specs.simulation.Followed.{IsFollowed}
 use Rattle.pass_split_proof.specs.simulation.Premises.{ArePremisesMet}
@@ -27,8 +28,8 @@ use Rattle.pass_proofs.specs.run_source.declared.state.Mode.{Mode}
 use Rattle.pass_proofs.specs.run_source.declared.state.State.{State}
 use Rattle.pass_proofs.specs.run_step.Step.{AtTerm, fetch}
 
-module _ (g : FramedGiven) (h : PlainGiven) (met : ArePremisesMet g h) (ungiven : AreUngiven g) (s : State)
-    (t : PlainState) (r : AreRelated g h s t) (k : IsHeldState g s) (runs : s.outcome ≡ Outcome.Running)
+module _ (g : FramedGiven) (h : PlainGiven) (met : ArePremisesMet g h) (s : State) (t : PlainState)
+    (r : AreRelated g h s t) (k : IsGivingState g h s t r) (runs : s.outcome ≡ Outcome.Running)
     (fine : IsFine (framed_step g s).outcome) where
   abbrev f : Function
   f = function_of g.given s
@@ -58,16 +59,16 @@ module _ (g : FramedGiven) (h : PlainGiven) (met : ArePremisesMet g h) (ungiven 
     returns = returns;
     leaving = leaving;
     suspends = subst (λ (z : Shape). HasSuspendsBeforeEnd f z.end)
-        (sym (shape_is g h met.functions ungiven s t r k.own coroutine))
+        (sym (shape_is g s.top.func f r.top.shape r.top.shaped coroutine))
         (met.functions.coroutines s.top.func coroutine).suspends;
   }) fine
     where
       coroutine : (function_of g.given s).coroutine ≡ true
-      coroutine = (subst (FitsMode g.given.code (function_of g.given s).coroutine s.top.instance) e k.own.top.mode).0
+      coroutine = (subst (FitsMode g.given.code (function_of g.given s).coroutine s.top.instance) e k.held.own.top.mode).0
 
   by_place : (mode : Mode) → s.top.mode ≡ mode → IsPlaced r.top.shape r.top.part f q s.top t.top mode
       → IsFollowed g h s t
-  by_place _ e (Inside mode settled place) = here_followed g h met ungiven s t r k fine (record {
+  by_place _ e (Inside mode settled place) = here_followed g h met s t r k fine (record {
     running = runs;
     settled = ap is_entering e ∙ settled;
     place = place;

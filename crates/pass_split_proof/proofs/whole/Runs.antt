@@ -10,15 +10,18 @@ use Rattle.pass_cleanup.specs.Cleaned.{plain_machine}
 use Rattle.pass_split_proof.proofs.held.Runs.{runs_kept}
 use Rattle.pass_split_proof.proofs.own_blocks.Runs.{runs_mark_none, runs_own}
 use Rattle.pass_split_proof.proofs.simulation.Agreement.{price_within}
-use Rattle.pass_split_proof.proofs.simulation.Assembly.{assembled}
+use Rattle.pass_split_proof.proofs.simulation.Assembly.{assembled_by}
 use Rattle.pass_split_proof.proofs.simulation.Starts.{parts_start}
 use Rattle.pass_split_proof.proofs.whole.Given.{given_none, ungiven_of}
-use Rattle.pass_split_proof.proofs.whole.Here.{AreUngiven, IsHeldState}
+use Rattle.pass_split_proof.proofs.whole.Here.{IsHeldState}
 use Rattle.pass_split_proof.proofs.whole.Places.{step_followed}
+use Rattle.pass_split_proof.proofs.whole.Starts.{starts_know}
+use Rattle.pass_split_proof.proofs.whole.Ungiven.{AreUngiven, ungiven_state}
 use Rattle.pass_split_proof.specs.first_exits.Parted.{parted_module}
 use Rattle.pass_split_proof.specs.own_blocks.Own.{HasOwnBlocks}
-use Rattle.pass_split_proof.specs.simulation.Followed.{AreStepsFollowed}
+use Rattle.pass_split_proof.specs.simulation.Followed.{AreStepsFollowedBy, IsFollowed}
 use Rattle.pass_split_proof.specs.simulation.Given.{GivesNoFrame}
+use Rattle.pass_split_proof.specs.simulation.Knowing.{KnowsGiven}
 use Rattle.pass_split_proof.specs.simulation.Premises.{ArePremisesMet}
 use Rattle.pass_split_proof.specs.simulation.Statement.{IsEntryOfParts, IsPartable, parts_given}
 use Rattle.pass_split_proof.specs.states.Related.{AreRelated, Follows, part_price}
@@ -77,8 +80,11 @@ module _ (g : FramedGiven) (h : PlainGiven) (met : ArePremisesMet g h) (ungiven 
         (framed_keeps_fitting g met.functions.typed types) entry args n words)).top;
   }
 
-  all_followed : AreStepsFollowed g h entry args
-  all_followed n t r runs fine = step_followed g h met ungiven (framed_state_at g entry args n) t r (holds n) runs fine
+  all_followed : AreStepsFollowedBy g h (KnowsGiven g) entry args
+  all_followed n t r knows runs fine =
+      let f : IsFollowed g h (framed_state_at g entry args n) t = step_followed g h met (framed_state_at g entry args n)
+      t r (ungiven_state g h met.functions ungiven (framed_state_at g entry args n) t r (holds n) knows) runs fine in
+      record { followed = f; knows = f.keeps knows }
 
 module _ (ls : Layouts) (m : Module) (p : IsPartable ls m) (gives : GivesNoFrame m)
     (met : (answers : List ℤ) → ArePremisesMet (framed_given m ls.coroutines answers) (parts_given ls m answers)) where
@@ -90,8 +96,9 @@ module _ (ls : Layouts) (m : Module) (p : IsPartable ls m) (gives : GivesNoFrame
   plain_entry entry other e = ap (λ (o : Option Function). (unwrap_or o no_function).coroutine) e.there ∙ e.plain
 
   pub calls_kept : PartsKeepCalls ls m
-  calls_kept entry other args answers e words = assembled ls m entry other args answers
-      (parts_start ls m p entry other args answers e)
+  calls_kept entry other args answers e words = assembled_by ls m entry other args answers
+      (KnowsGiven (framed_given m ls.coroutines answers)) (parts_start ls m p entry other args answers e)
+      (starts_know (framed_given m ls.coroutines answers) (parts_given ls m answers) entry other args)
       (all_followed (framed_given m ls.coroutines answers) (parts_given ls m answers) (met answers)
       (no_frames answers) entry args (plain_entry entry other e) words)
 

@@ -1,4 +1,4 @@
--- A Suspended instance can go on in each part that goes on there.
+-- A Suspended instance can go on in each part that goes on there, where Suspended instances have their frames.
 use Rattle.std.proofs.Common.{◌≡◌, ℕ, zero, suc, true, false, List, [], ◌∷◌, Option, Some, None, refl, sym, ap, ◌∙◌, subst}
 use Rattle.std.specs.Prelude.{slice_get}
 use Rattle.std.proofs.lemmas.Bool.{false≢true}
@@ -16,11 +16,9 @@ use Rattle.pass_proofs.specs.pass_intrinsics.declared.shape.Part.{Part}
 use Rattle.pass_proofs.specs.pass_intrinsics.declared.shape.SuspendPoint.{SuspendPoint}
 use Rattle.pass_proofs.specs.pass_kept_proof.Related.{AreSoundInstances, IsSoundStatus}
 use Rattle.pass_proofs.specs.pass_split.Pieces.{going_on}
-use Rattle.pass_split_proof.proofs.whole.Held.{suspended_held}
-use Rattle.pass_split_proof.specs.held.Kept.{IsKeptState}
-use Rattle.pass_split_proof.specs.own_blocks.Own.{GivesFrames, IsOwnState}
+use Rattle.pass_split_proof.specs.own_blocks.Own.{IsOwnState}
 use Rattle.pass_split_proof.specs.simulation.Premises.{AreFunctionsMet, IsCoroutineThere}
-use Rattle.pass_split_proof.specs.states.Instances.{IsHeaded, IsSavedAt, StandsThere, is_destroyer, is_held}
+use Rattle.pass_split_proof.specs.states.Instances.{IsHeadedIn, IsSavedAt, StandsThere, is_destroyer, is_held}
 use Rattle.pass_split_proof.specs.states.Related.{AreRelated}
 use Rattle.pass_split_proof.specs.steps.Resuming.{CanWake}
 use Rattle.pass_split_proof.specs.steps.Woken.{IsWoken}
@@ -74,8 +72,9 @@ destroys_to Part.GivenRamp p e = absurd (false≢true e)
 destroys_to Part.Resume p e = absurd (false≢true e)
 
 module _ (g : FramedGiven) (h : PlainGiven) (met : AreFunctionsMet g h) (s : State) (t : PlainState)
-    (r : AreRelated g h s t) (own : IsOwnState g.given.code s) (never : GivesFrames g.given.code → ⊥) (kept : IsKeptState s)
-    (reached : IsReachedState g.given s) (p : Value) where
+    (r : AreRelated g h s t) (own : IsOwnState g.given.code s)
+    (sleepers : (i : ℕ) (x : Instance) → slice_get s.instances i ≡ Some x → is_suspended x.status ≡ true
+    → is_held s.world.memory x ≡ true) (reached : IsReachedState g.given s) (p : Value) where
   module _ (w : IsWoken s p) where
     abbrev x : Instance
     x = w.instance
@@ -87,9 +86,9 @@ module _ (g : FramedGiven) (h : PlainGiven) (met : AreFunctionsMet g h) (s : Sta
     there = met.coroutines x.coroutine (own.instances w.number x w.there).coroutine
 
     pub woken_held : is_held s.world.memory x ≡ true
-    woken_held = suspended_held g.given.code s own never kept w.number x w.there (ap is_suspended w.status)
+    woken_held = sleepers w.number x w.there (ap is_suspended w.status)
 
-    headed : IsHeaded g t.world.memory x
+    headed : IsHeadedIn g s.world.memory t.world.memory x
     headed = r.frames.headed w.number x w.there woken_held
 
     abbrev saved : IsSavedAt g t.world.memory x w.suspend

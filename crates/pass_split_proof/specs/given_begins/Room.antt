@@ -2,7 +2,7 @@
 use Rattle.std.specs.Prelude.{◌≡◌, ℕ, ◌+◌, ◌-◌, ◌<◌, true, false, List, [], ◌∷◌, ◌++◌, length, slice_get, Some, is_some}
 use Rattle.std.specs.List.{list_any}
 use Rattle.pass_proofs.specs.pass_intrinsics.declared.shape.Part.{Part}
-use Rattle.pass_split_proof.specs.states.Instances.{AreFrames, IsControl, IsLaidOut, LiesAligned, address_of_part, is_held}
+use Rattle.pass_split_proof.specs.states.Instances.{AreFrames, IsControl, IsLaidOut, LiesAligned, address_of_part, is_given_in, is_held}
 use Rattle.pass_split_proof.specs.states.Memories.{AreBeside, homes_of}
 use Rattle.pass_proofs.specs.run_framed.Framed.{FramedGiven, covers, field_opens, frame_rights, judge_of, layout_of}
 use Rattle.pass_proofs.specs.run_laws.access.Lines.{Holds, refilled_at}
@@ -43,6 +43,7 @@ pub record HasRoom (g : FramedGiven) (xs : List Instance) (x : Instance) (m n : 
   pub live : is_live block.life ≡ true
   pub writable : same_kind block.kind Kind.Constant ≡ false
   pub owned : block.kind ≡ Kind.Allocator → is_some block.owned ≡ true
+  pub given : is_given_in (slice_get m x.block) x ≡ true
   pub lies : LiesAligned g x block
   pub clear : (i : ℕ) (z : Instance) (at : ℕ) → slice_get xs i ≡ Some z → is_held m z ≡ true
       → IsControl g z x.block at → covers g x.block at x ≡ true → IsSpare g x at
@@ -92,6 +93,7 @@ pub record IsPlaceFor (g : FramedGiven) (xs : List Instance) (x : Instance) (m n
   pub live : is_live block.life ≡ true
   pub writable : same_kind block.kind Kind.Constant ≡ false
   pub owned : block.kind ≡ Kind.Allocator → is_some block.owned ≡ true
+  pub given : is_given_in (slice_get m x.block) x ≡ true
   pub lies : LiesAligned g x block
   pub laid : (i : ℕ) (z : Instance) → slice_get xs i ≡ Some z → IsLaidOut g z.coroutine
   pub leave : (i : ℕ) (z : Instance) → slice_get xs i ≡ Some z → z.block ≡ x.block → LeavesRoom g m x z

@@ -2,6 +2,7 @@
 use Rattle.std.specs.Prelude.{◌≡◌, ℕ, List, ◌+◌, ◌≤◌, ◌<◌, ◌⊎◌}
 use Rattle.pass_proofs.specs.ir_base.declared.outcome.Outcome.{Outcome}
 use Rattle.pass_proofs.specs.ir_base.declared.outcome.Word.{Word}
+use Rattle.pass_split_proof.specs.simulation.Knowing.{KnowsGiven}
 use Rattle.pass_split_proof.specs.states.Related.{AreRelated, IsOn, credit_of, fetched_at, measure, part_price, weight}
 use Rattle.pass_proofs.specs.run_agreement.Machines.{IsFine, iterate}
 use Rattle.pass_proofs.specs.run_framed.Framed.{FramedGiven, framed_state_at, framed_step}
@@ -28,6 +29,8 @@ pub record IsFollowed (g : FramedGiven) (h : PlainGiven) (s : State) (t : PlainS
   pub goes_on : (debt < steps) ⊎ (measure g (framed_step g s) < measure g s)
   pub passes : (i : ℕ) → i < steps → IsOn s (iterate (plain_step h) i t)
   pub related : AreRelated g h (framed_step g s) (iterate (plain_step h) steps t)
+  -- what is known of frames that callers give is known behind it
+  pub keeps : KnowsGiven g s t → KnowsGiven g (framed_step g s) (iterate (plain_step h) steps t)
 
 -- so it is with each step of a run that isn't undefined
 abbrev pub AreStepsFollowed : FramedGiven → PlainGiven → ℕ → List Word → Type 0
@@ -35,3 +38,19 @@ AreStepsFollowed g h entry args = (n : ℕ) (t : PlainState) → AreRelated g h 
     → (framed_state_at g entry args n).outcome ≡ Outcome.Running
     → IsFine (framed_step g (framed_state_at g entry args n)).outcome
     → IsFollowed g h (framed_state_at g entry args n) t
+
+-- ---- where more is known than that states are related
+
+-- the step is followed, and behind it both states know more
+pub record IsFollowedBy (g : FramedGiven) (h : PlainGiven) (Knows : State → PlainState → Type 0) (s : State)
+    (t : PlainState) : Type 0 where
+  pub followed : IsFollowed g h s t
+  pub knows : Knows (framed_step g s) (iterate (plain_step h) followed.steps t)
+
+-- so it is with each step of a run that isn't undefined, from states that know it
+abbrev pub AreStepsFollowedBy : FramedGiven → PlainGiven → (Knows : State → PlainState → Type 0) → ℕ → List Word
+    → Type 0
+AreStepsFollowedBy g h Knows entry args = (n : ℕ) (t : PlainState) → AreRelated g h (framed_state_at g entry args n) t
+    → Knows (framed_state_at g entry args n) t → (framed_state_at g entry args n).outcome ≡ Outcome.Running
+    → IsFine (framed_step g (framed_state_at g entry args n)).outcome
+    → IsFollowedBy g h Knows (framed_state_at g entry args n) t

@@ -46,7 +46,7 @@ use Rattle.pass_split_proof.specs.steps.Resuming.{IsAtWaking}
 use Rattle.pass_split_proof.specs.steps.Woken.{IsPartThere}
 use Rattle.pass_split_proof.specs.transfers.Passing.{HasSuspendsBeforeEnd}
 use Rattle.pass_split_proof.specs.steps.Returns.{IsReturnBlock}
-use Rattle.pass_proofs.specs.run_framed.Framed.{FramedGiven, given_ramp, is_promise_kind, layout_of}
+use Rattle.pass_proofs.specs.run_framed.Framed.{FramedGiven, given_call, given_ramp, is_promise_kind, layout_of}
 use Rattle.run_types.specs.run_hooks.Reached.{AllHaveSwitches}
 use Rattle.pass_proofs.specs.run_laws.changed.Changed.{result_of}
 use Rattle.pass_proofs.specs.run_laws.embedded.Related.{HasNoSlot}
@@ -181,8 +181,9 @@ pub record ArePlacesMet (g : FramedGiven) (h : PlainGiven) (s : State) (t : Plai
     : Type 0 where
   -- the switch of a suspend isn't at the same place of a part, which has no value for it (K3)
   pub term : (term : Terminator) → IsAt g s (AtTerm term) → IsAtPlace g h s t r → IsAtTerm g h s t r term
-  pub ordinary : (i : Instr) → IsAt g s (AtInstr i) → IsAtPlace g h s t r → is_ordinary i ≡ true
-      → HasNoSlot (AtInstr i) → IsAtOrdinary (first_parts g) g h s t r i
+  -- a call that gives a frame isn't named in the parts as it is
+  pub ordinary : (i : Instr) → IsAt g s (AtInstr i) → IsAtPlace g h s t r → given_call g s (AtInstr i) ≡ None
+      → is_ordinary i ≡ true → HasNoSlot (AtInstr i) → IsAtOrdinary (first_parts g) g h s t r i
   pub called : (result : Option ℕ) (must_tail : Bool) (ty : Option Ty) (name : Name) (args : List Arg) (func : ℕ)
       → IsAt g s (AtInstr (Instr.Call result must_tail ty (Callee.Named name) args)) → IsAtPlace g h s t r
       → function_named g.given.code name ≡ Some func → given_ramp g.given.code name ≡ None → IsAtCall g h s t r

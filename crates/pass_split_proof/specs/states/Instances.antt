@@ -128,14 +128,20 @@ pub record IsSavedAt (g : FramedGiven) (n : List MemoryBlock) (x : Instance) (su
   pub resumes : Holds owner_rights n x.block x.start 8 (encode 8 (resumer_of g x.coroutine numbered.suspend))
   pub index : IsIndexed g n x number
 
--- from begin on the header names the function that a destroy calls, which there is
-pub record IsHeaded (g : FramedGiven) (n : List MemoryBlock) (x : Instance) : Type 0 where
+-- From begin on the header names the function that a destroy calls, which there is. It is that for given frames if the
+-- frame was given.
+pub record IsHeaded (g : FramedGiven) (n : List MemoryBlock) (given : Bool) (x : Instance) : Type 0 where
   pub destroyer : Part
   pub is : is_destroyer destroyer ≡ true
+  pub right : is_given destroyer ≡ given
   pub stands : StandsThere g x.coroutine destroyer
   pub destroys : Holds owner_rights n x.block (x.start + 8) 8 (encode 8 (address_of_part g x.coroutine destroyer))
   pub saved : (suspend : Point) (values : List (Option Value)) → x.status ≡ Status.Suspended suspend values
       → IsSavedAt g n x suspend
+
+-- the frame was given if it lies in a stack block, or behind the start of another frame
+abbrev pub IsHeadedIn : FramedGiven → (m n : List MemoryBlock) → Instance → Type 0
+IsHeadedIn g m n x = IsHeaded g n (is_given_in (slice_get m x.block) x) x
 
 -- ---- the frames of all instances
 
@@ -160,4 +166,4 @@ pub record AreLaidFrames (g : FramedGiven) (instances : List Instance) (m : List
 -- and in the memory of the parts' run they hold what they should
 pub record AreFrames (g : FramedGiven) (instances : List Instance) (m n : List MemoryBlock) : Type 0 where
   pub laid : AreLaidFrames g instances m
-  pub headed : (i : ℕ) (x : Instance) → slice_get instances i ≡ Some x → is_held m x ≡ true → IsHeaded g n x
+  pub headed : (i : ℕ) (x : Instance) → slice_get instances i ≡ Some x → is_held m x ≡ true → IsHeadedIn g m n x

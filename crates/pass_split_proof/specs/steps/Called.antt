@@ -2,19 +2,22 @@
 use Rattle.std.specs.Prelude.{◌≡◌, ℕ, ◌+◌, ◌<◌, ◌≤◌, false, [], ◌∷◌, None, Some, length}
 use Rattle.pass_proofs.specs.ir_base.declared.outcome.Outcome.{Outcome}
 use Rattle.pass_proofs.specs.ir_model.Names.{function_at}
+use Rattle.pass_proofs.specs.pass_intrinsics.Shapes.{given_name}
 use Rattle.pass_proofs.specs.pass_intrinsics.declared.shape.Part.{Part}
 use Rattle.pass_split_proof.specs.states.Activations.{IsBehind, IsPlaced}
 use Rattle.pass_split_proof.specs.states.Going.{placed_at}
-use Rattle.pass_split_proof.specs.states.Instances.{part_position}
+use Rattle.pass_split_proof.specs.states.Instances.{part_position, shape_at}
 use Rattle.pass_split_proof.specs.states.Memories.{homes_of}
 use Rattle.pass_split_proof.specs.states.Related.{AreRelated}
 use Rattle.pass_split_proof.specs.states.Values.{AreValuesOf}
 use Rattle.pass_proofs.specs.run_agreement.Machines.{iterate}
 use Rattle.pass_proofs.specs.run_framed.Framed.{FramedGiven}
+use Rattle.pass_proofs.specs.run_memory.declared.pointer.Value.{Value}
 use Rattle.run_access_worked.specs.run_plain.Plain.{PlainGiven, counted, plain_called, plain_step}
 use Rattle.run_access_worked.specs.run_plain.declared.state.PlainState.{PlainState}
 use Rattle.pass_proofs.specs.run_source.State.{frame_address_of}
 use Rattle.pass_proofs.specs.run_source.declared.state.Instance.{Instance}
+use Rattle.pass_proofs.specs.run_source.declared.state.Mode.{Mode}
 use Rattle.pass_proofs.specs.run_source.declared.state.State.{State}
 use Rattle.pass_proofs.specs.run_step.Values.{Env, value_in}
 
@@ -38,6 +41,8 @@ pub record HasCalled (g : FramedGiven) (h : PlainGiven) (s : State) (t : PlainSt
   pub long : length values ≡ length t.top.values
   pub begin : (i : ℕ) → s.top.instance ≡ Some i
       → value_in values r.top.shape.begin ≡ value_in t.top.values r.top.shape.begin
+  pub given : (frame : Value) → s.top.mode ≡ Mode.GivenRamp frame
+      → value_in values (given_name (shape_at g s.top.func)) ≡ value_in t.top.values (given_name (shape_at g s.top.func))
   pub waiting : IsPlaced r.top.shape r.top.part (function_at g.given.code s.top.func) (function_at h.code t.top.func)
       (record s.top { at = s.top.at + 1 }) (placed_at t.top piece offset values) s.top.mode
   pub behind : IsBehind (function_at g.given.code s.top.func) false (record s.top { at = s.top.at + 1 })
