@@ -7,7 +7,7 @@ use Rattle.pass_elide_apart.proofs.pass_elide_proof.Addresses.{twin_back}
 use Rattle.pass_elide_apart.proofs.pass_elide_proof.Facts.{not_both}
 use Rattle.pass_elide_apart.specs.pass_elide_proof.Elision.{Elision}
 use Rattle.pass_elide_apart.specs.pass_elide_proof.Invariant.{IsCalledIn, begins_heap, lives_in}
-use Rattle.pass_elide_apart.specs.pass_elide_proof.Match.{AreInstances, IsNoGivenFrame, sides}
+use Rattle.pass_elide_apart.specs.pass_elide_proof.Match.{AreElided, AreInstances, IsNoGivenFrame, sides}
 use Rattle.pass_elide_apart.specs.pass_elide_proof.Statement.{AreRelated}
 use Rattle.pass_elide_theorem.specs.Carried.{DoFramesLive}
 use Rattle.pass_elide_apart.specs.pass_proofs.run_framed.Framed.{is_given}
@@ -28,21 +28,21 @@ lives_of e memory y number _ _ (IsCalledIn.Below c above below k) = lives_of e m
 same_instance : (x y : Instance) → Some x ≡ Some y → x ≡ y
 same_instance x y h = cc
 
-module _ (e : Elision) (s t : State) (r : AreRelated e s t) (known : EndsFramed e s) where
+module _ (e : Elision) (s t : State) (beside : AreElided e s t) (known : EndsFramed e s) where
   -- a frame that wasn't given begins an allocator's block in both runs
   module _ (i : ℕ) (x y : Instance) (first : slice_get s.instances i ≡ Some x)
       (second : slice_get t.instances i ≡ Some y) (none : is_given t.world.memory y ≡ false) where
-    q : AreInstances e r.beside.homes t.world.memory x y
-    q = r.beside.instances i x y first second
+    q : AreInstances e beside.homes t.world.memory x y
+    q = beside.instances i x y first second
 
-    shown : r.beside.hides x.block ≡ false
-    shown = by (r.beside.hides x.block) refl
+    shown : beside.hides x.block ≡ false
+    shown = by (beside.hides x.block) refl
       where
-        by : (h : Bool) → r.beside.hides x.block ≡ h → r.beside.hides x.block ≡ false
+        by : (h : Bool) → beside.hides x.block ≡ h → beside.hides x.block ≡ false
         by false is = is
         by true is =
-            absurd (not_both (home_of r.beside.homes x.block).is_seen (ap (λ (h : Home). h.is_seen) q.home)
-            (r.beside.hidden x.block is))
+            absurd (not_both (home_of beside.homes x.block).is_seen (ap (λ (h : Home). h.is_seen) q.home)
+            (beside.hidden x.block is))
 
     own : IsNoGivenFrame (sides s t) x.block
     own j p v at to given same =
@@ -53,7 +53,7 @@ module _ (e : Elision) (s t : State) (r : AreRelated e s t) (known : EndsFramed 
     heap : begins_heap t.world.memory y ≡ true
     heap =
         let b = known.slotted.slotted.frames i x first in
-        let mate = r.beside.mates.each x.block b.block b.there shown own in
+        let mate = beside.mates.each x.block b.block b.there shown own in
         let place : y.block ≡ mate.0 = ap (λ (h : Home). h.block) (sym q.home ∙ mate.2) in
         let start : y.start ≡ 0 = ap (λ (h : Home). h.offset) (sym q.home ∙ mate.2) in
         (λ j. option_map_or (λ (z : MemoryBlock). same_kind z.kind Kind.Allocator)
@@ -62,11 +62,19 @@ module _ (e : Elision) (s t : State) (r : AreRelated e s t) (known : EndsFramed 
         && (0 == 0)) mate.3
         ∙ ap (λ (k : Kind). same_kind k Kind.Allocator && (0 == 0)) b.heap)
 
-  pub frames_live : DoFramesLive t
-  frames_live i y there on_heap going = by (is_given t.world.memory y) refl
+  -- so any other was given
+  pub given_or_heap : (i : ℕ) (y : Instance) → slice_get t.instances i ≡ Some y
+      → begins_heap t.world.memory y ≡ false → is_given t.world.memory y ≡ true
+  given_or_heap i y there on_heap = by (is_given t.world.memory y) refl
     where
-      by : (given : Bool) → is_given t.world.memory y ≡ given → lives_in (slice_get t.world.memory y.block) ≡ true
-      by true given = lives_of e t.world.memory y i [] (t.top ∷ t.below) (r.callers.each i y there given going)
+      by : (given : Bool) → is_given t.world.memory y ≡ given → is_given t.world.memory y ≡ true
+      by true given = given
       by false given =
-          let x = twin_back e s t r.beside i y there in
+          let x = twin_back e s t beside i y there in
           absurd (not_both (begins_heap t.world.memory y) (heap i x.0 y x.1 there given) on_heap)
+
+module _ (e : Elision) (s t : State) (r : AreRelated e s t) (known : EndsFramed e s) where
+  pub frames_live : DoFramesLive t
+  frames_live i y there on_heap going =
+      lives_of e t.world.memory y i [] (t.top ∷ t.below)
+      (r.callers.each i y there (given_or_heap e s t r.beside known i y there on_heap) going)

@@ -1,3 +1,6 @@
 pub mod States
 pub mod Steps
 pub mod Frames
+pub mod LastReturns
+pub mod OnFronts
+pub mod Lasting

@@ -1,5 +1,5 @@
 -- What is carried through both runs, and what isn't derived yet of their states.
-use Rattle.std.specs.Prelude.{◌≡◌, ◌+◌, ℕ, true, false, List, slice_get, Some}
+use Rattle.std.specs.Prelude.{◌≡◌, ◌+◌, ◌≤◌, ℕ, true, false, List, slice_get, Some}
 use Rattle.pass_elide_apart.specs.pass_elide_edges.States.{AllStandApart}
 use Rattle.pass_elide_apart.specs.pass_elide_proof.Assembling.{elided_after, framed_after}
 use Rattle.pass_elide_apart.specs.pass_elide_proof.Counts.{uncounted}
@@ -10,7 +10,9 @@ use Rattle.pass_elide_kept.specs.Kept.{AreKept}
 use Rattle.pass_elide_meaning.specs.Lacks.{LacksFramed, LacksGiving}
 use Rattle.pass_elide_apart.specs.pass_proofs.ir_base.declared.outcome.Outcome.{Outcome}
 use Rattle.pass_elide_apart.specs.pass_proofs.ir_base.declared.outcome.Word.{Word}
+use Rattle.pass_elide_apart.specs.pass_proofs.run_agreement.Agreements.{Follows}
 use Rattle.pass_elide_apart.specs.pass_proofs.run_agreement.Costs.{AgreesBy, IsNear}
+use Rattle.pass_elide_apart.specs.pass_proofs.run_agreement.Machines.{at}
 use Rattle.pass_elide_apart.specs.pass_proofs.run_source.State.{is_finished}
 use Rattle.pass_elide_apart.specs.pass_proofs.run_source.declared.state.Instance.{Instance}
 use Rattle.pass_elide_apart.specs.pass_proofs.run_source.declared.state.State.{State}
@@ -46,3 +48,9 @@ abbrev pub DoFramesLive : State → Type 0
 DoFramesLive t =
     (i : ℕ) (x : Instance) → slice_get t.instances i ≡ Some x → begins_heap t.world.memory x ≡ false
     → is_finished x.status ≡ false → lives_in (slice_get t.world.memory x.block) ≡ true
+
+-- the run that gives frames follows the first steps of the framed run; up to there frames live
+pub record FollowsLive (e : Elision) (entry : ℕ) (args : List Word) (n : ℕ) : Type 0 where
+  pub steps : ℕ
+  pub follows : Follows (at (uncounted (framed_run e entry args)) n) (at (uncounted (elided_run e entry args)) steps)
+  pub live : (m : ℕ) → m ≤ steps → DoFramesLive (elided_after e entry args m)

@@ -1,15 +1,18 @@
 //! The statements of elision, of each call of an entry.
 
 ghost use Rattle.pass_elide_apart.specs.pass_elide_proof.Assembling.{KnowsSteps, elided_after, framed_after};
-ghost use Rattle.pass_elide_apart.specs.pass_elide_proof.Counts.{LosesCalls};
-ghost use Rattle.pass_elide_apart.specs.pass_elide_proof.Elision.{Elision};
+ghost use Rattle.pass_elide_apart.specs.pass_elide_proof.Counts.{LosesCalls, uncounted};
+ghost use Rattle.pass_elide_apart.specs.pass_elide_proof.Elision.{Elision, elided};
+ghost use Rattle.pass_elide_apart.specs.pass_elide_proof.Invariant.{DoGivenFramesLive};
 ghost use Rattle.pass_elide_apart.specs.pass_elide_proof.Statement.{AreRelated, IsEntryCall, elided_run, framed_run};
 ghost use Rattle.pass_elide_meaning.specs.Lacks.{LacksFramed, LacksGiving, TakesSizes};
-ghost use Rattle.pass_elide_theorem.specs.Carried.{AgreesWithElided, AreCarried, DoFramesLive, LacksRuns};
+ghost use Rattle.pass_elide_theorem.specs.Carried.{AgreesWithElided, AreCarried, DoFramesLive, FollowsLive, LacksRuns};
 ghost use Rattle.pass_elide_theorem.specs.Ready.{IsElisionReady};
 ghost use Rattle.pass_elide_apart.specs.pass_proofs.ir_base.declared.outcome.Outcome.{Outcome};
 ghost use Rattle.pass_elide_apart.specs.pass_proofs.ir_base.declared.outcome.Word.{Word};
 ghost use Rattle.pass_elide_apart.specs.pass_proofs.ir_model.declared.module.Module.{Module};
+ghost use Rattle.pass_elide_apart.specs.pass_proofs.run_agreement.Agreements.{NeverUndefined};
+ghost use Rattle.pass_elide_apart.specs.pass_proofs.run_agreement.Machines.{IsFine, at};
 ghost use Rattle.pass_elide_apart.specs.pass_proofs.run_source.declared.state.State.{State};
 ghost use Rattle.pass_elide_apart.specs.pass_elide_edges.States.{EndsFramed};
 ghost use Rattle.std.specs.Prelude.{List, ◌≡◌, ℕ};
@@ -58,6 +61,19 @@ pub fn given_frames_live_beside()
         → AreCarried e (framed_after e entry args n) (elided_after e entry args m)
         → DoFramesLive (elided_after e entry args m) }
 {}
+
+/// So the block of each frame that was given lives while its instance isn't Finished: in each state of the run that
+/// gives frames if the framed run is never undefined, else in each one up to where it follows the framed run.
+pub fn given_frames_live()
+    ensures always { (e : Elision) (source : Module) (most entry : ℕ) (args : List Word) → IsElisionReady e source most
+        → IsEntryCall e entry args → LacksRuns e entry args → NeverUndefined (at (uncounted (framed_run e entry args)))
+        → DoGivenFramesLive (elided e) entry args }
+    ensures until { (e : Elision) (source : Module) (most entry : ℕ) (args : List Word) (n : ℕ)
+        → IsElisionReady e source most → IsEntryCall e entry args → LacksRuns e entry args
+        → IsFine (framed_after e entry args n).outcome → FollowsLive e entry args n }
+{
+    carried_states_know_steps();
+}
 
 /// Runs lack nothing whose states lack nothing. Of the framed run none does where allocators take names of coro.size.
 pub fn runs_lack_nothing()
