@@ -29,3 +29,5 @@ pub mod EndsAlike
 pub mod Releases
 pub mod ReleaseBlocks
 pub mod Keepers
+pub mod OneUse
+pub mod Uncrossed

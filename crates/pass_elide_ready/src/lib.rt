@@ -2,6 +2,7 @@
 #![tactic(auto)]
 
 pub mod asking;
+pub mod crossing;
 pub mod freed;
 pub mod records;
 pub mod rules;
