@@ -191,8 +191,11 @@ module _ (e : Elision) (source : Module) (most : ℕ) (ready : IsElisionReady e 
         → AreElided e (framed_step (framed e) s) (framed_step (elided e) u)
         ⊎ (HaveReturned (framed_step (framed e) s) (framed_step (elided e) u) × DoFramesLive (framed_step (elided e) u))
     leaves u q at over =
-        ⊎_elim (λ beside. inl beside) (λ last. inr (over, last_lives e s u q last.0 known last.1
-        (returned_fine (framed_step (elided e) u).outcome (subst IsReturned (sym over.outcome) over.returned))))
+        ⊎_elim (λ beside. inl beside) (λ last. inr (
+          over,
+          last_lives e s u q last.0 known last.1
+              (returned_fine (framed_step (elided e) u).outcome (subst IsReturned (sym over.outcome) over.returned)),
+        ))
         (goes_or_returns e s u q fine at)
 
     abbrev Leads : State → Type 0
