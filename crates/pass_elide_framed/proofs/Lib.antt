@@ -1,8 +1,11 @@
 mod Ruled
 mod Plain
 mod EdgeKinds
+mod Terms
 mod SameWays
 mod Freed
 mod Asked
 mod Layouts
 mod Returned
+mod Unfetched
+mod Answered

@@ -31,8 +31,7 @@ use Rattle.compiler.specs.pass_addresses.Placing.{slot_fetches}
 use Rattle.compiler.specs.pass_cells.Cells.{fetches_of}
 use Rattle.compiler.specs.pass_edges.EdgeBlocks.{split_term, with_edge_blocks}
 use Rattle.compiler.specs.pass_edges.Edges.{ends_in_suspend, phi_flags}
-use Rattle.compiler.specs.pass_fetch.Fetching.{fetch_of, operand_by}
-use Rattle.compiler.specs.pass_fetch.Instrs.{fetched_term}
+use Rattle.compiler.specs.pass_fetch.Fetching.{fetch_of}
 use Rattle.compiler.specs.pass_fetch.declared.fetch.Fetch.{Fetch}
 use Rattle.compiler.specs.pass_frames.Framed.{IsFramedCoroutine, begin_of, layout_at}
 use Rattle.compiler.specs.rule_laws.rules.function_rules.Kept.{KeepsFunctionRules}
@@ -44,6 +43,7 @@ use Rattle.compiler_theorem.specs.theorem.Lowered.{IsLowered, Lowered, early}
 use Rattle.elide_sites.specs.Destroyed.{has_in}
 use Rattle.elide_shape.specs.Frames.{frame_value, is_frame, is_frame_call, local_if, rets_give_frame, returns_frame}
 use Rattle.pass_elide_framed.proofs.Plain.{none_early}
+use Rattle.pass_elide_framed.proofs.Terms.{AreBare, term_there}
 use Rattle.pass_elide_framed.proofs.SameWays.{begin_told, framed_edge, gives, gives_same, made_at, same_at}
 use Rattle.pass_elide_kept.specs.Modules.{BeginsAlone}
 use Rattle.pass_elide_proof.specs.CallersStack.{GivesBegin, ReturnsFrame}
@@ -51,62 +51,17 @@ use Rattle.pass_elide_proof.specs.Places.{instrs_in, instrs_of}
 use Rattle.pass_elide_ready.proofs.OneEnd.{begin_named, begins_alone}
 use Rattle.pass_elide_ready.specs.Ways.{SameEnd}
 use Rattle.pass_frames_meaning.proofs.begun.Begun.{begin_plain}
-use Rattle.pass_frames_meaning.proofs.pass_frames_proof.code.Framed.{entry_made, others_made}
 use Rattle.pass_frames_meaning.proofs.pass_frames_proof.framings.Built.{framing_there}
 use Rattle.pass_frames_meaning.proofs.pass_frames_proof.pass_proofs.addresses.rules.Placed.{outside_unfetched}
 use Rattle.pass_frames_meaning.proofs.pass_frames_proof.pass_proofs.cells.rules.Planned.{unplaced_fetch}
 use Rattle.pass_frames_meaning.specs.pass_frames_proof.Framings.{IsFraming}
-use Rattle.pass_frames_meaning.specs.pass_frames_proof.Layers.{Layer, both, passed}
-use Rattle.pass_frames_meaning.specs.pass_frames_proof.Passes.{unmarked_at}
-use Rattle.pass_frames_meaning.specs.pass_frames_proof.Places.{Framing, addressing_layer, celled_layer, copied_layer, copying_layer, edged, entry_layer, framed, framing_of, loading_layer, marked, offsets, placed_layer, plan, unmarked_layer, writing_layer}
+use Rattle.pass_frames_meaning.specs.pass_frames_proof.Places.{Framing, framed, framing_of, marked, offsets, plan}
 
 -- ---- a ret of a name that isn't fetched stays
 
-abbrev RetStays : ℕ → Terminator → Terminator → Type 0
-RetStays v t u = (a : Arg) → t ≡ Terminator.Ret (Some a) → a.value ≡ Operand.Local v → u ≡ Terminator.Ret (Some a)
-
-fetched_ret : (T : List (Option Fetch)) (n v : ℕ) (t : Terminator) → fetch_of T (Operand.Local v) ≡ None
-    → RetStays v t (fetched_term T n t)
-fetched_ret T n v t none a is value =
-    let bare : fetch_of T a.value ≡ None = ap (fetch_of T) value ∙ none in
-    ap (fetched_term T n) is
-    ∙ (λ i. Terminator.Ret (Some (record { ty = a.ty; value = operand_by n (bare i) a.value })))
-
-module _ (v : ℕ) where
-  abbrev Stays : {S : Type 0} → Layer S → Type 0
-  Stays {S} L = (s : S) (t : Terminator) → RetStays v t (L.term s t)
-
-  both_stay : {S T : Type 0} (L : Layer S) (M : Layer T) → Stays L → Stays M → Stays (both L M)
-  both_stay L M h k s t a is value =
-      k (passed M s.1 (L.back s.0)) (L.term s.0 t) a (h s.0 t a is value) value
-
-  placed_stays : (x : Framing) (k : ℕ) → fetch_of (fetches_of (plan x)) (Operand.Local v) ≡ None
-      → fetch_of (slot_fetches (begin_of x.function) (offsets x)) (Operand.Local v) ≡ None → Stays (placed_layer x k)
-  placed_stays x k loads slots =
-      both_stay (unmarked_layer x k) (addressing_layer x k)
-      (both_stay (copied_layer x k) (unmarked_at (marked x))
-      (both_stay (celled_layer x k) (copying_layer x k)
-      (both_stay (loading_layer x k) (writing_layer x k)
-      (λ s t. fetched_ret (fetches_of (plan x)) s v t loads)
-      (λ s t a is value. is)) (λ s t a is value. is)) (λ s t a is value. is))
-      (λ s t. fetched_ret (slot_fetches (begin_of x.function) (offsets x)) s.0 v t slots)
-
-  ret_there : (x : Framing) → fetch_of (fetches_of (plan x)) (Operand.Local v) ≡ None
-      → fetch_of (slot_fetches (begin_of x.function) (offsets x)) (Operand.Local v) ≡ None → (k : ℕ) (b c : Block)
-      → slice_get (edged x).blocks k ≡ Some b → slice_get (framed x).blocks k ≡ Some c → RetStays v b.term c.term
-  ret_there x loads slots zero b c got there a is value =
-      let y = entry_made x b got in
-      let both : Some y.0 ≡ Some c = sym y.1 ∙ there in
-      let same : y.0 ≡ c = cc in
-      sym (ap (λ (z : Block). z.term) same) ∙ y.2.term
-      ∙ placed_stays x 0 loads slots (passed (entry_layer x) (entry_layer x).start b.instrs).0 b.term a is value
-  ret_there x loads slots (suc k) b c got there a is value =
-      let y = others_made x (suc k) (λ e. absurd (cc)) b got in
-      let both : Some y.0 ≡ Some c = sym y.1 ∙ there in
-      let same : y.0 ≡ c = cc in
-      sym (ap (λ (z : Block). z.term) same) ∙ y.2.term
-      ∙ placed_stays x (suc k) loads slots (passed (placed_layer x (suc k)) (placed_layer x (suc k)).start b.instrs)
-      b.term a is value
+ret_bare : (T : List (Option Fetch)) (v : ℕ) (a : Arg) (t : Terminator) → fetch_of T (Operand.Local v) ≡ None
+    → t ≡ Terminator.Ret (Some a) → a.value ≡ Operand.Local v → AreBare T t
+ret_bare T v a t none is value = subst (AreBare T) (sym is) (ap (fetch_of T) value ∙ none, tt)
 
 -- ---- rets come from rets
 
@@ -341,8 +296,11 @@ module _ (l : Lowered) (low : IsLowered l) (k : ℕ) (f : Function)
         → GivesBegin g value
     by_begin a term is same =
         let last : c.term ≡ Terminator.Ret (Some a) =
-        ret_there begin x loads slots at b c stands (ap (λ (y : Function). slice_get y.blocks at) (sym h.is) ∙ got) a
-        term is in
+        term_there x at b c stands (ap (λ (y : Function). slice_get y.blocks at) (sym h.is) ∙ got)
+        (record {
+          loads = ret_bare (fetches_of (plan x)) begin a b.term loads term is;
+          slots = ret_bare (slot_fetches (begin_of f) (offsets x)) begin a b.term slots term is;
+        }) ∙ term in
         let both : Terminator.Ret (Some a) ≡ Terminator.Ret value = sym last ∙ ends in
         let one : Some a ≡ value = cc in
         subst (GivesBegin g) one (well.begin, framed_begin, is ∙ ap Operand.Local (sym same))

@@ -4,8 +4,12 @@ ghost use Rattle.compiler.specs.ir_base.declared.name.Name.{Name};
 ghost use Rattle.compiler.specs.ir_model.Names.{function_at, function_named};
 ghost use Rattle.compiler.specs.ir_model.declared.instr.Instr.{Instr};
 ghost use Rattle.compiler.specs.ir_model.declared.module.Block.{Block};
+ghost use Rattle.compiler.specs.ir_model.declared.operand.Intrinsic.{Intrinsic};
+ghost use Rattle.compiler.specs.ir_model.declared.operand.Operand.{Operand};
+ghost use Rattle.compiler.specs.ir_paths.Windows.{is_call_of, points_where};
 ghost use Rattle.compiler.specs.ir_paths.declared.point.Point.{Point};
 ghost use Rattle.compiler_theorem.specs.theorem.Lowered.{HasFewBytes, IsLowered, Lowered, early};
+ghost use Rattle.elide_shape.specs.Calls.{value_at};
 ghost use Rattle.elide_shape.specs.Frames.{rets_give_frame};
 ghost use Rattle.elide_shape.specs.Frees.{is_tested_next};
 ghost use Rattle.elide_shape.specs.Guard.{is_guarded};
@@ -21,7 +25,7 @@ ghost use Rattle.pass_elide_proof.specs.Sound.{NestsNone};
 ghost use Rattle.pass_elide_proof.specs.Waking.{GivesNone};
 ghost use Rattle.pass_elide_ready.specs.Blocks.{AskingBlocks, AsksBlocks, FreeingBlocks, FreesBlocks};
 ghost use Rattle.pass_elide_ready.specs.Ruled.{IsRuled};
-ghost use Rattle.std.specs.Prelude.{Some, false, slice_get, true, ◌<◌, ◌^◌, ◌≡◌, ℕ};
+ghost use Rattle.std.specs.Prelude.{Some, [], false, slice_get, true, ◌∷◌, ◌<◌, ◌^◌, ◌≡◌, ℕ};
 
 /// The framed form of an accepted source breaks no rule of sources that elision asks.
 pub fn framed_forms_are_ruled()
@@ -74,4 +78,13 @@ pub fn frames_are_small()
 pub fn framed_coroutines_return_their_frames()
     ensures { (l : Lowered) → IsLowered l → (func : ℕ) → (function_at (early l) func).coroutine ≡ true
         → rets_give_frame (function_at (early l) func) ≡ true → ReturnsFrame (function_at l.framed func) }
+{}
+
+/// The framed form of a guarded coroutine branches on what coro.alloc gives, which no cell keeps.
+pub fn framed_coroutines_branch_on_answers()
+    ensures { (l : Lowered) → IsLowered l → (func : ℕ) → (function_at (early l) func).coroutine ≡ true
+        → is_guarded (function_at (early l) func) ≡ true → (p : Point) (v : ℕ)
+        → points_where (is_call_of Intrinsic.CoroAlloc) (function_at (early l) func) ≡ p ∷ []
+        → value_at (function_at (early l) func) p ≡ Some v
+        → (a : AskingBlocks) × ((s : AsksBlocks (function_at l.framed func) a) × (s.on ≡ Operand.Local v)) }
 {}

@@ -179,7 +179,7 @@ module _ (f : Function) (named : HasNamedLabels f) (once : AreLabelsOnce f) (x :
   beside_there : slice_get g.blocks (spot f a + 1) ≡ Some (edge_block asking_edge)
   beside_there = edge_there f a x.asked.asking 0 asking_edge x.asked.got asking_there
 
-  abbrev blocks : AskingBlocks
+  abbrev pub blocks : AskingBlocks
   blocks = record {
     asks = spot f a;
     allocates = spot f d;
@@ -318,6 +318,10 @@ module _ (f : Function) (named : HasNamedLabels f) (once : AreLabelsOnce f) (x :
     into_beside = into_beside;
     into_begins = into_begins;
   }
+
+  pub asks_on : asks_blocks.on ≡ Operand.Local x.asked.need
+  unfolding asks_blocks
+  asks_on = refl
 
 pub guard_blocks : (m : Module) (k : ℕ) (f : Function) → KeepsFunctionRules m k f → is_guarded f ≡ true
     → (a : AskingBlocks) × AsksBlocks (with_edge_blocks f) a
