@@ -9,3 +9,4 @@ mod Layouts
 mod Returned
 mod Unfetched
 mod Answered
+mod ElidedForms

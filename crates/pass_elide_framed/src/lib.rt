@@ -1,4 +1,5 @@
 //! Framed forms of accepted sources have what laws on elision ask of modules.
 #![tactic(auto)]
 
+pub mod elided;
 pub mod framed;
