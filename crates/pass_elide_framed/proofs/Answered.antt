@@ -32,13 +32,13 @@ use Rattle.compiler.specs.run_step.Step.{AtTerm, fetch}
 use Rattle.compiler.specs.frame_crossing.Paths.{used_by}
 use Rattle.compiler_theorem.proofs.parts.Returned.{buildable, named}
 use Rattle.compiler_theorem.specs.theorem.Lowered.{IsLowered, Lowered, early}
-use Rattle.elide_shape.specs.Calls.{value_at}
-use Rattle.elide_shape.specs.Guard.{is_guarded}
+use Rattle.pass_elide_ready.specs.elide_shape.Calls.{value_at}
+use Rattle.pass_elide_ready.specs.elide_shape.Guard.{is_guarded}
 use Rattle.pass_elide_framed.proofs.Plain.{none_early}
 use Rattle.pass_elide_framed.proofs.SameWays.{IsMadeThere, made_at, same_ends}
 use Rattle.pass_elide_framed.proofs.Terms.{IsBareIn, term_there}
 use Rattle.pass_elide_framed.proofs.Unfetched.{loads_none, slots_none}
-use Rattle.pass_elide_proof.specs.Places.{instrs_in, instrs_of}
+use Rattle.pass_elide_ready.specs.pass_elide_proof.Places.{instrs_in, instrs_of}
 use Rattle.pass_elide_ready.proofs.EndsAlike.{asks_alike, ends_at}
 use Rattle.pass_elide_ready.proofs.Entries.{ending}
 use Rattle.pass_elide_ready.proofs.GuardBlocks.{asks_blocks, asks_on, blocks}

@@ -10,8 +10,8 @@ use Rattle.compiler.specs.ir_model.declared.module.Block.{Block}
 use Rattle.compiler.specs.ir_model.declared.module.Function.{Function}
 use Rattle.compiler.specs.pass_edges.EdgeBlocks.{with_edge_blocks}
 use Rattle.compiler_theorem.specs.theorem.Lowered.{IsLowered, Lowered, early}
-use Rattle.elide_shape.specs.Frees.{is_tested_next}
-use Rattle.elide_shape.specs.Guard.{is_guarded}
+use Rattle.pass_elide_ready.specs.elide_shape.Frees.{is_tested_next}
+use Rattle.pass_elide_ready.specs.elide_shape.Guard.{is_guarded}
 use Rattle.pass_elide_framed.proofs.Plain.{none_early}
 use Rattle.pass_elide_framed.proofs.SameWays.{same_ends}
 use Rattle.pass_elide_ready.proofs.EndsAlike.{asks_alike, frees_alike}

@@ -23,7 +23,7 @@ use Rattle.compiler.specs.pass_proofs.flow_blocks.Kinds.{kind_at, kind_in, kind_
 use Rattle.compiler.specs.pass_proofs.flow_blocks.declared.kinds.EdgeKind.{EdgeKind}
 use Rattle.compiler.specs.rule_laws.rules.rows.Returns.{IsSwitched}
 use Rattle.compiler.specs.rule_shape.Switches.{wrong_switch}
-use Rattle.elide_shape.specs.Edges.{edges_by, edges_of, edges_out}
+use Rattle.pass_elide_ready.specs.elide_shape.Edges.{edges_by, edges_of, edges_out}
 
 -- ---- one block
 

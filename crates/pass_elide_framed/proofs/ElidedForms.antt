@@ -3,25 +3,25 @@ use Rattle.std.proofs.Common.{◌≡◌, ℕ, false, sym, ap, ◌∙◌, subst}
 use Rattle.compiler.specs.ir_model.Names.{function_at}
 use Rattle.compiler.specs.ir_model.declared.module.Module.{Module}
 use Rattle.compiler_theorem.specs.theorem.Lowered.{Lowered}
-use Rattle.elide_sites.specs.Destroyed.{FreesWhenDestroyed}
+use Rattle.pass_elide_ready.specs.elide_sites.Destroyed.{FreesWhenDestroyed}
 use Rattle.pass_elide_framed.proofs.Freed.{framed_freed}
 use Rattle.pass_elide_framed.proofs.Layouts.{frames_nest_none, frames_small}
 use Rattle.pass_elide_framed.proofs.Plain.{plain_stays}
 use Rattle.pass_elide_framed.proofs.Returned.{framed_returns}
 use Rattle.pass_elide_framed.proofs.Ruled.{ruled}
 use Rattle.pass_elide_framed.specs.Elided.{IsElidedForm}
-use Rattle.pass_elide_kept.specs.Modules.{KeepsHandlesAndEnds}
-use Rattle.pass_elide_known.specs.Keeping.{KeepsMore}
-use Rattle.pass_elide_proof.specs.CallersStack.{ReturnsFrame}
-use Rattle.pass_elide_proof.specs.Elision.{Elision, framed, function_in}
-use Rattle.pass_elide_proof.specs.Placing.{HasShape}
-use Rattle.pass_elide_proof.specs.Releasing.{HoldsOfRooms}
+use Rattle.pass_elide_ready.specs.pass_elide_kept.Modules.{KeepsHandlesAndEnds}
+use Rattle.pass_elide_ready.specs.pass_elide_known.Keeping.{KeepsMore}
+use Rattle.pass_elide_ready.specs.pass_elide_proof.CallersStack.{ReturnsFrame}
+use Rattle.pass_elide_ready.specs.pass_elide_proof.Elision.{Elision, framed, function_in}
+use Rattle.pass_elide_ready.specs.pass_elide_proof.Placing.{HasShape}
+use Rattle.pass_elide_ready.specs.pass_elide_proof.Releasing.{HoldsOfRooms}
 use Rattle.pass_elide_ready.proofs.Keepers.{keeps_handles_and_ends, keeps_more, keeps_runs}
 use Rattle.pass_elide_ready.specs.Form.{IsFormed}
 use Rattle.pass_elide_ready.specs.Ruled.{IsRuled}
-use Rattle.pass_elide_runs.specs.Ends.{EndsOnce}
-use Rattle.pass_elide_runs.specs.Keeps.{KeepsRuns}
-use Rattle.run_hooks.specs.Away.{KeepsAllPlaceRules}
+use Rattle.pass_elide_ready.specs.pass_elide_runs.Ends.{EndsOnce}
+use Rattle.pass_elide_ready.specs.pass_elide_runs.Keeps.{KeepsRuns}
+use Rattle.pass_elide_ready.specs.run_hooks.Away.{KeepsAllPlaceRules}
 
 module _ (l : Lowered) (e : Elision) (x : IsElidedForm l e) where
   rules : IsRuled e.code

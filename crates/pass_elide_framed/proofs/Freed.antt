@@ -17,14 +17,14 @@ use Rattle.compiler.specs.ir_paths.declared.point.Point.{Point}
 use Rattle.compiler.specs.ir_model.declared.module.Function.{Function}
 use Rattle.compiler.specs.rule_laws.rules.function_rules.Kept.{KeepsFunctionRules}
 use Rattle.compiler_theorem.specs.theorem.Lowered.{IsLowered, Lowered, early}
-use Rattle.elide_sites.specs.Destroyed.{FreesWhenDestroyed}
-use Rattle.elide_sites.specs.Elidable.{IsElidable}
-use Rattle.elide_sites.specs.Sites.{AreSites, callee_in}
-use Rattle.pass_elide.specs.declared.given.GivenFrame.{GivenFrame}
+use Rattle.pass_elide_ready.specs.elide_sites.Destroyed.{FreesWhenDestroyed}
+use Rattle.pass_elide_ready.specs.elide_sites.Elidable.{IsElidable}
+use Rattle.pass_elide_ready.specs.elide_sites.Sites.{AreSites, callee_in}
+use Rattle.pass_elide_ready.specs.pass_elide.declared.given.GivenFrame.{GivenFrame}
 use Rattle.pass_elide_framed.proofs.Plain.{framed_at, framed_named, none_early}
 use Rattle.pass_elide_framed.proofs.SameWays.{same_ways}
-use Rattle.pass_elide_proof.specs.Elision.{Elision, function_in}
-use Rattle.pass_elide_proof.specs.Invariant.{IsSiteOf}
+use Rattle.pass_elide_ready.specs.pass_elide_proof.Elision.{Elision, function_in}
+use Rattle.pass_elide_ready.specs.pass_elide_proof.Invariant.{IsSiteOf}
 use Rattle.pass_elide_ready.proofs.SitesKept.{callee_elidable}
 use Rattle.pass_elide_ready.proofs.EdgeWays.{freed_by_ways, freed_over_edges}
 use Rattle.compiler.specs.pass_edges.EdgeBlocks.{with_edge_blocks}

@@ -27,13 +27,13 @@ use Rattle.compiler_theorem.proofs.parts.Found.{promise_at_first}
 use Rattle.compiler_theorem.proofs.parts.Held.{held_each}
 use Rattle.compiler_theorem.proofs.theorem.Facts.{good_layouts}
 use Rattle.compiler_theorem.specs.theorem.Lowered.{IsLowered, Lowered, early}
-use Rattle.pass_elide.specs.Elided.{coroutine_frame}
-use Rattle.pass_elide.specs.Frames.{callee_field, callee_fields, field_frame, field_named, frame_at, layout_of as callee_layout_of, result_name, site_frame}
-use Rattle.pass_elide.specs.declared.fields.CalleeField.{CalleeField}
-use Rattle.pass_elide_proof.specs.Elision.{Elision, framed, function_in}
-use Rattle.pass_elide_proof.specs.Match.{frame_size}
-use Rattle.pass_elide_proof.specs.Sound.{NestsNone}
-use Rattle.pass_elide_proof.specs.Waking.{GivesNone}
+use Rattle.pass_elide_ready.specs.pass_elide.Elided.{coroutine_frame}
+use Rattle.pass_elide_ready.specs.pass_elide.Frames.{callee_field, callee_fields, field_frame, field_named, frame_at, layout_of as callee_layout_of, result_name, site_frame}
+use Rattle.pass_elide_ready.specs.pass_elide.declared.fields.CalleeField.{CalleeField}
+use Rattle.pass_elide_ready.specs.pass_elide_proof.Elision.{Elision, framed, function_in}
+use Rattle.pass_elide_ready.specs.pass_elide_proof.Match.{frame_size}
+use Rattle.pass_elide_ready.specs.pass_elide_proof.Sound.{NestsNone}
+use Rattle.pass_elide_ready.specs.pass_elide_proof.Waking.{GivesNone}
 
 -- ---- each layout
 

@@ -40,14 +40,14 @@ use Rattle.compiler.specs.run_framed.Framed.{begin_name}
 use Rattle.compiler_theorem.proofs.parts.Returned.{buildable, named}
 use Rattle.compiler_theorem.proofs.parts.Taken.{passes}
 use Rattle.compiler_theorem.specs.theorem.Lowered.{IsLowered, Lowered, early}
-use Rattle.elide_sites.specs.Destroyed.{has_in}
-use Rattle.elide_shape.specs.Frames.{frame_value, is_frame, is_frame_call, local_if, rets_give_frame, returns_frame}
+use Rattle.pass_elide_ready.specs.elide_sites.Destroyed.{has_in}
+use Rattle.pass_elide_ready.specs.elide_shape.Frames.{frame_value, is_frame, is_frame_call, local_if, rets_give_frame, returns_frame}
 use Rattle.pass_elide_framed.proofs.Plain.{none_early}
 use Rattle.pass_elide_framed.proofs.Terms.{AreBare, term_there}
 use Rattle.pass_elide_framed.proofs.SameWays.{begin_told, framed_edge, gives, gives_same, made_at, same_at}
-use Rattle.pass_elide_kept.specs.Modules.{BeginsAlone}
-use Rattle.pass_elide_proof.specs.CallersStack.{GivesBegin, ReturnsFrame}
-use Rattle.pass_elide_proof.specs.Places.{instrs_in, instrs_of}
+use Rattle.pass_elide_ready.specs.pass_elide_kept.Modules.{BeginsAlone}
+use Rattle.pass_elide_ready.specs.pass_elide_proof.CallersStack.{GivesBegin, ReturnsFrame}
+use Rattle.pass_elide_ready.specs.pass_elide_proof.Places.{instrs_in, instrs_of}
 use Rattle.pass_elide_ready.proofs.OneEnd.{begin_named, begins_alone}
 use Rattle.pass_elide_ready.specs.Ways.{SameEnd}
 use Rattle.pass_frames_meaning.proofs.begun.Begun.{begin_plain}

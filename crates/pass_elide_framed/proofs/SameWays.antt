@@ -37,7 +37,7 @@ use Rattle.compiler_theorem.proofs.parts.Returned.{called}
 use Rattle.compiler_theorem.proofs.parts.Taken.{IsTold, end_told, front_ones, has_one, no_alloca_kind, no_alloca_passes, of_kind, one_kind, one_passes, passed as passed_call, passes, same_ones, save_told, suspend_told}
 use Rattle.compiler_theorem.proofs.parts.Ways.{first_mapped, way_of}
 use Rattle.compiler_theorem.specs.theorem.Lowered.{IsLowered, Lowered, early}
-use Rattle.elide_sites.specs.Destroyed.{has_at, has_in, is_stop}
+use Rattle.pass_elide_ready.specs.elide_sites.Destroyed.{has_at, has_in, is_stop}
 use Rattle.pass_elide_framed.proofs.EdgeKinds.{cases_of, edges_same, has_suspend, kind_by, kind_is}
 use Rattle.pass_elide_ready.specs.Ways.{HasSameEnds, HasSameWays, SameEnd}
 use Rattle.pass_frames_meaning.proofs.pass_frames_proof.code.Framed.{entry_made, others_made}

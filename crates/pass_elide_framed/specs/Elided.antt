@@ -2,10 +2,10 @@
 use Rattle.std.specs.Prelude.{◌≡◌, ℕ}
 use Rattle.compiler.specs.ir_model.Names.{function_at}
 use Rattle.compiler_theorem.specs.theorem.Lowered.{HasFewBytes, IsLowered, Lowered, early}
-use Rattle.elide_sites.specs.Elidable.{IsElidable}
-use Rattle.elide_sites.specs.Sites.{AreSites}
-use Rattle.pass_elide_proof.specs.Elision.{Elision}
-use Rattle.pass_elide_proof.specs.Placing.{HasShape}
+use Rattle.pass_elide_ready.specs.elide_sites.Elidable.{IsElidable}
+use Rattle.pass_elide_ready.specs.elide_sites.Sites.{AreSites}
+use Rattle.pass_elide_ready.specs.pass_elide_proof.Elision.{Elision}
+use Rattle.pass_elide_ready.specs.pass_elide_proof.Placing.{HasShape}
 use Rattle.pass_elide_ready.specs.Form.{AreFormed}
 
 -- Each coroutine with a shape has that of its form, and what the first pass makes of it is elidable. A module without

@@ -2,14 +2,14 @@
 
 ghost use Rattle.compiler_theorem.specs.theorem.Lowered.{Lowered};
 ghost use Rattle.pass_elide_framed.specs.Elided.{IsElidedForm};
-ghost use Rattle.pass_elide_kept.specs.Modules.{KeepsHandlesAndEnds};
-ghost use Rattle.pass_elide_known.specs.Keeping.{KeepsMore};
-ghost use Rattle.pass_elide_proof.specs.Elision.{Elision, framed, function_in};
-ghost use Rattle.pass_elide_proof.specs.Releasing.{HoldsOfRooms};
+ghost use Rattle.pass_elide_ready.specs.pass_elide_kept.Modules.{KeepsHandlesAndEnds};
+ghost use Rattle.pass_elide_ready.specs.pass_elide_known.Keeping.{KeepsMore};
+ghost use Rattle.pass_elide_ready.specs.pass_elide_proof.Elision.{Elision, framed, function_in};
+ghost use Rattle.pass_elide_ready.specs.pass_elide_proof.Releasing.{HoldsOfRooms};
 ghost use Rattle.pass_elide_ready.specs.Form.{IsFormed};
-ghost use Rattle.pass_elide_runs.specs.Ends.{EndsOnce};
-ghost use Rattle.pass_elide_runs.specs.Keeps.{KeepsRuns};
-ghost use Rattle.run_hooks.specs.Away.{KeepsAllPlaceRules};
+ghost use Rattle.pass_elide_ready.specs.pass_elide_runs.Ends.{EndsOnce};
+ghost use Rattle.pass_elide_ready.specs.pass_elide_runs.Keeps.{KeepsRuns};
+ghost use Rattle.pass_elide_ready.specs.run_hooks.Away.{KeepsAllPlaceRules};
 ghost use Rattle.std.specs.Prelude.{ℕ};
 
 /// They keep handles and ends. They keep known places, if calls give frames to formed coroutines alone. They keep what

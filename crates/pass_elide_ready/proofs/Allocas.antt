@@ -9,22 +9,22 @@ use Rattle.pass_elide_proof.proofs.OwnPlaces.{instr_there}
 use Rattle.pass_elide_proof.specs.Places.{instrs_of}
 use Rattle.pass_elide_runs.specs.Marks.{MarksAllocas}
 use Rattle.pass_elide_runs.specs.Slots.{AllocasFirst, IsAllocaAt, NamesAllocas}
-use Rattle.pass_proofs.proofs.ir_laws.paths.edges.Lists.{listed_at}
-use Rattle.pass_proofs.proofs.ir_laws.paths.woven_rules.Unbroken.{each_listed}
-use Rattle.pass_proofs.proofs.rule_laws.rules.renamed.Uses.{result_spelt}
-use Rattle.pass_proofs.specs.flow_blocks.Edges.{block_edges}
-use Rattle.pass_proofs.specs.flow_solver.Paths.{IsListed}
-use Rattle.pass_proofs.specs.ir_model.declared.instr.Instr.{Instr}
-use Rattle.pass_proofs.specs.ir_model.declared.instr.Phi.{Phi}
-use Rattle.pass_proofs.specs.ir_model.declared.module.Block.{Block}
-use Rattle.pass_proofs.specs.ir_model.declared.module.Function.{Function}
-use Rattle.pass_proofs.specs.ir_model.declared.operand.Arg.{Arg}
-use Rattle.pass_proofs.specs.ir_model.declared.operand.Callee.{Callee}
-use Rattle.pass_proofs.specs.ir_model.declared.operand.Intrinsic.{Intrinsic}
-use Rattle.pass_proofs.specs.ir_model.declared.operand.Operand.{Operand}
-use Rattle.pass_proofs.specs.ir_paths.Windows.{operand_at}
-use Rattle.pass_proofs.specs.run_laws.changed.Changed.{Each}
-use Rattle.pass_proofs.specs.run_step.Step.{is_lifetime, phis_of}
+use Rattle.pass_elide_proof.proofs.pass_proofs.ir_laws.paths.edges.Lists.{listed_at}
+use Rattle.pass_elide_proof.proofs.pass_proofs.ir_laws.paths.woven_rules.Unbroken.{each_listed}
+use Rattle.pass_elide_proof.proofs.pass_proofs.rule_laws.rules.renamed.Uses.{result_spelt}
+use Rattle.pass_elide_proof.specs.pass_proofs.flow_blocks.Edges.{block_edges}
+use Rattle.pass_elide_proof.specs.pass_proofs.flow_solver.Paths.{IsListed}
+use Rattle.pass_elide_proof.specs.pass_proofs.ir_model.declared.instr.Instr.{Instr}
+use Rattle.pass_elide_proof.specs.pass_proofs.ir_model.declared.instr.Phi.{Phi}
+use Rattle.pass_elide_proof.specs.pass_proofs.ir_model.declared.module.Block.{Block}
+use Rattle.pass_elide_proof.specs.pass_proofs.ir_model.declared.module.Function.{Function}
+use Rattle.pass_elide_proof.specs.pass_proofs.ir_model.declared.operand.Arg.{Arg}
+use Rattle.pass_elide_proof.specs.pass_proofs.ir_model.declared.operand.Callee.{Callee}
+use Rattle.pass_elide_proof.specs.pass_proofs.ir_model.declared.operand.Intrinsic.{Intrinsic}
+use Rattle.pass_elide_proof.specs.pass_proofs.ir_model.declared.operand.Operand.{Operand}
+use Rattle.pass_elide_proof.specs.pass_proofs.ir_paths.Windows.{operand_at}
+use Rattle.pass_elide_proof.specs.pass_proofs.run_laws.changed.Changed.{Each}
+use Rattle.pass_elide_proof.specs.pass_proofs.run_step.Step.{is_lifetime, phis_of}
 use Rattle.pass_split_proof.specs.simulation.Premises.{AreAllocasAlone, IsEntryAlloca}
 
 module _ (f : Function) (alone : AreAllocasAlone f) where

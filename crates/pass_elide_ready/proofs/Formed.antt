@@ -14,24 +14,24 @@ use Rattle.pass_elide_ready.proofs.Listed.{IsFound, found, tested_is}
 use Rattle.pass_elide_ready.proofs.Names.{low_name, no_phi_gives, same_one, same_place}
 use Rattle.pass_elide_ready.proofs.Numbers.{gives_there, is_name_is, not_true}
 use Rattle.pass_elide_ready.specs.Form.{Asking, AsksSo, Freeing, FreesSo, HasForm, gives_freed, gives_in, has_both, passed_by, passed_of, shape_by}
-use Rattle.pass_proofs.proofs.ir_laws.facts.Lists.{at_any}
-use Rattle.pass_proofs.proofs.ir_laws.facts.Truth.{and_first, and_second, equal_numbers, itself}
-use Rattle.pass_proofs.proofs.ir_laws.paths.edges.Lists.{listed_at}
-use Rattle.pass_proofs.proofs.ir_laws.paths.woven_rules.Unbroken.{of_listed}
-use Rattle.pass_proofs.specs.flow_solver.Paths.{IsListed}
-use Rattle.pass_proofs.specs.ir_base.declared.ops.Pred.{Pred}
-use Rattle.pass_proofs.specs.ir_model.Names.{position_of}
-use Rattle.pass_proofs.specs.ir_model.Ty.{Ty, ptr}
-use Rattle.pass_proofs.specs.ir_model.declared.instr.Instr.{Instr}
-use Rattle.pass_proofs.specs.ir_model.declared.instr.Phi.{Phi}
-use Rattle.pass_proofs.specs.ir_model.declared.module.Block.{Block}
-use Rattle.pass_proofs.specs.ir_model.declared.module.Function.{Function}
-use Rattle.pass_proofs.specs.ir_model.declared.module.Module.{Module}
-use Rattle.pass_proofs.specs.ir_model.declared.operand.Intrinsic.{Intrinsic}
-use Rattle.pass_proofs.specs.ir_model.declared.operand.Operand.{Operand}
-use Rattle.pass_proofs.specs.ir_parts.Contents.{result_of}
-use Rattle.pass_proofs.specs.ir_paths.Windows.{call_result, is_call_of}
-use Rattle.pass_proofs.specs.rule_laws.rules.function_rules.Kept.{KeepsFunctionRules}
+use Rattle.pass_elide_proof.proofs.pass_proofs.ir_laws.facts.Lists.{at_any}
+use Rattle.pass_elide_proof.proofs.pass_proofs.ir_laws.facts.Truth.{and_first, and_second, equal_numbers, itself}
+use Rattle.pass_elide_proof.proofs.pass_proofs.ir_laws.paths.edges.Lists.{listed_at}
+use Rattle.pass_elide_proof.proofs.pass_proofs.ir_laws.paths.woven_rules.Unbroken.{of_listed}
+use Rattle.pass_elide_proof.specs.pass_proofs.flow_solver.Paths.{IsListed}
+use Rattle.pass_elide_proof.specs.pass_proofs.ir_base.declared.ops.Pred.{Pred}
+use Rattle.pass_elide_proof.specs.pass_proofs.ir_model.Names.{position_of}
+use Rattle.pass_elide_proof.specs.pass_proofs.ir_model.Ty.{Ty, ptr}
+use Rattle.pass_elide_proof.specs.pass_proofs.ir_model.declared.instr.Instr.{Instr}
+use Rattle.pass_elide_proof.specs.pass_proofs.ir_model.declared.instr.Phi.{Phi}
+use Rattle.pass_elide_proof.specs.pass_proofs.ir_model.declared.module.Block.{Block}
+use Rattle.pass_elide_proof.specs.pass_proofs.ir_model.declared.module.Function.{Function}
+use Rattle.pass_elide_proof.specs.pass_proofs.ir_model.declared.module.Module.{Module}
+use Rattle.pass_elide_proof.specs.pass_proofs.ir_model.declared.operand.Intrinsic.{Intrinsic}
+use Rattle.pass_elide_proof.specs.pass_proofs.ir_model.declared.operand.Operand.{Operand}
+use Rattle.pass_elide_proof.specs.pass_proofs.ir_parts.Contents.{result_of}
+use Rattle.pass_elide_proof.specs.pass_proofs.ir_paths.Windows.{call_result, is_call_of}
+use Rattle.pass_elide_proof.specs.pass_proofs.rule_laws.rules.function_rules.Kept.{KeepsFunctionRules}
 
 either : (a b : Bool) → (a || b) ≡ true → (a ≡ true) ⊎ (b ≡ true)
 either true b e = inl refl

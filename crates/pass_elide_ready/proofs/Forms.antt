@@ -22,16 +22,16 @@ use Rattle.pass_elide_ready.proofs.Shaped.{form_enters_alone, form_waits_behind,
 use Rattle.pass_elide_ready.specs.Form.{AreFormed, IsFormed}
 use Rattle.pass_elide_ready.specs.Ruled.{IsRuled}
 use Rattle.pass_elide_runs.specs.Marks.{HasPlainAllocas}
-use Rattle.pass_proofs.proofs.ir_laws.paths.woven_rules.Unbroken.{each_listed, of_listed}
-use Rattle.pass_proofs.proofs.rule_laws.rules.sources.Places.{point}
-use Rattle.pass_proofs.specs.ir_base.declared.ops.Pred.{Pred}
-use Rattle.pass_proofs.specs.ir_model.Ty.{Ty}
-use Rattle.pass_proofs.specs.ir_model.declared.instr.Instr.{Instr}
-use Rattle.pass_proofs.specs.ir_model.declared.instr.Phi.{Phi}
-use Rattle.pass_proofs.specs.ir_model.declared.operand.Operand.{Operand}
-use Rattle.pass_proofs.specs.ir_parts.Contents.{result_of}
-use Rattle.pass_proofs.specs.rule_laws.rules.function_rules.Kept.{KeepsFunctionRules}
-use Rattle.pass_proofs.specs.run_laws.changed.Changed.{Each}
+use Rattle.pass_elide_proof.proofs.pass_proofs.ir_laws.paths.woven_rules.Unbroken.{each_listed, of_listed}
+use Rattle.pass_elide_proof.proofs.pass_proofs.rule_laws.rules.sources.Places.{point}
+use Rattle.pass_elide_proof.specs.pass_proofs.ir_base.declared.ops.Pred.{Pred}
+use Rattle.pass_elide_proof.specs.pass_proofs.ir_model.Ty.{Ty}
+use Rattle.pass_elide_proof.specs.pass_proofs.ir_model.declared.instr.Instr.{Instr}
+use Rattle.pass_elide_proof.specs.pass_proofs.ir_model.declared.instr.Phi.{Phi}
+use Rattle.pass_elide_proof.specs.pass_proofs.ir_model.declared.operand.Operand.{Operand}
+use Rattle.pass_elide_proof.specs.pass_proofs.ir_parts.Contents.{result_of}
+use Rattle.pass_elide_proof.specs.pass_proofs.rule_laws.rules.function_rules.Kept.{KeepsFunctionRules}
+use Rattle.pass_elide_proof.specs.pass_proofs.run_laws.changed.Changed.{Each}
 use Rattle.pass_split_proof.proofs.ready.Entering.{coroutine_there}
 
 -- ---- the shape of none

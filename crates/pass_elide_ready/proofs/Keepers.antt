@@ -23,12 +23,12 @@ use Rattle.pass_elide_ready.specs.Form.{AreFormed, IsFormed}
 use Rattle.pass_elide_ready.specs.Ruled.{IsRuled}
 use Rattle.pass_elide_runs.specs.Ends.{EndsOnce}
 use Rattle.pass_elide_runs.specs.Keeps.{KeepsRuns}
-use Rattle.pass_proofs.proofs.ir_laws.paths.woven_rules.Unbroken.{each_listed, of_listed}
-use Rattle.pass_proofs.specs.ir_model.Names.{function_at}
-use Rattle.pass_proofs.specs.ir_model.declared.instr.Phi.{Phi}
-use Rattle.pass_proofs.specs.ir_model.declared.module.Module.{Module}
-use Rattle.pass_proofs.specs.ir_model.declared.operand.Operand.{Operand}
-use Rattle.pass_proofs.specs.run_step.Step.{incoming_from}
+use Rattle.pass_elide_proof.proofs.pass_proofs.ir_laws.paths.woven_rules.Unbroken.{each_listed, of_listed}
+use Rattle.pass_elide_proof.specs.pass_proofs.ir_model.Names.{function_at}
+use Rattle.pass_elide_proof.specs.pass_proofs.ir_model.declared.instr.Phi.{Phi}
+use Rattle.pass_elide_proof.specs.pass_proofs.ir_model.declared.module.Module.{Module}
+use Rattle.pass_elide_proof.specs.pass_proofs.ir_model.declared.operand.Operand.{Operand}
+use Rattle.pass_elide_proof.specs.pass_proofs.run_step.Step.{incoming_from}
 use Rattle.run_hooks.specs.Away.{KeepsAllPlaceRules}
 
 module _ (e : Elision) (ruled : IsRuled e.code) (forms : AreFormed e) where

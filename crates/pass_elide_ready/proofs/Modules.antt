@@ -23,28 +23,28 @@ use Rattle.pass_elide_ready.proofs.Suspends.{are_switched, none_from_suspends}
 use Rattle.pass_elide_ready.specs.Ruled.{IsRuled}
 use Rattle.pass_elide_runs.specs.Marks.{MarksAllocas}
 use Rattle.pass_elide_runs.specs.Slots.{AllocasFirst, NamesAllocas}
-use Rattle.pass_proofs.proofs.kept.sources.Modules.{at_function}
-use Rattle.pass_proofs.proofs.kept.sources.Names.{none_outside, save_inside, suspend_inside}
-use Rattle.pass_proofs.proofs.kept.sources.Suspends.{is_switched}
-use Rattle.pass_proofs.proofs.rule_laws.frames.crossing.Paths.{edge_from}
-use Rattle.pass_proofs.specs.edges.rules.Returns.{AreSwitched}
-use Rattle.pass_proofs.specs.ir_model.Names.{function_at, no_function}
-use Rattle.pass_proofs.specs.ir_model.Ty.{Ty}
-use Rattle.pass_proofs.specs.ir_model.declared.instr.Instr.{Instr}
-use Rattle.pass_proofs.specs.ir_model.declared.instr.Phi.{Phi}
-use Rattle.pass_proofs.specs.ir_model.declared.module.Function.{Function}
-use Rattle.pass_proofs.specs.ir_model.declared.module.Module.{Module}
-use Rattle.pass_proofs.specs.ir_model.declared.operand.Arg.{Arg}
-use Rattle.pass_proofs.specs.ir_model.declared.operand.Callee.{Callee}
-use Rattle.pass_proofs.specs.ir_model.declared.operand.Intrinsic.{Intrinsic}
-use Rattle.pass_proofs.specs.ir_model.declared.operand.Operand.{Operand}
-use Rattle.pass_proofs.specs.ir_paths.Windows.{end_block, is_call_of, points_where}
-use Rattle.pass_proofs.specs.ir_paths.declared.point.Point.{Point}
-use Rattle.pass_proofs.specs.pass_kept_proof.SuspendRules.{IsCallAt}
-use Rattle.pass_proofs.specs.rule_laws.rules.function_rules.Kept.{AllKeepFunctionRules}
-use Rattle.pass_proofs.specs.run_laws.changed.Changed.{Each}
-use Rattle.pass_proofs.specs.run_laws.embedded.Related.{HasBytes}
-use Rattle.pass_proofs.specs.run_step.Step.{AtInstr, Nowhere, fetch, incoming_from}
+use Rattle.pass_elide_proof.proofs.pass_proofs.kept.sources.Modules.{at_function}
+use Rattle.pass_elide_proof.proofs.pass_proofs.kept.sources.Names.{none_outside, save_inside, suspend_inside}
+use Rattle.pass_elide_proof.proofs.pass_proofs.kept.sources.Suspends.{is_switched}
+use Rattle.pass_elide_proof.proofs.pass_proofs.rule_laws.frames.crossing.Paths.{edge_from}
+use Rattle.pass_elide_proof.specs.pass_proofs.edges.rules.Returns.{AreSwitched}
+use Rattle.pass_elide_proof.specs.pass_proofs.ir_model.Names.{function_at, no_function}
+use Rattle.pass_elide_proof.specs.pass_proofs.ir_model.Ty.{Ty}
+use Rattle.pass_elide_proof.specs.pass_proofs.ir_model.declared.instr.Instr.{Instr}
+use Rattle.pass_elide_proof.specs.pass_proofs.ir_model.declared.instr.Phi.{Phi}
+use Rattle.pass_elide_proof.specs.pass_proofs.ir_model.declared.module.Function.{Function}
+use Rattle.pass_elide_proof.specs.pass_proofs.ir_model.declared.module.Module.{Module}
+use Rattle.pass_elide_proof.specs.pass_proofs.ir_model.declared.operand.Arg.{Arg}
+use Rattle.pass_elide_proof.specs.pass_proofs.ir_model.declared.operand.Callee.{Callee}
+use Rattle.pass_elide_proof.specs.pass_proofs.ir_model.declared.operand.Intrinsic.{Intrinsic}
+use Rattle.pass_elide_proof.specs.pass_proofs.ir_model.declared.operand.Operand.{Operand}
+use Rattle.pass_elide_proof.specs.pass_proofs.ir_paths.Windows.{end_block, is_call_of, points_where}
+use Rattle.pass_elide_proof.specs.pass_proofs.ir_paths.declared.point.Point.{Point}
+use Rattle.pass_elide_proof.specs.pass_proofs.pass_kept_proof.SuspendRules.{IsCallAt}
+use Rattle.pass_elide_proof.specs.pass_proofs.rule_laws.rules.function_rules.Kept.{AllKeepFunctionRules}
+use Rattle.pass_elide_proof.specs.pass_proofs.run_laws.changed.Changed.{Each}
+use Rattle.pass_elide_proof.specs.pass_proofs.run_laws.embedded.Related.{HasBytes}
+use Rattle.pass_elide_proof.specs.pass_proofs.run_step.Step.{AtInstr, Nowhere, fetch, incoming_from}
 use Rattle.pass_split_proof.proofs.ready.Allocas.{allocas_alone}
 use Rattle.pass_split_proof.proofs.ready.Given.{there_is}
 use Rattle.pass_split_proof.specs.simulation.Premises.{AreAllocasAlone}

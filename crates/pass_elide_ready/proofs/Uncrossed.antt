@@ -5,17 +5,17 @@ use Rattle.std.specs.Prelude.{Some, slice_get}
 use Rattle.pass_elide_proof.proofs.ElidedFound.{fetched}
 use Rattle.pass_elide_proof.specs.Places.{instrs_of}
 use Rattle.pass_elide_ready.proofs.OneUse.{IsUsedThere, no_phi_use, one_place, used_there}
-use Rattle.pass_proofs.specs.flow_solver.Paths.{IsListed}
-use Rattle.pass_proofs.specs.frame_crossing.Crossing.{Crosses}
-use Rattle.pass_proofs.specs.frame_crossing.Paths.{Across, IsNeeded, IsNeededFrom, Next, OnEdge, Use, phis_at, used_by}
-use Rattle.pass_proofs.specs.ir_model.Names.{position_of}
-use Rattle.pass_proofs.specs.ir_model.declared.instr.Instr.{Instr}
-use Rattle.pass_proofs.specs.ir_model.declared.module.Function.{Function}
-use Rattle.pass_proofs.specs.ir_parts.Contents.{result_of}
-use Rattle.pass_proofs.specs.ir_paths.Windows.{destroy_label, resume_label}
-use Rattle.pass_proofs.specs.ir_paths.declared.point.Point.{Point}
-use Rattle.pass_proofs.specs.rule_shape.Uses.{uses_of}
-use Rattle.pass_proofs.specs.run_step.Step.{AtInstr, fetch}
+use Rattle.pass_elide_proof.specs.pass_proofs.flow_solver.Paths.{IsListed}
+use Rattle.pass_elide_proof.specs.pass_proofs.frame_crossing.Crossing.{Crosses}
+use Rattle.pass_elide_proof.specs.pass_proofs.frame_crossing.Paths.{Across, IsNeeded, IsNeededFrom, Next, OnEdge, Use, phis_at, used_by}
+use Rattle.pass_elide_proof.specs.pass_proofs.ir_model.Names.{position_of}
+use Rattle.pass_elide_proof.specs.pass_proofs.ir_model.declared.instr.Instr.{Instr}
+use Rattle.pass_elide_proof.specs.pass_proofs.ir_model.declared.module.Function.{Function}
+use Rattle.pass_elide_proof.specs.pass_proofs.ir_parts.Contents.{result_of}
+use Rattle.pass_elide_proof.specs.pass_proofs.ir_paths.Windows.{destroy_label, resume_label}
+use Rattle.pass_elide_proof.specs.pass_proofs.ir_paths.declared.point.Point.{Point}
+use Rattle.pass_elide_proof.specs.pass_proofs.rule_shape.Uses.{uses_of}
+use Rattle.pass_elide_proof.specs.pass_proofs.run_step.Step.{AtInstr, fetch}
 
 module _ (f : Function) (v q to : ℕ) (once : uses_of f v ≤ 1) (use_there : IsListed v (used_by (fetch f q to))) where
   place : IsUsedThere v f q to

@@ -15,8 +15,8 @@ ghost use Rattle.pass_elide_ready.specs.Form.{AreFormed, IsFormed};
 ghost use Rattle.pass_elide_ready.specs.Ruled.{IsRuled};
 ghost use Rattle.pass_elide_runs.specs.Ends.{EndsOnce};
 ghost use Rattle.pass_elide_runs.specs.Keeps.{KeepsRuns};
-ghost use Rattle.pass_proofs.specs.ir_model.Names.{function_at};
-ghost use Rattle.pass_proofs.specs.ir_model.declared.module.Module.{Module};
+ghost use Rattle.pass_elide_proof.specs.pass_proofs.ir_model.Names.{function_at};
+ghost use Rattle.pass_elide_proof.specs.pass_proofs.ir_model.declared.module.Module.{Module};
 ghost use Rattle.run_hooks.specs.Away.{KeepsAllPlaceRules};
 ghost use Rattle.std.specs.Prelude.{IsFalse, false, ◌<◌, ◌^◌, ◌≡◌, ℕ};
 

@@ -15,12 +15,12 @@ ghost use Rattle.pass_elide_proof.specs.Waking.{GivesNone, WakesAlike};
 ghost use Rattle.pass_elide_ready.specs.Form.{AreFormed, IsFormed};
 ghost use Rattle.pass_elide_ready.specs.Ruled.{IsRuled};
 ghost use Rattle.pass_elide_runs.specs.Marks.{HasPlainAllocas};
-ghost use Rattle.pass_proofs.specs.ir_base.declared.ops.Pred.{Pred};
-ghost use Rattle.pass_proofs.specs.ir_model.Ty.{Ty};
-ghost use Rattle.pass_proofs.specs.ir_model.declared.instr.Instr.{Instr};
-ghost use Rattle.pass_proofs.specs.ir_model.declared.operand.Operand.{Operand};
-ghost use Rattle.pass_proofs.specs.ir_parts.Contents.{result_of};
-ghost use Rattle.pass_proofs.specs.run_laws.changed.Changed.{Each};
+ghost use Rattle.pass_elide_proof.specs.pass_proofs.ir_base.declared.ops.Pred.{Pred};
+ghost use Rattle.pass_elide_proof.specs.pass_proofs.ir_model.Ty.{Ty};
+ghost use Rattle.pass_elide_proof.specs.pass_proofs.ir_model.declared.instr.Instr.{Instr};
+ghost use Rattle.pass_elide_proof.specs.pass_proofs.ir_model.declared.operand.Operand.{Operand};
+ghost use Rattle.pass_elide_proof.specs.pass_proofs.ir_parts.Contents.{result_of};
+ghost use Rattle.pass_elide_proof.specs.pass_proofs.run_laws.changed.Changed.{Each};
 ghost use Rattle.std.specs.Prelude.{Bool, Some, slice_get, ◌<◌, ◌^◌, ◌≡◌, ◌⊎◌, ℕ};
 
 /// A form has the shape that tells of it, and where its runs go on or start the names of this shape are set by nothing.

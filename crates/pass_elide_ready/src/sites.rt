@@ -7,11 +7,11 @@ ghost use Rattle.pass_elide_proof.specs.Calling.{DestroysHandles};
 ghost use Rattle.pass_elide_proof.specs.Elision.{Elision, function_in};
 ghost use Rattle.pass_elide_proof.specs.Invariant.{IsSiteOf};
 ghost use Rattle.pass_elide_ready.specs.Ruled.{IsRuled};
-ghost use Rattle.pass_proofs.specs.ir_base.declared.name.Name.{Name};
-ghost use Rattle.pass_proofs.specs.ir_model.Names.{function_at, function_named};
-ghost use Rattle.pass_proofs.specs.ir_model.declared.instr.Instr.{Instr};
-ghost use Rattle.pass_proofs.specs.ir_model.declared.module.Module.{Module};
-ghost use Rattle.pass_proofs.specs.ir_paths.declared.point.Point.{Point};
+ghost use Rattle.pass_elide_proof.specs.pass_proofs.ir_base.declared.name.Name.{Name};
+ghost use Rattle.pass_elide_proof.specs.pass_proofs.ir_model.Names.{function_at, function_named};
+ghost use Rattle.pass_elide_proof.specs.pass_proofs.ir_model.declared.instr.Instr.{Instr};
+ghost use Rattle.pass_elide_proof.specs.pass_proofs.ir_model.declared.module.Module.{Module};
+ghost use Rattle.pass_elide_proof.specs.pass_proofs.ir_paths.declared.point.Point.{Point};
 ghost use Rattle.std.specs.Prelude.{Some, false, ◌≡◌, ℕ};
 
 /// Handles of the sites of a source are destroyed in its framed form, where functions that are no coroutines are the
