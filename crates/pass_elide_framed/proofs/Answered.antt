@@ -1,19 +1,14 @@
 -- The framed form of a guarded coroutine branches on what coro.alloc gives.
-use Rattle.std.proofs.Common.{◌≡◌, inl, ℕ, ◌≤◌, true, false, [], ◌∷◌, length, refl, sym, ap, ◌∙◌, subst, arith}
+use Rattle.std.proofs.Common.{◌≡◌, ℕ, true, false, [], ◌∷◌, length, refl, sym, ap, ◌∙◌, subst}
 use Rattle.std.proofs.lemmas.Bool.{false≢true}
-use Rattle.std.proofs.lemmas.Option.{slice_get_within}
 use Rattle.std.specs.Prelude.{None, Option, Some, option_and_then, slice_get, unwrap_or}
 use Rattle.compiler.proofs.ir_laws.facts.Truth.{not_both}
 use Rattle.compiler.proofs.pass_proofs.edges.paths.Blocks.{spot}
 use Rattle.compiler.proofs.pass_proofs.edges.rules.Homes.{own_block, own_there}
-use Rattle.compiler.proofs.pass_proofs.frames.numbers.Numbers.{number_given}
 use Rattle.compiler.proofs.pass_proofs.frames.unnamed.Positions.{Becomes, FramedBy, Unchanged, stands_as}
 use Rattle.compiler.proofs.rule_laws.rules.known_labels.Known.{labels_known}
 use Rattle.compiler.proofs.rule_laws.rules.source_rules.Locals.{own_label}
 use Rattle.compiler.proofs.whole.lowered_sources.Sources.{early_rules}
-use Rattle.compiler.specs.flow_solver.Paths.{IsListed}
-use Rattle.compiler.specs.frame_crossing.Crossing.{Crosses}
-use Rattle.compiler.specs.frame_layout.declared.layout.Layout.{Layout}
 use Rattle.compiler.specs.ir_model.Names.{function_at, no_function}
 use Rattle.compiler.specs.ir_model.declared.instr.Instr.{Instr}
 use Rattle.compiler.specs.ir_model.declared.instr.Terminator.{Terminator}
@@ -29,25 +24,17 @@ use Rattle.compiler.specs.pass_frames.Framed.{IsFramedCoroutine, layout_at}
 use Rattle.compiler.specs.pass_front.Front.{is_alloca}
 use Rattle.compiler.specs.rule_laws.rules.function_rules.Kept.{KeepsFunctionRules}
 use Rattle.compiler.specs.run_step.Step.{AtTerm, fetch}
-use Rattle.compiler.specs.frame_crossing.Paths.{used_by}
-use Rattle.compiler_theorem.proofs.parts.Returned.{buildable, named}
 use Rattle.compiler_theorem.specs.theorem.Lowered.{IsLowered, Lowered, early}
 use Rattle.pass_elide_ready.specs.elide_shape.Calls.{value_at}
 use Rattle.pass_elide_ready.specs.elide_shape.Guard.{is_guarded}
+use Rattle.pass_elide_framed.proofs.Branched.{stays_branch}
 use Rattle.pass_elide_framed.proofs.Plain.{none_early}
-use Rattle.pass_elide_framed.proofs.SameWays.{IsMadeThere, made_at, same_ends}
-use Rattle.pass_elide_framed.proofs.Terms.{IsBareIn, term_there}
-use Rattle.pass_elide_framed.proofs.Unfetched.{loads_none, slots_none}
-use Rattle.pass_elide_ready.specs.pass_elide_proof.Places.{instrs_in, instrs_of}
+use Rattle.pass_elide_framed.proofs.SameWays.{same_ends}
+use Rattle.pass_elide_ready.specs.pass_elide_proof.Places.{instrs_of}
 use Rattle.pass_elide_ready.proofs.EndsAlike.{asks_alike, ends_at}
-use Rattle.pass_elide_ready.proofs.Entries.{ending}
 use Rattle.pass_elide_ready.proofs.GuardBlocks.{asks_blocks, asks_on, blocks}
 use Rattle.pass_elide_ready.proofs.Guards.{IsGuarded, guarded_is}
-use Rattle.pass_elide_ready.proofs.Uncrossed.{crosses_none}
 use Rattle.pass_elide_ready.specs.Blocks.{AskingBlocks, AsksBlocks}
-use Rattle.pass_frames_meaning.proofs.pass_frames_proof.framings.Built.{framing_there}
-use Rattle.pass_frames_meaning.specs.pass_frames_proof.Framings.{IsFraming}
-use Rattle.pass_frames_meaning.specs.pass_frames_proof.Places.{Framing, framing_of}
 
 call_gives : (i : Instr) (v : ℕ) → call_result i ≡ Some v → result_of i ≡ Some v
 call_gives (Instr.Call result must_tail ty callee args) v e = e
@@ -70,9 +57,6 @@ gives_value f p v e = on (instr_at f p) refl e
     on None d h = absurd (cc)
     on (Some i) d h = record { instr = i; stands = d; gives = h }
 
-most_one : (n : ℕ) → n ≡ 1 → n ≤ 1
-most_one n e = omega (arith, e)
-
 -- it asks by the answer
 abbrev pub AsksOn : Function → ℕ → Type 0
 AsksOn g v = (a : AskingBlocks) × ((s : AsksBlocks g a) × (s.on ≡ Operand.Local v))
@@ -80,19 +64,8 @@ AsksOn g v = (a : AskingBlocks) × ((s : AsksBlocks g a) × (s.on ≡ Operand.Lo
 module _ (l : Lowered) (low : IsLowered l) (k : ℕ) (f : Function)
     (there : slice_get (early l).functions k ≡ Some f) (coroutine : f.coroutine ≡ true) (taken : ℕ) (g : Function)
     (h : IsFramedCoroutine (early l) (layout_at l.layouts.coroutines taken) f g) (guarded : is_guarded f ≡ true) where
-  abbrev lay : Layout
-  lay = layout_at l.layouts.coroutines taken
-
-  abbrev x : Framing
-  x = framing_of (early l) lay f g h
-
   rules : KeepsFunctionRules (early l) k f
   rules = early_rules l.text l.source low.source.stands low.source.accepted k f there
-
-  framing : IsFraming x
-  framing = framing_there (early l) k lay f h.contents h.before
-      (named l low k f there coroutine lay (number_given l.layouts.coroutines taken)).begin
-      (buildable l low k f there coroutine lay (number_given l.layouts.coroutines taken) g h)
 
   abbrev y : IsGuarded f
   y = guarded_is f guarded
@@ -114,17 +87,6 @@ module _ (l : Lowered) (low : IsLowered l) (k : ℕ) (f : Function)
 
   gives : result_of asked.instr ≡ Some need
   gives = call_gives asked.instr need asked.gives
-
-  -- ---- it crosses no suspend
-
-  used : IsListed need (used_by (fetch f q (length y.asked.asking.instrs)))
-  used = subst (λ z. IsListed need (used_by z))
-      (sym (ending f q y.asked.asking y.asked.got ∙ ap AtTerm y.asked.branch)) (inl refl)
-
-  crosses : (s : Point) → Crosses f need s → ⊥
-  crosses = crosses_none f need q (length y.asked.asking.instrs) (most_one _ y.asked.once) used at asked.instr
-      (ap (λ (o : Option Block). slice_get (instrs_in o) at) y.asked.got ∙ own) gives
-      (slice_get_within y.asked.asking.instrs at asked.instr own)
 
   -- ---- so the framed form branches on it
 
@@ -152,25 +114,11 @@ module _ (l : Lowered) (low : IsLowered l) (k : ℕ) (f : Function)
       let one : old.term ≡ Terminator.Branch s.on a.one a.other = cc in
       one ∙ ap (λ (o : Operand). Terminator.Branch o a.one a.other) on_need
 
-  bare : IsBareIn x old.term
-  bare = subst (IsBareIn x) (sym old_term) (record {
-    loads = (loads_none x h.contents_are.crossing_are need crosses, tt);
-    slots = (
-      slots_none x framing (spot f q) at need old asked.instr old_there own gives
-          (no_alloca asked.instr need asked.gives),
-      tt,
-    );
-  })
-
-  made : IsMadeThere g (spot f q) old
-  made = made_at l low k f there coroutine taken g h (spot f q) old old_there
-
   new_branch : fetch g (spot f q) (length (instrs_of g (spot f q)))
       ≡ AtTerm (Terminator.Branch (Operand.Local need) a.one a.other)
-  new_branch =
-      ends_at g (spot f q) made.block made.there
-      ∙ ap AtTerm (term_there x (spot f q) old made.block old_there
-      (ap (λ (z : Function). slice_get z.blocks (spot f q)) (sym h.is) ∙ made.there) bare ∙ old_term)
+  new_branch = stays_branch l low k f there coroutine taken g h q at need y.asked.one y.asked.other y.asked.asking
+      asked.instr y.asked.got own gives (no_alloca asked.instr need asked.gives) y.asked.branch y.asked.once a.one a.other
+      old_term
 
   form_answers : AsksOn g need
   form_answers =

@@ -4,9 +4,10 @@ mod EdgeKinds
 mod Terms
 mod SameWays
 mod Freed
-mod Asked
 mod Layouts
 mod Returned
 mod Unfetched
 mod Answered
 mod ElidedForms
+mod Branched
+mod Tested

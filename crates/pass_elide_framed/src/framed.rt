@@ -1,7 +1,9 @@
 //! What the framed form of an accepted source keeps: rules, and what isn't framed.
 
 ghost use Rattle.compiler.specs.ir_base.declared.name.Name.{Name};
+ghost use Rattle.compiler.specs.ir_base.declared.ops.Pred.{Pred};
 ghost use Rattle.compiler.specs.ir_model.Names.{function_at, function_named};
+ghost use Rattle.compiler.specs.ir_model.Ty.{Ty};
 ghost use Rattle.compiler.specs.ir_model.declared.instr.Instr.{Instr};
 ghost use Rattle.compiler.specs.ir_model.declared.module.Block.{Block};
 ghost use Rattle.compiler.specs.ir_model.declared.operand.Intrinsic.{Intrinsic};
@@ -50,18 +52,6 @@ pub fn framed_callees_are_freed_when_destroyed()
         → callee_in e.code (Some i) ≡ Some callee → FreesWhenDestroyed (function_in e callee) }
 {}
 
-/// The framed form of a guarded coroutine asks for its frame at the end of one block. It frees what it tested in
-/// blocks of single entries.
-pub fn framed_coroutines_ask_in_blocks()
-    ensures asks { (l : Lowered) → IsLowered l → (func : ℕ) → (function_at (early l) func).coroutine ≡ true
-        → is_guarded (function_at (early l) func) ≡ true
-        → (a : AskingBlocks) × AsksBlocks (function_at l.framed func) a }
-    ensures frees { (l : Lowered) → IsLowered l → (func : ℕ) → (function_at (early l) func).coroutine ≡ true
-        → (block from v at : ℕ) (b : Block) → slice_get (function_at (early l) func).blocks block ≡ Some b
-        → is_tested_next (function_at (early l) func) from v b at ≡ true
-        → (q : FreeingBlocks) × FreesBlocks (function_at l.framed func) q }
-{}
-
 /// Frames of an accepted source are small, and promises lie at small offsets. No frame has room for another one, so calls
 /// in coroutines give none.
 pub fn frames_are_small()
@@ -80,11 +70,17 @@ pub fn framed_coroutines_return_their_frames()
         → rets_give_frame (function_at (early l) func) ≡ true → ReturnsFrame (function_at l.framed func) }
 {}
 
-/// The framed form of a guarded coroutine branches on what coro.alloc gives, which no cell keeps.
-pub fn framed_coroutines_branch_on_answers()
-    ensures { (l : Lowered) → IsLowered l → (func : ℕ) → (function_at (early l) func).coroutine ≡ true
+/// The framed form of a guarded coroutine asks for its frame at the end of one block, by what coro.alloc gives: no cell
+/// keeps that. It frees what it tested in blocks of single entries, by its own test.
+pub fn framed_coroutines_ask_in_blocks()
+    ensures asks { (l : Lowered) → IsLowered l → (func : ℕ) → (function_at (early l) func).coroutine ≡ true
         → is_guarded (function_at (early l) func) ≡ true → (p : Point) (v : ℕ)
         → points_where (is_call_of Intrinsic.CoroAlloc) (function_at (early l) func) ≡ p ∷ []
         → value_at (function_at (early l) func) p ≡ Some v
         → (a : AskingBlocks) × ((s : AsksBlocks (function_at l.framed func) a) × (s.on ≡ Operand.Local v)) }
+    ensures frees { (l : Lowered) → IsLowered l → (func : ℕ) → (function_at (early l) func).coroutine ≡ true
+        → (block from v at : ℕ) (b : Block) → slice_get (function_at (early l) func).blocks block ≡ Some b
+        → is_tested_next (function_at (early l) func) from v b at ≡ true → (name : ℕ) (pred : Pred) (ty : Ty)
+        (left right : Operand) → slice_get b.instrs at ≡ Some (Instr.Icmp name pred ty left right)
+        → (q : FreeingBlocks) × ((s : FreesBlocks (function_at l.framed func) q) × (s.on ≡ Operand.Local name)) }
 {}

@@ -379,16 +379,18 @@ module _ (m : Module) (number : ℕ) (f : Function) (rules : KeepsFunctionRules 
 
   -- ---- one or the other
 
-  pub release_blocks : (q : FreeingBlocks) × ((q.tests ≡ spot f k) × FreesBlocks g q)
+  pub release_blocks : (q : FreeingBlocks) × ((q.tests ≡ spot f k) × ((w : FreesBlocks g q) × (w.on ≡ tested)))
+  unfolding both_frees plain_frees
   release_blocks = on (is_split flags false null) refl
     where
-      on : (t : Bool) → is_split flags false null ≡ t → (q : FreeingBlocks) × ((q.tests ≡ spot f k) × FreesBlocks g q)
-      on true e = (both_blocks e, (refl, both_frees e))
-      on false e = (plain_blocks e, (refl, plain_frees e))
+      on : (t : Bool) → is_split flags false null ≡ t
+          → (q : FreeingBlocks) × ((q.tests ≡ spot f k) × ((w : FreesBlocks g q) × (w.on ≡ tested)))
+      on true e = (both_blocks e, (refl, (both_frees e, refl)))
+      on false e = (plain_blocks e, (refl, (plain_frees e, refl)))
 
 pub tested_blocks : (m : Module) (number : ℕ) (f : Function) → KeepsFunctionRules m number f → (k from v at : ℕ)
     (b : Block) → slice_get f.blocks k ≡ Some b → is_tested_next f from v b at ≡ true
     → (q : FreeingBlocks) × FreesBlocks (with_edge_blocks f) q
 tested_blocks m number f rules k from v at b got tested =
     let x = release_blocks m number f rules k b got v at (released_by f from v b at tested) in
-    (x.0, x.1.1)
+    (x.0, x.1.1.0)
