@@ -2,21 +2,21 @@
 use Rattle.std.proofs.Common.{◌≡◌, ℕ, false, List, Option, ap, ◌∙◌, arith}
 use Rattle.std.specs.Prelude.{ℤ, unwrap_or}
 use Rattle.pass_cleanup.specs.Cleaned.{plain_machine}
-use Rattle.pass_proofs.proofs.run_agreement.Costs.{agrees_within_by_steps, compose_by}
-use Rattle.pass_proofs.specs.exits.states.Exits.{AreExitsKept, exits_split}
-use Rattle.pass_proofs.specs.frame_layout.declared.layout.Layouts.{Layouts}
-use Rattle.pass_proofs.specs.ir_base.declared.outcome.Word.{Word}
-use Rattle.pass_proofs.specs.ir_laws.facts.sound_states.Named.{AreLocalsNamed}
-use Rattle.pass_proofs.specs.ir_model.Names.{function_at, no_function}
-use Rattle.pass_proofs.specs.ir_model.declared.module.Function.{Function}
-use Rattle.pass_proofs.specs.ir_model.declared.module.Module.{Module}
-use Rattle.pass_proofs.specs.run_agreement.Agreements.{AgreesWithin}
-use Rattle.pass_proofs.specs.run_agreement.Costs.{IsNear, Through}
-use Rattle.pass_proofs.specs.run_agreement.Machines.{Machine, at}
-use Rattle.pass_proofs.specs.run_framed.Framed.{framed_given}
-use Rattle.pass_proofs.specs.run_source.Source.{first_state}
-use Rattle.pass_proofs.specs.run_source.declared.state.State.{State}
-use Rattle.pass_proofs.specs.run_states.moved_states.Beside.{IsMovedIn, framed_machine}
+use Rattle.pass_split_proof.proofs.pass_proofs.run_agreement.Costs.{agrees_within_by_steps, compose_by}
+use Rattle.pass_split_proof.specs.pass_proofs.exits.states.Exits.{AreExitsKept, exits_split}
+use Rattle.pass_split_proof.specs.pass_proofs.frame_layout.declared.layout.Layouts.{Layouts}
+use Rattle.pass_split_proof.specs.pass_proofs.ir_base.declared.outcome.Word.{Word}
+use Rattle.pass_split_proof.specs.pass_proofs.ir_laws.facts.sound_states.Named.{AreLocalsNamed}
+use Rattle.pass_split_proof.specs.pass_proofs.ir_model.Names.{function_at, no_function}
+use Rattle.pass_split_proof.specs.pass_proofs.ir_model.declared.module.Function.{Function}
+use Rattle.pass_split_proof.specs.pass_proofs.ir_model.declared.module.Module.{Module}
+use Rattle.pass_split_proof.specs.pass_proofs.run_agreement.Agreements.{AgreesWithin}
+use Rattle.pass_split_proof.specs.pass_proofs.run_agreement.Costs.{IsNear, Through}
+use Rattle.pass_split_proof.specs.pass_proofs.run_agreement.Machines.{Machine, at}
+use Rattle.pass_split_proof.specs.pass_proofs.run_framed.Framed.{framed_given}
+use Rattle.pass_split_proof.specs.pass_proofs.run_source.Source.{first_state}
+use Rattle.pass_split_proof.specs.pass_proofs.run_source.declared.state.State.{State}
+use Rattle.pass_split_proof.specs.pass_proofs.run_states.moved_states.Beside.{IsMovedIn, framed_machine}
 use Rattle.pass_split_proof.proofs.simulation.Assembly.{assembled_by}
 use Rattle.pass_split_given.proofs.Runs.{given_all_followed}
 use Rattle.pass_split_proof.proofs.whole.Starts.{starts_know}

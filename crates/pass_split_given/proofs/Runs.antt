@@ -1,11 +1,11 @@
 -- Each step of framed runs in which calls give frames is followed, from states that know of them.
 use Rattle.std.proofs.Common.{◌≡◌, ℕ, false, List, sym, subst}
-use Rattle.pass_proofs.specs.ir_base.declared.outcome.Outcome.{Outcome}
-use Rattle.pass_proofs.specs.ir_base.declared.outcome.Word.{Word}
-use Rattle.pass_proofs.specs.ir_model.Names.{function_at}
-use Rattle.pass_proofs.specs.run_agreement.Machines.{IsFine, iterate}
-use Rattle.pass_proofs.specs.run_framed.Framed.{FramedGiven, framed_state_at, framed_step}
-use Rattle.pass_proofs.specs.run_source.Source.{first_state}
+use Rattle.pass_split_proof.specs.pass_proofs.ir_base.declared.outcome.Outcome.{Outcome}
+use Rattle.pass_split_proof.specs.pass_proofs.ir_base.declared.outcome.Word.{Word}
+use Rattle.pass_split_proof.specs.pass_proofs.ir_model.Names.{function_at}
+use Rattle.pass_split_proof.specs.pass_proofs.run_agreement.Machines.{IsFine, iterate}
+use Rattle.pass_split_proof.specs.pass_proofs.run_framed.Framed.{FramedGiven, framed_state_at, framed_step}
+use Rattle.pass_split_proof.specs.pass_proofs.run_source.Source.{first_state}
 use Rattle.pass_split_given.specs.Premises.{AreGivenPremisesMet, GivesFramesWell}
 use Rattle.pass_split_proof.proofs.given_begins.Runs.{block_begin_followed}
 use Rattle.pass_split_proof.proofs.held.Runs.{runs_kept, suspended_held}

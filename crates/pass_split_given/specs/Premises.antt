@@ -1,9 +1,9 @@
 -- What is asked of a module in which calls give frames, and of its framed runs.
 use Rattle.std.specs.Prelude.{◌≡◌, ℕ, List}
-use Rattle.pass_proofs.specs.ir_base.declared.outcome.Outcome.{Outcome}
-use Rattle.pass_proofs.specs.ir_base.declared.outcome.Word.{Word}
-use Rattle.pass_proofs.specs.run_framed.Framed.{FramedGiven, framed_state_at}
-use Rattle.pass_proofs.specs.run_source.declared.state.State.{State}
+use Rattle.pass_split_proof.specs.pass_proofs.ir_base.declared.outcome.Outcome.{Outcome}
+use Rattle.pass_split_proof.specs.pass_proofs.ir_base.declared.outcome.Word.{Word}
+use Rattle.pass_split_proof.specs.pass_proofs.run_framed.Framed.{FramedGiven, framed_state_at}
+use Rattle.pass_split_proof.specs.pass_proofs.run_source.declared.state.State.{State}
 use Rattle.pass_split_proof.specs.given_begins.Runs.{GivesBlocks, NestsNoFrames}
 use Rattle.pass_split_proof.specs.held.Kept.{DoGivenFramesLive}
 use Rattle.pass_split_proof.specs.states.Related.{AreRelated}

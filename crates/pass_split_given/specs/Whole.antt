@@ -1,12 +1,12 @@
 -- What splitting keeps of runs that give frames well.
 use Rattle.std.specs.Prelude.{ℕ, ℤ, List}
 use Rattle.pass_cleanup.specs.Cleaned.{plain_machine}
-use Rattle.pass_proofs.specs.frame_layout.declared.layout.Layouts.{Layouts}
-use Rattle.pass_proofs.specs.ir_base.declared.outcome.Word.{Word}
-use Rattle.pass_proofs.specs.ir_model.declared.module.Module.{Module}
-use Rattle.pass_proofs.specs.run_agreement.Costs.{AgreesBy, IsNear}
-use Rattle.pass_proofs.specs.run_framed.Framed.{framed_given}
-use Rattle.pass_proofs.specs.run_states.moved_states.Beside.{framed_machine}
+use Rattle.pass_split_proof.specs.pass_proofs.frame_layout.declared.layout.Layouts.{Layouts}
+use Rattle.pass_split_proof.specs.pass_proofs.ir_base.declared.outcome.Word.{Word}
+use Rattle.pass_split_proof.specs.pass_proofs.ir_model.declared.module.Module.{Module}
+use Rattle.pass_split_proof.specs.pass_proofs.run_agreement.Costs.{AgreesBy, IsNear}
+use Rattle.pass_split_proof.specs.pass_proofs.run_framed.Framed.{framed_given}
+use Rattle.pass_split_proof.specs.pass_proofs.run_states.moved_states.Beside.{framed_machine}
 use Rattle.pass_split_given.specs.Premises.{GivesFramesWell}
 use Rattle.pass_split_proof.specs.first_exits.Parted.{parted_module}
 use Rattle.pass_split_proof.specs.simulation.Statement.{IsEntryOfParts, parts_given}

@@ -5,18 +5,18 @@
 //! frames well is followed (`given_steps_are_followed`), and so the runs agree (`parts_keep_given_calls`).
 
 ghost use Rattle.pass_cleanup.specs.Cleaned.{plain_machine};
-ghost use Rattle.pass_proofs.specs.exits.states.Exits.{AreExitsKept, exits_split};
-ghost use Rattle.pass_proofs.specs.frame_layout.declared.layout.Layouts.{Layouts};
-ghost use Rattle.pass_proofs.specs.ir_base.declared.outcome.Outcome.{Outcome};
-ghost use Rattle.pass_proofs.specs.ir_base.declared.outcome.Word.{Word};
-ghost use Rattle.pass_proofs.specs.ir_laws.facts.sound_states.Named.{AreLocalsNamed};
-ghost use Rattle.pass_proofs.specs.ir_model.Names.{function_at};
-ghost use Rattle.pass_proofs.specs.ir_model.declared.module.Module.{Module};
-ghost use Rattle.pass_proofs.specs.run_agreement.Agreements.{AgreesWithin};
-ghost use Rattle.pass_proofs.specs.run_agreement.Machines.{IsFine, at};
-ghost use Rattle.pass_proofs.specs.run_framed.Framed.{FramedGiven, framed_given, framed_state_at, framed_step};
-ghost use Rattle.pass_proofs.specs.run_source.Source.{first_state};
-ghost use Rattle.pass_proofs.specs.run_states.moved_states.Beside.{framed_machine};
+ghost use Rattle.pass_split_proof.specs.pass_proofs.exits.states.Exits.{AreExitsKept, exits_split};
+ghost use Rattle.pass_split_proof.specs.pass_proofs.frame_layout.declared.layout.Layouts.{Layouts};
+ghost use Rattle.pass_split_proof.specs.pass_proofs.ir_base.declared.outcome.Outcome.{Outcome};
+ghost use Rattle.pass_split_proof.specs.pass_proofs.ir_base.declared.outcome.Word.{Word};
+ghost use Rattle.pass_split_proof.specs.pass_proofs.ir_laws.facts.sound_states.Named.{AreLocalsNamed};
+ghost use Rattle.pass_split_proof.specs.pass_proofs.ir_model.Names.{function_at};
+ghost use Rattle.pass_split_proof.specs.pass_proofs.ir_model.declared.module.Module.{Module};
+ghost use Rattle.pass_split_proof.specs.pass_proofs.run_agreement.Agreements.{AgreesWithin};
+ghost use Rattle.pass_split_proof.specs.pass_proofs.run_agreement.Machines.{IsFine, at};
+ghost use Rattle.pass_split_proof.specs.pass_proofs.run_framed.Framed.{FramedGiven, framed_given, framed_state_at, framed_step};
+ghost use Rattle.pass_split_proof.specs.pass_proofs.run_source.Source.{first_state};
+ghost use Rattle.pass_split_proof.specs.pass_proofs.run_states.moved_states.Beside.{framed_machine};
 ghost use Rattle.pass_split_given.specs.Premises.{AreGivenPremisesMet, GivesFramesWell};
 ghost use Rattle.pass_split_given.specs.Whole.{PartsKeepGivenCalls};
 ghost use Rattle.pass_split_proof.specs.first_exits.Parted.{parted_module};

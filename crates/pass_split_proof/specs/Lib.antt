@@ -1,3 +1,4 @@
+pub use Rattle.pass_proofs.specs as pass_proofs
 pub mod asking
 pub mod begins
 pub mod branching

@@ -1,0 +1,1 @@
+pub use Rattle.pass_proofs.proofs as pass_proofs
