@@ -49,7 +49,8 @@ module _ (ls : Layouts) (m : Module)
   given_calls_kept entry other args answers e words gives = assembled_by ls m entry other args answers
       (KnowsGiven (framed_given m ls.coroutines answers)) (starts entry other args answers e)
       (starts_know (framed_given m ls.coroutines answers) (parts_given ls m answers) entry other args)
-      (given_all_followed (framed_given m ls.coroutines answers) (parts_given ls m answers) (met answers) (more answers)
+      (given_all_followed (framed_given m ls.coroutines answers) (parts_given ls m answers) (met answers) (more
+      answers)
       entry args (plain_entry entry other e) words gives)
 
 pub given_calls_agree : (ls : Layouts) (m : Module) → PartsKeepGivenCalls ls m → (entry other : ℕ) (args : List Word)
@@ -87,7 +88,8 @@ module _ (layouts : Layouts) (m : Module) (names : AreLocalsNamed m) (kept : Are
   Near = IsNear B 2 (IsMovedIn m (exits_split m))
 
   abbrev Follow : State → PlainState → Type 0
-  Follow = Follows (framed_given (exits_split m) layouts.coroutines answers) (parts_given layouts (exits_split m) answers)
+  Follow = Follows (framed_given (exits_split m) layouts.coroutines answers) (parts_given layouts (exits_split
+      m) answers)
 
   abbrev Close : State → PlainState → Type 0
   Close = IsNear C 9 (AreRelated (framed_given (exits_split m) layouts.coroutines answers)

@@ -72,7 +72,8 @@ module _ (g : FramedGiven) (h : PlainGiven) (met : ArePremisesMet g h) (more : A
       starts = gives.starts n runs;
       saves = gives.saves n runs;
       begins = λ k. block_begin_followed g h entry args gives.blocks
-          (λ func coroutine. (met.functions.coroutines func coroutine).laid) more.nests n t r (holds n).own runs fine k;
+          (λ func coroutine. (met.functions.coroutines func coroutine).laid) more.nests n t r (holds n).own
+          runs fine k;
       places = more.places (framed_state_at g entry args n) t r;
     }
 

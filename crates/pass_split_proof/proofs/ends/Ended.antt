@@ -120,7 +120,8 @@ module _ (g : FramedGiven) (h : PlainGiven) (s : State) (t : PlainState) (r : Ar
           lowered = λ n. refl;
         })
         k.place (k.there ∙ ap (λ (o : Option ℕ). AtInstr (at_end o k.must_tail k.ty k.args)) e))))
-        (λ know. goes_knows g s t ys s.world.memory t.top.values (record { each = λ b e. refl }) ended.places know (λ frame e. refl))
+        (λ know. goes_knows g s t ys s.world.memory t.top.values (record { each = λ b e. refl }) ended.places
+        know (λ frame e. refl))
 
     -- with one
     module _ (name : ℕ) (e : k.result ≡ Some name) where
@@ -160,7 +161,8 @@ module _ (g : FramedGiven) (h : PlainGiven) (s : State) (t : PlainState) (r : Ar
           (set_elsewhere t.top.values name r.top.shape.begin (truth_value false)
           (λ n. k.others (e ∙ ap (λ (a : ℕ). Some a) n)))
           (Inside s.top.mode k.settled copied.1))
-          (λ know. goes_knows g s t ys s.world.memory (with_value t.top.values name (truth_value false)) (record { each = λ b e. refl })
+          (λ know. goes_knows g s t ys s.world.memory (with_value t.top.values name (truth_value false))
+          (record { each = λ b e. refl })
           ended.places know (set_kept g h s t r t.top.values (truth_value false) s.top.block s.top.at
           (at_end k.result k.must_tail k.ty k.args) k.there name e))
 

@@ -274,7 +274,8 @@ module _ (g : FramedGiven) (h : PlainGiven) (s : State) (t : PlainState) (r : Ar
         (address has_code.name (Operand.Local (shape_at g s.top.func).begin) (pos 8)) has_code.stands.stand.1.1.0
         has_code.name refl frame e
         ∙ new_kept g h s t r t.top.values at_start t.top.block t.top.at
-        (address (shape_at g s.top.func).begin memory (pos 0)) has_code.stands.stand.0 (shape_at g s.top.func).begin refl
+        (address (shape_at g s.top.func).begin memory (pos 0)) has_code.stands.stand.0 (shape_at g
+        s.top.func).begin refl
         frame e
 
     knows_behind : KnowsGiven g s t
@@ -302,7 +303,8 @@ module _ (g : FramedGiven) (h : PlainGiven) (s : State) (t : PlainState) (r : Ar
     quiet : (n : ℕ) → n ≤ 4 → IsQuiet t (iterate (plain_step h) n t)
     quiet n le = line_quiet h (begin_stores (shape_at g s.top.func) r.top.part has_code.name memory) t _
         (r.outcome ∙ goes) has_code.stands.stand
-        (line_runs g h s t r memory has_code x begun.after refl many frames beside room k.laid new known small leads right)
+        (line_runs g h s t r memory has_code x begun.after refl many frames beside room k.laid new known small
+        leads right)
         (refl, (refl, (refl, (refl, tt)))) n le
 
     on_way : (n : ℕ) → n < 5 → IsOn s (iterate (plain_step h) n t)
@@ -327,7 +329,8 @@ module _ (g : FramedGiven) (h : PlainGiven) (s : State) (t : PlainState) (r : Ar
     pub given_begin_followed : IsFollowed g h s t
     given_begin_followed = many_followed g h s t r goes 5 u (omega arith) (omega arith) begun.is
         (subst (λ (y : Fetched). 5 + credit_of u ≤ weight y + credit_of s) (sym k.there)
-        (pays (left_of_call s.top) (left_of_call u.top) (left_of_calls s.below) left_one left_none)) on_way related knows
+        (pays (left_of_call s.top) (left_of_call u.top) (left_of_calls s.below) left_one left_none)) on_way
+        related knows
       where
         pays : (a b n : ℕ) → a ≡ 1 → b ≡ 0 → 5 + (b + n) ≤ 4 + (a + n)
         pays a b n e z = omega (arith, e, z)

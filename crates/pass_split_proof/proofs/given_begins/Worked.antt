@@ -224,7 +224,8 @@ module _ (given : Given) where
     pub caller : BeginsIn n [] a_caller callers_memory blank resumes destroyer
     caller = begins n [] a_caller blank blank (blank_block 64 16 Kind.Allocator) 64 refl
         (record { live = refl; kind = refl; unowned = refl; room = omega arith }) (frames_start n blank blank)
-        blank_beside callers_laid refl (record { start = refl; slots = refl; runs = refl; unfreed = refl }) (omega arith)
+        blank_beside callers_laid refl (record { start = refl; slots = refl; runs = refl; unfreed = refl })
+        (omega arith)
         resumes destroyer is standing own
 
     abbrev called : List MemoryBlock
@@ -262,4 +263,5 @@ module _ (given : Given) where
     pub callee : BeginsAt n (a_caller ∷ []) a_callee callers_memory called resumes other
     callee = begins_at n (a_caller ∷ []) a_callee callers_memory called
         (has_room n (a_caller ∷ []) a_callee callers_memory called callees_place caller.beside) caller.frames
-        caller.beside callees_laid (record { slots = refl; runs = refl; unfreed = refl }) resumes other is' standing' right
+        caller.beside callees_laid (record { slots = refl; runs = refl; unfreed = refl }) resumes other is'
+        standing' right

@@ -169,7 +169,8 @@ module _ (g : FramedGiven) (xs : List Instance) (m n : List MemoryBlock) (b : 鈩
   started_frames frames = record {
     laid = started_laid frames.laid;
     headed = 位 i x e held. headed_on g m k l x
-        (ap (位 (o : Option MemoryBlock). is_given_in o x) (changed_elsewhere m b x.block started (elsewhere i x e held)))
+        (ap (位 (o : Option MemoryBlock). is_given_in o x) (changed_elsewhere m b x.block started (elsewhere i x
+        e held)))
         (headed_held g n l x
         (位 o most bytes some control holds. same_held owner_rights n l x.block o most bytes
         (changed_elsewhere n b x.block started (elsewhere i x e held)) holds)

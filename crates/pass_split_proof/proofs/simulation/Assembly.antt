@@ -339,7 +339,8 @@ pub assembled : (ls : Layouts) (m : Module) (entry other : ℕ) (args : List Wor
     (AreRelated (framed_given m ls.coroutines answers) (parts_given ls m answers)))
     (framed_machine m ls entry args answers) (part_price (framed_given m ls.coroutines answers))
     (plain_machine (parted_module ls m) other args answers) (λ t. 1)
-assembled ls m entry other args answers start all = assembled_by ls m entry other args answers (λ s t. Unit {0}) start tt
+assembled ls m entry other args answers start all = assembled_by ls m entry other args answers (λ s t. Unit
+    {0}) start tt
     (λ n t r known runs fine. record { followed = all n t r runs fine; knows = tt })
 
 -- the whole

@@ -143,7 +143,8 @@ module _ (g : FramedGiven) (xs ys : List Instance) (m k : List MemoryBlock) (ext
       → KnowsFrame g ys k func mode instance position others
   frame_knows func mode instance position values others h same = record {
     given = λ frame e. subst (λ (u : Value). IsValue (homes_of k) frame u) (sym (same frame e))
-        (value_on (homes_of m) (homes_of k) ext frame (value_in values (given_name (shape_at g func))) (h.given frame e));
+        (value_on (homes_of m) (homes_of k) ext frame (value_in values (given_name (shape_at g func))) (h.given
+        frame e));
     runs = λ part i y at some own there. let p : HasPlace xs m k i y = places i y there in
         p.given ∙ h.runs part i p.old at some own p.there;
   }
@@ -253,7 +254,8 @@ module _ (g : FramedGiven) (h : Module) (xs : List Instance) (x : Instance) (m k
           (value_in b.values (given_name (shape_at g a.func))) (know.0.given frame e);
       runs = λ part i y at some own there.
           let w = all.0.beside.frame i own in
-          let was : slice_get xs i ≡ Some y = sym (get_more xs x i (slice_get_within xs i w.instance w.there)) ∙ there in
+          let was : slice_get xs i ≡ Some y = sym (get_more xs x i (slice_get_within xs i w.instance w.there))
+          ∙ there in
           same i y was ∙ know.0.runs part i y at some own was;
     },
     (know.1.0, more_know a.result ups bs all.1 know.1.1),
@@ -274,7 +276,8 @@ more_calls g xs x m k same new know i y e held = more_parted xs x
     (sym is) (new (subst (λ (z : Instance). is_given_in (slice_get k z.block) z ≡ true) is f))) held
 
 -- the topmost activation has it
-pub newest_knows : (g : FramedGiven) (xs : List Instance) (x : Instance) (k : List MemoryBlock) (func : ℕ) (mode : Mode)
+pub newest_knows : (g : FramedGiven) (xs : List Instance) (x : Instance) (k : List MemoryBlock) (func : ℕ)
+    (mode : Mode)
     (position : ℕ) (values : Env) (part : Part) → position ≡ part_position g func part
     → is_given_in (slice_get k x.block) x ≡ is_given part
     → ((frame : Value) → mode ≡ Mode.GivenRamp frame
@@ -328,7 +331,8 @@ module _ (g : FramedGiven) (z : State) (t : PlainState)
   gone = without_slots z.world.memory z.top.slots
 
   gone_places : KeepsPlaces z.instances z.instances z.world.memory gone
-  gone_places = memory_places z.instances z.world.memory gone (λ i x e. gone_given z.top.slots z.world.memory x.block x)
+  gone_places = memory_places z.instances z.world.memory gone (λ i x e. gone_given z.top.slots z.world.memory
+      x.block x)
 
   -- the run is over
   pub over_knows : (one other : Outcome) → KnowsGiven g z t
@@ -365,7 +369,8 @@ result_low f q _ _ (OfCoroutine m k layout begin part x is) same block at i here
 result_low f q _ _ (OfPlain m k plain rules same) ramp block at i here sets = absurd (cc)
 
 phi_low : (f q : Function) (sh : Shape) (part : Part) → IsCodeOf f q sh part → part ≡ Part.GivenRamp
-    → (block : ℕ) (b : Block) → slice_get f.blocks block ≡ Some b → IsListed (length f.names + 6) (phi_names b.phis) → ⊥
+    → (block : ℕ) (b : Block) → slice_get f.blocks block ≡ Some b → IsListed (length f.names + 6) (phi_names
+    b.phis) → ⊥
 phi_low f q _ _ (OfCoroutine m k layout begin part x is) same block b there h =
     phi_other m k f begin x (shape_of f layout) refl block b there h
 phi_low f q _ _ (OfPlain m k plain rules same) ramp block b there h = absurd (cc)
@@ -418,7 +423,8 @@ module _ (g : FramedGiven) (h : PlainGiven) (s : State) (t : PlainState) (r : Ar
       on : (o : Option Block) → slice_get f.blocks block ≡ o
           → Each (λ (p : Phi). p.result ≡ given_name (shape_at g s.top.func) → ⊥) (phis_of o)
       on None there = tt
-      on (Some b) there = each_other given b.phis (phi_low f q r.top.shape r.top.part r.top.coded (part_is frame e) block
+      on (Some b) there = each_other given b.phis (phi_low f q r.top.shape r.top.part r.top.coded (part_is
+          frame e) block
           b there)
 
   -- a name of the coroutine is set

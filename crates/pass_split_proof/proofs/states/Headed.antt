@@ -138,7 +138,8 @@ module _ (g : FramedGiven) (xs : List Instance) (x : Instance) (m n : List Memor
   -- the frame wasn't given
   ungiven : is_given_in (slice_get source x.block) x ≡ false
   ungiven = ap (λ (o : Option MemoryBlock). is_given_in o x) owned_there
-      ∙ ap (λ (k : Kind). same_kind k Kind.Stack || not (x.start == 0)) fresh.kind ∙ ap not (eq-eqb x.start 0 new.start)
+      ∙ ap (λ (k : Kind). same_kind k Kind.Stack || not (x.start == 0)) fresh.kind ∙ ap not (eq-eqb x.start 0
+      new.start)
 
   new_headed : IsHeadedIn g source two x
   new_headed = record {
@@ -157,7 +158,8 @@ module _ (g : FramedGiven) (xs : List Instance) (x : Instance) (m n : List Memor
   old_headed : (i : ℕ) (z : Instance) → i < length xs → slice_get xs i ≡ Some z → slice_get more i ≡ Some z
       → is_held source z ≡ true → IsHeadedIn g source two z
   old_headed i z lt e e' held' =
-      let was : IsHeadedIn g source n z = headed_on g m source n z (given_kept (owned_to size) (λ y. refl) m x.block z.block z)
+      let was : IsHeadedIn g source n z = headed_on g m source n z (given_kept (owned_to size) (λ y. refl) m
+      x.block z.block z)
       (frames.headed i z e
       (sym (old_held g xs x m n u size there fresh frames.laid beside laid sized new.start new.slots new.unfreed i
       z e) ∙ held')) in

@@ -146,7 +146,8 @@ module _ (g : FramedGiven) (h : PlainGiven) (s : State) (t : PlainState) (r : Ar
           other : (n l b : ℕ) → l ≤ n → b < l → n ≡ b → ⊥
           other n l b le lt e = omega arith
 
-      given_stays : (frame : Value) → s.top.mode ≡ Mode.GivenRamp frame → value_in after (given_name (shape_at g s.top.func))
+      given_stays : (frame : Value) → s.top.mode ≡ Mode.GivenRamp frame → value_in after (given_name (shape_at
+          g s.top.func))
           ≡ value_in t.top.values (given_name (shape_at g s.top.func))
       given_stays = new_kept g h s t r t.top.values callee block at (load_pointer n k.arg.value) line.0 n refl
 

@@ -192,7 +192,8 @@ module _ (g : FramedGiven) (h : PlainGiven) (s : State) (t : PlainState) (r : Ar
       (let e = slot_length s.world.memory size align kind marked in omega arith))))
 
   pub slot_places : KeepsPlaces s.instances s.instances s.world.memory made.world.memory
-  slot_places = memory_places s.instances s.world.memory made.world.memory (λ i x e. slot_given s.world.memory size align
+  slot_places = memory_places s.instances s.world.memory made.world.memory (λ i x e. slot_given s.world.memory
+      size align
       kind marked x.block x (r.frames.laid.known i x e))
 
   -- what is known of given frames stays

@@ -189,7 +189,8 @@ module _ (g : FramedGiven) (h : PlainGiven) (s : State) (t : PlainState) (r : Ar
       × KnowCalls g ys s.world.memory
   knows mode none values know = (
     (
-      waking_knows g s.instances s.world.memory w.number (record x { status = Status.Running }) func mode part_at values
+      waking_knows g s.instances s.world.memory w.number (record x { status = Status.Running }) func mode
+          part_at values
           part (slice_get_within s.instances w.number x w.there) refl right none,
       (
         frame_knows g s.instances ys s.world.memory s.world.memory (record { each = λ b e. refl }) places s.top.func

@@ -34,7 +34,8 @@ no_stack (Some u) h = kinds u.kind h
     kinds Kind.Constant h = absurd (false≢true h)
 
 -- and a frame that begins it wasn't given
-pub no_given : (o : Option MemoryBlock) (x : Instance) → (x.start ≡ 0) × (is_heap_in o ≡ true) → is_given_in o x ≡ false
+pub no_given : (o : Option MemoryBlock) (x : Instance) → (x.start ≡ 0) × (is_heap_in o ≡ true) → is_given_in o
+    x ≡ false
 no_given o x z = ap (λ (b : Bool). b || not (x.start == 0)) (no_stack o z.1) ∙ ap not (eq-eqb x.start 0 z.0)
 
 pub lives_where_kept : (o : Option MemoryBlock) → is_kept_in o ≡ true → lives_in o ≡ true

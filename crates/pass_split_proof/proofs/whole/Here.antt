@@ -291,7 +291,8 @@ module _ (g : FramedGiven) (h : PlainGiven) (met : ArePremisesMet g h) (s : Stat
         known : (part : Part) → r.top.part ≡ part → is_for_some part ≡ true → (i : ℕ) (x : Instance)
             → s.top.instance ≡ Some i → slice_get s.instances i ≡ Some x
             → is_given s.world.memory x ≡ is_for_given part
-        known part e some i x own there = q.knows.0.0.runs part i x (r.top.func ∙ ap (part_position g s.top.func) e) some
+        known part e some i x own there = q.knows.0.0.runs part i x (r.top.func ∙ ap (part_position g
+            s.top.func) e) some
             own there
 
         for_some : (part : Part) → r.top.part ≡ part → is_for_some part ≡ true → (b : Bool) → is_for_given part ≡ b

@@ -64,7 +64,8 @@ module _ (g : FramedGiven) (h : PlainGiven) (met : ArePremisesMet g h) (s : Stat
   }) fine
     where
       coroutine : (function_of g.given s).coroutine ≡ true
-      coroutine = (subst (FitsMode g.given.code (function_of g.given s).coroutine s.top.instance) e k.held.own.top.mode).0
+      coroutine = (subst (FitsMode g.given.code (function_of g.given s).coroutine s.top.instance) e
+          k.held.own.top.mode).0
 
   by_place : (mode : Mode) → s.top.mode ≡ mode → IsPlaced r.top.shape r.top.part f q s.top t.top mode
       → IsFollowed g h s t

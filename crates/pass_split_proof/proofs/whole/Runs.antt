@@ -82,7 +82,8 @@ module _ (g : FramedGiven) (h : PlainGiven) (met : ArePremisesMet g h) (ungiven 
 
   all_followed : AreStepsFollowedBy g h (KnowsGiven g) entry args
   all_followed n t r knows runs fine =
-      let f : IsFollowed g h (framed_state_at g entry args n) t = step_followed g h met (framed_state_at g entry args n)
+      let f : IsFollowed g h (framed_state_at g entry args n) t = step_followed g h met (framed_state_at g
+      entry args n)
       t r (ungiven_state g h met.functions ungiven (framed_state_at g entry args n) t r (holds n) knows) runs fine in
       record { followed = f; knows = f.keeps knows }
 

@@ -58,7 +58,8 @@ module _ (g : FramedGiven) (h : PlainGiven) (met : AreFunctionsMet g h) (ungiven
   asks = record { allocas = met.allocas; intrinsics = met.intrinsics }
 
   no_given_mode : (frame : Value) → s.top.mode ≡ Mode.GivenRamp frame → ⊥
-  no_given_mode frame e = never (subst (FitsMode c (function_of g.given s).coroutine s.top.instance) e k.own.top.mode).1
+  no_given_mode frame e = never (subst (FitsMode c (function_of g.given s).coroutine s.top.instance) e
+      k.own.top.mode).1
 
   heap : (i : ℕ) (x : Instance) → slice_get s.instances i ≡ Some x → begins_heap s.world.memory x ≡ true
   heap i x e = let z = alone c s k.own never i x e in
@@ -83,7 +84,8 @@ module _ (g : FramedGiven) (h : PlainGiven) (met : AreFunctionsMet g h) (ungiven
   places : AreGivenPlacesMet g h s t r
   places = record {
     called = λ result must_tail ty name args func here at gives.
-        absurd (other (sym (ungiven.calls s.top.func s.top.block s.top.at result must_tail ty name args here) ∙ gives));
+        absurd (other (sym (ungiven.calls s.top.func s.top.block s.top.at result must_tail ty name args here) ∙
+        gives));
     begin = λ result must_tail ty args frame here at e given. absurd (no_given_mode frame e);
     frees = λ result must_tail ty args here at part. ungiven.coroutines s.top.func
         (met.intrinsics s.top.func s.top.block s.top.at result must_tail ty Intrinsic.CoroFree args here refl);

@@ -42,7 +42,8 @@ pub record HasCalled (g : FramedGiven) (h : PlainGiven) (s : State) (t : PlainSt
   pub begin : (i : ℕ) → s.top.instance ≡ Some i
       → value_in values r.top.shape.begin ≡ value_in t.top.values r.top.shape.begin
   pub given : (frame : Value) → s.top.mode ≡ Mode.GivenRamp frame
-      → value_in values (given_name (shape_at g s.top.func)) ≡ value_in t.top.values (given_name (shape_at g s.top.func))
+      → value_in values (given_name (shape_at g s.top.func)) ≡ value_in t.top.values (given_name (shape_at g
+      s.top.func))
   pub waiting : IsPlaced r.top.shape r.top.part (function_at g.given.code s.top.func) (function_at h.code t.top.func)
       (record s.top { at = s.top.at + 1 }) (placed_at t.top piece offset values) s.top.mode
   pub behind : IsBehind (function_at g.given.code s.top.func) false (record s.top { at = s.top.at + 1 })
