@@ -11,3 +11,4 @@ pub mod Woken
 pub mod Rets
 pub mod Worked
 pub mod OneEnd
+pub mod WorkedRets

@@ -6,7 +6,7 @@ ghost use Rattle.pass_elide_edges.specs.pass_elide_proof.Elision.{Elision, elide
 ghost use Rattle.pass_elide_edges.specs.pass_elide_proof.OwnSlots.{CountsSlots, HaveNoSlots};
 ghost use Rattle.pass_elide_edges.specs.pass_elide_proof.Placing.{KeepsPlaces};
 ghost use Rattle.pass_elide_edges.specs.pass_elide_proof.Sound.{KnowsAllocas, NestsNone};
-ghost use Rattle.pass_elide_edges.specs.pass_elide_proof.Worked.{a_caller, before, module_of};
+ghost use Rattle.pass_elide_edges.specs.pass_elide_proof.Worked.{a_caller, a_coroutine, before, module_of, the_elision};
 ghost use Rattle.pass_elide_kept.specs.Modules.{KeepsHandlesAndEnds};
 ghost use Rattle.pass_elide_kept.specs.Runs.{LeadsPast, WakesPast};
 ghost use Rattle.pass_elide_runs.specs.Keeps.{KeepsRuns};
@@ -98,4 +98,10 @@ pub fn a_worked_activation_goes_behind()
 pub fn one_end_stands_in_the_end_block()
     ensures { (f : Function) → HasOneEnd f → (block at : ℕ) (i : Instr) → fetch f block at ≡ AtInstr i
         → is_call_of Intrinsic.CoroEnd i ≡ true → block ≡ end_block f }
+{}
+
+/// In the worked module no ret stands behind begin without the end before it. The coroutine has one end.
+pub fn the_worked_module_ends_before_rets()
+    ensures rets { (func : ℕ) → EndsBeforeRets (function_in the_elision func) }
+    ensures one { HasOneEnd a_coroutine }
 {}
