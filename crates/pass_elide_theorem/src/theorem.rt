@@ -5,6 +5,7 @@ ghost use Rattle.pass_elide_apart.specs.pass_elide_proof.Counts.{LosesCalls, unc
 ghost use Rattle.pass_elide_apart.specs.pass_elide_proof.Elision.{Elision, elided};
 ghost use Rattle.pass_elide_apart.specs.pass_elide_proof.Invariant.{DoGivenFramesLive};
 ghost use Rattle.pass_elide_apart.specs.pass_elide_proof.Statement.{AreRelated, IsEntryCall, elided_run, framed_run};
+ghost use Rattle.pass_elide_lacks.specs.Keeps.{KeepsAsked};
 ghost use Rattle.pass_elide_meaning.specs.Lacks.{LacksFramed, LacksGiving, TakesSizes};
 ghost use Rattle.pass_elide_theorem.specs.Carried.{AgreesWithElided, AreCarried, DoFramesLive, FollowsLive, LacksRuns};
 ghost use Rattle.pass_elide_theorem.specs.Ready.{IsElisionReady};
@@ -19,6 +20,7 @@ ghost use Rattle.std.specs.Prelude.{List, ◌≡◌, ℕ};
 
 use pass_elide_kept::keeping::{destroyed_ends_have_freed, related_states_stay_related};
 use pass_elide_kept::starting::runs_start_kept;
+use pass_elide_lacks::states::{framed_runs_lack_nothing, giving_runs_lack_nothing};
 use pass_elide_meaning::states::named_sizes_lack_nothing;
 
 /// What is carried through both runs is had where they start.
@@ -87,4 +89,24 @@ pub fn runs_lack_nothing()
         → LacksGiving e (elided_after e entry args m)) → LacksRuns e entry args }
 {
     named_sizes_lack_nothing();
+}
+
+/// Nothing is lacking where the module keeps what is asked of blocks of their own, and allocators take names of
+/// coro.size. So both runs of a call of an entry agree there, and given frames live.
+pub fn elisions_of_named_sizes_keep_states()
+    ensures lacks { (e : Elision) (source : Module) (most entry : ℕ) (args : List Word) → IsElisionReady e source most
+        → KeepsAsked e → TakesSizes e → LacksRuns e entry args }
+    ensures states { (e : Elision) (source : Module) (most entry : ℕ) (args : List Word) → IsElisionReady e source most
+        → KeepsAsked e → TakesSizes e → IsEntryCall e entry args → AgreesWithElided e most entry args }
+    ensures calls { (e : Elision) (source : Module) (most entry : ℕ) (args : List Word) → IsElisionReady e source most
+        → KeepsAsked e → TakesSizes e → IsEntryCall e entry args
+        → LosesCalls (framed_run e entry args) (elided_run e entry args) }
+    ensures frames { (e : Elision) (source : Module) (most entry : ℕ) (args : List Word) → IsElisionReady e source most
+        → KeepsAsked e → TakesSizes e → IsEntryCall e entry args
+        → NeverUndefined (at (uncounted (framed_run e entry args))) → DoGivenFramesLive (elided e) entry args }
+{
+    elided_entry_calls_keep_states();
+    given_frames_live();
+    giving_runs_lack_nothing();
+    framed_runs_lack_nothing();
 }
