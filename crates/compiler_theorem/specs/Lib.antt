@@ -1,5 +1,7 @@
 -- What libraries below say, for those above.
 pub use Rattle.pass_frames_meaning.specs.run_types as run_types
+pub use Rattle.pass_frames_meaning.specs as pass_frames_meaning
+pub use Rattle.compiler.specs as compiler
 pub mod Calls
 pub mod kinds
 pub mod known

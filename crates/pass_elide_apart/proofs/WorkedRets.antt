@@ -72,9 +72,39 @@ to_suspend = record {
         record { block = 4; at = 1 } ∷ record { block = 5; at = 0 } ∷ record { block = 6; at = 0 }
         ∷ record { block = 6; at = 1 } ∷ record { block = 6; at = 2 } ∷ record { block = 6; at = 3 }
         ∷ record { block = 6; at = 4 } ∷ record { block = 6; at = 5 } ∷ record { block = 6; at = 6 } ∷ [];
-    is_path =
-        (refl, refl, (refl, refl, (refl, refl, (refl, refl, (refl, refl, (refl, refl, (refl, refl, (refl, refl,
-        (refl, refl, refl)))))))));
+    is_path = (
+      refl,
+      refl,
+      (
+        refl,
+        refl,
+        (
+          refl,
+          refl,
+          (
+            refl,
+            refl,
+            (
+              refl,
+              refl,
+              (
+                refl,
+                refl,
+                (
+                  refl,
+                  refl,
+                  (
+                    refl,
+                    refl,
+                    (refl, refl, refl),
+                  ),
+                ),
+              ),
+            ),
+          ),
+        ),
+      ),
+    );
   };
 }
 

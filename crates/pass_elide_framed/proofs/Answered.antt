@@ -2,28 +2,28 @@
 use Rattle.std.proofs.Common.{◌≡◌, ℕ, true, false, [], ◌∷◌, length, refl, sym, ap, ◌∙◌, subst}
 use Rattle.std.proofs.lemmas.Bool.{false≢true}
 use Rattle.std.specs.Prelude.{None, Option, Some, option_and_then, slice_get, unwrap_or}
-use Rattle.compiler.proofs.ir_laws.facts.Truth.{not_both}
-use Rattle.compiler.proofs.pass_proofs.edges.paths.Blocks.{spot}
-use Rattle.compiler.proofs.pass_proofs.edges.rules.Homes.{own_block, own_there}
-use Rattle.compiler.proofs.pass_proofs.frames.unnamed.Positions.{Becomes, FramedBy, Unchanged, stands_as}
-use Rattle.compiler.proofs.rule_laws.rules.known_labels.Known.{labels_known}
-use Rattle.compiler.proofs.rule_laws.rules.source_rules.Locals.{own_label}
-use Rattle.compiler.proofs.whole.lowered_sources.Sources.{early_rules}
-use Rattle.compiler.specs.ir_model.Names.{function_at, no_function}
-use Rattle.compiler.specs.ir_model.declared.instr.Instr.{Instr}
-use Rattle.compiler.specs.ir_model.declared.instr.Terminator.{Terminator}
-use Rattle.compiler.specs.ir_model.declared.module.Block.{Block}
-use Rattle.compiler.specs.ir_model.declared.module.Function.{Function}
-use Rattle.compiler.specs.ir_model.declared.operand.Intrinsic.{Intrinsic}
-use Rattle.compiler.specs.ir_model.declared.operand.Operand.{Operand}
-use Rattle.compiler.specs.ir_parts.Contents.{result_of}
-use Rattle.compiler.specs.ir_paths.Windows.{call_result, instr_at, instr_in, is_call_of, points_where}
-use Rattle.compiler.specs.ir_paths.declared.point.Point.{Point}
-use Rattle.compiler.specs.pass_edges.EdgeBlocks.{with_edge_blocks}
-use Rattle.compiler.specs.pass_frames.Framed.{IsFramedCoroutine, layout_at}
-use Rattle.compiler.specs.pass_front.Front.{is_alloca}
-use Rattle.compiler.specs.rule_laws.rules.function_rules.Kept.{KeepsFunctionRules}
-use Rattle.compiler.specs.run_step.Step.{AtTerm, fetch}
+use Rattle.compiler_theorem.proofs.compiler.ir_laws.facts.Truth.{not_both}
+use Rattle.compiler_theorem.proofs.compiler.pass_proofs.edges.paths.Blocks.{spot}
+use Rattle.compiler_theorem.proofs.compiler.pass_proofs.edges.rules.Homes.{own_block, own_there}
+use Rattle.compiler_theorem.proofs.compiler.pass_proofs.frames.unnamed.Positions.{Becomes, FramedBy, Unchanged, stands_as}
+use Rattle.compiler_theorem.proofs.compiler.rule_laws.rules.known_labels.Known.{labels_known}
+use Rattle.compiler_theorem.proofs.compiler.rule_laws.rules.source_rules.Locals.{own_label}
+use Rattle.compiler_theorem.proofs.compiler.whole.lowered_sources.Sources.{early_rules}
+use Rattle.compiler_theorem.specs.compiler.ir_model.Names.{function_at, no_function}
+use Rattle.compiler_theorem.specs.compiler.ir_model.declared.instr.Instr.{Instr}
+use Rattle.compiler_theorem.specs.compiler.ir_model.declared.instr.Terminator.{Terminator}
+use Rattle.compiler_theorem.specs.compiler.ir_model.declared.module.Block.{Block}
+use Rattle.compiler_theorem.specs.compiler.ir_model.declared.module.Function.{Function}
+use Rattle.compiler_theorem.specs.compiler.ir_model.declared.operand.Intrinsic.{Intrinsic}
+use Rattle.compiler_theorem.specs.compiler.ir_model.declared.operand.Operand.{Operand}
+use Rattle.compiler_theorem.specs.compiler.ir_parts.Contents.{result_of}
+use Rattle.compiler_theorem.specs.compiler.ir_paths.Windows.{call_result, instr_at, instr_in, is_call_of, points_where}
+use Rattle.compiler_theorem.specs.compiler.ir_paths.declared.point.Point.{Point}
+use Rattle.compiler_theorem.specs.compiler.pass_edges.EdgeBlocks.{with_edge_blocks}
+use Rattle.compiler_theorem.specs.compiler.pass_frames.Framed.{IsFramedCoroutine, layout_at}
+use Rattle.compiler_theorem.specs.compiler.pass_front.Front.{is_alloca}
+use Rattle.compiler_theorem.specs.compiler.rule_laws.rules.function_rules.Kept.{KeepsFunctionRules}
+use Rattle.compiler_theorem.specs.compiler.run_step.Step.{AtTerm, fetch}
 use Rattle.compiler_theorem.specs.theorem.Lowered.{IsLowered, Lowered, early}
 use Rattle.pass_elide_ready.specs.elide_shape.Calls.{value_at}
 use Rattle.pass_elide_ready.specs.elide_shape.Guard.{is_guarded}

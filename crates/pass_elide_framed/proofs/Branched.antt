@@ -2,25 +2,25 @@
 use Rattle.std.proofs.Common.{◌≡◌, inl, ℕ, ◌≤◌, true, false, length, refl, sym, ap, ◌∙◌, subst, arith}
 use Rattle.std.proofs.lemmas.Option.{slice_get_within}
 use Rattle.std.specs.Prelude.{Option, Some, slice_get}
-use Rattle.compiler.proofs.pass_proofs.edges.paths.Blocks.{spot}
-use Rattle.compiler.proofs.pass_proofs.edges.rules.Homes.{own_block, own_there}
-use Rattle.compiler.proofs.pass_proofs.frames.numbers.Numbers.{number_given}
-use Rattle.compiler.specs.flow_solver.Paths.{IsListed}
-use Rattle.compiler.specs.frame_crossing.Crossing.{Crosses}
-use Rattle.compiler.specs.frame_layout.declared.layout.Layout.{Layout}
-use Rattle.compiler.specs.ir_model.declared.instr.Instr.{Instr}
-use Rattle.compiler.specs.ir_model.declared.instr.Terminator.{Terminator}
-use Rattle.compiler.specs.ir_model.declared.module.Block.{Block}
-use Rattle.compiler.specs.ir_model.declared.module.Function.{Function}
-use Rattle.compiler.specs.ir_model.declared.operand.Operand.{Operand}
-use Rattle.compiler.specs.ir_parts.Contents.{result_of}
-use Rattle.compiler.specs.ir_paths.declared.point.Point.{Point}
-use Rattle.compiler.specs.pass_edges.EdgeBlocks.{with_edge_blocks}
-use Rattle.compiler.specs.pass_frames.Framed.{IsFramedCoroutine, layout_at}
-use Rattle.compiler.specs.pass_front.Front.{is_alloca}
-use Rattle.compiler.specs.rule_shape.Uses.{uses_of}
-use Rattle.compiler.specs.run_step.Step.{AtTerm, fetch}
-use Rattle.compiler.specs.frame_crossing.Paths.{used_by}
+use Rattle.compiler_theorem.proofs.compiler.pass_proofs.edges.paths.Blocks.{spot}
+use Rattle.compiler_theorem.proofs.compiler.pass_proofs.edges.rules.Homes.{own_block, own_there}
+use Rattle.compiler_theorem.proofs.compiler.pass_proofs.frames.numbers.Numbers.{number_given}
+use Rattle.compiler_theorem.specs.compiler.flow_solver.Paths.{IsListed}
+use Rattle.compiler_theorem.specs.compiler.frame_crossing.Crossing.{Crosses}
+use Rattle.compiler_theorem.specs.compiler.frame_layout.declared.layout.Layout.{Layout}
+use Rattle.compiler_theorem.specs.compiler.ir_model.declared.instr.Instr.{Instr}
+use Rattle.compiler_theorem.specs.compiler.ir_model.declared.instr.Terminator.{Terminator}
+use Rattle.compiler_theorem.specs.compiler.ir_model.declared.module.Block.{Block}
+use Rattle.compiler_theorem.specs.compiler.ir_model.declared.module.Function.{Function}
+use Rattle.compiler_theorem.specs.compiler.ir_model.declared.operand.Operand.{Operand}
+use Rattle.compiler_theorem.specs.compiler.ir_parts.Contents.{result_of}
+use Rattle.compiler_theorem.specs.compiler.ir_paths.declared.point.Point.{Point}
+use Rattle.compiler_theorem.specs.compiler.pass_edges.EdgeBlocks.{with_edge_blocks}
+use Rattle.compiler_theorem.specs.compiler.pass_frames.Framed.{IsFramedCoroutine, layout_at}
+use Rattle.compiler_theorem.specs.compiler.pass_front.Front.{is_alloca}
+use Rattle.compiler_theorem.specs.compiler.rule_shape.Uses.{uses_of}
+use Rattle.compiler_theorem.specs.compiler.run_step.Step.{AtTerm, fetch}
+use Rattle.compiler_theorem.specs.compiler.frame_crossing.Paths.{used_by}
 use Rattle.compiler_theorem.proofs.parts.Returned.{buildable, named}
 use Rattle.compiler_theorem.specs.theorem.Lowered.{IsLowered, Lowered, early}
 use Rattle.pass_elide_framed.proofs.SameWays.{made_at}
@@ -30,9 +30,9 @@ use Rattle.pass_elide_ready.specs.pass_elide_proof.Places.{instrs_in, instrs_of}
 use Rattle.pass_elide_ready.proofs.EndsAlike.{ends_at}
 use Rattle.pass_elide_ready.proofs.Entries.{ending}
 use Rattle.pass_elide_ready.proofs.Uncrossed.{crosses_none}
-use Rattle.pass_frames_meaning.proofs.pass_frames_proof.framings.Built.{framing_there}
-use Rattle.pass_frames_meaning.specs.pass_frames_proof.Framings.{IsFraming}
-use Rattle.pass_frames_meaning.specs.pass_frames_proof.Places.{Framing, framing_of}
+use Rattle.compiler_theorem.proofs.pass_frames_meaning.pass_frames_proof.framings.Built.{framing_there}
+use Rattle.compiler_theorem.specs.pass_frames_meaning.pass_frames_proof.Framings.{IsFraming}
+use Rattle.compiler_theorem.specs.pass_frames_meaning.pass_frames_proof.Places.{Framing, framing_of}
 
 most_one : (n : ℕ) → n ≡ 1 → n ≤ 1
 most_one n e = omega (arith, e)

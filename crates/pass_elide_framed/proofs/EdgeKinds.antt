@@ -3,26 +3,26 @@ use Rattle.std.proofs.Common.{◌≡◌, ℕ, zero, suc, ◌+◌, ◌-◌, Bool,
 use Rattle.std.proofs.lemmas.Bool.{false≢true}
 use Rattle.std.specs.List.{list_any}
 use Rattle.std.specs.Prelude.{None, Option, Some, map, option_and_then, slice_get, if◌then◌else◌, ◌||◌}
-use Rattle.compiler.proofs.ir_laws.facts.Lists.{at_any}
-use Rattle.compiler.proofs.ir_laws.facts.Truth.{itself}
-use Rattle.compiler.proofs.pass_proofs.edges.rules.Switched.{switched}
-use Rattle.compiler.specs.ir_model.Calls.{result_of_call}
-use Rattle.compiler.specs.ir_model.Names.{is_local, position_of}
-use Rattle.compiler.specs.ir_model.declared.instr.Case.{Case}
-use Rattle.compiler.specs.ir_model.declared.instr.Instr.{Instr}
-use Rattle.compiler.specs.ir_model.declared.instr.Terminator.{Terminator}
-use Rattle.compiler.specs.ir_model.declared.module.Block.{Block}
-use Rattle.compiler.specs.ir_model.declared.module.Function.{Function}
-use Rattle.compiler.specs.ir_model.declared.operand.Callee.{Callee}
-use Rattle.compiler.specs.ir_model.declared.operand.Intrinsic.{Intrinsic}
-use Rattle.compiler.specs.ir_model.declared.operand.Operand.{Operand}
-use Rattle.compiler.specs.ir_paths.Paths.{targets}
-use Rattle.compiler.specs.ir_paths.Windows.{call_result, is_call_of}
-use Rattle.compiler.specs.pass_edges.Edges.{is_suspend}
-use Rattle.compiler.specs.pass_proofs.flow_blocks.Kinds.{kind_at, kind_in, kind_of, kind_of_ending, suspended}
-use Rattle.compiler.specs.pass_proofs.flow_blocks.declared.kinds.EdgeKind.{EdgeKind}
-use Rattle.compiler.specs.rule_laws.rules.rows.Returns.{IsSwitched}
-use Rattle.compiler.specs.rule_shape.Switches.{wrong_switch}
+use Rattle.compiler_theorem.proofs.compiler.ir_laws.facts.Lists.{at_any}
+use Rattle.compiler_theorem.proofs.compiler.ir_laws.facts.Truth.{itself}
+use Rattle.compiler_theorem.proofs.compiler.pass_proofs.edges.rules.Switched.{switched}
+use Rattle.compiler_theorem.specs.compiler.ir_model.Calls.{result_of_call}
+use Rattle.compiler_theorem.specs.compiler.ir_model.Names.{is_local, position_of}
+use Rattle.compiler_theorem.specs.compiler.ir_model.declared.instr.Case.{Case}
+use Rattle.compiler_theorem.specs.compiler.ir_model.declared.instr.Instr.{Instr}
+use Rattle.compiler_theorem.specs.compiler.ir_model.declared.instr.Terminator.{Terminator}
+use Rattle.compiler_theorem.specs.compiler.ir_model.declared.module.Block.{Block}
+use Rattle.compiler_theorem.specs.compiler.ir_model.declared.module.Function.{Function}
+use Rattle.compiler_theorem.specs.compiler.ir_model.declared.operand.Callee.{Callee}
+use Rattle.compiler_theorem.specs.compiler.ir_model.declared.operand.Intrinsic.{Intrinsic}
+use Rattle.compiler_theorem.specs.compiler.ir_model.declared.operand.Operand.{Operand}
+use Rattle.compiler_theorem.specs.compiler.ir_paths.Paths.{targets}
+use Rattle.compiler_theorem.specs.compiler.ir_paths.Windows.{call_result, is_call_of}
+use Rattle.compiler_theorem.specs.compiler.pass_edges.Edges.{is_suspend}
+use Rattle.compiler_theorem.specs.compiler.pass_proofs.flow_blocks.Kinds.{kind_at, kind_in, kind_of, kind_of_ending, suspended}
+use Rattle.compiler_theorem.specs.compiler.pass_proofs.flow_blocks.declared.kinds.EdgeKind.{EdgeKind}
+use Rattle.compiler_theorem.specs.compiler.rule_laws.rules.rows.Returns.{IsSwitched}
+use Rattle.compiler_theorem.specs.compiler.rule_shape.Switches.{wrong_switch}
 use Rattle.pass_elide_ready.specs.elide_shape.Edges.{edges_by, edges_of, edges_out}
 
 -- ---- one block

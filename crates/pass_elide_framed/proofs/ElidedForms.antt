@@ -1,7 +1,7 @@
 -- Records of framed forms of accepted sources, where each shape is that of a form.
 use Rattle.std.proofs.Common.{◌≡◌, ℕ, false, sym, ap, ◌∙◌, subst}
-use Rattle.compiler.specs.ir_model.Names.{function_at}
-use Rattle.compiler.specs.ir_model.declared.module.Module.{Module}
+use Rattle.compiler_theorem.specs.compiler.ir_model.Names.{function_at}
+use Rattle.compiler_theorem.specs.compiler.ir_model.declared.module.Module.{Module}
 use Rattle.compiler_theorem.specs.theorem.Lowered.{Lowered}
 use Rattle.pass_elide_ready.specs.elide_sites.Destroyed.{FreesWhenDestroyed}
 use Rattle.pass_elide_framed.proofs.Freed.{framed_freed}

@@ -2,20 +2,20 @@
 use Rattle.std.proofs.Common.{◌≡◌, ℕ, true, false, List, refl, sym, ap, ◌∙◌, subst}
 use Rattle.std.proofs.lemmas.Bool.{false≢true}
 use Rattle.std.specs.Prelude.{None, Option, Some, slice_get, unwrap_or}
-use Rattle.compiler.proofs.ir_laws.facts.Truth.{not_both}
-use Rattle.compiler.proofs.pass_proofs.early.elision.early.Laws.{sites_of_source}
-use Rattle.compiler.proofs.pass_proofs.frames.unnamed.Positions.{Becomes, FramedBy, Unchanged, stands_as}
-use Rattle.compiler.proofs.rule_laws.rules.known_labels.Known.{labels_known}
-use Rattle.compiler.proofs.rule_laws.rules.sources.Tables.{all_tabled}
-use Rattle.compiler.proofs.rule_laws.texts.named_texts.Placed.{locals_named, uses_named}
-use Rattle.compiler.proofs.whole.lowered_sources.Sources.{early_rules}
-use Rattle.compiler.specs.ir_base.declared.outcome.Place.{Place}
-use Rattle.compiler.specs.ir_model.Names.{function_at, function_named, no_function}
-use Rattle.compiler.specs.ir_model.declared.instr.Instr.{Instr}
-use Rattle.compiler.specs.ir_model.declared.module.Module.{Module}
-use Rattle.compiler.specs.ir_paths.declared.point.Point.{Point}
-use Rattle.compiler.specs.ir_model.declared.module.Function.{Function}
-use Rattle.compiler.specs.rule_laws.rules.function_rules.Kept.{KeepsFunctionRules}
+use Rattle.compiler_theorem.proofs.compiler.ir_laws.facts.Truth.{not_both}
+use Rattle.compiler_theorem.proofs.compiler.pass_proofs.early.elision.early.Laws.{sites_of_source}
+use Rattle.compiler_theorem.proofs.compiler.pass_proofs.frames.unnamed.Positions.{Becomes, FramedBy, Unchanged, stands_as}
+use Rattle.compiler_theorem.proofs.compiler.rule_laws.rules.known_labels.Known.{labels_known}
+use Rattle.compiler_theorem.proofs.compiler.rule_laws.rules.sources.Tables.{all_tabled}
+use Rattle.compiler_theorem.proofs.compiler.rule_laws.texts.named_texts.Placed.{locals_named, uses_named}
+use Rattle.compiler_theorem.proofs.compiler.whole.lowered_sources.Sources.{early_rules}
+use Rattle.compiler_theorem.specs.compiler.ir_base.declared.outcome.Place.{Place}
+use Rattle.compiler_theorem.specs.compiler.ir_model.Names.{function_at, function_named, no_function}
+use Rattle.compiler_theorem.specs.compiler.ir_model.declared.instr.Instr.{Instr}
+use Rattle.compiler_theorem.specs.compiler.ir_model.declared.module.Module.{Module}
+use Rattle.compiler_theorem.specs.compiler.ir_paths.declared.point.Point.{Point}
+use Rattle.compiler_theorem.specs.compiler.ir_model.declared.module.Function.{Function}
+use Rattle.compiler_theorem.specs.compiler.rule_laws.rules.function_rules.Kept.{KeepsFunctionRules}
 use Rattle.compiler_theorem.specs.theorem.Lowered.{IsLowered, Lowered, early}
 use Rattle.pass_elide_ready.specs.elide_sites.Destroyed.{FreesWhenDestroyed}
 use Rattle.pass_elide_ready.specs.elide_sites.Elidable.{IsElidable}
@@ -27,7 +27,7 @@ use Rattle.pass_elide_ready.specs.pass_elide_proof.Elision.{Elision, function_in
 use Rattle.pass_elide_ready.specs.pass_elide_proof.Invariant.{IsSiteOf}
 use Rattle.pass_elide_ready.proofs.SitesKept.{callee_elidable}
 use Rattle.pass_elide_ready.proofs.EdgeWays.{freed_by_ways, freed_over_edges}
-use Rattle.compiler.specs.pass_edges.EdgeBlocks.{with_edge_blocks}
+use Rattle.compiler_theorem.specs.compiler.pass_edges.EdgeBlocks.{with_edge_blocks}
 
 module _ (l : Lowered) (low : IsLowered l) where
   freed_by : (k : ℕ) (f g : Function) → slice_get (early l).functions k ≡ Some f

@@ -2,27 +2,27 @@
 use Rattle.std.proofs.Common.{◌≡◌, inl, inr, ℕ, zero, suc, ◌+◌, ◌<◌, ◌≤◌, ◌^◌, Bool, true, false, List, [], ◌∷◌, refl, sym, ap, ◌∙◌, subst, arith}
 use Rattle.std.specs.Prelude.{None, Option, Some, filter_map, find, option_and_then, option_map, option_to_list, slice_get, slice_index_or, unwrap_or, if◌then◌else◌, ◌==◌}
 use Rattle.std.specs.List.{cons_option}
-use Rattle.compiler.specs.flow_solver.Paths.{IsListed}
-use Rattle.compiler.specs.frame_contents.Held.{field_of, fields_of, index_field, slot_held}
-use Rattle.compiler.specs.frame_contents.declared.held.Holding.{Holding}
-use Rattle.compiler.specs.frame_good.Frames.{AreGood, AreInConflict, Coroutine, IsGoodFor, NoMore, Other}
-use Rattle.compiler.specs.frame_good.Good.{IsGoodLayout}
-use Rattle.compiler.specs.frame_layout.Layouts.{placed_or}
-use Rattle.compiler.specs.frame_layout.declared.layout.Field.{Field}
-use Rattle.compiler.specs.frame_layout.declared.layout.FieldKind.{FieldKind}
-use Rattle.compiler.specs.frame_layout.declared.layout.Layout.{Layout}
-use Rattle.compiler.specs.frame_layout.declared.layout.PlacedField.{PlacedField}
-use Rattle.compiler.specs.ir_base.declared.name.Name.{Name}
-use Rattle.compiler.specs.ir_model.Calls.{first_result}
-use Rattle.compiler.specs.ir_model.Ty.{Ty}
-use Rattle.compiler.specs.ir_model.declared.instr.Instr.{Instr}
-use Rattle.compiler.specs.ir_model.declared.operand.Intrinsic.{Intrinsic}
-use Rattle.compiler.specs.ir_model.declared.module.Function.{Function}
-use Rattle.compiler.specs.ir_model.declared.module.Module.{Module}
-use Rattle.compiler.specs.ir_paths.Slots.{has_name, promise_of}
-use Rattle.compiler.specs.run_framed.Framed.{is_frame_kind, is_promise_kind, layout_of, no_layout, promise_offset}
-use Rattle.compiler.specs.run_laws.changed.Changed.{Each}
-use Rattle.compiler.specs.run_source.declared.state.Instance.{Instance}
+use Rattle.compiler_theorem.specs.compiler.flow_solver.Paths.{IsListed}
+use Rattle.compiler_theorem.specs.compiler.frame_contents.Held.{field_of, fields_of, index_field, slot_held}
+use Rattle.compiler_theorem.specs.compiler.frame_contents.declared.held.Holding.{Holding}
+use Rattle.compiler_theorem.specs.compiler.frame_good.Frames.{AreGood, AreInConflict, Coroutine, IsGoodFor, NoMore, Other}
+use Rattle.compiler_theorem.specs.compiler.frame_good.Good.{IsGoodLayout}
+use Rattle.compiler_theorem.specs.compiler.frame_layout.Layouts.{placed_or}
+use Rattle.compiler_theorem.specs.compiler.frame_layout.declared.layout.Field.{Field}
+use Rattle.compiler_theorem.specs.compiler.frame_layout.declared.layout.FieldKind.{FieldKind}
+use Rattle.compiler_theorem.specs.compiler.frame_layout.declared.layout.Layout.{Layout}
+use Rattle.compiler_theorem.specs.compiler.frame_layout.declared.layout.PlacedField.{PlacedField}
+use Rattle.compiler_theorem.specs.compiler.ir_base.declared.name.Name.{Name}
+use Rattle.compiler_theorem.specs.compiler.ir_model.Calls.{first_result}
+use Rattle.compiler_theorem.specs.compiler.ir_model.Ty.{Ty}
+use Rattle.compiler_theorem.specs.compiler.ir_model.declared.instr.Instr.{Instr}
+use Rattle.compiler_theorem.specs.compiler.ir_model.declared.operand.Intrinsic.{Intrinsic}
+use Rattle.compiler_theorem.specs.compiler.ir_model.declared.module.Function.{Function}
+use Rattle.compiler_theorem.specs.compiler.ir_model.declared.module.Module.{Module}
+use Rattle.compiler_theorem.specs.compiler.ir_paths.Slots.{has_name, promise_of}
+use Rattle.compiler_theorem.specs.compiler.run_framed.Framed.{is_frame_kind, is_promise_kind, layout_of, no_layout, promise_offset}
+use Rattle.compiler_theorem.specs.compiler.run_laws.changed.Changed.{Each}
+use Rattle.compiler_theorem.specs.compiler.run_source.declared.state.Instance.{Instance}
 use Rattle.compiler_theorem.proofs.parts.Found.{promise_at_first}
 use Rattle.compiler_theorem.proofs.parts.Held.{held_each}
 use Rattle.compiler_theorem.proofs.theorem.Facts.{good_layouts}

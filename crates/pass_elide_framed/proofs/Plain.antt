@@ -2,16 +2,16 @@
 use Rattle.std.proofs.Common.{◌≡◌, ℕ, suc, Bool, false, List, [], ◌∷◌, refl, sym, ap, ◌∙◌}
 use Rattle.std.proofs.lemmas.Option.{slice_get-map}
 use Rattle.std.specs.Prelude.{None, Option, Some, map, option_map, slice_get, unwrap_or, if◌then◌else◌}
-use Rattle.compiler.proofs.ir_laws.facts.Truth.{not_both}
-use Rattle.compiler.proofs.pass_proofs.early.widths.Headings.{early_names}
-use Rattle.compiler.proofs.pass_proofs.frames.headings.Headings.{framed_names}
-use Rattle.compiler.proofs.pass_proofs.frames.unnamed.Positions.{Becomes, FramedBy, Unchanged, stands_as}
-use Rattle.compiler.specs.ir_base.declared.name.Name.{Name}
-use Rattle.compiler.specs.ir_laws.facts.same_names.Same.{naming}
-use Rattle.compiler.specs.ir_model.Names.{first_where, function_at, function_named, no_function, same_name}
-use Rattle.compiler.specs.ir_model.declared.module.Function.{Function}
-use Rattle.compiler.specs.pass_early.Early.{early_function, early_named}
-use Rattle.compiler.specs.pass_early.BeginName.{with_begin_name}
+use Rattle.compiler_theorem.proofs.compiler.ir_laws.facts.Truth.{not_both}
+use Rattle.compiler_theorem.proofs.compiler.pass_proofs.early.widths.Headings.{early_names}
+use Rattle.compiler_theorem.proofs.compiler.pass_proofs.frames.headings.Headings.{framed_names}
+use Rattle.compiler_theorem.proofs.compiler.pass_proofs.frames.unnamed.Positions.{Becomes, FramedBy, Unchanged, stands_as}
+use Rattle.compiler_theorem.specs.compiler.ir_base.declared.name.Name.{Name}
+use Rattle.compiler_theorem.specs.compiler.ir_laws.facts.same_names.Same.{naming}
+use Rattle.compiler_theorem.specs.compiler.ir_model.Names.{first_where, function_at, function_named, no_function, same_name}
+use Rattle.compiler_theorem.specs.compiler.ir_model.declared.module.Function.{Function}
+use Rattle.compiler_theorem.specs.compiler.pass_early.Early.{early_function, early_named}
+use Rattle.compiler_theorem.specs.compiler.pass_early.BeginName.{with_begin_name}
 use Rattle.compiler_theorem.specs.theorem.Lowered.{IsLowered, Lowered, early}
 
 named_alike : (x : Name) (fs gs : List Function) → map naming gs ≡ map naming fs

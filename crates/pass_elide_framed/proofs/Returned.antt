@@ -4,39 +4,39 @@ use Rattle.std.proofs.lemmas.Bool.{false≢true}
 use Rattle.std.proofs.lemmas.List.Folds.{list_any-append}
 use Rattle.std.specs.List.{list_all, list_any}
 use Rattle.std.specs.Prelude.{None, Option, Some, flat_map, not, slice_get, unwrap_or, if◌then◌else◌, ◌&&◌, ◌||◌}
-use Rattle.compiler.proofs.ir_laws.facts.Lists.{at_any as any_there}
-use Rattle.compiler.proofs.ir_laws.facts.Truth.{and_first, and_second, equal_numbers, itself, not_both}
-use Rattle.compiler.proofs.pass_proofs.edges.paths.Blocks.{spot}
-use Rattle.compiler.proofs.pass_proofs.edges.rules.Homes.{IsEdge, IsOwn, home, own_there}
-use Rattle.compiler.proofs.pass_proofs.frames.numbers.Numbers.{number_given}
-use Rattle.compiler.proofs.pass_proofs.frames.unnamed.Positions.{Becomes, FramedBy, Unchanged, stands_as}
-use Rattle.compiler.proofs.rule_laws.rules.path_rules.Holding.{of_parts}
-use Rattle.compiler.proofs.rule_laws.rules.renamed.Switches.{none_part}
-use Rattle.compiler.proofs.whole.lowered_sources.Coroutines.{IsFramedWell, framed_well}
-use Rattle.compiler.proofs.whole.lowered_sources.Sources.{early_others, early_rules, early_unused}
-use Rattle.compiler.specs.frame_layout.declared.layout.Layout.{Layout}
-use Rattle.compiler.specs.ir_model.Names.{function_at, is_local, no_function}
-use Rattle.compiler.specs.ir_model.declared.instr.Instr.{Instr}
-use Rattle.compiler.specs.ir_model.declared.instr.Terminator.{Terminator}
-use Rattle.compiler.specs.ir_model.declared.module.Block.{Block}
-use Rattle.compiler.specs.ir_model.declared.module.Function.{Function}
-use Rattle.compiler.specs.ir_model.declared.operand.Arg.{Arg}
-use Rattle.compiler.specs.ir_model.declared.operand.Intrinsic.{Intrinsic}
-use Rattle.compiler.specs.ir_model.declared.operand.Operand.{Operand}
-use Rattle.compiler.specs.ir_parts.Contents.{ending_operands, result_of}
-use Rattle.compiler.specs.ir_parts.Parts.{parts_of}
-use Rattle.compiler.specs.ir_paths.Paths.{targets}
-use Rattle.compiler.specs.ir_paths.Windows.{call_operand, call_result, instr_in, is_call_of}
-use Rattle.compiler.specs.pass_addresses.Placing.{slot_fetches}
-use Rattle.compiler.specs.pass_cells.Cells.{fetches_of}
-use Rattle.compiler.specs.pass_edges.EdgeBlocks.{split_term, with_edge_blocks}
-use Rattle.compiler.specs.pass_edges.Edges.{ends_in_suspend, phi_flags}
-use Rattle.compiler.specs.pass_fetch.Fetching.{fetch_of}
-use Rattle.compiler.specs.pass_fetch.declared.fetch.Fetch.{Fetch}
-use Rattle.compiler.specs.pass_frames.Framed.{IsFramedCoroutine, begin_of, layout_at}
-use Rattle.compiler.specs.rule_laws.rules.function_rules.Kept.{KeepsFunctionRules}
-use Rattle.compiler.specs.rule_laws.rules.unused.Unused.{is_other, names_value}
-use Rattle.compiler.specs.run_framed.Framed.{begin_name}
+use Rattle.compiler_theorem.proofs.compiler.ir_laws.facts.Lists.{at_any as any_there}
+use Rattle.compiler_theorem.proofs.compiler.ir_laws.facts.Truth.{and_first, and_second, equal_numbers, itself, not_both}
+use Rattle.compiler_theorem.proofs.compiler.pass_proofs.edges.paths.Blocks.{spot}
+use Rattle.compiler_theorem.proofs.compiler.pass_proofs.edges.rules.Homes.{IsEdge, IsOwn, home, own_there}
+use Rattle.compiler_theorem.proofs.compiler.pass_proofs.frames.numbers.Numbers.{number_given}
+use Rattle.compiler_theorem.proofs.compiler.pass_proofs.frames.unnamed.Positions.{Becomes, FramedBy, Unchanged, stands_as}
+use Rattle.compiler_theorem.proofs.compiler.rule_laws.rules.path_rules.Holding.{of_parts}
+use Rattle.compiler_theorem.proofs.compiler.rule_laws.rules.renamed.Switches.{none_part}
+use Rattle.compiler_theorem.proofs.compiler.whole.lowered_sources.Coroutines.{IsFramedWell, framed_well}
+use Rattle.compiler_theorem.proofs.compiler.whole.lowered_sources.Sources.{early_others, early_rules, early_unused}
+use Rattle.compiler_theorem.specs.compiler.frame_layout.declared.layout.Layout.{Layout}
+use Rattle.compiler_theorem.specs.compiler.ir_model.Names.{function_at, is_local, no_function}
+use Rattle.compiler_theorem.specs.compiler.ir_model.declared.instr.Instr.{Instr}
+use Rattle.compiler_theorem.specs.compiler.ir_model.declared.instr.Terminator.{Terminator}
+use Rattle.compiler_theorem.specs.compiler.ir_model.declared.module.Block.{Block}
+use Rattle.compiler_theorem.specs.compiler.ir_model.declared.module.Function.{Function}
+use Rattle.compiler_theorem.specs.compiler.ir_model.declared.operand.Arg.{Arg}
+use Rattle.compiler_theorem.specs.compiler.ir_model.declared.operand.Intrinsic.{Intrinsic}
+use Rattle.compiler_theorem.specs.compiler.ir_model.declared.operand.Operand.{Operand}
+use Rattle.compiler_theorem.specs.compiler.ir_parts.Contents.{ending_operands, result_of}
+use Rattle.compiler_theorem.specs.compiler.ir_parts.Parts.{parts_of}
+use Rattle.compiler_theorem.specs.compiler.ir_paths.Paths.{targets}
+use Rattle.compiler_theorem.specs.compiler.ir_paths.Windows.{call_operand, call_result, instr_in, is_call_of}
+use Rattle.compiler_theorem.specs.compiler.pass_addresses.Placing.{slot_fetches}
+use Rattle.compiler_theorem.specs.compiler.pass_cells.Cells.{fetches_of}
+use Rattle.compiler_theorem.specs.compiler.pass_edges.EdgeBlocks.{split_term, with_edge_blocks}
+use Rattle.compiler_theorem.specs.compiler.pass_edges.Edges.{ends_in_suspend, phi_flags}
+use Rattle.compiler_theorem.specs.compiler.pass_fetch.Fetching.{fetch_of}
+use Rattle.compiler_theorem.specs.compiler.pass_fetch.declared.fetch.Fetch.{Fetch}
+use Rattle.compiler_theorem.specs.compiler.pass_frames.Framed.{IsFramedCoroutine, begin_of, layout_at}
+use Rattle.compiler_theorem.specs.compiler.rule_laws.rules.function_rules.Kept.{KeepsFunctionRules}
+use Rattle.compiler_theorem.specs.compiler.rule_laws.rules.unused.Unused.{is_other, names_value}
+use Rattle.compiler_theorem.specs.compiler.run_framed.Framed.{begin_name}
 use Rattle.compiler_theorem.proofs.parts.Returned.{buildable, named}
 use Rattle.compiler_theorem.proofs.parts.Taken.{passes}
 use Rattle.compiler_theorem.specs.theorem.Lowered.{IsLowered, Lowered, early}
@@ -50,12 +50,12 @@ use Rattle.pass_elide_ready.specs.pass_elide_proof.CallersStack.{GivesBegin, Ret
 use Rattle.pass_elide_ready.specs.pass_elide_proof.Places.{instrs_in, instrs_of}
 use Rattle.pass_elide_ready.proofs.OneEnd.{begin_named, begins_alone}
 use Rattle.pass_elide_ready.specs.Ways.{SameEnd}
-use Rattle.pass_frames_meaning.proofs.begun.Begun.{begin_plain}
-use Rattle.pass_frames_meaning.proofs.pass_frames_proof.framings.Built.{framing_there}
-use Rattle.pass_frames_meaning.proofs.pass_frames_proof.pass_proofs.addresses.rules.Placed.{outside_unfetched}
-use Rattle.pass_frames_meaning.proofs.pass_frames_proof.pass_proofs.cells.rules.Planned.{unplaced_fetch}
-use Rattle.pass_frames_meaning.specs.pass_frames_proof.Framings.{IsFraming}
-use Rattle.pass_frames_meaning.specs.pass_frames_proof.Places.{Framing, framed, framing_of, marked, offsets, plan}
+use Rattle.compiler_theorem.proofs.pass_frames_meaning.begun.Begun.{begin_plain}
+use Rattle.compiler_theorem.proofs.pass_frames_meaning.pass_frames_proof.framings.Built.{framing_there}
+use Rattle.compiler_theorem.proofs.pass_frames_meaning.pass_frames_proof.pass_proofs.addresses.rules.Placed.{outside_unfetched}
+use Rattle.compiler_theorem.proofs.pass_frames_meaning.pass_frames_proof.pass_proofs.cells.rules.Planned.{unplaced_fetch}
+use Rattle.compiler_theorem.specs.pass_frames_meaning.pass_frames_proof.Framings.{IsFraming}
+use Rattle.compiler_theorem.specs.pass_frames_meaning.pass_frames_proof.Places.{Framing, framed, framing_of, marked, offsets, plan}
 
 -- ---- a ret of a name that isn't fetched stays
 

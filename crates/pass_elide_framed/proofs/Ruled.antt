@@ -1,21 +1,21 @@
 -- The framed form of an accepted source is ruled.
 use Rattle.std.proofs.Common.{◌≡◌, ℕ, Bool, true, false, length, refl, sym, subst}
 use Rattle.std.specs.Prelude.{Some, slice_get}
-use Rattle.compiler.proofs.ir_laws.facts.Members.{at_each, each_by}
-use Rattle.compiler.proofs.ir_laws.facts.Truth.{not_both}
-use Rattle.compiler.proofs.pass_proofs.frames.numbers.Numbers.{number_given}
-use Rattle.compiler.proofs.pass_proofs.frames.unnamed.Positions.{Becomes, FramedBy, StandsAs, Unchanged, stands_as}
-use Rattle.compiler.proofs.whole.exit_sources.Accepted.{exits_kept}
-use Rattle.compiler.proofs.whole.lowered_sources.Coroutines.{IsFramedWell, framed_well}
-use Rattle.compiler.proofs.whole.lowered_sources.Row.{is_ready}
-use Rattle.compiler.proofs.whole.lowered_sources.Sources.{comes_from}
-use Rattle.compiler.specs.cleanup.accepted.Ready.{IsReady}
-use Rattle.compiler.specs.ir_model.declared.module.Function.{Function}
-use Rattle.compiler.specs.ir_model.declared.module.TypeItem.{TypeItem}
-use Rattle.compiler.specs.pass_frames.Framed.{layout_at}
-use Rattle.compiler.specs.pass_proofs.exits.states.Exits.{AreExitsKept}
-use Rattle.compiler.specs.rule_laws.rules.function_rules.Kept.{KeepsFunctionRules}
-use Rattle.compiler.specs.run_laws.changed.Changed.{Each}
+use Rattle.compiler_theorem.proofs.compiler.ir_laws.facts.Members.{at_each, each_by}
+use Rattle.compiler_theorem.proofs.compiler.ir_laws.facts.Truth.{not_both}
+use Rattle.compiler_theorem.proofs.compiler.pass_proofs.frames.numbers.Numbers.{number_given}
+use Rattle.compiler_theorem.proofs.compiler.pass_proofs.frames.unnamed.Positions.{Becomes, FramedBy, StandsAs, Unchanged, stands_as}
+use Rattle.compiler_theorem.proofs.compiler.whole.exit_sources.Accepted.{exits_kept}
+use Rattle.compiler_theorem.proofs.compiler.whole.lowered_sources.Coroutines.{IsFramedWell, framed_well}
+use Rattle.compiler_theorem.proofs.compiler.whole.lowered_sources.Row.{is_ready}
+use Rattle.compiler_theorem.proofs.compiler.whole.lowered_sources.Sources.{comes_from}
+use Rattle.compiler_theorem.specs.compiler.cleanup.accepted.Ready.{IsReady}
+use Rattle.compiler_theorem.specs.compiler.ir_model.declared.module.Function.{Function}
+use Rattle.compiler_theorem.specs.compiler.ir_model.declared.module.TypeItem.{TypeItem}
+use Rattle.compiler_theorem.specs.compiler.pass_frames.Framed.{layout_at}
+use Rattle.compiler_theorem.specs.compiler.pass_proofs.exits.states.Exits.{AreExitsKept}
+use Rattle.compiler_theorem.specs.compiler.rule_laws.rules.function_rules.Kept.{KeepsFunctionRules}
+use Rattle.compiler_theorem.specs.compiler.run_laws.changed.Changed.{Each}
 use Rattle.compiler_theorem.proofs.narrow.Early.{early_narrow}
 use Rattle.compiler_theorem.proofs.narrow.Indices.{fields_small}
 use Rattle.compiler_theorem.proofs.narrow.Passes.{framed_narrow}

@@ -5,33 +5,33 @@ use Rattle.std.proofs.lemmas.List.{length-map}
 use Rattle.std.proofs.lemmas.Option.{slice_get-map}
 use Rattle.std.specs.List.{list_any}
 use Rattle.std.specs.Prelude.{None, Option, Some, map, option_map, slice_get, unwrap_or, ◌||◌, ◌==◌}
-use Rattle.compiler.proofs.pass_proofs.edges.shape.Kept.{switches_kept}
-use Rattle.compiler.proofs.pass_proofs.frames.numbers.Numbers.{number_given}
-use Rattle.compiler.proofs.whole.lowered_sources.Coroutines.{framed_well}
-use Rattle.compiler.proofs.whole.lowered_sources.Sources.{early_others, early_rules}
-use Rattle.compiler.specs.frame_layout.declared.layout.Layout.{Layout}
-use Rattle.compiler.specs.ir_model.Names.{first_where, position_of}
-use Rattle.compiler.specs.ir_model.declared.instr.Instr.{Instr}
-use Rattle.compiler.specs.ir_model.declared.instr.Terminator.{Terminator}
-use Rattle.compiler.specs.ir_model.declared.module.Block.{Block}
-use Rattle.compiler.specs.ir_model.declared.module.Function.{Function}
-use Rattle.compiler.specs.ir_model.declared.operand.Arg.{Arg}
-use Rattle.compiler.specs.ir_model.declared.operand.Intrinsic.{Intrinsic}
-use Rattle.compiler.specs.ir_paths.Paths.{targets}
-use Rattle.compiler.specs.ir_paths.Windows.{end_block, is_call_of, operand_at}
-use Rattle.compiler.specs.ir_model.Names.{same_intrinsic}
-use Rattle.compiler.specs.pass_edges.EdgeBlocks.{with_edge_blocks}
-use Rattle.compiler.specs.ir_model.declared.operand.Operand.{Operand}
-use Rattle.compiler.specs.pass_addresses.Placing.{slot_fetches}
-use Rattle.compiler.specs.pass_cells.Cells.{fetches_of}
-use Rattle.compiler.specs.pass_fetch.Fetching.{fetched_operand}
-use Rattle.compiler.specs.pass_fetch.Instrs.{fetched_term}
-use Rattle.compiler.specs.pass_fetch.declared.fetch.Fetch.{Fetch}
-use Rattle.compiler.specs.pass_frames.Framed.{IsFramedCoroutine, begin_of, celled, copied, layout_at, placed}
-use Rattle.compiler.specs.pass_front.Front.{with_allocas_first}
-use Rattle.compiler.specs.pass_proofs.flow_blocks.Kinds.{kind_in, kind_of}
-use Rattle.compiler.specs.rule_laws.rules.woven_shape.Calls.{first_named, is_shaping}
-use Rattle.compiler.specs.rule_shape.Switches.{wrong_switch}
+use Rattle.compiler_theorem.proofs.compiler.pass_proofs.edges.shape.Kept.{switches_kept}
+use Rattle.compiler_theorem.proofs.compiler.pass_proofs.frames.numbers.Numbers.{number_given}
+use Rattle.compiler_theorem.proofs.compiler.whole.lowered_sources.Coroutines.{framed_well}
+use Rattle.compiler_theorem.proofs.compiler.whole.lowered_sources.Sources.{early_others, early_rules}
+use Rattle.compiler_theorem.specs.compiler.frame_layout.declared.layout.Layout.{Layout}
+use Rattle.compiler_theorem.specs.compiler.ir_model.Names.{first_where, position_of}
+use Rattle.compiler_theorem.specs.compiler.ir_model.declared.instr.Instr.{Instr}
+use Rattle.compiler_theorem.specs.compiler.ir_model.declared.instr.Terminator.{Terminator}
+use Rattle.compiler_theorem.specs.compiler.ir_model.declared.module.Block.{Block}
+use Rattle.compiler_theorem.specs.compiler.ir_model.declared.module.Function.{Function}
+use Rattle.compiler_theorem.specs.compiler.ir_model.declared.operand.Arg.{Arg}
+use Rattle.compiler_theorem.specs.compiler.ir_model.declared.operand.Intrinsic.{Intrinsic}
+use Rattle.compiler_theorem.specs.compiler.ir_paths.Paths.{targets}
+use Rattle.compiler_theorem.specs.compiler.ir_paths.Windows.{end_block, is_call_of, operand_at}
+use Rattle.compiler_theorem.specs.compiler.ir_model.Names.{same_intrinsic}
+use Rattle.compiler_theorem.specs.compiler.pass_edges.EdgeBlocks.{with_edge_blocks}
+use Rattle.compiler_theorem.specs.compiler.ir_model.declared.operand.Operand.{Operand}
+use Rattle.compiler_theorem.specs.compiler.pass_addresses.Placing.{slot_fetches}
+use Rattle.compiler_theorem.specs.compiler.pass_cells.Cells.{fetches_of}
+use Rattle.compiler_theorem.specs.compiler.pass_fetch.Fetching.{fetched_operand}
+use Rattle.compiler_theorem.specs.compiler.pass_fetch.Instrs.{fetched_term}
+use Rattle.compiler_theorem.specs.compiler.pass_fetch.declared.fetch.Fetch.{Fetch}
+use Rattle.compiler_theorem.specs.compiler.pass_frames.Framed.{IsFramedCoroutine, begin_of, celled, copied, layout_at, placed}
+use Rattle.compiler_theorem.specs.compiler.pass_front.Front.{with_allocas_first}
+use Rattle.compiler_theorem.specs.compiler.pass_proofs.flow_blocks.Kinds.{kind_in, kind_of}
+use Rattle.compiler_theorem.specs.compiler.rule_laws.rules.woven_shape.Calls.{first_named, is_shaping}
+use Rattle.compiler_theorem.specs.compiler.rule_shape.Switches.{wrong_switch}
 use Rattle.compiler_theorem.proofs.parts.Chain.{StaysCalled}
 use Rattle.compiler_theorem.proofs.parts.Returned.{called}
 use Rattle.compiler_theorem.proofs.parts.Taken.{IsTold, end_told, front_ones, has_one, no_alloca_kind, no_alloca_passes, of_kind, one_kind, one_passes, passed as passed_call, passes, same_ones, save_told, suspend_told}
@@ -40,10 +40,10 @@ use Rattle.compiler_theorem.specs.theorem.Lowered.{IsLowered, Lowered, early}
 use Rattle.pass_elide_ready.specs.elide_sites.Destroyed.{has_at, has_in, is_stop}
 use Rattle.pass_elide_framed.proofs.EdgeKinds.{cases_of, edges_same, has_suspend, kind_by, kind_is}
 use Rattle.pass_elide_ready.specs.Ways.{HasSameEnds, HasSameWays, SameEnd}
-use Rattle.pass_frames_meaning.proofs.pass_frames_proof.code.Framed.{entry_made, others_made}
-use Rattle.pass_frames_meaning.specs.pass_frames_proof.Layers.{Layer, both, passed}
-use Rattle.pass_frames_meaning.specs.pass_frames_proof.Passes.{unmarked_at}
-use Rattle.pass_frames_meaning.specs.pass_frames_proof.Places.{Framing, addressing_layer, celled_layer, copied_layer, copying_layer, edged, entry_layer, framed, framing_of, loading_layer, marked, offsets, placed_layer, plan, unmarked_layer, writing_layer}
+use Rattle.compiler_theorem.proofs.pass_frames_meaning.pass_frames_proof.code.Framed.{entry_made, others_made}
+use Rattle.compiler_theorem.specs.pass_frames_meaning.pass_frames_proof.Layers.{Layer, both, passed}
+use Rattle.compiler_theorem.specs.pass_frames_meaning.pass_frames_proof.Passes.{unmarked_at}
+use Rattle.compiler_theorem.specs.pass_frames_meaning.pass_frames_proof.Places.{Framing, addressing_layer, celled_layer, copied_layer, copying_layer, edged, entry_layer, framed, framing_of, loading_layer, marked, offsets, placed_layer, plan, unmarked_layer, writing_layer}
 
 free_told : IsTold Intrinsic.CoroFree
 free_told = record { others = others; first = first }

@@ -1,20 +1,20 @@
 -- A terminator whose operands aren't fetched stays the same.
 use Rattle.std.proofs.Common.{◌≡◌, ℕ, zero, suc, List, refl, sym, ap, ◌∙◌}
 use Rattle.std.specs.Prelude.{None, Option, Some, slice_get}
-use Rattle.compiler.specs.ir_model.declared.instr.Terminator.{Terminator}
-use Rattle.compiler.specs.ir_model.declared.module.Block.{Block}
-use Rattle.compiler.specs.ir_model.declared.operand.Operand.{Operand}
-use Rattle.compiler.specs.pass_addresses.Placing.{slot_fetches}
-use Rattle.compiler.specs.pass_cells.Cells.{fetches_of}
-use Rattle.compiler.specs.pass_fetch.Fetching.{fetch_of, operand_by}
-use Rattle.compiler.specs.pass_fetch.Instrs.{fetched_term, term_operands}
-use Rattle.compiler.specs.pass_fetch.declared.fetch.Fetch.{Fetch}
-use Rattle.compiler.specs.pass_frames.Framed.{begin_of}
-use Rattle.compiler.specs.run_laws.changed.Changed.{Each}
-use Rattle.pass_frames_meaning.proofs.pass_frames_proof.code.Framed.{entry_made, others_made}
-use Rattle.pass_frames_meaning.specs.pass_frames_proof.Layers.{Layer, both, passed}
-use Rattle.pass_frames_meaning.specs.pass_frames_proof.Passes.{unmarked_at}
-use Rattle.pass_frames_meaning.specs.pass_frames_proof.Places.{Framing, addressing_layer, celled_layer, copied_layer, copying_layer, edged, entry_layer, framed, loading_layer, marked, offsets, placed_layer, plan, unmarked_layer, writing_layer}
+use Rattle.compiler_theorem.specs.compiler.ir_model.declared.instr.Terminator.{Terminator}
+use Rattle.compiler_theorem.specs.compiler.ir_model.declared.module.Block.{Block}
+use Rattle.compiler_theorem.specs.compiler.ir_model.declared.operand.Operand.{Operand}
+use Rattle.compiler_theorem.specs.compiler.pass_addresses.Placing.{slot_fetches}
+use Rattle.compiler_theorem.specs.compiler.pass_cells.Cells.{fetches_of}
+use Rattle.compiler_theorem.specs.compiler.pass_fetch.Fetching.{fetch_of, operand_by}
+use Rattle.compiler_theorem.specs.compiler.pass_fetch.Instrs.{fetched_term, term_operands}
+use Rattle.compiler_theorem.specs.compiler.pass_fetch.declared.fetch.Fetch.{Fetch}
+use Rattle.compiler_theorem.specs.compiler.pass_frames.Framed.{begin_of}
+use Rattle.compiler_theorem.specs.compiler.run_laws.changed.Changed.{Each}
+use Rattle.compiler_theorem.proofs.pass_frames_meaning.pass_frames_proof.code.Framed.{entry_made, others_made}
+use Rattle.compiler_theorem.specs.pass_frames_meaning.pass_frames_proof.Layers.{Layer, both, passed}
+use Rattle.compiler_theorem.specs.pass_frames_meaning.pass_frames_proof.Passes.{unmarked_at}
+use Rattle.compiler_theorem.specs.pass_frames_meaning.pass_frames_proof.Places.{Framing, addressing_layer, celled_layer, copied_layer, copying_layer, edged, entry_layer, framed, loading_layer, marked, offsets, placed_layer, plan, unmarked_layer, writing_layer}
 
 -- no operand is fetched
 abbrev pub AreBare : List (Option Fetch) → Terminator → Type 0

@@ -2,23 +2,23 @@
 use Rattle.std.proofs.Common.{◌≡◌, ℕ, true, false, length, refl, sym, ap, ◌∙◌, subst}
 use Rattle.std.proofs.lemmas.Bool.{false≢true}
 use Rattle.std.specs.Prelude.{None, Option, Some, slice_get, unwrap_or, if◌then◌else◌}
-use Rattle.compiler.proofs.ir_laws.facts.Truth.{not_both}
-use Rattle.compiler.proofs.pass_proofs.edges.paths.Blocks.{spot}
-use Rattle.compiler.proofs.pass_proofs.edges.rules.Homes.{own_block, own_there}
-use Rattle.compiler.proofs.pass_proofs.frames.unnamed.Positions.{Becomes, FramedBy, Unchanged, stands_as}
-use Rattle.compiler.proofs.whole.lowered_sources.Sources.{early_rules}
-use Rattle.compiler.specs.ir_base.declared.ops.Pred.{Pred}
-use Rattle.compiler.specs.ir_model.Names.{function_at, no_function}
-use Rattle.compiler.specs.ir_model.Ty.{Ty}
-use Rattle.compiler.specs.ir_model.declared.instr.Instr.{Instr}
-use Rattle.compiler.specs.ir_model.declared.instr.Terminator.{Terminator}
-use Rattle.compiler.specs.ir_model.declared.module.Block.{Block}
-use Rattle.compiler.specs.ir_model.declared.module.Function.{Function}
-use Rattle.compiler.specs.ir_model.declared.operand.Operand.{Operand}
-use Rattle.compiler.specs.pass_edges.EdgeBlocks.{with_edge_blocks}
-use Rattle.compiler.specs.pass_frames.Framed.{IsFramedCoroutine, layout_at}
-use Rattle.compiler.specs.rule_laws.rules.function_rules.Kept.{KeepsFunctionRules}
-use Rattle.compiler.specs.run_step.Step.{AtTerm, fetch}
+use Rattle.compiler_theorem.proofs.compiler.ir_laws.facts.Truth.{not_both}
+use Rattle.compiler_theorem.proofs.compiler.pass_proofs.edges.paths.Blocks.{spot}
+use Rattle.compiler_theorem.proofs.compiler.pass_proofs.edges.rules.Homes.{own_block, own_there}
+use Rattle.compiler_theorem.proofs.compiler.pass_proofs.frames.unnamed.Positions.{Becomes, FramedBy, Unchanged, stands_as}
+use Rattle.compiler_theorem.proofs.compiler.whole.lowered_sources.Sources.{early_rules}
+use Rattle.compiler_theorem.specs.compiler.ir_base.declared.ops.Pred.{Pred}
+use Rattle.compiler_theorem.specs.compiler.ir_model.Names.{function_at, no_function}
+use Rattle.compiler_theorem.specs.compiler.ir_model.Ty.{Ty}
+use Rattle.compiler_theorem.specs.compiler.ir_model.declared.instr.Instr.{Instr}
+use Rattle.compiler_theorem.specs.compiler.ir_model.declared.instr.Terminator.{Terminator}
+use Rattle.compiler_theorem.specs.compiler.ir_model.declared.module.Block.{Block}
+use Rattle.compiler_theorem.specs.compiler.ir_model.declared.module.Function.{Function}
+use Rattle.compiler_theorem.specs.compiler.ir_model.declared.operand.Operand.{Operand}
+use Rattle.compiler_theorem.specs.compiler.pass_edges.EdgeBlocks.{with_edge_blocks}
+use Rattle.compiler_theorem.specs.compiler.pass_frames.Framed.{IsFramedCoroutine, layout_at}
+use Rattle.compiler_theorem.specs.compiler.rule_laws.rules.function_rules.Kept.{KeepsFunctionRules}
+use Rattle.compiler_theorem.specs.compiler.run_step.Step.{AtTerm, fetch}
 use Rattle.compiler_theorem.specs.theorem.Lowered.{IsLowered, Lowered, early}
 use Rattle.pass_elide_framed.proofs.Branched.{stays_branch}
 use Rattle.pass_elide_framed.proofs.Plain.{none_early}

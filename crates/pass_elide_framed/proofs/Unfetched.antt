@@ -2,34 +2,34 @@
 use Rattle.std.proofs.Common.{◌≡◌, ⊎_elim, inl, inr, ℕ, ◌+◌, ◌<◌, ◌≤◌, Bool, true, false, List, length, refl, sym, ap, ◌∙◌, subst, arith}
 use Rattle.std.proofs.lemmas.Bool.{false≢true}
 use Rattle.std.specs.Prelude.{None, Option, Some, slice_get, unwrap_or}
-use Rattle.compiler.proofs.pass_proofs.cells.rules.Keeping.{keeping_is}
-use Rattle.compiler.proofs.pass_proofs.frames.begin_order.Framed.{in_either, old_slot, slot_alloca}
-use Rattle.compiler.proofs.rule_laws.rules.source_rules.Slots.{alloca_of}
-use Rattle.compiler.specs.flow_solver.Paths.{IsListed}
-use Rattle.compiler.specs.frame_classes.declared.class.SlotClass.{SlotClass}
-use Rattle.compiler.specs.frame_crossing.Crossing.{AreCrossed, AreCrossing, CrossedBy, Crosses}
-use Rattle.compiler.specs.ir_model.declared.instr.Instr.{Instr}
-use Rattle.compiler.specs.ir_model.declared.module.Block.{Block}
-use Rattle.compiler.specs.ir_model.declared.operand.Operand.{Operand}
-use Rattle.compiler.specs.ir_parts.Contents.{result_of}
-use Rattle.compiler.specs.ir_paths.Slots.{allocas_of}
-use Rattle.compiler.specs.ir_paths.Windows.{instr_at, instr_in}
-use Rattle.compiler.specs.ir_paths.declared.point.Point.{Point}
-use Rattle.compiler.specs.pass_addresses.Placing.{slot_fetches}
-use Rattle.compiler.specs.pass_cells.Cells.{fetches_of}
-use Rattle.compiler.specs.pass_cells.Kept.{entry, keeping_of}
-use Rattle.compiler.specs.pass_fetch.Fetching.{fetch_of}
-use Rattle.compiler.specs.pass_frames.Framed.{begin_of}
-use Rattle.compiler.specs.pass_front.Front.{is_alloca}
-use Rattle.compiler.specs.pass_proofs.addresses.rules.Addresses.{lies_in_frame}
-use Rattle.compiler.specs.pass_proofs.frames.begin_order.Fields.{IsField, values_kept}
+use Rattle.compiler_theorem.proofs.compiler.pass_proofs.cells.rules.Keeping.{keeping_is}
+use Rattle.compiler_theorem.proofs.compiler.pass_proofs.frames.begin_order.Framed.{in_either, old_slot, slot_alloca}
+use Rattle.compiler_theorem.proofs.compiler.rule_laws.rules.source_rules.Slots.{alloca_of}
+use Rattle.compiler_theorem.specs.compiler.flow_solver.Paths.{IsListed}
+use Rattle.compiler_theorem.specs.compiler.frame_classes.declared.class.SlotClass.{SlotClass}
+use Rattle.compiler_theorem.specs.compiler.frame_crossing.Crossing.{AreCrossed, AreCrossing, CrossedBy, Crosses}
+use Rattle.compiler_theorem.specs.compiler.ir_model.declared.instr.Instr.{Instr}
+use Rattle.compiler_theorem.specs.compiler.ir_model.declared.module.Block.{Block}
+use Rattle.compiler_theorem.specs.compiler.ir_model.declared.operand.Operand.{Operand}
+use Rattle.compiler_theorem.specs.compiler.ir_parts.Contents.{result_of}
+use Rattle.compiler_theorem.specs.compiler.ir_paths.Slots.{allocas_of}
+use Rattle.compiler_theorem.specs.compiler.ir_paths.Windows.{instr_at, instr_in}
+use Rattle.compiler_theorem.specs.compiler.ir_paths.declared.point.Point.{Point}
+use Rattle.compiler_theorem.specs.compiler.pass_addresses.Placing.{slot_fetches}
+use Rattle.compiler_theorem.specs.compiler.pass_cells.Cells.{fetches_of}
+use Rattle.compiler_theorem.specs.compiler.pass_cells.Kept.{entry, keeping_of}
+use Rattle.compiler_theorem.specs.compiler.pass_fetch.Fetching.{fetch_of}
+use Rattle.compiler_theorem.specs.compiler.pass_frames.Framed.{begin_of}
+use Rattle.compiler_theorem.specs.compiler.pass_front.Front.{is_alloca}
+use Rattle.compiler_theorem.specs.compiler.pass_proofs.addresses.rules.Addresses.{lies_in_frame}
+use Rattle.compiler_theorem.specs.compiler.pass_proofs.frames.begin_order.Fields.{IsField, values_kept}
 use Rattle.pass_elide_ready.proofs.EdgeRows.{listed_either}
-use Rattle.pass_frames_meaning.proofs.others.Names.{once, result_low}
-use Rattle.pass_frames_meaning.proofs.pass_frames_proof.pass_proofs.addresses.rules.Placed.{outside_unfetched}
-use Rattle.pass_frames_meaning.proofs.pass_frames_proof.pass_proofs.cells.rules.Planned.{unplaced_fetch}
-use Rattle.pass_frames_meaning.specs.pass_frames_proof.Framings.{IsFraming}
-use Rattle.pass_frames_meaning.specs.pass_frames_proof.Passes.{no_block}
-use Rattle.pass_frames_meaning.specs.pass_frames_proof.Places.{Framing, edged, offsets, plan, with_copies}
+use Rattle.compiler_theorem.proofs.pass_frames_meaning.others.Names.{once, result_low}
+use Rattle.compiler_theorem.proofs.pass_frames_meaning.pass_frames_proof.pass_proofs.addresses.rules.Placed.{outside_unfetched}
+use Rattle.compiler_theorem.proofs.pass_frames_meaning.pass_frames_proof.pass_proofs.cells.rules.Planned.{unplaced_fetch}
+use Rattle.compiler_theorem.specs.pass_frames_meaning.pass_frames_proof.Framings.{IsFraming}
+use Rattle.compiler_theorem.specs.pass_frames_meaning.pass_frames_proof.Passes.{no_block}
+use Rattle.compiler_theorem.specs.pass_frames_meaning.pass_frames_proof.Places.{Framing, edged, offsets, plan, with_copies}
 
 -- ---- values that are listed cross a suspend
 

@@ -1,6 +1,6 @@
 -- The framed form of an accepted source, with sites of the source at which calls give frames.
 use Rattle.std.specs.Prelude.{◌≡◌, ℕ}
-use Rattle.compiler.specs.ir_model.Names.{function_at}
+use Rattle.compiler_theorem.specs.compiler.ir_model.Names.{function_at}
 use Rattle.compiler_theorem.specs.theorem.Lowered.{HasFewBytes, IsLowered, Lowered, early}
 use Rattle.pass_elide_ready.specs.elide_sites.Elidable.{IsElidable}
 use Rattle.pass_elide_ready.specs.elide_sites.Sites.{AreSites}

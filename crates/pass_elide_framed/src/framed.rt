@@ -1,15 +1,15 @@
 //! What the framed form of an accepted source keeps: rules, and what isn't framed.
 
-ghost use Rattle.compiler.specs.ir_base.declared.name.Name.{Name};
-ghost use Rattle.compiler.specs.ir_base.declared.ops.Pred.{Pred};
-ghost use Rattle.compiler.specs.ir_model.Names.{function_at, function_named};
-ghost use Rattle.compiler.specs.ir_model.Ty.{Ty};
-ghost use Rattle.compiler.specs.ir_model.declared.instr.Instr.{Instr};
-ghost use Rattle.compiler.specs.ir_model.declared.module.Block.{Block};
-ghost use Rattle.compiler.specs.ir_model.declared.operand.Intrinsic.{Intrinsic};
-ghost use Rattle.compiler.specs.ir_model.declared.operand.Operand.{Operand};
-ghost use Rattle.compiler.specs.ir_paths.Windows.{is_call_of, points_where};
-ghost use Rattle.compiler.specs.ir_paths.declared.point.Point.{Point};
+ghost use Rattle.compiler_theorem.specs.compiler.ir_base.declared.name.Name.{Name};
+ghost use Rattle.compiler_theorem.specs.compiler.ir_base.declared.ops.Pred.{Pred};
+ghost use Rattle.compiler_theorem.specs.compiler.ir_model.Names.{function_at, function_named};
+ghost use Rattle.compiler_theorem.specs.compiler.ir_model.Ty.{Ty};
+ghost use Rattle.compiler_theorem.specs.compiler.ir_model.declared.instr.Instr.{Instr};
+ghost use Rattle.compiler_theorem.specs.compiler.ir_model.declared.module.Block.{Block};
+ghost use Rattle.compiler_theorem.specs.compiler.ir_model.declared.operand.Intrinsic.{Intrinsic};
+ghost use Rattle.compiler_theorem.specs.compiler.ir_model.declared.operand.Operand.{Operand};
+ghost use Rattle.compiler_theorem.specs.compiler.ir_paths.Windows.{is_call_of, points_where};
+ghost use Rattle.compiler_theorem.specs.compiler.ir_paths.declared.point.Point.{Point};
 ghost use Rattle.compiler_theorem.specs.theorem.Lowered.{HasFewBytes, IsLowered, Lowered, early};
 ghost use Rattle.pass_elide_ready.specs.elide_shape.Calls.{value_at};
 ghost use Rattle.pass_elide_ready.specs.elide_shape.Frames.{rets_give_frame};
@@ -17,8 +17,8 @@ ghost use Rattle.pass_elide_ready.specs.elide_shape.Frees.{is_tested_next};
 ghost use Rattle.pass_elide_ready.specs.elide_shape.Guard.{is_guarded};
 ghost use Rattle.pass_elide_ready.specs.elide_sites.Destroyed.{FreesWhenDestroyed};
 ghost use Rattle.pass_elide_ready.specs.elide_sites.Sites.{AreSites, callee_in};
-ghost use Rattle.compiler.specs.run_framed.Framed.{promise_offset};
-ghost use Rattle.compiler.specs.run_source.declared.state.Instance.{Instance};
+ghost use Rattle.compiler_theorem.specs.compiler.run_framed.Framed.{promise_offset};
+ghost use Rattle.compiler_theorem.specs.compiler.run_source.declared.state.Instance.{Instance};
 ghost use Rattle.pass_elide_ready.specs.pass_elide_proof.CallersStack.{ReturnsFrame};
 ghost use Rattle.pass_elide_ready.specs.pass_elide_proof.Elision.{Elision, framed, function_in};
 ghost use Rattle.pass_elide_ready.specs.pass_elide_proof.Invariant.{IsSiteOf};

@@ -5,9 +5,9 @@ use Rattle.pass_elide_proof.proofs.Addresses.{twin_back}
 use Rattle.pass_elide_proof.specs.Calling.{AreReady}
 use Rattle.pass_elide_proof.specs.Elision.{Elision}
 use Rattle.pass_elide_proof.specs.Match.{AreBelow, AreElided, AreModes, Sides, sides as both_sides}
-use Rattle.pass_proofs.specs.run_laws.memory.Pointers.{Home}
-use Rattle.pass_proofs.specs.run_source.declared.state.Instance.{Instance}
-use Rattle.pass_proofs.specs.run_source.declared.state.State.{State}
+use Rattle.pass_elide_proof.specs.pass_proofs.run_laws.memory.Pointers.{Home}
+use Rattle.pass_elide_proof.specs.pass_proofs.run_source.declared.state.Instance.{Instance}
+use Rattle.pass_elide_proof.specs.pass_proofs.run_source.declared.state.State.{State}
 
 -- what of the two states is looked at
 pub record HasBeside (e : Elision) (s t : State) : Type 0 where

@@ -9,9 +9,9 @@ use Rattle.pass_elide_proof.specs.Invariant.{HaveCallers}
 use Rattle.pass_elide_proof.specs.Match.{AreElided}
 use Rattle.pass_elide_proof.specs.Placing.{KeepsPlaces}
 use Rattle.pass_elide_proof.specs.Stepping.{IsKnownStep, steps_of}
-use Rattle.pass_proofs.specs.run_agreement.Machines.{IsFine, iterate}
-use Rattle.pass_proofs.specs.run_framed.Framed.{framed_step}
-use Rattle.pass_proofs.specs.run_source.declared.state.State.{State}
+use Rattle.pass_elide_proof.specs.pass_proofs.run_agreement.Machines.{IsFine, iterate}
+use Rattle.pass_elide_proof.specs.pass_proofs.run_framed.Framed.{framed_step}
+use Rattle.pass_elide_proof.specs.pass_proofs.run_source.declared.state.State.{State}
 use Rattle.pass_elide_kept.proofs.Stepped.{steps_keep}
 use Rattle.pass_elide_kept.proofs.Fronted.{fronts_known}
 use Rattle.pass_elide_kept.proofs.KnownCalls.{stays_known}

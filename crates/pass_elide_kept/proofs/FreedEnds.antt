@@ -9,8 +9,8 @@ use Rattle.pass_elide_proof.specs.Elision.{Elision, framed, function_in}
 use Rattle.pass_elide_proof.specs.Placing.{HasShape}
 use Rattle.pass_elide_proof.specs.Releasing.{FreesAtOnce, HaveReleased}
 use Rattle.pass_elide_proof.specs.Sound.{IsSoundState}
-use Rattle.pass_proofs.specs.run_source.declared.state.Instance.{Instance}
-use Rattle.pass_proofs.specs.run_source.declared.state.State.{State}
+use Rattle.pass_elide_proof.specs.pass_proofs.run_source.declared.state.Instance.{Instance}
+use Rattle.pass_elide_proof.specs.pass_proofs.run_source.declared.state.State.{State}
 
 pub ends_freed : (e : Elision) (s : State) → IsSoundState (framed e) s → HaveReleased e s
     → DestroysAreToFree e.code s → EndsInBlock e s.top.func

@@ -20,34 +20,34 @@ use Rattle.pass_elide_proof.specs.Callers.{KeepsFrames, StandsAtInstr, WasBefore
 use Rattle.pass_elide_proof.specs.Elision.{Elision, elided, function_in}
 use Rattle.pass_elide_proof.specs.Invariant.{AreGivenBy, IsGivenBy}
 use Rattle.pass_elide_proof.specs.Returning.{HaveOwnSlots, IsAllocaKind}
-use Rattle.pass_proofs.proofs.ir_laws.facts.Lists.{get_within, of_row, set_at}
-use Rattle.pass_proofs.proofs.ir_laws.facts.Truth.{and_first, and_second, equal_numbers}
-use Rattle.pass_proofs.proofs.run_laws.memory.Written.{changed_here}
-use Rattle.pass_proofs.specs.ir_base.declared.cause.Cause.{Cause}
-use Rattle.pass_proofs.specs.ir_model.Ty.{Ty}
-use Rattle.pass_proofs.specs.ir_model.declared.instr.Instr.{Instr}
-use Rattle.pass_proofs.specs.ir_model.declared.operand.Arg.{Arg}
-use Rattle.pass_proofs.specs.ir_model.declared.operand.Callee.{Callee}
-use Rattle.pass_proofs.specs.ir_model.declared.operand.Intrinsic.{Intrinsic}
-use Rattle.pass_proofs.specs.run_agreement.Machines.{IsFine}
-use Rattle.pass_proofs.specs.run_framed.Framed.{are_finished_at, begin_given_at, begin_in_block, begin_in_frame, frame_around, framed_begin, framed_step, has_room, has_size, is_given, is_stack_block}
-use Rattle.pass_proofs.specs.run_laws.changed.Changed.{Each}
-use Rattle.pass_proofs.specs.run_memory.Memory.{check, is_live, may_be_owned, owned_to, same_kind, with_block}
-use Rattle.pass_proofs.specs.run_memory.Pointers.{offset_of}
-use Rattle.pass_proofs.specs.run_memory.declared.block.Kind.{Kind}
-use Rattle.pass_proofs.specs.run_memory.declared.block.MemoryBlock.{MemoryBlock}
-use Rattle.pass_proofs.specs.run_memory.declared.pointer.Pointer.{Pointer}
-use Rattle.pass_proofs.specs.run_memory.declared.pointer.Value.{Value}
-use Rattle.pass_proofs.specs.run_source.Source.{begin_at, begun, is_live_at}
-use Rattle.pass_proofs.specs.run_source.State.{began_at, gives, own_frame, with_memory, address_in}
-use Rattle.pass_proofs.specs.run_source.declared.state.Activation.{Activation}
-use Rattle.pass_proofs.specs.run_source.declared.state.Instance.{Instance}
-use Rattle.pass_proofs.specs.run_source.declared.state.Mode.{Mode}
-use Rattle.pass_proofs.specs.run_source.declared.state.State.{State}
-use Rattle.pass_proofs.specs.run_source.declared.state.Status.{Status}
-use Rattle.pass_proofs.specs.run_step.Results.{and_then, ok_if}
-use Rattle.pass_proofs.specs.run_step.Values.{arg_values, nth, pointer_to}
-use Rattle.pass_proofs.specs.run_step.declared.world.Slot.{Slot}
+use Rattle.pass_elide_proof.proofs.pass_proofs.ir_laws.facts.Lists.{get_within, of_row, set_at}
+use Rattle.pass_elide_proof.proofs.pass_proofs.ir_laws.facts.Truth.{and_first, and_second, equal_numbers}
+use Rattle.pass_elide_proof.proofs.pass_proofs.run_laws.memory.Written.{changed_here}
+use Rattle.pass_elide_proof.specs.pass_proofs.ir_base.declared.cause.Cause.{Cause}
+use Rattle.pass_elide_proof.specs.pass_proofs.ir_model.Ty.{Ty}
+use Rattle.pass_elide_proof.specs.pass_proofs.ir_model.declared.instr.Instr.{Instr}
+use Rattle.pass_elide_proof.specs.pass_proofs.ir_model.declared.operand.Arg.{Arg}
+use Rattle.pass_elide_proof.specs.pass_proofs.ir_model.declared.operand.Callee.{Callee}
+use Rattle.pass_elide_proof.specs.pass_proofs.ir_model.declared.operand.Intrinsic.{Intrinsic}
+use Rattle.pass_elide_proof.specs.pass_proofs.run_agreement.Machines.{IsFine}
+use Rattle.pass_elide_proof.specs.pass_proofs.run_framed.Framed.{are_finished_at, begin_given_at, begin_in_block, begin_in_frame, frame_around, framed_begin, framed_step, has_room, has_size, is_given, is_stack_block}
+use Rattle.pass_elide_proof.specs.pass_proofs.run_laws.changed.Changed.{Each}
+use Rattle.pass_elide_proof.specs.pass_proofs.run_memory.Memory.{check, is_live, may_be_owned, owned_to, same_kind, with_block}
+use Rattle.pass_elide_proof.specs.pass_proofs.run_memory.Pointers.{offset_of}
+use Rattle.pass_elide_proof.specs.pass_proofs.run_memory.declared.block.Kind.{Kind}
+use Rattle.pass_elide_proof.specs.pass_proofs.run_memory.declared.block.MemoryBlock.{MemoryBlock}
+use Rattle.pass_elide_proof.specs.pass_proofs.run_memory.declared.pointer.Pointer.{Pointer}
+use Rattle.pass_elide_proof.specs.pass_proofs.run_memory.declared.pointer.Value.{Value}
+use Rattle.pass_elide_proof.specs.pass_proofs.run_source.Source.{begin_at, begun, is_live_at}
+use Rattle.pass_elide_proof.specs.pass_proofs.run_source.State.{began_at, gives, own_frame, with_memory, address_in}
+use Rattle.pass_elide_proof.specs.pass_proofs.run_source.declared.state.Activation.{Activation}
+use Rattle.pass_elide_proof.specs.pass_proofs.run_source.declared.state.Instance.{Instance}
+use Rattle.pass_elide_proof.specs.pass_proofs.run_source.declared.state.Mode.{Mode}
+use Rattle.pass_elide_proof.specs.pass_proofs.run_source.declared.state.State.{State}
+use Rattle.pass_elide_proof.specs.pass_proofs.run_source.declared.state.Status.{Status}
+use Rattle.pass_elide_proof.specs.pass_proofs.run_step.Results.{and_then, ok_if}
+use Rattle.pass_elide_proof.specs.pass_proofs.run_step.Values.{arg_values, nth, pointer_to}
+use Rattle.pass_elide_proof.specs.pass_proofs.run_step.declared.world.Slot.{Slot}
 
 -- ---- one instance more
 

@@ -10,17 +10,17 @@ use Rattle.pass_elide_proof.specs.Invariant.{Below, HasCaller, Here, Holds, IsCa
 use Rattle.pass_elide_proof.specs.Match.{AreActivations, AreBelow, AreElided, HasAlloca, Sides, sides, was_given}
 use Rattle.pass_elide_proof.specs.Places.{allocas_ahead, front_at, name_at}
 use Rattle.pass_elide_proof.specs.Placing.{KeepsPlaces}
-use Rattle.pass_proofs.specs.ir_model.Ty.{array, int}
-use Rattle.pass_proofs.specs.ir_model.declared.instr.Instr.{Instr}
-use Rattle.pass_proofs.specs.ir_paths.declared.point.Point.{Point}
-use Rattle.pass_proofs.specs.run_laws.changed.Changed.{Each}
-use Rattle.pass_proofs.specs.run_laws.memory.Pointers.{Home}
-use Rattle.pass_proofs.specs.run_memory.Memory.{is_live}
-use Rattle.pass_proofs.specs.run_memory.declared.block.MemoryBlock.{MemoryBlock}
-use Rattle.pass_proofs.specs.run_source.declared.state.Activation.{Activation}
-use Rattle.pass_proofs.specs.run_source.declared.state.Instance.{Instance}
-use Rattle.pass_proofs.specs.run_source.declared.state.State.{State}
-use Rattle.pass_proofs.specs.run_step.Values.{pointer_to, value_in}
+use Rattle.pass_elide_proof.specs.pass_proofs.ir_model.Ty.{array, int}
+use Rattle.pass_elide_proof.specs.pass_proofs.ir_model.declared.instr.Instr.{Instr}
+use Rattle.pass_elide_proof.specs.pass_proofs.ir_paths.declared.point.Point.{Point}
+use Rattle.pass_elide_proof.specs.pass_proofs.run_laws.changed.Changed.{Each}
+use Rattle.pass_elide_proof.specs.pass_proofs.run_laws.memory.Pointers.{Home}
+use Rattle.pass_elide_proof.specs.pass_proofs.run_memory.Memory.{is_live}
+use Rattle.pass_elide_proof.specs.pass_proofs.run_memory.declared.block.MemoryBlock.{MemoryBlock}
+use Rattle.pass_elide_proof.specs.pass_proofs.run_source.declared.state.Activation.{Activation}
+use Rattle.pass_elide_proof.specs.pass_proofs.run_source.declared.state.Instance.{Instance}
+use Rattle.pass_elide_proof.specs.pass_proofs.run_source.declared.state.State.{State}
+use Rattle.pass_elide_proof.specs.pass_proofs.run_step.Values.{pointer_to, value_in}
 
 holds_too : (e : Elision) (y : Instance) (number : ℕ) (call : Point) (i : Instr) (c : Activation)
     (above : Option Activation) (aboves : List Activation) → Keeps e y number call i c above

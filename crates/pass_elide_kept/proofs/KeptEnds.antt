@@ -18,26 +18,26 @@ use Rattle.pass_elide_proof.specs.CallersStack.{AreCalled, KeepAllHandles}
 use Rattle.pass_elide_proof.specs.Elision.{Elision, elided, function_in}
 use Rattle.pass_elide_proof.specs.Invariant.{IsDestroying, AreGivenBy}
 use Rattle.pass_elide_proof.specs.OwnSlots.{HaveNoSlots}
-use Rattle.pass_proofs.proofs.ir_laws.facts.Lists.{get_within, set_here}
-use Rattle.pass_proofs.specs.ir_model.Ty.{Ty}
-use Rattle.pass_proofs.specs.ir_model.declared.instr.Instr.{Instr}
-use Rattle.pass_proofs.specs.ir_model.declared.operand.Arg.{Arg}
-use Rattle.pass_proofs.specs.ir_model.declared.operand.Callee.{Callee}
-use Rattle.pass_proofs.specs.ir_model.declared.operand.Intrinsic.{Intrinsic}
-use Rattle.pass_proofs.specs.run_agreement.Machines.{IsFine}
-use Rattle.pass_proofs.specs.run_framed.Framed.{disown_given, framed_finish, framed_step, is_given, is_stack_block}
-use Rattle.pass_proofs.specs.run_memory.Memory.{disown, disowned}
-use Rattle.pass_proofs.specs.run_memory.declared.block.MemoryBlock.{MemoryBlock}
-use Rattle.pass_proofs.specs.run_memory.declared.pointer.Value.{Value}
-use Rattle.pass_proofs.specs.run_source.Source.{after_end, change_own, return, slots_of}
-use Rattle.pass_proofs.specs.run_source.State.{is_finished, own_instance, with_memory}
-use Rattle.pass_proofs.specs.run_source.declared.state.Activation.{Activation}
-use Rattle.pass_proofs.specs.run_source.declared.state.Instance.{Instance}
-use Rattle.pass_proofs.specs.run_source.declared.state.Mode.{Mode}
-use Rattle.pass_proofs.specs.run_source.declared.state.State.{State}
-use Rattle.pass_proofs.specs.run_source.declared.state.Status.{Status}
-use Rattle.pass_proofs.specs.run_step.Step.{without_slots}
-use Rattle.pass_proofs.specs.run_step.declared.world.Slot.{Slot}
+use Rattle.pass_elide_proof.proofs.pass_proofs.ir_laws.facts.Lists.{get_within, set_here}
+use Rattle.pass_elide_proof.specs.pass_proofs.ir_model.Ty.{Ty}
+use Rattle.pass_elide_proof.specs.pass_proofs.ir_model.declared.instr.Instr.{Instr}
+use Rattle.pass_elide_proof.specs.pass_proofs.ir_model.declared.operand.Arg.{Arg}
+use Rattle.pass_elide_proof.specs.pass_proofs.ir_model.declared.operand.Callee.{Callee}
+use Rattle.pass_elide_proof.specs.pass_proofs.ir_model.declared.operand.Intrinsic.{Intrinsic}
+use Rattle.pass_elide_proof.specs.pass_proofs.run_agreement.Machines.{IsFine}
+use Rattle.pass_elide_proof.specs.pass_proofs.run_framed.Framed.{disown_given, framed_finish, framed_step, is_given, is_stack_block}
+use Rattle.pass_elide_proof.specs.pass_proofs.run_memory.Memory.{disown, disowned}
+use Rattle.pass_elide_proof.specs.pass_proofs.run_memory.declared.block.MemoryBlock.{MemoryBlock}
+use Rattle.pass_elide_proof.specs.pass_proofs.run_memory.declared.pointer.Value.{Value}
+use Rattle.pass_elide_proof.specs.pass_proofs.run_source.Source.{after_end, change_own, return, slots_of}
+use Rattle.pass_elide_proof.specs.pass_proofs.run_source.State.{is_finished, own_instance, with_memory}
+use Rattle.pass_elide_proof.specs.pass_proofs.run_source.declared.state.Activation.{Activation}
+use Rattle.pass_elide_proof.specs.pass_proofs.run_source.declared.state.Instance.{Instance}
+use Rattle.pass_elide_proof.specs.pass_proofs.run_source.declared.state.Mode.{Mode}
+use Rattle.pass_elide_proof.specs.pass_proofs.run_source.declared.state.State.{State}
+use Rattle.pass_elide_proof.specs.pass_proofs.run_source.declared.state.Status.{Status}
+use Rattle.pass_elide_proof.specs.pass_proofs.run_step.Step.{without_slots}
+use Rattle.pass_elide_proof.specs.pass_proofs.run_step.declared.world.Slot.{Slot}
 
 module _ (e : Elision) (z t : State) (at : ℕ) (result : Option ℕ) (must_tail : Bool) (ty : Option Ty)
     (args : List Arg) (k : StandsAtCall e t at Intrinsic.CoroEnd result must_tail ty args)

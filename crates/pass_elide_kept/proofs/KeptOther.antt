@@ -23,29 +23,29 @@ use Rattle.pass_elide_proof.specs.Callers.{GoesOnAs, HaveBlocks, StandsAtInstr, 
 use Rattle.pass_elide_proof.specs.Elision.{Elision, elided, function_in, function_in_elided, rooms}
 use Rattle.pass_elide_proof.specs.Invariant.{IsDestroying}
 use Rattle.pass_elide_proof.specs.Places.{instrs_in, instrs_of}
-use Rattle.pass_proofs.specs.ir_base.declared.cause.Cause.{Cause}
-use Rattle.pass_proofs.specs.ir_model.Layout.{size_of}
-use Rattle.pass_proofs.specs.ir_model.Names.{position_of}
-use Rattle.pass_proofs.specs.ir_model.Ty.{Ty}
-use Rattle.pass_proofs.specs.ir_model.declared.instr.Instr.{Instr}
-use Rattle.pass_proofs.specs.ir_model.declared.module.Block.{Block}
-use Rattle.pass_proofs.specs.ir_model.declared.module.Function.{Function}
-use Rattle.pass_proofs.specs.ir_paths.declared.point.Point.{Point}
-use Rattle.pass_proofs.specs.run_agreement.Machines.{IsFine}
-use Rattle.pass_proofs.specs.run_framed.Framed.{alloca_from, enter_after, framed_act, framed_context, framed_slot, framed_step, is_given}
-use Rattle.pass_proofs.specs.run_laws.changed.Changed.{Each}
-use Rattle.pass_proofs.specs.run_laws.memory.Standing.{blank_block}
-use Rattle.pass_proofs.specs.run_memory.Memory.{end}
-use Rattle.pass_proofs.specs.run_memory.declared.block.MemoryBlock.{MemoryBlock}
-use Rattle.pass_proofs.specs.run_memory.declared.pointer.Value.{Value}
-use Rattle.pass_proofs.specs.run_source.State.{function_of, settled, with_slots, work_of}
-use Rattle.pass_proofs.specs.run_source.declared.state.Activation.{Activation}
-use Rattle.pass_proofs.specs.run_source.declared.state.Instance.{Instance}
-use Rattle.pass_proofs.specs.run_source.declared.state.Mode.{Mode}
-use Rattle.pass_proofs.specs.run_source.declared.state.State.{State}
-use Rattle.pass_proofs.specs.run_step.Step.{Context, NewSlot, Stuck, Work, alloca_kind, has_markers, is_alignment, set_memory, set_value}
-use Rattle.pass_proofs.specs.run_step.Values.{pointer_to}
-use Rattle.pass_proofs.specs.run_step.declared.world.Slot.{Slot}
+use Rattle.pass_elide_proof.specs.pass_proofs.ir_base.declared.cause.Cause.{Cause}
+use Rattle.pass_elide_proof.specs.pass_proofs.ir_model.Layout.{size_of}
+use Rattle.pass_elide_proof.specs.pass_proofs.ir_model.Names.{position_of}
+use Rattle.pass_elide_proof.specs.pass_proofs.ir_model.Ty.{Ty}
+use Rattle.pass_elide_proof.specs.pass_proofs.ir_model.declared.instr.Instr.{Instr}
+use Rattle.pass_elide_proof.specs.pass_proofs.ir_model.declared.module.Block.{Block}
+use Rattle.pass_elide_proof.specs.pass_proofs.ir_model.declared.module.Function.{Function}
+use Rattle.pass_elide_proof.specs.pass_proofs.ir_paths.declared.point.Point.{Point}
+use Rattle.pass_elide_proof.specs.pass_proofs.run_agreement.Machines.{IsFine}
+use Rattle.pass_elide_proof.specs.pass_proofs.run_framed.Framed.{alloca_from, enter_after, framed_act, framed_context, framed_slot, framed_step, is_given}
+use Rattle.pass_elide_proof.specs.pass_proofs.run_laws.changed.Changed.{Each}
+use Rattle.pass_elide_proof.specs.pass_proofs.run_laws.memory.Standing.{blank_block}
+use Rattle.pass_elide_proof.specs.pass_proofs.run_memory.Memory.{end}
+use Rattle.pass_elide_proof.specs.pass_proofs.run_memory.declared.block.MemoryBlock.{MemoryBlock}
+use Rattle.pass_elide_proof.specs.pass_proofs.run_memory.declared.pointer.Value.{Value}
+use Rattle.pass_elide_proof.specs.pass_proofs.run_source.State.{function_of, settled, with_slots, work_of}
+use Rattle.pass_elide_proof.specs.pass_proofs.run_source.declared.state.Activation.{Activation}
+use Rattle.pass_elide_proof.specs.pass_proofs.run_source.declared.state.Instance.{Instance}
+use Rattle.pass_elide_proof.specs.pass_proofs.run_source.declared.state.Mode.{Mode}
+use Rattle.pass_elide_proof.specs.pass_proofs.run_source.declared.state.State.{State}
+use Rattle.pass_elide_proof.specs.pass_proofs.run_step.Step.{Context, NewSlot, Stuck, Work, alloca_kind, has_markers, is_alignment, set_memory, set_value}
+use Rattle.pass_elide_proof.specs.pass_proofs.run_step.Values.{pointer_to}
+use Rattle.pass_elide_proof.specs.pass_proofs.run_step.declared.world.Slot.{Slot}
 
 -- ---- saves
 

@@ -21,36 +21,36 @@ use Rattle.pass_elide_proof.specs.CallersStack.{AreCalled, GivesBegin, KeepAllHa
 use Rattle.pass_elide_proof.specs.Elision.{Elision, elided, elided_code, function_in, rooms}
 use Rattle.pass_elide_proof.specs.Invariant.{AreGivenBy, IsDestroying, StandsAt, behind}
 use Rattle.pass_elide_proof.specs.Places.{front_at, instrs_of}
-use Rattle.pass_proofs.proofs.ir_laws.facts.Truth.{itself}
-use Rattle.pass_proofs.specs.flow_points.Reached.{IsReached}
-use Rattle.pass_proofs.specs.ir_base.declared.cause.Cause.{Cause}
-use Rattle.pass_proofs.specs.ir_base.declared.outcome.Outcome.{Outcome}
-use Rattle.pass_proofs.specs.ir_model.declared.instr.Instr.{Instr}
-use Rattle.pass_proofs.specs.ir_model.declared.module.Block.{Block}
-use Rattle.pass_proofs.specs.ir_model.declared.module.Function.{Function}
-use Rattle.pass_proofs.specs.ir_model.declared.operand.Arg.{Arg}
-use Rattle.pass_proofs.specs.ir_model.declared.operand.Intrinsic.{Intrinsic}
-use Rattle.pass_proofs.specs.ir_paths.Paths.{same_point}
-use Rattle.pass_proofs.specs.ir_paths.Windows.{is_call_of}
-use Rattle.pass_proofs.specs.ir_paths.declared.point.Point.{Point}
-use Rattle.pass_proofs.specs.rule_windows.Outside.{is_return}
-use Rattle.pass_proofs.specs.run_agreement.Machines.{IsFine}
-use Rattle.pass_proofs.specs.run_framed.Framed.{framed_advance, framed_next, framed_step, is_given, is_stack_block}
-use Rattle.pass_proofs.specs.run_laws.changed.Changed.{Each}
-use Rattle.pass_proofs.specs.run_memory.Memory.{killed, killed_block}
-use Rattle.pass_proofs.specs.run_memory.declared.block.MemoryBlock.{MemoryBlock}
-use Rattle.pass_proofs.specs.run_memory.declared.pointer.Value.{Value}
-use Rattle.pass_proofs.specs.run_source.Source.{given_back, pop, return, returned}
-use Rattle.pass_proofs.specs.run_source.State.{began_at, or_undefined}
-use Rattle.pass_proofs.specs.run_source.declared.state.Activation.{Activation}
-use Rattle.pass_proofs.specs.run_source.declared.state.Instance.{Instance}
-use Rattle.pass_proofs.specs.run_source.declared.state.Mode.{Mode}
-use Rattle.pass_proofs.specs.run_source.declared.state.State.{State}
-use Rattle.pass_proofs.specs.run_step.Results.{and_then}
-use Rattle.pass_proofs.specs.run_step.Step.{Fetched, outcome_of, without_slots}
-use Rattle.pass_proofs.specs.run_step.Values.{operand_value, pointer_to}
-use Rattle.pass_proofs.specs.run_step.declared.world.Slot.{Slot}
-use Rattle.pass_proofs.specs.run_step.declared.world.World.{World}
+use Rattle.pass_elide_proof.proofs.pass_proofs.ir_laws.facts.Truth.{itself}
+use Rattle.pass_elide_proof.specs.pass_proofs.flow_points.Reached.{IsReached}
+use Rattle.pass_elide_proof.specs.pass_proofs.ir_base.declared.cause.Cause.{Cause}
+use Rattle.pass_elide_proof.specs.pass_proofs.ir_base.declared.outcome.Outcome.{Outcome}
+use Rattle.pass_elide_proof.specs.pass_proofs.ir_model.declared.instr.Instr.{Instr}
+use Rattle.pass_elide_proof.specs.pass_proofs.ir_model.declared.module.Block.{Block}
+use Rattle.pass_elide_proof.specs.pass_proofs.ir_model.declared.module.Function.{Function}
+use Rattle.pass_elide_proof.specs.pass_proofs.ir_model.declared.operand.Arg.{Arg}
+use Rattle.pass_elide_proof.specs.pass_proofs.ir_model.declared.operand.Intrinsic.{Intrinsic}
+use Rattle.pass_elide_proof.specs.pass_proofs.ir_paths.Paths.{same_point}
+use Rattle.pass_elide_proof.specs.pass_proofs.ir_paths.Windows.{is_call_of}
+use Rattle.pass_elide_proof.specs.pass_proofs.ir_paths.declared.point.Point.{Point}
+use Rattle.pass_elide_proof.specs.pass_proofs.rule_windows.Outside.{is_return}
+use Rattle.pass_elide_proof.specs.pass_proofs.run_agreement.Machines.{IsFine}
+use Rattle.pass_elide_proof.specs.pass_proofs.run_framed.Framed.{framed_advance, framed_next, framed_step, is_given, is_stack_block}
+use Rattle.pass_elide_proof.specs.pass_proofs.run_laws.changed.Changed.{Each}
+use Rattle.pass_elide_proof.specs.pass_proofs.run_memory.Memory.{killed, killed_block}
+use Rattle.pass_elide_proof.specs.pass_proofs.run_memory.declared.block.MemoryBlock.{MemoryBlock}
+use Rattle.pass_elide_proof.specs.pass_proofs.run_memory.declared.pointer.Value.{Value}
+use Rattle.pass_elide_proof.specs.pass_proofs.run_source.Source.{given_back, pop, return, returned}
+use Rattle.pass_elide_proof.specs.pass_proofs.run_source.State.{began_at, or_undefined}
+use Rattle.pass_elide_proof.specs.pass_proofs.run_source.declared.state.Activation.{Activation}
+use Rattle.pass_elide_proof.specs.pass_proofs.run_source.declared.state.Instance.{Instance}
+use Rattle.pass_elide_proof.specs.pass_proofs.run_source.declared.state.Mode.{Mode}
+use Rattle.pass_elide_proof.specs.pass_proofs.run_source.declared.state.State.{State}
+use Rattle.pass_elide_proof.specs.pass_proofs.run_step.Results.{and_then}
+use Rattle.pass_elide_proof.specs.pass_proofs.run_step.Step.{Fetched, outcome_of, without_slots}
+use Rattle.pass_elide_proof.specs.pass_proofs.run_step.Values.{operand_value, pointer_to}
+use Rattle.pass_elide_proof.specs.pass_proofs.run_step.declared.world.Slot.{Slot}
+use Rattle.pass_elide_proof.specs.pass_proofs.run_step.declared.world.World.{World}
 
 -- slots die; their blocks are of the stack as before
 stack_without : (m : List MemoryBlock) (zs : List Slot) (b : ℕ)

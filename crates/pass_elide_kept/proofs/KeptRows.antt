@@ -14,16 +14,16 @@ use Rattle.pass_elide_proof.proofs.Stacks.{KeepsHead, destroys_on}
 use Rattle.pass_elide_proof.specs.Callers.{StandsAtInstr, WasBefore}
 use Rattle.pass_elide_proof.specs.Elision.{Elision, function_in}
 use Rattle.pass_elide_proof.specs.Invariant.{IsDestroying}
-use Rattle.pass_proofs.proofs.ir_laws.paths.renamed.Outside.{where_none}
-use Rattle.pass_proofs.specs.ir_laws.facts.renamed.Regular.{passes}
-use Rattle.pass_proofs.specs.ir_model.declared.instr.Instr.{Instr}
-use Rattle.pass_proofs.specs.ir_parts.Contents.{result_of}
-use Rattle.pass_proofs.specs.run_framed.Framed.{is_given}
-use Rattle.pass_proofs.specs.run_laws.changed.Changed.{Each}
-use Rattle.pass_proofs.specs.run_source.State.{is_finished}
-use Rattle.pass_proofs.specs.run_source.declared.state.Activation.{Activation}
-use Rattle.pass_proofs.specs.run_source.declared.state.Instance.{Instance}
-use Rattle.pass_proofs.specs.run_source.declared.state.State.{State}
+use Rattle.pass_elide_proof.proofs.pass_proofs.ir_laws.paths.renamed.Outside.{where_none}
+use Rattle.pass_elide_proof.specs.pass_proofs.ir_laws.facts.renamed.Regular.{passes}
+use Rattle.pass_elide_proof.specs.pass_proofs.ir_model.declared.instr.Instr.{Instr}
+use Rattle.pass_elide_proof.specs.pass_proofs.ir_parts.Contents.{result_of}
+use Rattle.pass_elide_proof.specs.pass_proofs.run_framed.Framed.{is_given}
+use Rattle.pass_elide_proof.specs.pass_proofs.run_laws.changed.Changed.{Each}
+use Rattle.pass_elide_proof.specs.pass_proofs.run_source.State.{is_finished}
+use Rattle.pass_elide_proof.specs.pass_proofs.run_source.declared.state.Activation.{Activation}
+use Rattle.pass_elide_proof.specs.pass_proofs.run_source.declared.state.Instance.{Instance}
+use Rattle.pass_elide_proof.specs.pass_proofs.run_source.declared.state.State.{State}
 
 -- ---- instances as they were, but for their status
 

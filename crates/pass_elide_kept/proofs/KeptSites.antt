@@ -22,29 +22,29 @@ use Rattle.pass_elide_proof.specs.Elision.{Elision, elided, elided_code, functio
 use Rattle.pass_elide_proof.specs.Invariant.{IsSiteOf}
 use Rattle.pass_elide_proof.specs.Places.{front_at, instrs_of, own_at}
 use Rattle.pass_elide_proof.specs.Returning.{HaveOwnSlots}
-use Rattle.pass_proofs.proofs.ir_laws.facts.Truth.{itself}
-use Rattle.pass_proofs.specs.flow_points.Reached.{IsReached}
-use Rattle.pass_proofs.specs.ir_model.Names.{function_at}
-use Rattle.pass_proofs.specs.ir_model.declared.instr.Instr.{Instr}
-use Rattle.pass_proofs.specs.ir_model.declared.module.Module.{Module}
-use Rattle.pass_proofs.specs.ir_model.declared.operand.Callee.{Callee}
-use Rattle.pass_proofs.specs.ir_model.declared.operand.Intrinsic.{Intrinsic}
-use Rattle.pass_proofs.specs.ir_parts.Contents.{result_of}
-use Rattle.pass_proofs.specs.ir_paths.Paths.{same_point}
-use Rattle.pass_proofs.specs.run_framed.Framed.{framed_step, is_given}
-use Rattle.pass_proofs.specs.run_laws.embedded.Deaths.{moved_slot}
-use Rattle.pass_proofs.specs.run_memory.declared.block.Kind.{Kind}
-use Rattle.pass_proofs.specs.run_memory.declared.block.MemoryBlock.{MemoryBlock}
-use Rattle.pass_proofs.specs.run_memory.declared.pointer.Value.{Value}
-use Rattle.pass_proofs.specs.run_memory.Memory.{same_kind}
-use Rattle.pass_proofs.specs.run_source.Source.{called}
-use Rattle.pass_proofs.specs.run_source.State.{address_in}
-use Rattle.pass_proofs.specs.run_source.declared.state.Activation.{Activation}
-use Rattle.pass_proofs.specs.run_source.declared.state.Instance.{Instance}
-use Rattle.pass_proofs.specs.run_source.declared.state.Mode.{Mode}
-use Rattle.pass_proofs.specs.run_source.declared.state.State.{State}
-use Rattle.pass_proofs.specs.run_step.Values.{arg_values, pointer_to}
-use Rattle.pass_proofs.specs.run_step.declared.world.Slot.{Slot}
+use Rattle.pass_elide_proof.proofs.pass_proofs.ir_laws.facts.Truth.{itself}
+use Rattle.pass_elide_proof.specs.pass_proofs.flow_points.Reached.{IsReached}
+use Rattle.pass_elide_proof.specs.pass_proofs.ir_model.Names.{function_at}
+use Rattle.pass_elide_proof.specs.pass_proofs.ir_model.declared.instr.Instr.{Instr}
+use Rattle.pass_elide_proof.specs.pass_proofs.ir_model.declared.module.Module.{Module}
+use Rattle.pass_elide_proof.specs.pass_proofs.ir_model.declared.operand.Callee.{Callee}
+use Rattle.pass_elide_proof.specs.pass_proofs.ir_model.declared.operand.Intrinsic.{Intrinsic}
+use Rattle.pass_elide_proof.specs.pass_proofs.ir_parts.Contents.{result_of}
+use Rattle.pass_elide_proof.specs.pass_proofs.ir_paths.Paths.{same_point}
+use Rattle.pass_elide_proof.specs.pass_proofs.run_framed.Framed.{framed_step, is_given}
+use Rattle.pass_elide_proof.specs.pass_proofs.run_laws.embedded.Deaths.{moved_slot}
+use Rattle.pass_elide_proof.specs.pass_proofs.run_memory.declared.block.Kind.{Kind}
+use Rattle.pass_elide_proof.specs.pass_proofs.run_memory.declared.block.MemoryBlock.{MemoryBlock}
+use Rattle.pass_elide_proof.specs.pass_proofs.run_memory.declared.pointer.Value.{Value}
+use Rattle.pass_elide_proof.specs.pass_proofs.run_memory.Memory.{same_kind}
+use Rattle.pass_elide_proof.specs.pass_proofs.run_source.Source.{called}
+use Rattle.pass_elide_proof.specs.pass_proofs.run_source.State.{address_in}
+use Rattle.pass_elide_proof.specs.pass_proofs.run_source.declared.state.Activation.{Activation}
+use Rattle.pass_elide_proof.specs.pass_proofs.run_source.declared.state.Instance.{Instance}
+use Rattle.pass_elide_proof.specs.pass_proofs.run_source.declared.state.Mode.{Mode}
+use Rattle.pass_elide_proof.specs.pass_proofs.run_source.declared.state.State.{State}
+use Rattle.pass_elide_proof.specs.pass_proofs.run_step.Values.{arg_values, pointer_to}
+use Rattle.pass_elide_proof.specs.pass_proofs.run_step.declared.world.Slot.{Slot}
 
 -- ---- the slot of a keeper
 

@@ -12,25 +12,25 @@ use Rattle.pass_elide_proof.specs.Callers.{WasBefore, saves_by}
 use Rattle.pass_elide_proof.specs.CallersStack.{AreCalled}
 use Rattle.pass_elide_proof.specs.Elision.{Elision, elided, function_in}
 use Rattle.pass_elide_proof.specs.Match.{instance_in}
-use Rattle.pass_proofs.specs.ir_base.declared.cause.Cause.{Cause}
-use Rattle.pass_proofs.specs.ir_model.Ty.{Ty}
-use Rattle.pass_proofs.specs.ir_model.declared.instr.Instr.{Instr}
-use Rattle.pass_proofs.specs.ir_model.declared.operand.Arg.{Arg}
-use Rattle.pass_proofs.specs.ir_model.declared.operand.Callee.{Callee}
-use Rattle.pass_proofs.specs.ir_model.declared.operand.Intrinsic.{Intrinsic}
-use Rattle.pass_proofs.specs.ir_model.declared.operand.Operand.{Operand}
-use Rattle.pass_proofs.specs.ir_paths.Windows.{operand_at, suspend_of}
-use Rattle.pass_proofs.specs.ir_paths.declared.point.Point.{Point}
-use Rattle.pass_proofs.specs.run_framed.Framed.{begin_name, framed_next, framed_step}
-use Rattle.pass_proofs.specs.run_memory.declared.pointer.Value.{Value}
-use Rattle.pass_proofs.specs.run_source.Source.{save, save_for, suspend}
-use Rattle.pass_proofs.specs.run_source.State.{function_of, gives, next, own_instance, point_of, with_instance, with_left}
-use Rattle.pass_proofs.specs.run_source.declared.state.Instance.{Instance}
-use Rattle.pass_proofs.specs.run_source.declared.state.State.{State}
-use Rattle.pass_proofs.specs.run_source.declared.state.Status.{Status}
-use Rattle.pass_proofs.specs.run_step.Results.{and_then, found, ok_if}
-use Rattle.pass_proofs.specs.run_step.Step.{AtInstr}
-use Rattle.pass_proofs.specs.run_step.Values.{integer}
+use Rattle.pass_elide_proof.specs.pass_proofs.ir_base.declared.cause.Cause.{Cause}
+use Rattle.pass_elide_proof.specs.pass_proofs.ir_model.Ty.{Ty}
+use Rattle.pass_elide_proof.specs.pass_proofs.ir_model.declared.instr.Instr.{Instr}
+use Rattle.pass_elide_proof.specs.pass_proofs.ir_model.declared.operand.Arg.{Arg}
+use Rattle.pass_elide_proof.specs.pass_proofs.ir_model.declared.operand.Callee.{Callee}
+use Rattle.pass_elide_proof.specs.pass_proofs.ir_model.declared.operand.Intrinsic.{Intrinsic}
+use Rattle.pass_elide_proof.specs.pass_proofs.ir_model.declared.operand.Operand.{Operand}
+use Rattle.pass_elide_proof.specs.pass_proofs.ir_paths.Windows.{operand_at, suspend_of}
+use Rattle.pass_elide_proof.specs.pass_proofs.ir_paths.declared.point.Point.{Point}
+use Rattle.pass_elide_proof.specs.pass_proofs.run_framed.Framed.{begin_name, framed_next, framed_step}
+use Rattle.pass_elide_proof.specs.pass_proofs.run_memory.declared.pointer.Value.{Value}
+use Rattle.pass_elide_proof.specs.pass_proofs.run_source.Source.{save, save_for, suspend}
+use Rattle.pass_elide_proof.specs.pass_proofs.run_source.State.{function_of, gives, next, own_instance, point_of, with_instance, with_left}
+use Rattle.pass_elide_proof.specs.pass_proofs.run_source.declared.state.Instance.{Instance}
+use Rattle.pass_elide_proof.specs.pass_proofs.run_source.declared.state.State.{State}
+use Rattle.pass_elide_proof.specs.pass_proofs.run_source.declared.state.Status.{Status}
+use Rattle.pass_elide_proof.specs.pass_proofs.run_step.Results.{and_then, found, ok_if}
+use Rattle.pass_elide_proof.specs.pass_proofs.run_step.Step.{AtInstr}
+use Rattle.pass_elide_proof.specs.pass_proofs.run_step.Values.{integer}
 
 module _ (e : Elision) (t : State) (h : AreCalled e t) (at : ℕ) (result : Option ℕ) (must_tail : Bool)
     (ty : Option Ty) (args : List Arg)

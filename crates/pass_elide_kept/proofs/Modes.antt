@@ -5,11 +5,11 @@ use Rattle.pass_elide_proof.proofs.Addresses.{twin_back}
 use Rattle.pass_elide_proof.specs.Elision.{Elision}
 use Rattle.pass_elide_proof.specs.Making.{IsNotEntering}
 use Rattle.pass_elide_proof.specs.Match.{AreElided, AreModes, AreStatuses, Ends, Given, Runs, Same, Sleeps, instance_in}
-use Rattle.pass_proofs.specs.run_source.State.{is_finished}
-use Rattle.pass_proofs.specs.run_source.declared.state.Instance.{Instance}
-use Rattle.pass_proofs.specs.run_source.declared.state.Mode.{Mode}
-use Rattle.pass_proofs.specs.run_source.declared.state.State.{State}
-use Rattle.pass_proofs.specs.run_source.declared.state.Status.{Status}
+use Rattle.pass_elide_proof.specs.pass_proofs.run_source.State.{is_finished}
+use Rattle.pass_elide_proof.specs.pass_proofs.run_source.declared.state.Instance.{Instance}
+use Rattle.pass_elide_proof.specs.pass_proofs.run_source.declared.state.Mode.{Mode}
+use Rattle.pass_elide_proof.specs.pass_proofs.run_source.declared.state.State.{State}
+use Rattle.pass_elide_proof.specs.pass_proofs.run_source.declared.state.Status.{Status}
 
 pub not_entering_too : (m n : Mode) → AreModes m n → ((from label : ℕ) → m ≡ Mode.Entering from label → ⊥)
     → (from label : ℕ) → n ≡ Mode.Entering from label → ⊥

@@ -12,34 +12,34 @@ use Rattle.pass_elide_proof.proofs.OwnPlaces.{acts}
 use Rattle.pass_elide_proof.specs.Callers.{HaveBlocks, IsNotEntering, StandsAtDone, StandsAtInstr, WasBefore}
 use Rattle.pass_elide_proof.specs.Elision.{Elision, elided}
 use Rattle.pass_elide_proof.specs.OwnSlots.{HaveNoSlots}
-use Rattle.pass_proofs.proofs.run_laws.embedded.Refills.{step_only}
-use Rattle.pass_proofs.proofs.run_laws.transfer.Sets.{set_elsewhere}
-use Rattle.pass_proofs.specs.ir_base.declared.cause.Cause.{Cause}
-use Rattle.pass_proofs.specs.ir_model.Layout.{size_of}
-use Rattle.pass_proofs.specs.ir_model.Ty.{Ty}
-use Rattle.pass_proofs.specs.ir_model.declared.instr.Instr.{Instr}
-use Rattle.pass_proofs.specs.ir_model.declared.operand.Allocator.{Allocator}
-use Rattle.pass_proofs.specs.ir_model.declared.operand.Arg.{Arg}
-use Rattle.pass_proofs.specs.ir_model.declared.operand.Callee.{Callee}
-use Rattle.pass_proofs.specs.ir_parts.Contents.{result_of}
-use Rattle.pass_proofs.specs.run_agreement.Machines.{IsFine}
-use Rattle.pass_proofs.specs.run_framed.Framed.{framed_act, framed_context, framed_next, framed_slot, framed_step, is_stack_block}
-use Rattle.pass_proofs.specs.run_laws.embedded.Refilled.{AreRefilled, OnlyRefills}
-use Rattle.pass_proofs.specs.run_laws.memory.Standing.{blank_block}
-use Rattle.pass_proofs.specs.run_memory.Memory.{disown, disowned, end}
-use Rattle.pass_proofs.specs.run_memory.declared.block.Kind.{Kind}
-use Rattle.pass_proofs.specs.run_memory.declared.block.MemoryBlock.{MemoryBlock}
-use Rattle.pass_proofs.specs.run_memory.declared.pointer.Pointer.{Pointer}
-use Rattle.pass_proofs.specs.run_memory.declared.pointer.Value.{Value}
-use Rattle.pass_proofs.specs.run_source.Source.{deallocate, if_let_go, let_go, may_be_freed}
-use Rattle.pass_proofs.specs.run_source.State.{began_at, instance_at, next, settled, with_memory, with_slots, work_of}
-use Rattle.pass_proofs.specs.run_source.declared.state.Instance.{Instance}
-use Rattle.pass_proofs.specs.run_source.declared.state.Mode.{Mode}
-use Rattle.pass_proofs.specs.run_source.declared.state.State.{State}
-use Rattle.pass_proofs.specs.run_step.Results.{and_then}
-use Rattle.pass_proofs.specs.run_step.Step.{AtInstr, Context, Done, NewSlot, Stuck, Work, alloca_kind, allocated, deallocated, has_markers, is_alignment, set_memory, set_value, with_length, without_slots}
-use Rattle.pass_proofs.specs.run_step.Values.{address, arg_values, nth, pointer_to}
-use Rattle.pass_proofs.specs.run_step.declared.world.Slot.{Slot}
+use Rattle.pass_elide_proof.proofs.pass_proofs.run_laws.embedded.Refills.{step_only}
+use Rattle.pass_elide_proof.proofs.pass_proofs.run_laws.transfer.Sets.{set_elsewhere}
+use Rattle.pass_elide_proof.specs.pass_proofs.ir_base.declared.cause.Cause.{Cause}
+use Rattle.pass_elide_proof.specs.pass_proofs.ir_model.Layout.{size_of}
+use Rattle.pass_elide_proof.specs.pass_proofs.ir_model.Ty.{Ty}
+use Rattle.pass_elide_proof.specs.pass_proofs.ir_model.declared.instr.Instr.{Instr}
+use Rattle.pass_elide_proof.specs.pass_proofs.ir_model.declared.operand.Allocator.{Allocator}
+use Rattle.pass_elide_proof.specs.pass_proofs.ir_model.declared.operand.Arg.{Arg}
+use Rattle.pass_elide_proof.specs.pass_proofs.ir_model.declared.operand.Callee.{Callee}
+use Rattle.pass_elide_proof.specs.pass_proofs.ir_parts.Contents.{result_of}
+use Rattle.pass_elide_proof.specs.pass_proofs.run_agreement.Machines.{IsFine}
+use Rattle.pass_elide_proof.specs.pass_proofs.run_framed.Framed.{framed_act, framed_context, framed_next, framed_slot, framed_step, is_stack_block}
+use Rattle.pass_elide_proof.specs.pass_proofs.run_laws.embedded.Refilled.{AreRefilled, OnlyRefills}
+use Rattle.pass_elide_proof.specs.pass_proofs.run_laws.memory.Standing.{blank_block}
+use Rattle.pass_elide_proof.specs.pass_proofs.run_memory.Memory.{disown, disowned, end}
+use Rattle.pass_elide_proof.specs.pass_proofs.run_memory.declared.block.Kind.{Kind}
+use Rattle.pass_elide_proof.specs.pass_proofs.run_memory.declared.block.MemoryBlock.{MemoryBlock}
+use Rattle.pass_elide_proof.specs.pass_proofs.run_memory.declared.pointer.Pointer.{Pointer}
+use Rattle.pass_elide_proof.specs.pass_proofs.run_memory.declared.pointer.Value.{Value}
+use Rattle.pass_elide_proof.specs.pass_proofs.run_source.Source.{deallocate, if_let_go, let_go, may_be_freed}
+use Rattle.pass_elide_proof.specs.pass_proofs.run_source.State.{began_at, instance_at, next, settled, with_memory, with_slots, work_of}
+use Rattle.pass_elide_proof.specs.pass_proofs.run_source.declared.state.Instance.{Instance}
+use Rattle.pass_elide_proof.specs.pass_proofs.run_source.declared.state.Mode.{Mode}
+use Rattle.pass_elide_proof.specs.pass_proofs.run_source.declared.state.State.{State}
+use Rattle.pass_elide_proof.specs.pass_proofs.run_step.Results.{and_then}
+use Rattle.pass_elide_proof.specs.pass_proofs.run_step.Step.{AtInstr, Context, Done, NewSlot, Stuck, Work, alloca_kind, allocated, deallocated, has_markers, is_alignment, set_memory, set_value, with_length, without_slots}
+use Rattle.pass_elide_proof.specs.pass_proofs.run_step.Values.{address, arg_values, nth, pointer_to}
+use Rattle.pass_elide_proof.specs.pass_proofs.run_step.declared.world.Slot.{Slot}
 
 -- ---- what is done
 

@@ -26,38 +26,38 @@ use Rattle.pass_elide_proof.specs.Match.{instance_in, is_given_mode}
 use Rattle.pass_elide_proof.specs.Placing.{KeepsPlaces}
 use Rattle.pass_elide_proof.specs.PlacingStates.{HavePassedBy, PassesBy}
 use Rattle.pass_elide_proof.specs.Waking.{GivesNone}
-use Rattle.pass_proofs.specs.ir_base.declared.cause.Cause.{Cause}
-use Rattle.pass_proofs.specs.ir_model.Layout.{size_of}
-use Rattle.pass_proofs.specs.ir_model.Names.{function_at, position_of}
-use Rattle.pass_proofs.specs.ir_model.Ty.{Ty}
-use Rattle.pass_proofs.specs.ir_model.declared.instr.Instr.{Instr}
-use Rattle.pass_proofs.specs.ir_model.declared.module.Function.{Function}
-use Rattle.pass_proofs.specs.ir_model.declared.module.Module.{Module}
-use Rattle.pass_proofs.specs.ir_model.declared.operand.Arg.{Arg}
-use Rattle.pass_proofs.specs.ir_model.declared.operand.Callee.{Callee}
-use Rattle.pass_proofs.specs.ir_model.declared.operand.Intrinsic.{Intrinsic}
-use Rattle.pass_proofs.specs.ir_paths.Windows.{destroy_label, resume_label}
-use Rattle.pass_proofs.specs.ir_paths.declared.point.Point.{Point}
-use Rattle.pass_proofs.specs.ir_paths.declared.point.Window.{Window}
-use Rattle.pass_proofs.specs.run_agreement.Machines.{IsFine}
-use Rattle.pass_proofs.specs.run_framed.Framed.{alloca_of, continue_framed, enter_after, framed_act, framed_advance, framed_context, framed_next, framed_slot, framed_step, is_given}
-use Rattle.pass_proofs.specs.run_laws.memory.Standing.{blank_block}
-use Rattle.pass_proofs.specs.run_memory.Memory.{end}
-use Rattle.pass_proofs.specs.run_memory.declared.block.MemoryBlock.{MemoryBlock}
-use Rattle.pass_proofs.specs.run_memory.declared.pointer.Pointer.{Pointer}
-use Rattle.pass_proofs.specs.run_memory.declared.pointer.Value.{Value}
-use Rattle.pass_proofs.specs.run_source.Source.{Sleeper, branch_leaving, called, enter_block, left_windows, may_leave, push, sleeper_of}
-use Rattle.pass_proofs.specs.run_source.State.{began_at, frame_address_of, function_of, instance_at, is_finished, is_suspended, or_undefined, own_instance, settled, with_left, with_slots, with_status, work_of}
-use Rattle.pass_proofs.specs.run_source.declared.state.Activation.{Activation}
-use Rattle.pass_proofs.specs.run_source.declared.state.Instance.{Instance}
-use Rattle.pass_proofs.specs.run_source.declared.state.Mode.{Mode}
-use Rattle.pass_proofs.specs.run_source.declared.state.State.{State}
-use Rattle.pass_proofs.specs.run_source.declared.state.Status.{Status}
-use Rattle.pass_proofs.specs.run_source_tables.Given.{is_final}
-use Rattle.pass_proofs.specs.run_step.Results.{and_then, found, ok_if}
-use Rattle.pass_proofs.specs.run_step.Step.{Action, AtInstr, Context, Fetched, NewSlot, Stuck, Work, alloca_kind, has_markers, is_alignment, set_memory, set_value}
-use Rattle.pass_proofs.specs.run_step.Values.{Env, arg_values, nth, pointer_to}
-use Rattle.pass_proofs.specs.run_step.declared.world.Slot.{Slot}
+use Rattle.pass_elide_proof.specs.pass_proofs.ir_base.declared.cause.Cause.{Cause}
+use Rattle.pass_elide_proof.specs.pass_proofs.ir_model.Layout.{size_of}
+use Rattle.pass_elide_proof.specs.pass_proofs.ir_model.Names.{function_at, position_of}
+use Rattle.pass_elide_proof.specs.pass_proofs.ir_model.Ty.{Ty}
+use Rattle.pass_elide_proof.specs.pass_proofs.ir_model.declared.instr.Instr.{Instr}
+use Rattle.pass_elide_proof.specs.pass_proofs.ir_model.declared.module.Function.{Function}
+use Rattle.pass_elide_proof.specs.pass_proofs.ir_model.declared.module.Module.{Module}
+use Rattle.pass_elide_proof.specs.pass_proofs.ir_model.declared.operand.Arg.{Arg}
+use Rattle.pass_elide_proof.specs.pass_proofs.ir_model.declared.operand.Callee.{Callee}
+use Rattle.pass_elide_proof.specs.pass_proofs.ir_model.declared.operand.Intrinsic.{Intrinsic}
+use Rattle.pass_elide_proof.specs.pass_proofs.ir_paths.Windows.{destroy_label, resume_label}
+use Rattle.pass_elide_proof.specs.pass_proofs.ir_paths.declared.point.Point.{Point}
+use Rattle.pass_elide_proof.specs.pass_proofs.ir_paths.declared.point.Window.{Window}
+use Rattle.pass_elide_proof.specs.pass_proofs.run_agreement.Machines.{IsFine}
+use Rattle.pass_elide_proof.specs.pass_proofs.run_framed.Framed.{alloca_of, continue_framed, enter_after, framed_act, framed_advance, framed_context, framed_next, framed_slot, framed_step, is_given}
+use Rattle.pass_elide_proof.specs.pass_proofs.run_laws.memory.Standing.{blank_block}
+use Rattle.pass_elide_proof.specs.pass_proofs.run_memory.Memory.{end}
+use Rattle.pass_elide_proof.specs.pass_proofs.run_memory.declared.block.MemoryBlock.{MemoryBlock}
+use Rattle.pass_elide_proof.specs.pass_proofs.run_memory.declared.pointer.Pointer.{Pointer}
+use Rattle.pass_elide_proof.specs.pass_proofs.run_memory.declared.pointer.Value.{Value}
+use Rattle.pass_elide_proof.specs.pass_proofs.run_source.Source.{Sleeper, branch_leaving, called, enter_block, left_windows, may_leave, push, sleeper_of}
+use Rattle.pass_elide_proof.specs.pass_proofs.run_source.State.{began_at, frame_address_of, function_of, instance_at, is_finished, is_suspended, or_undefined, own_instance, settled, with_left, with_slots, with_status, work_of}
+use Rattle.pass_elide_proof.specs.pass_proofs.run_source.declared.state.Activation.{Activation}
+use Rattle.pass_elide_proof.specs.pass_proofs.run_source.declared.state.Instance.{Instance}
+use Rattle.pass_elide_proof.specs.pass_proofs.run_source.declared.state.Mode.{Mode}
+use Rattle.pass_elide_proof.specs.pass_proofs.run_source.declared.state.State.{State}
+use Rattle.pass_elide_proof.specs.pass_proofs.run_source.declared.state.Status.{Status}
+use Rattle.pass_elide_proof.specs.pass_proofs.run_source_tables.Given.{is_final}
+use Rattle.pass_elide_proof.specs.pass_proofs.run_step.Results.{and_then, found, ok_if}
+use Rattle.pass_elide_proof.specs.pass_proofs.run_step.Step.{Action, AtInstr, Context, Fetched, NewSlot, Stuck, Work, alloca_kind, has_markers, is_alignment, set_memory, set_value}
+use Rattle.pass_elide_proof.specs.pass_proofs.run_step.Values.{Env, arg_values, nth, pointer_to}
+use Rattle.pass_elide_proof.specs.pass_proofs.run_step.declared.world.Slot.{Slot}
 
 -- ---- parts of a step
 

@@ -10,13 +10,13 @@ use Rattle.pass_elide_proof.specs.CallersStack.{KeepAllHandles}
 use Rattle.pass_elide_proof.specs.Edges.{GivesNone}
 use Rattle.pass_elide_proof.specs.Elision.{Elision, elided, framed, function_in, function_in_elided, rooms}
 use Rattle.pass_elide_proof.specs.Places.{front_at, instrs_of, own_at, room_at}
-use Rattle.pass_proofs.specs.ir_base.declared.outcome.Outcome.{Outcome}
-use Rattle.pass_proofs.specs.ir_model.declared.instr.Instr.{Instr}
-use Rattle.pass_proofs.specs.ir_model.declared.module.Block.{Block}
-use Rattle.pass_proofs.specs.ir_model.declared.module.Function.{Function}
-use Rattle.pass_proofs.specs.run_source.State.{function_of}
-use Rattle.pass_proofs.specs.run_source.declared.state.State.{State}
-use Rattle.pass_proofs.specs.run_step.Step.{AtInstr, AtTerm, fetch}
+use Rattle.pass_elide_proof.specs.pass_proofs.ir_base.declared.outcome.Outcome.{Outcome}
+use Rattle.pass_elide_proof.specs.pass_proofs.ir_model.declared.instr.Instr.{Instr}
+use Rattle.pass_elide_proof.specs.pass_proofs.ir_model.declared.module.Block.{Block}
+use Rattle.pass_elide_proof.specs.pass_proofs.ir_model.declared.module.Function.{Function}
+use Rattle.pass_elide_proof.specs.pass_proofs.run_source.State.{function_of}
+use Rattle.pass_elide_proof.specs.pass_proofs.run_source.declared.state.State.{State}
+use Rattle.pass_elide_proof.specs.pass_proofs.run_step.Step.{AtInstr, AtTerm, fetch}
 
 -- where no call gives a frame, what stands in front of a place is at the place itself
 pub front_own : (e : Elision) (func block at n : ℕ) → GivesNone e func

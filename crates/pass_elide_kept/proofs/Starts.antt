@@ -3,8 +3,8 @@ use Rattle.std.proofs.Common.{List, ℕ}
 use Rattle.pass_elide_kept.specs.Kept.{AreKept, HaveKeepers}
 use Rattle.pass_elide_proof.specs.Elision.{Elision, elided_code}
 use Rattle.pass_elide_proof.specs.Statement.{AreRelated}
-use Rattle.pass_proofs.specs.ir_base.declared.outcome.Word.{Word}
-use Rattle.pass_proofs.specs.run_source.Source.{first_state}
+use Rattle.pass_elide_proof.specs.pass_proofs.ir_base.declared.outcome.Word.{Word}
+use Rattle.pass_elide_proof.specs.pass_proofs.run_source.Source.{first_state}
 
 pub first_keepers : (e : Elision) (entry : ℕ) (args : List Word)
     → HaveKeepers e (first_state e.code entry args) (first_state (elided_code e) entry args)

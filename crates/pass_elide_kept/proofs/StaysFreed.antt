@@ -6,25 +6,25 @@ use Rattle.pass_elide_proof.proofs.LastFound.{found_there}
 use Rattle.pass_elide_proof.proofs.LeftWindows.{own_there}
 use Rattle.pass_elide_proof.proofs.StepCases.{leads_to}
 use Rattle.pass_elide_proof.specs.StepCases.{Answers, Begins, Deallocates, EndsRamp, EndsResumed, Enters, EntersGiven, GoesTo, LeadsTo, Leaves, MakesSlot, Passes, Releases, Returns, Saves, Suspends, Wakes, Works, ended}
-use Rattle.pass_proofs.proofs.ir_laws.facts.Lists.{get_before, get_within, set_at, set_other}
-use Rattle.pass_proofs.specs.ir_base.declared.cause.Cause.{Cause}
-use Rattle.pass_proofs.specs.ir_base.declared.outcome.Outcome.{Outcome}
-use Rattle.pass_proofs.specs.ir_paths.declared.point.Point.{Point}
-use Rattle.pass_proofs.specs.run_agreement.Machines.{IsFine}
-use Rattle.pass_proofs.specs.run_framed.Framed.{FramedGiven, alloca_from, disown_given, enter_after, framed_finish, framed_slot, framed_step, is_stack_block}
-use Rattle.pass_proofs.specs.run_memory.Memory.{disown}
-use Rattle.pass_proofs.specs.run_memory.declared.pointer.Pointer.{Pointer}
-use Rattle.pass_proofs.specs.run_memory.declared.pointer.Value.{Value}
-use Rattle.pass_proofs.specs.run_source.Source.{Sleeper, change_own, if_let_go, let_go, may_be_freed, pop, return, returned, sleeper_at, sleeper_of, slots_of}
-use Rattle.pass_proofs.specs.run_source.State.{began_at, function_of, instance_at, own_instance, settled, with_memory, with_slots}
-use Rattle.pass_proofs.specs.run_source.declared.state.Activation.{Activation}
-use Rattle.pass_proofs.specs.run_source.declared.state.Instance.{Instance}
-use Rattle.pass_proofs.specs.run_source.declared.state.Mode.{Mode}
-use Rattle.pass_proofs.specs.run_source.declared.state.State.{State}
-use Rattle.pass_proofs.specs.run_source.declared.state.Status.{Status}
-use Rattle.pass_proofs.specs.run_step.Results.{and_then, found}
-use Rattle.pass_proofs.specs.run_step.Step.{outcome_of, without_slots}
-use Rattle.pass_proofs.specs.run_step.declared.world.Slot.{Slot}
+use Rattle.pass_elide_proof.proofs.pass_proofs.ir_laws.facts.Lists.{get_before, get_within, set_at, set_other}
+use Rattle.pass_elide_proof.specs.pass_proofs.ir_base.declared.cause.Cause.{Cause}
+use Rattle.pass_elide_proof.specs.pass_proofs.ir_base.declared.outcome.Outcome.{Outcome}
+use Rattle.pass_elide_proof.specs.pass_proofs.ir_paths.declared.point.Point.{Point}
+use Rattle.pass_elide_proof.specs.pass_proofs.run_agreement.Machines.{IsFine}
+use Rattle.pass_elide_proof.specs.pass_proofs.run_framed.Framed.{FramedGiven, alloca_from, disown_given, enter_after, framed_finish, framed_slot, framed_step, is_stack_block}
+use Rattle.pass_elide_proof.specs.pass_proofs.run_memory.Memory.{disown}
+use Rattle.pass_elide_proof.specs.pass_proofs.run_memory.declared.pointer.Pointer.{Pointer}
+use Rattle.pass_elide_proof.specs.pass_proofs.run_memory.declared.pointer.Value.{Value}
+use Rattle.pass_elide_proof.specs.pass_proofs.run_source.Source.{Sleeper, change_own, if_let_go, let_go, may_be_freed, pop, return, returned, sleeper_at, sleeper_of, slots_of}
+use Rattle.pass_elide_proof.specs.pass_proofs.run_source.State.{began_at, function_of, instance_at, own_instance, settled, with_memory, with_slots}
+use Rattle.pass_elide_proof.specs.pass_proofs.run_source.declared.state.Activation.{Activation}
+use Rattle.pass_elide_proof.specs.pass_proofs.run_source.declared.state.Instance.{Instance}
+use Rattle.pass_elide_proof.specs.pass_proofs.run_source.declared.state.Mode.{Mode}
+use Rattle.pass_elide_proof.specs.pass_proofs.run_source.declared.state.State.{State}
+use Rattle.pass_elide_proof.specs.pass_proofs.run_source.declared.state.Status.{Status}
+use Rattle.pass_elide_proof.specs.pass_proofs.run_step.Results.{and_then, found}
+use Rattle.pass_elide_proof.specs.pass_proofs.run_step.Step.{outcome_of, without_slots}
+use Rattle.pass_elide_proof.specs.pass_proofs.run_step.declared.world.Slot.{Slot}
 
 -- an instance that was freed is so still
 pub record StaysFreed (xs ys : List Instance) : Type 0 where

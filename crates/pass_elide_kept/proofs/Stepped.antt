@@ -16,9 +16,9 @@ use Rattle.pass_elide_proof.specs.OwnSlots.{HaveNoSlots}
 use Rattle.pass_elide_proof.specs.Places.{allocas_ahead}
 use Rattle.pass_elide_proof.specs.Placing.{KeepsPlaces}
 use Rattle.pass_elide_proof.specs.Stepping.{IsKnownStep, IsReadyFor, fronted, steps_of}
-use Rattle.pass_proofs.specs.run_agreement.Machines.{IsFine, iterate}
-use Rattle.pass_proofs.specs.run_framed.Framed.{framed_step}
-use Rattle.pass_proofs.specs.run_source.declared.state.State.{State}
+use Rattle.pass_elide_proof.specs.pass_proofs.run_agreement.Machines.{IsFine, iterate}
+use Rattle.pass_elide_proof.specs.pass_proofs.run_framed.Framed.{framed_step}
+use Rattle.pass_elide_proof.specs.pass_proofs.run_source.declared.state.State.{State}
 
 -- what is known where the second run makes a step
 pub record IsStepping (e : Elision) (s u : State) : Type 0 where

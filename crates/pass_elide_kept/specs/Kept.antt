@@ -7,20 +7,20 @@ use Rattle.pass_elide_proof.specs.Elision.{Elision, function_in}
 use Rattle.pass_elide_proof.specs.Invariant.{IsDestroying, IsSiteOf, StandsAt, behind}
 use Rattle.pass_elide_proof.specs.Places.{instrs_of}
 use Rattle.pass_elide_proof.specs.Statement.{AreRelated}
-use Rattle.pass_proofs.specs.flow_points.Reached.{IsReached}
-use Rattle.pass_proofs.specs.ir_model.declared.instr.Instr.{Instr}
-use Rattle.pass_proofs.specs.ir_model.declared.operand.Intrinsic.{Intrinsic}
-use Rattle.pass_proofs.specs.ir_parts.Contents.{result_of}
-use Rattle.pass_proofs.specs.ir_paths.Windows.{is_call_of}
-use Rattle.pass_proofs.specs.ir_paths.declared.point.Point.{Point}
-use Rattle.pass_proofs.specs.run_framed.Framed.{is_given}
-use Rattle.pass_proofs.specs.run_memory.declared.pointer.Value.{Value}
-use Rattle.pass_proofs.specs.run_source.State.{began_at, frame_address_of, is_finished}
-use Rattle.pass_proofs.specs.run_source.declared.state.Activation.{Activation}
-use Rattle.pass_proofs.specs.run_source.declared.state.Instance.{Instance}
-use Rattle.pass_proofs.specs.run_source.declared.state.Mode.{Mode}
-use Rattle.pass_proofs.specs.run_source.declared.state.State.{State}
-use Rattle.pass_proofs.specs.run_step.Values.{pointer_to, value_in}
+use Rattle.pass_elide_proof.specs.pass_proofs.flow_points.Reached.{IsReached}
+use Rattle.pass_elide_proof.specs.pass_proofs.ir_model.declared.instr.Instr.{Instr}
+use Rattle.pass_elide_proof.specs.pass_proofs.ir_model.declared.operand.Intrinsic.{Intrinsic}
+use Rattle.pass_elide_proof.specs.pass_proofs.ir_parts.Contents.{result_of}
+use Rattle.pass_elide_proof.specs.pass_proofs.ir_paths.Windows.{is_call_of}
+use Rattle.pass_elide_proof.specs.pass_proofs.ir_paths.declared.point.Point.{Point}
+use Rattle.pass_elide_proof.specs.pass_proofs.run_framed.Framed.{is_given}
+use Rattle.pass_elide_proof.specs.pass_proofs.run_memory.declared.pointer.Value.{Value}
+use Rattle.pass_elide_proof.specs.pass_proofs.run_source.State.{began_at, frame_address_of, is_finished}
+use Rattle.pass_elide_proof.specs.pass_proofs.run_source.declared.state.Activation.{Activation}
+use Rattle.pass_elide_proof.specs.pass_proofs.run_source.declared.state.Instance.{Instance}
+use Rattle.pass_elide_proof.specs.pass_proofs.run_source.declared.state.Mode.{Mode}
+use Rattle.pass_elide_proof.specs.pass_proofs.run_source.declared.state.State.{State}
+use Rattle.pass_elide_proof.specs.pass_proofs.run_step.Values.{pointer_to, value_in}
 
 -- ---- an activation that keeps a handle
 

@@ -16,11 +16,11 @@ ghost use Rattle.pass_elide_proof.specs.PlacingStates.{HavePassedBy};
 ghost use Rattle.pass_elide_proof.specs.Releasing.{FreesAtOnce, HaveReleased};
 ghost use Rattle.pass_elide_proof.specs.Sound.{IsSoundState};
 ghost use Rattle.pass_elide_proof.specs.Stepping.{IsKnownStep, steps_of};
-ghost use Rattle.pass_proofs.specs.ir_base.declared.outcome.Outcome.{Outcome};
-ghost use Rattle.pass_proofs.specs.run_agreement.Machines.{IsFine, iterate};
-ghost use Rattle.pass_proofs.specs.run_framed.Framed.{framed_step};
-ghost use Rattle.pass_proofs.specs.run_source.declared.state.Instance.{Instance};
-ghost use Rattle.pass_proofs.specs.run_source.declared.state.State.{State};
+ghost use Rattle.pass_elide_proof.specs.pass_proofs.ir_base.declared.outcome.Outcome.{Outcome};
+ghost use Rattle.pass_elide_proof.specs.pass_proofs.run_agreement.Machines.{IsFine, iterate};
+ghost use Rattle.pass_elide_proof.specs.pass_proofs.run_framed.Framed.{framed_step};
+ghost use Rattle.pass_elide_proof.specs.pass_proofs.run_source.declared.state.Instance.{Instance};
+ghost use Rattle.pass_elide_proof.specs.pass_proofs.run_source.declared.state.State.{State};
 
 /// Behind a step of a known kind no activation whose frame was given is in a block that allocates or frees it. Such a
 /// block is entered by one edge, which the run that gives frames doesn't take.

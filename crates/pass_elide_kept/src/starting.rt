@@ -4,8 +4,8 @@ ghost use Rattle.std.specs.Prelude.{List, false, ◌≡◌, ℕ};
 ghost use Rattle.pass_elide_kept.specs.Kept.{AreKept, HaveKeepers};
 ghost use Rattle.pass_elide_proof.specs.Elision.{Elision, elided_code, function_in};
 ghost use Rattle.pass_elide_proof.specs.Statement.{AreRelated};
-ghost use Rattle.pass_proofs.specs.ir_base.declared.outcome.Word.{Word};
-ghost use Rattle.pass_proofs.specs.run_source.Source.{first_state};
+ghost use Rattle.pass_elide_proof.specs.pass_proofs.ir_base.declared.outcome.Word.{Word};
+ghost use Rattle.pass_elide_proof.specs.pass_proofs.run_source.Source.{first_state};
 
 /// No instance has begun at the start, so there is no handle to keep. What is related there is kept.
 pub fn runs_start_kept()

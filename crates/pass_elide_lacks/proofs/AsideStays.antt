@@ -1,51 +1,51 @@
 -- In the run that gives frames a ramp that was given its frame alone is in the block beside the allocator's.
 use Rattle.std.proofs.Common.{◌≡◌, ◌⊎◌, inl, inr, ◌∙◌, ◌+◌, ℕ, suc, Bool, true, false, List, ◌∷◌, length, None, Option, Some, ap, if◌then◌else◌, refl, sym, subst, arith}
-use Rattle.pass_elide_edges.proofs.EdgesApart.{not_beside}
-use Rattle.pass_elide_edges.specs.Keeping.{KeepsEnds}
+use Rattle.pass_elide_meaning.proofs.pass_elide_edges.EdgesApart.{not_beside}
+use Rattle.pass_elide_meaning.specs.pass_elide_edges.Keeping.{KeepsEnds}
 use Rattle.pass_elide_lacks.proofs.Asking.{asks_alone, ends_asking, no_switch, not_entry, same_code}
 use Rattle.pass_elide_lacks.specs.Aside.{IsAside, StandAside, StandsAside}
 use Rattle.pass_elide_lacks.specs.Keeps.{KeepsAsked}
-use Rattle.pass_elide_runs.proofs.Acts.{branches_to}
-use Rattle.pass_elide_runs.proofs.Allocas.{next_alloca}
-use Rattle.pass_elide_runs.proofs.Elided.{elided_switches}
-use Rattle.pass_elide_runs.proofs.ElidedFirst.{elided_begins}
-use Rattle.pass_elide_runs.proofs.KnownModes.{IsAsleep, asleep}
-use Rattle.pass_elide_runs.proofs.Led.{sound_there, state_reached}
-use Rattle.pass_elide_runs.proofs.Runs.{runs_keep_by}
-use Rattle.pass_elide_runs.proofs.SizeNames.{FitsAlloc, answers_in_runs}
-use Rattle.pass_elide_runs.proofs.Stacks.{Comes, changed_stack, comes, ended_stack, gone_stack, woken_at, woken_on}
-use Rattle.pass_elide_runs.proofs.WakesBy.{IsWoken, wakes_by}
-use Rattle.pass_elide_runs.specs.Keeps.{KeepsRuns}
-use Rattle.pass_elide_runs.specs.Names.{AsksAlloc, HaveGiven, IsGivenBy}
-use Rattle.pass_elide_edges.proofs.pass_elide_proof.ReleasingActs.{goto_there}
-use Rattle.pass_elide_edges.specs.pass_elide_proof.Elision.{Elision, elided, elided_code, function_in}
-use Rattle.pass_elide_edges.specs.pass_elide_proof.Match.{is_given_mode}
-use Rattle.pass_elide_edges.specs.pass_elide_proof.Placing.{KeepsPlaces}
-use Rattle.pass_elide_edges.specs.pass_elide_proof.Shapes.{AsksForFrame}
-use Rattle.pass_elide_edges.specs.pass_elide_proof.StepCases.{ActsBy, LeadsTo, ended}
-use Rattle.pass_elide_edges.specs.pass_elide_proof.pass_proofs.ir_base.declared.outcome.Outcome.{Outcome}
-use Rattle.pass_elide_edges.specs.pass_elide_proof.pass_proofs.ir_base.declared.outcome.Word.{Word}
-use Rattle.pass_elide_edges.specs.pass_elide_proof.pass_proofs.ir_model.Names.{function_at, position_of}
-use Rattle.pass_elide_edges.specs.pass_elide_proof.pass_proofs.ir_model.declared.instr.Terminator.{Terminator}
-use Rattle.pass_elide_edges.specs.pass_elide_proof.pass_proofs.ir_model.declared.module.Function.{Function}
-use Rattle.pass_elide_edges.specs.pass_elide_proof.pass_proofs.ir_model.declared.module.Module.{Module}
-use Rattle.pass_elide_edges.specs.pass_elide_proof.pass_proofs.ir_model.declared.operand.Intrinsic.{Intrinsic}
-use Rattle.pass_elide_edges.specs.pass_elide_proof.pass_proofs.ir_model.declared.operand.Operand.{Operand}
-use Rattle.pass_elide_edges.specs.pass_elide_proof.pass_proofs.ir_paths.Windows.{destroy_label, resume_label}
-use Rattle.pass_elide_edges.specs.pass_elide_proof.pass_proofs.ir_paths.declared.point.Point.{Point}
-use Rattle.pass_elide_edges.specs.pass_elide_proof.pass_proofs.pass_kept_proof.Needed.{BranchesTo}
-use Rattle.pass_elide_edges.specs.pass_elide_proof.pass_proofs.pass_kept_proof.Related.{IsSoundStatus}
-use Rattle.pass_elide_edges.specs.pass_elide_proof.pass_proofs.pass_kept_proof.SuspendRules.{IsCallAt}
-use Rattle.pass_elide_edges.specs.pass_elide_proof.pass_proofs.run_agreement.Machines.{IsFine}
-use Rattle.pass_elide_edges.specs.pass_elide_proof.pass_proofs.run_framed.Framed.{FramedGiven, alloca_from, allocates, continue_framed, enter_after, framed_context, framed_slot, framed_state_at, framed_step}
-use Rattle.pass_elide_edges.specs.pass_elide_proof.pass_proofs.run_laws.changed.Changed.{Each}
-use Rattle.pass_elide_edges.specs.pass_elide_proof.pass_proofs.run_memory.declared.pointer.Value.{Value}
-use Rattle.pass_elide_edges.specs.pass_elide_proof.pass_proofs.run_source.State.{function_of, instance_at, own_instance, settled, with_slots, work_of}
-use Rattle.pass_elide_edges.specs.pass_elide_proof.pass_proofs.run_source.declared.state.Activation.{Activation}
-use Rattle.pass_elide_edges.specs.pass_elide_proof.pass_proofs.run_source.declared.state.Mode.{Mode}
-use Rattle.pass_elide_edges.specs.pass_elide_proof.pass_proofs.run_source.declared.state.State.{State}
-use Rattle.pass_elide_edges.specs.pass_elide_proof.pass_proofs.run_step.Step.{AtTerm, GoTo, action_of, branch, fetch, term_action}
-use Rattle.pass_elide_edges.specs.pass_elide_proof.pass_proofs.run_step.Values.{truth_value, value_in, with_result}
+use Rattle.pass_elide_meaning.proofs.pass_elide_runs.Acts.{branches_to}
+use Rattle.pass_elide_meaning.proofs.pass_elide_runs.Allocas.{next_alloca}
+use Rattle.pass_elide_meaning.proofs.pass_elide_runs.Elided.{elided_switches}
+use Rattle.pass_elide_meaning.proofs.pass_elide_runs.ElidedFirst.{elided_begins}
+use Rattle.pass_elide_meaning.proofs.pass_elide_runs.KnownModes.{IsAsleep, asleep}
+use Rattle.pass_elide_meaning.proofs.pass_elide_runs.Led.{sound_there, state_reached}
+use Rattle.pass_elide_meaning.proofs.pass_elide_runs.Runs.{runs_keep_by}
+use Rattle.pass_elide_meaning.proofs.pass_elide_runs.SizeNames.{FitsAlloc, answers_in_runs}
+use Rattle.pass_elide_meaning.proofs.pass_elide_runs.Stacks.{Comes, changed_stack, comes, ended_stack, gone_stack, woken_at, woken_on}
+use Rattle.pass_elide_meaning.proofs.pass_elide_runs.WakesBy.{IsWoken, wakes_by}
+use Rattle.pass_elide_meaning.specs.pass_elide_runs.Keeps.{KeepsRuns}
+use Rattle.pass_elide_meaning.specs.pass_elide_runs.Names.{AsksAlloc, HaveGiven, IsGivenBy}
+use Rattle.pass_elide_meaning.proofs.pass_elide_edges.pass_elide_proof.ReleasingActs.{goto_there}
+use Rattle.pass_elide_meaning.specs.pass_elide_edges.pass_elide_proof.Elision.{Elision, elided, elided_code, function_in}
+use Rattle.pass_elide_meaning.specs.pass_elide_edges.pass_elide_proof.Match.{is_given_mode}
+use Rattle.pass_elide_meaning.specs.pass_elide_edges.pass_elide_proof.Placing.{KeepsPlaces}
+use Rattle.pass_elide_meaning.specs.pass_elide_edges.pass_elide_proof.Shapes.{AsksForFrame}
+use Rattle.pass_elide_meaning.specs.pass_elide_edges.pass_elide_proof.StepCases.{ActsBy, LeadsTo, ended}
+use Rattle.pass_elide_meaning.specs.pass_elide_edges.pass_elide_proof.pass_proofs.ir_base.declared.outcome.Outcome.{Outcome}
+use Rattle.pass_elide_meaning.specs.pass_elide_edges.pass_elide_proof.pass_proofs.ir_base.declared.outcome.Word.{Word}
+use Rattle.pass_elide_meaning.specs.pass_elide_edges.pass_elide_proof.pass_proofs.ir_model.Names.{function_at, position_of}
+use Rattle.pass_elide_meaning.specs.pass_elide_edges.pass_elide_proof.pass_proofs.ir_model.declared.instr.Terminator.{Terminator}
+use Rattle.pass_elide_meaning.specs.pass_elide_edges.pass_elide_proof.pass_proofs.ir_model.declared.module.Function.{Function}
+use Rattle.pass_elide_meaning.specs.pass_elide_edges.pass_elide_proof.pass_proofs.ir_model.declared.module.Module.{Module}
+use Rattle.pass_elide_meaning.specs.pass_elide_edges.pass_elide_proof.pass_proofs.ir_model.declared.operand.Intrinsic.{Intrinsic}
+use Rattle.pass_elide_meaning.specs.pass_elide_edges.pass_elide_proof.pass_proofs.ir_model.declared.operand.Operand.{Operand}
+use Rattle.pass_elide_meaning.specs.pass_elide_edges.pass_elide_proof.pass_proofs.ir_paths.Windows.{destroy_label, resume_label}
+use Rattle.pass_elide_meaning.specs.pass_elide_edges.pass_elide_proof.pass_proofs.ir_paths.declared.point.Point.{Point}
+use Rattle.pass_elide_meaning.specs.pass_elide_edges.pass_elide_proof.pass_proofs.pass_kept_proof.Needed.{BranchesTo}
+use Rattle.pass_elide_meaning.specs.pass_elide_edges.pass_elide_proof.pass_proofs.pass_kept_proof.Related.{IsSoundStatus}
+use Rattle.pass_elide_meaning.specs.pass_elide_edges.pass_elide_proof.pass_proofs.pass_kept_proof.SuspendRules.{IsCallAt}
+use Rattle.pass_elide_meaning.specs.pass_elide_edges.pass_elide_proof.pass_proofs.run_agreement.Machines.{IsFine}
+use Rattle.pass_elide_meaning.specs.pass_elide_edges.pass_elide_proof.pass_proofs.run_framed.Framed.{FramedGiven, alloca_from, allocates, continue_framed, enter_after, framed_context, framed_slot, framed_state_at, framed_step}
+use Rattle.pass_elide_meaning.specs.pass_elide_edges.pass_elide_proof.pass_proofs.run_laws.changed.Changed.{Each}
+use Rattle.pass_elide_meaning.specs.pass_elide_edges.pass_elide_proof.pass_proofs.run_memory.declared.pointer.Value.{Value}
+use Rattle.pass_elide_meaning.specs.pass_elide_edges.pass_elide_proof.pass_proofs.run_source.State.{function_of, instance_at, own_instance, settled, with_slots, work_of}
+use Rattle.pass_elide_meaning.specs.pass_elide_edges.pass_elide_proof.pass_proofs.run_source.declared.state.Activation.{Activation}
+use Rattle.pass_elide_meaning.specs.pass_elide_edges.pass_elide_proof.pass_proofs.run_source.declared.state.Mode.{Mode}
+use Rattle.pass_elide_meaning.specs.pass_elide_edges.pass_elide_proof.pass_proofs.run_source.declared.state.State.{State}
+use Rattle.pass_elide_meaning.specs.pass_elide_edges.pass_elide_proof.pass_proofs.run_step.Step.{AtTerm, GoTo, action_of, branch, fetch, term_action}
+use Rattle.pass_elide_meaning.specs.pass_elide_edges.pass_elide_proof.pass_proofs.run_step.Values.{truth_value, value_in, with_result}
 use Rattle.run_slots.specs.run_hooks.Away.{HasStop}
 use Rattle.run_slots.specs.run_hooks.Reached.{IsReachedState}
 

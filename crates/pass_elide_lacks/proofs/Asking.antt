@@ -1,38 +1,38 @@
 -- What leads to the block beside the allocator's: the branch on what coro.alloc gave.
 use Rattle.std.proofs.Common.{◌≡◌, ◌⊎◌, inl, inr, ◌∙◌, ℕ, Bool, true, false, List, length, None, Option, Some, ap, refl, sym}
 use Rattle.std.specs.Prelude.{option_and_then, slice_get}
-use Rattle.pass_elide_edges.specs.Keeping.{HasEdge, KeepsEnds, SetsKnown}
+use Rattle.pass_elide_meaning.specs.pass_elide_edges.Keeping.{HasEdge, KeepsEnds, SetsKnown}
 use Rattle.pass_elide_lacks.specs.Keeps.{KeepsAsked}
-use Rattle.pass_elide_runs.proofs.Elided.{coroutine_same}
-use Rattle.pass_elide_runs.proofs.Paths.{name_listed}
-use Rattle.pass_elide_runs.specs.Names.{AsksAlloc, IsCallBy, IsGivenBy}
-use Rattle.pass_elide_edges.proofs.pass_elide_proof.EdgeEntered.{end_at}
-use Rattle.pass_elide_edges.proofs.pass_elide_proof.Facts.{not_both, some_none}
-use Rattle.pass_elide_edges.proofs.pass_elide_proof.GoesOn.{instr_there}
-use Rattle.pass_elide_edges.proofs.pass_elide_proof.PhiValues.{each_as}
-use Rattle.pass_elide_edges.proofs.pass_elide_proof.pass_proofs.pass_kept_proof.Rules.{where_is}
-use Rattle.pass_elide_edges.specs.pass_elide_proof.Edges.{phis_at}
-use Rattle.pass_elide_edges.specs.pass_elide_proof.Elision.{Elision, Shape, elided_code, function_in, no_shape}
-use Rattle.pass_elide_edges.specs.pass_elide_proof.Places.{instrs_of}
-use Rattle.pass_elide_edges.specs.pass_elide_proof.Placing.{HasShape, KeepsPlaces}
-use Rattle.pass_elide_edges.specs.pass_elide_proof.Shapes.{AsksForFrame}
-use Rattle.pass_elide_edges.specs.pass_elide_proof.pass_proofs.ir_model.Names.{function_at, position_of, same_intrinsic}
-use Rattle.pass_elide_edges.specs.pass_elide_proof.pass_proofs.ir_model.declared.instr.Case.{Case}
-use Rattle.pass_elide_edges.specs.pass_elide_proof.pass_proofs.ir_model.declared.instr.Instr.{Instr}
-use Rattle.pass_elide_edges.specs.pass_elide_proof.pass_proofs.ir_model.declared.instr.Phi.{Phi}
-use Rattle.pass_elide_edges.specs.pass_elide_proof.pass_proofs.ir_model.declared.instr.Terminator.{Terminator}
-use Rattle.pass_elide_edges.specs.pass_elide_proof.pass_proofs.ir_model.declared.module.Function.{Function}
-use Rattle.pass_elide_edges.specs.pass_elide_proof.pass_proofs.ir_model.declared.operand.Arg.{Arg}
-use Rattle.pass_elide_edges.specs.pass_elide_proof.pass_proofs.ir_model.declared.operand.Callee.{Callee}
-use Rattle.pass_elide_edges.specs.pass_elide_proof.pass_proofs.ir_model.declared.operand.Intrinsic.{Intrinsic}
-use Rattle.pass_elide_edges.specs.pass_elide_proof.pass_proofs.ir_model.declared.operand.Operand.{Operand}
-use Rattle.pass_elide_edges.specs.pass_elide_proof.pass_proofs.ir_parts.Contents.{result_of}
-use Rattle.pass_elide_edges.specs.pass_elide_proof.pass_proofs.ir_paths.Paths.{targets}
-use Rattle.pass_elide_edges.specs.pass_elide_proof.pass_proofs.ir_paths.Windows.{call_result, instr_at, is_call_of, points_where}
-use Rattle.pass_elide_edges.specs.pass_elide_proof.pass_proofs.ir_paths.declared.point.Point.{Point}
-use Rattle.pass_elide_edges.specs.pass_elide_proof.pass_proofs.pass_kept_proof.Needed.{BranchesTo}
-use Rattle.pass_elide_edges.specs.pass_elide_proof.pass_proofs.run_framed.Framed.{begin_name}
-use Rattle.pass_elide_edges.specs.pass_elide_proof.pass_proofs.run_step.Step.{AtTerm, fetch}
+use Rattle.pass_elide_meaning.proofs.pass_elide_runs.Elided.{coroutine_same}
+use Rattle.pass_elide_meaning.proofs.pass_elide_runs.Paths.{name_listed}
+use Rattle.pass_elide_meaning.specs.pass_elide_runs.Names.{AsksAlloc, IsCallBy, IsGivenBy}
+use Rattle.pass_elide_meaning.proofs.pass_elide_edges.pass_elide_proof.EdgeEntered.{end_at}
+use Rattle.pass_elide_meaning.proofs.pass_elide_edges.pass_elide_proof.Facts.{not_both, some_none}
+use Rattle.pass_elide_meaning.proofs.pass_elide_edges.pass_elide_proof.GoesOn.{instr_there}
+use Rattle.pass_elide_meaning.proofs.pass_elide_edges.pass_elide_proof.PhiValues.{each_as}
+use Rattle.pass_elide_meaning.proofs.pass_elide_edges.pass_elide_proof.pass_proofs.pass_kept_proof.Rules.{where_is}
+use Rattle.pass_elide_meaning.specs.pass_elide_edges.pass_elide_proof.Edges.{phis_at}
+use Rattle.pass_elide_meaning.specs.pass_elide_edges.pass_elide_proof.Elision.{Elision, Shape, elided_code, function_in, no_shape}
+use Rattle.pass_elide_meaning.specs.pass_elide_edges.pass_elide_proof.Places.{instrs_of}
+use Rattle.pass_elide_meaning.specs.pass_elide_edges.pass_elide_proof.Placing.{HasShape, KeepsPlaces}
+use Rattle.pass_elide_meaning.specs.pass_elide_edges.pass_elide_proof.Shapes.{AsksForFrame}
+use Rattle.pass_elide_meaning.specs.pass_elide_edges.pass_elide_proof.pass_proofs.ir_model.Names.{function_at, position_of, same_intrinsic}
+use Rattle.pass_elide_meaning.specs.pass_elide_edges.pass_elide_proof.pass_proofs.ir_model.declared.instr.Case.{Case}
+use Rattle.pass_elide_meaning.specs.pass_elide_edges.pass_elide_proof.pass_proofs.ir_model.declared.instr.Instr.{Instr}
+use Rattle.pass_elide_meaning.specs.pass_elide_edges.pass_elide_proof.pass_proofs.ir_model.declared.instr.Phi.{Phi}
+use Rattle.pass_elide_meaning.specs.pass_elide_edges.pass_elide_proof.pass_proofs.ir_model.declared.instr.Terminator.{Terminator}
+use Rattle.pass_elide_meaning.specs.pass_elide_edges.pass_elide_proof.pass_proofs.ir_model.declared.module.Function.{Function}
+use Rattle.pass_elide_meaning.specs.pass_elide_edges.pass_elide_proof.pass_proofs.ir_model.declared.operand.Arg.{Arg}
+use Rattle.pass_elide_meaning.specs.pass_elide_edges.pass_elide_proof.pass_proofs.ir_model.declared.operand.Callee.{Callee}
+use Rattle.pass_elide_meaning.specs.pass_elide_edges.pass_elide_proof.pass_proofs.ir_model.declared.operand.Intrinsic.{Intrinsic}
+use Rattle.pass_elide_meaning.specs.pass_elide_edges.pass_elide_proof.pass_proofs.ir_model.declared.operand.Operand.{Operand}
+use Rattle.pass_elide_meaning.specs.pass_elide_edges.pass_elide_proof.pass_proofs.ir_parts.Contents.{result_of}
+use Rattle.pass_elide_meaning.specs.pass_elide_edges.pass_elide_proof.pass_proofs.ir_paths.Paths.{targets}
+use Rattle.pass_elide_meaning.specs.pass_elide_edges.pass_elide_proof.pass_proofs.ir_paths.Windows.{call_result, instr_at, is_call_of, points_where}
+use Rattle.pass_elide_meaning.specs.pass_elide_edges.pass_elide_proof.pass_proofs.ir_paths.declared.point.Point.{Point}
+use Rattle.pass_elide_meaning.specs.pass_elide_edges.pass_elide_proof.pass_proofs.pass_kept_proof.Needed.{BranchesTo}
+use Rattle.pass_elide_meaning.specs.pass_elide_edges.pass_elide_proof.pass_proofs.run_framed.Framed.{begin_name}
+use Rattle.pass_elide_meaning.specs.pass_elide_edges.pass_elide_proof.pass_proofs.run_step.Step.{AtTerm, fetch}
 use Rattle.run_slots.proofs.run_hooks.pass_renewed_proof.Left.{instr_there as point_there}
 
 -- ---- calls

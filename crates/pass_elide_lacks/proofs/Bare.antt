@@ -2,64 +2,64 @@
 use Rattle.std.proofs.Common.{◌≡◌, ◌⊎◌, inl, inr, ◌∙◌, ◌+◌, ◌<◌, ◌≤◌, ◌++◌, ℕ, Bool, true, false, List, [], ◌∷◌, length, Err, None, Ok, Option, Result, Some, ap, if◌then◌else◌, refl, sym, subst, arith, ◌||◌}
 use Rattle.std.specs.Prelude.{filter, slice_get, unwrap_or}
 use Rattle.pass_elide.specs.Elided.{elided_function}
-use Rattle.pass_elide_edges.specs.Keeping.{KeepsEnds, SetsKnown}
+use Rattle.pass_elide_meaning.specs.pass_elide_edges.Keeping.{KeepsEnds, SetsKnown}
 use Rattle.pass_elide_lacks.proofs.BareBegins.{Given, HasBegun, Heap, IsBegunBy, IsHeapAt, has_begun}
 use Rattle.pass_elide_lacks.proofs.Changes.{AreAs, IsAs, changed_as, ended_as, gone_as, same_as, set_as}
 use Rattle.pass_elide_lacks.proofs.FlatCalls.{GivesRoom, gives_room}
 use Rattle.pass_elide_lacks.proofs.FlatNames.{names_allocas}
 use Rattle.pass_elide_lacks.proofs.Rows.{found_slot, owns_count, rest_rooms, room_alone, top_rooms}
 use Rattle.pass_elide_lacks.specs.Rooms.{AreInRooms, HasNew, HasOwn, HasRoom, HoldsNone, OwnsIn}
-use Rattle.pass_elide_runs.proofs.Elided.{coroutine_same}
-use Rattle.pass_elide_runs.proofs.KnownModes.{IsAsleep, asleep}
-use Rattle.pass_elide_runs.proofs.Runs.{runs_keep_by}
-use Rattle.pass_elide_runs.proofs.Stacks.{Comes, changed_stack, comes, ended_stack, gone_stack, woken_at}
-use Rattle.pass_elide_runs.specs.Keeps.{KeepsRuns}
-use Rattle.pass_elide_runs.specs.Slots.{HasItsSlots, HaveItsSlots, IsAllocaAt, NamesAllocas}
-use Rattle.pass_elide_edges.proofs.pass_elide_proof.AllocaBlocks.{ActionKeeps, action_keeps}
-use Rattle.pass_elide_edges.proofs.pass_elide_proof.Facts.{some_none}
-use Rattle.pass_elide_edges.proofs.pass_elide_proof.GivingMarkers.{plain_put}
-use Rattle.pass_elide_edges.proofs.pass_elide_proof.GoesOn.{instr_there}
-use Rattle.pass_elide_edges.proofs.pass_elide_proof.Modules.{finds_alike}
-use Rattle.pass_elide_edges.proofs.pass_elide_proof.PhiValues.{each_as}
-use Rattle.pass_elide_edges.specs.pass_elide_proof.Callers.{HaveBlocks}
-use Rattle.pass_elide_edges.specs.pass_elide_proof.Edges.{phis_at}
-use Rattle.pass_elide_edges.specs.pass_elide_proof.Elision.{Elision, elided, elided_code, function_in, rooms}
-use Rattle.pass_elide_edges.specs.pass_elide_proof.OwnSlots.{CountsSlots}
-use Rattle.pass_elide_edges.specs.pass_elide_proof.Places.{instrs_of}
-use Rattle.pass_elide_edges.specs.pass_elide_proof.Placing.{KeepsPlaces}
-use Rattle.pass_elide_edges.specs.pass_elide_proof.Returning.{IsAllocaBlock}
-use Rattle.pass_elide_edges.specs.pass_elide_proof.StepCases.{ActsBy, CallsGiven, LeadsTo, ended}
-use Rattle.pass_elide_edges.specs.pass_elide_proof.pass_proofs.ir_base.declared.cause.Cause.{Cause}
-use Rattle.pass_elide_edges.specs.pass_elide_proof.pass_proofs.ir_base.declared.outcome.Outcome.{Outcome}
-use Rattle.pass_elide_edges.specs.pass_elide_proof.pass_proofs.ir_base.declared.outcome.Word.{Word}
-use Rattle.pass_elide_edges.specs.pass_elide_proof.pass_proofs.ir_model.Names.{function_at}
-use Rattle.pass_elide_edges.specs.pass_elide_proof.pass_proofs.ir_model.declared.instr.Instr.{Instr}
-use Rattle.pass_elide_edges.specs.pass_elide_proof.pass_proofs.ir_model.declared.instr.Phi.{Phi}
-use Rattle.pass_elide_edges.specs.pass_elide_proof.pass_proofs.ir_model.declared.module.Function.{Function}
-use Rattle.pass_elide_edges.specs.pass_elide_proof.pass_proofs.ir_model.declared.module.Module.{Module}
-use Rattle.pass_elide_edges.specs.pass_elide_proof.pass_proofs.ir_model.declared.operand.Arg.{Arg}
-use Rattle.pass_elide_edges.specs.pass_elide_proof.pass_proofs.ir_model.declared.operand.Callee.{Callee}
-use Rattle.pass_elide_edges.specs.pass_elide_proof.pass_proofs.ir_model.declared.operand.Intrinsic.{Intrinsic}
-use Rattle.pass_elide_edges.specs.pass_elide_proof.pass_proofs.ir_parts.Contents.{result_of}
-use Rattle.pass_elide_edges.specs.pass_elide_proof.pass_proofs.ir_paths.declared.point.Point.{Point}
-use Rattle.pass_elide_edges.specs.pass_elide_proof.pass_proofs.run_agreement.Machines.{IsFine}
-use Rattle.pass_elide_edges.specs.pass_elide_proof.pass_proofs.run_framed.Framed.{FramedGiven, alloca_from, enter_after, framed_act, framed_advance, framed_begin, framed_context, framed_next, framed_slot, framed_state_at, framed_step, given_ramp, last_value}
-use Rattle.pass_elide_edges.specs.pass_elide_proof.pass_proofs.run_laws.changed.Changed.{Each}
-use Rattle.pass_elide_edges.specs.pass_elide_proof.pass_proofs.run_memory.Memory.{same_kind}
-use Rattle.pass_elide_edges.specs.pass_elide_proof.pass_proofs.run_memory.declared.block.Kind.{Kind}
-use Rattle.pass_elide_edges.specs.pass_elide_proof.pass_proofs.run_memory.declared.block.MemoryBlock.{MemoryBlock}
-use Rattle.pass_elide_edges.specs.pass_elide_proof.pass_proofs.run_memory.declared.pointer.Value.{Value}
-use Rattle.pass_elide_edges.specs.pass_elide_proof.pass_proofs.run_source.Source.{begun, called, given_back, mode_of, returned}
-use Rattle.pass_elide_edges.specs.pass_elide_proof.pass_proofs.run_source.State.{function_of, gives, instance_at, or_undefined, own_instance, settled, with_memory, with_slots, work_of}
-use Rattle.pass_elide_edges.specs.pass_elide_proof.pass_proofs.run_source.declared.state.Activation.{Activation}
-use Rattle.pass_elide_edges.specs.pass_elide_proof.pass_proofs.run_source.declared.state.Instance.{Instance}
-use Rattle.pass_elide_edges.specs.pass_elide_proof.pass_proofs.run_source.declared.state.Mode.{Mode}
-use Rattle.pass_elide_edges.specs.pass_elide_proof.pass_proofs.run_source.declared.state.State.{State}
-use Rattle.pass_elide_edges.specs.pass_elide_proof.pass_proofs.run_source.declared.state.Status.{Status}
-use Rattle.pass_elide_edges.specs.pass_elide_proof.pass_proofs.run_step.Step.{Coro, action_of, block_of, fetch}
-use Rattle.pass_elide_edges.specs.pass_elide_proof.pass_proofs.run_step.Values.{arg_values, nth}
-use Rattle.pass_elide_edges.specs.pass_elide_proof.pass_proofs.run_step.declared.world.Slot.{Slot}
-use Rattle.pass_elide_edges.proofs.pass_elide_proof.Saves.{own_number}
+use Rattle.pass_elide_meaning.proofs.pass_elide_runs.Elided.{coroutine_same}
+use Rattle.pass_elide_meaning.proofs.pass_elide_runs.KnownModes.{IsAsleep, asleep}
+use Rattle.pass_elide_meaning.proofs.pass_elide_runs.Runs.{runs_keep_by}
+use Rattle.pass_elide_meaning.proofs.pass_elide_runs.Stacks.{Comes, changed_stack, comes, ended_stack, gone_stack, woken_at}
+use Rattle.pass_elide_meaning.specs.pass_elide_runs.Keeps.{KeepsRuns}
+use Rattle.pass_elide_meaning.specs.pass_elide_runs.Slots.{HasItsSlots, HaveItsSlots, IsAllocaAt, NamesAllocas}
+use Rattle.pass_elide_meaning.proofs.pass_elide_edges.pass_elide_proof.AllocaBlocks.{ActionKeeps, action_keeps}
+use Rattle.pass_elide_meaning.proofs.pass_elide_edges.pass_elide_proof.Facts.{some_none}
+use Rattle.pass_elide_meaning.proofs.pass_elide_edges.pass_elide_proof.GivingMarkers.{plain_put}
+use Rattle.pass_elide_meaning.proofs.pass_elide_edges.pass_elide_proof.GoesOn.{instr_there}
+use Rattle.pass_elide_meaning.proofs.pass_elide_edges.pass_elide_proof.Modules.{finds_alike}
+use Rattle.pass_elide_meaning.proofs.pass_elide_edges.pass_elide_proof.PhiValues.{each_as}
+use Rattle.pass_elide_meaning.specs.pass_elide_edges.pass_elide_proof.Callers.{HaveBlocks}
+use Rattle.pass_elide_meaning.specs.pass_elide_edges.pass_elide_proof.Edges.{phis_at}
+use Rattle.pass_elide_meaning.specs.pass_elide_edges.pass_elide_proof.Elision.{Elision, elided, elided_code, function_in, rooms}
+use Rattle.pass_elide_meaning.specs.pass_elide_edges.pass_elide_proof.OwnSlots.{CountsSlots}
+use Rattle.pass_elide_meaning.specs.pass_elide_edges.pass_elide_proof.Places.{instrs_of}
+use Rattle.pass_elide_meaning.specs.pass_elide_edges.pass_elide_proof.Placing.{KeepsPlaces}
+use Rattle.pass_elide_meaning.specs.pass_elide_edges.pass_elide_proof.Returning.{IsAllocaBlock}
+use Rattle.pass_elide_meaning.specs.pass_elide_edges.pass_elide_proof.StepCases.{ActsBy, CallsGiven, LeadsTo, ended}
+use Rattle.pass_elide_meaning.specs.pass_elide_edges.pass_elide_proof.pass_proofs.ir_base.declared.cause.Cause.{Cause}
+use Rattle.pass_elide_meaning.specs.pass_elide_edges.pass_elide_proof.pass_proofs.ir_base.declared.outcome.Outcome.{Outcome}
+use Rattle.pass_elide_meaning.specs.pass_elide_edges.pass_elide_proof.pass_proofs.ir_base.declared.outcome.Word.{Word}
+use Rattle.pass_elide_meaning.specs.pass_elide_edges.pass_elide_proof.pass_proofs.ir_model.Names.{function_at}
+use Rattle.pass_elide_meaning.specs.pass_elide_edges.pass_elide_proof.pass_proofs.ir_model.declared.instr.Instr.{Instr}
+use Rattle.pass_elide_meaning.specs.pass_elide_edges.pass_elide_proof.pass_proofs.ir_model.declared.instr.Phi.{Phi}
+use Rattle.pass_elide_meaning.specs.pass_elide_edges.pass_elide_proof.pass_proofs.ir_model.declared.module.Function.{Function}
+use Rattle.pass_elide_meaning.specs.pass_elide_edges.pass_elide_proof.pass_proofs.ir_model.declared.module.Module.{Module}
+use Rattle.pass_elide_meaning.specs.pass_elide_edges.pass_elide_proof.pass_proofs.ir_model.declared.operand.Arg.{Arg}
+use Rattle.pass_elide_meaning.specs.pass_elide_edges.pass_elide_proof.pass_proofs.ir_model.declared.operand.Callee.{Callee}
+use Rattle.pass_elide_meaning.specs.pass_elide_edges.pass_elide_proof.pass_proofs.ir_model.declared.operand.Intrinsic.{Intrinsic}
+use Rattle.pass_elide_meaning.specs.pass_elide_edges.pass_elide_proof.pass_proofs.ir_parts.Contents.{result_of}
+use Rattle.pass_elide_meaning.specs.pass_elide_edges.pass_elide_proof.pass_proofs.ir_paths.declared.point.Point.{Point}
+use Rattle.pass_elide_meaning.specs.pass_elide_edges.pass_elide_proof.pass_proofs.run_agreement.Machines.{IsFine}
+use Rattle.pass_elide_meaning.specs.pass_elide_edges.pass_elide_proof.pass_proofs.run_framed.Framed.{FramedGiven, alloca_from, enter_after, framed_act, framed_advance, framed_begin, framed_context, framed_next, framed_slot, framed_state_at, framed_step, given_ramp, last_value}
+use Rattle.pass_elide_meaning.specs.pass_elide_edges.pass_elide_proof.pass_proofs.run_laws.changed.Changed.{Each}
+use Rattle.pass_elide_meaning.specs.pass_elide_edges.pass_elide_proof.pass_proofs.run_memory.Memory.{same_kind}
+use Rattle.pass_elide_meaning.specs.pass_elide_edges.pass_elide_proof.pass_proofs.run_memory.declared.block.Kind.{Kind}
+use Rattle.pass_elide_meaning.specs.pass_elide_edges.pass_elide_proof.pass_proofs.run_memory.declared.block.MemoryBlock.{MemoryBlock}
+use Rattle.pass_elide_meaning.specs.pass_elide_edges.pass_elide_proof.pass_proofs.run_memory.declared.pointer.Value.{Value}
+use Rattle.pass_elide_meaning.specs.pass_elide_edges.pass_elide_proof.pass_proofs.run_source.Source.{begun, called, given_back, mode_of, returned}
+use Rattle.pass_elide_meaning.specs.pass_elide_edges.pass_elide_proof.pass_proofs.run_source.State.{function_of, gives, instance_at, or_undefined, own_instance, settled, with_memory, with_slots, work_of}
+use Rattle.pass_elide_meaning.specs.pass_elide_edges.pass_elide_proof.pass_proofs.run_source.declared.state.Activation.{Activation}
+use Rattle.pass_elide_meaning.specs.pass_elide_edges.pass_elide_proof.pass_proofs.run_source.declared.state.Instance.{Instance}
+use Rattle.pass_elide_meaning.specs.pass_elide_edges.pass_elide_proof.pass_proofs.run_source.declared.state.Mode.{Mode}
+use Rattle.pass_elide_meaning.specs.pass_elide_edges.pass_elide_proof.pass_proofs.run_source.declared.state.State.{State}
+use Rattle.pass_elide_meaning.specs.pass_elide_edges.pass_elide_proof.pass_proofs.run_source.declared.state.Status.{Status}
+use Rattle.pass_elide_meaning.specs.pass_elide_edges.pass_elide_proof.pass_proofs.run_step.Step.{Coro, action_of, block_of, fetch}
+use Rattle.pass_elide_meaning.specs.pass_elide_edges.pass_elide_proof.pass_proofs.run_step.Values.{arg_values, nth}
+use Rattle.pass_elide_meaning.specs.pass_elide_edges.pass_elide_proof.pass_proofs.run_step.declared.world.Slot.{Slot}
+use Rattle.pass_elide_meaning.proofs.pass_elide_edges.pass_elide_proof.Saves.{own_number}
 use Rattle.run_slots.specs.Slots.{times_on}
 
 -- ---- small facts

@@ -1,17 +1,17 @@
 -- What a step of a framed run leaves of instances: their blocks and slots.
 use Rattle.std.proofs.Common.{◌≡◌, ◌≢◌, ◌⊎◌, inl, inr, ◌∙◌, ℕ, Bool, true, false, List, None, Option, Some, ap, if◌then◌else◌, refl, sym, subst, ◌&&◌, ◌==◌}
 use Rattle.std.specs.Prelude.{slice_get, slice_set}
-use Rattle.pass_elide_edges.proofs.pass_elide_proof.Changing.{WasSet, was_set}
-use Rattle.pass_elide_edges.proofs.pass_elide_proof.Saves.{own_number}
-use Rattle.pass_elide_edges.specs.pass_elide_proof.StepCases.{ended}
-use Rattle.pass_elide_edges.specs.pass_elide_proof.pass_proofs.run_framed.Framed.{disown_given, framed_finish, is_stack_block}
-use Rattle.pass_elide_edges.specs.pass_elide_proof.pass_proofs.run_memory.Memory.{disown}
-use Rattle.pass_elide_edges.specs.pass_elide_proof.pass_proofs.run_memory.declared.pointer.Value.{Value}
-use Rattle.pass_elide_edges.specs.pass_elide_proof.pass_proofs.run_source.Source.{change_own, finish, if_let_go, let_go, may_be_freed}
-use Rattle.pass_elide_edges.specs.pass_elide_proof.pass_proofs.run_source.State.{instance_at, own_instance, with_memory}
-use Rattle.pass_elide_edges.specs.pass_elide_proof.pass_proofs.run_source.declared.state.Instance.{Instance}
-use Rattle.pass_elide_edges.specs.pass_elide_proof.pass_proofs.run_source.declared.state.State.{State}
-use Rattle.pass_elide_edges.specs.pass_elide_proof.pass_proofs.run_source.declared.state.Status.{Status}
+use Rattle.pass_elide_meaning.proofs.pass_elide_edges.pass_elide_proof.Changing.{WasSet, was_set}
+use Rattle.pass_elide_meaning.proofs.pass_elide_edges.pass_elide_proof.Saves.{own_number}
+use Rattle.pass_elide_meaning.specs.pass_elide_edges.pass_elide_proof.StepCases.{ended}
+use Rattle.pass_elide_meaning.specs.pass_elide_edges.pass_elide_proof.pass_proofs.run_framed.Framed.{disown_given, framed_finish, is_stack_block}
+use Rattle.pass_elide_meaning.specs.pass_elide_edges.pass_elide_proof.pass_proofs.run_memory.Memory.{disown}
+use Rattle.pass_elide_meaning.specs.pass_elide_edges.pass_elide_proof.pass_proofs.run_memory.declared.pointer.Value.{Value}
+use Rattle.pass_elide_meaning.specs.pass_elide_edges.pass_elide_proof.pass_proofs.run_source.Source.{change_own, finish, if_let_go, let_go, may_be_freed}
+use Rattle.pass_elide_meaning.specs.pass_elide_edges.pass_elide_proof.pass_proofs.run_source.State.{instance_at, own_instance, with_memory}
+use Rattle.pass_elide_meaning.specs.pass_elide_edges.pass_elide_proof.pass_proofs.run_source.declared.state.Instance.{Instance}
+use Rattle.pass_elide_meaning.specs.pass_elide_edges.pass_elide_proof.pass_proofs.run_source.declared.state.State.{State}
+use Rattle.pass_elide_meaning.specs.pass_elide_edges.pass_elide_proof.pass_proofs.run_source.declared.state.Status.{Status}
 use Rattle.run_slots.proofs.run_hooks.Reached.{at_is}
 
 -- an instance is as one of the same number, but for its status and what it was released to

@@ -1,26 +1,26 @@
 -- Paths from begin that don't pass the end.
 use Rattle.std.proofs.Common.{◌≡◌, ◌⊎◌, inl, inr, ◌∙◌, ◌+◌, ℕ, Bool, true, false, [], ◌∷◌, None, Option, Some, ap, refl, sym, subst}
 use Rattle.std.specs.Prelude.{slice_get}
-use Rattle.pass_elide_edges.proofs.pass_elide_proof.ElidedFound.{fetched}
-use Rattle.pass_elide_edges.proofs.pass_elide_proof.pass_proofs.ir_laws.paths.renamed.Outside.{where_pass}
-use Rattle.pass_elide_edges.specs.pass_elide_proof.Places.{instrs_in}
-use Rattle.pass_elide_edges.specs.pass_elide_proof.pass_proofs.flow_points.Reached.{IsReached as IsReachedBy}
-use Rattle.pass_elide_edges.specs.pass_elide_proof.pass_proofs.ir_model.Names.{same_intrinsic}
-use Rattle.pass_elide_edges.specs.pass_elide_proof.pass_proofs.ir_model.declared.instr.Instr.{Instr}
-use Rattle.pass_elide_edges.specs.pass_elide_proof.pass_proofs.ir_model.declared.instr.Terminator.{Terminator}
-use Rattle.pass_elide_edges.specs.pass_elide_proof.pass_proofs.ir_model.declared.module.Block.{Block}
-use Rattle.pass_elide_edges.specs.pass_elide_proof.pass_proofs.ir_model.declared.module.Function.{Function}
-use Rattle.pass_elide_edges.specs.pass_elide_proof.pass_proofs.ir_model.declared.operand.Callee.{Callee}
-use Rattle.pass_elide_edges.specs.pass_elide_proof.pass_proofs.ir_model.declared.operand.Intrinsic.{Intrinsic}
-use Rattle.pass_elide_edges.specs.pass_elide_proof.pass_proofs.ir_paths.Paths.{entry_point, has_point, nexts}
-use Rattle.pass_elide_edges.specs.pass_elide_proof.pass_proofs.ir_paths.Windows.{instr_at, instr_in, is_call_of, points_where}
-use Rattle.pass_elide_edges.specs.pass_elide_proof.pass_proofs.ir_paths.declared.point.Point.{Point}
-use Rattle.pass_elide_edges.specs.pass_elide_proof.pass_proofs.pass_kept_proof.Needed.{BranchesTo, IsReached, after, along, first}
-use Rattle.pass_elide_edges.specs.pass_elide_proof.pass_proofs.pass_kept_proof.SuspendRules.{IsCallAt}
-use Rattle.pass_elide_edges.specs.pass_elide_proof.pass_proofs.rule_windows.Points.{begins, ends, entry}
-use Rattle.pass_elide_edges.specs.pass_elide_proof.pass_proofs.rule_windows.Sets.{IsAfterEnd, IsWithoutBegin, RunsOut}
-use Rattle.pass_elide_edges.specs.pass_elide_proof.pass_proofs.ir_laws.facts.renamed.Regular.{passes}
-use Rattle.pass_elide_edges.specs.pass_elide_proof.pass_proofs.run_step.Step.{AtInstr, AtTerm, fetch}
+use Rattle.pass_elide_meaning.proofs.pass_elide_edges.pass_elide_proof.ElidedFound.{fetched}
+use Rattle.pass_elide_meaning.proofs.pass_elide_edges.pass_elide_proof.pass_proofs.ir_laws.paths.renamed.Outside.{where_pass}
+use Rattle.pass_elide_meaning.specs.pass_elide_edges.pass_elide_proof.Places.{instrs_in}
+use Rattle.pass_elide_meaning.specs.pass_elide_edges.pass_elide_proof.pass_proofs.flow_points.Reached.{IsReached as IsReachedBy}
+use Rattle.pass_elide_meaning.specs.pass_elide_edges.pass_elide_proof.pass_proofs.ir_model.Names.{same_intrinsic}
+use Rattle.pass_elide_meaning.specs.pass_elide_edges.pass_elide_proof.pass_proofs.ir_model.declared.instr.Instr.{Instr}
+use Rattle.pass_elide_meaning.specs.pass_elide_edges.pass_elide_proof.pass_proofs.ir_model.declared.instr.Terminator.{Terminator}
+use Rattle.pass_elide_meaning.specs.pass_elide_edges.pass_elide_proof.pass_proofs.ir_model.declared.module.Block.{Block}
+use Rattle.pass_elide_meaning.specs.pass_elide_edges.pass_elide_proof.pass_proofs.ir_model.declared.module.Function.{Function}
+use Rattle.pass_elide_meaning.specs.pass_elide_edges.pass_elide_proof.pass_proofs.ir_model.declared.operand.Callee.{Callee}
+use Rattle.pass_elide_meaning.specs.pass_elide_edges.pass_elide_proof.pass_proofs.ir_model.declared.operand.Intrinsic.{Intrinsic}
+use Rattle.pass_elide_meaning.specs.pass_elide_edges.pass_elide_proof.pass_proofs.ir_paths.Paths.{entry_point, has_point, nexts}
+use Rattle.pass_elide_meaning.specs.pass_elide_edges.pass_elide_proof.pass_proofs.ir_paths.Windows.{instr_at, instr_in, is_call_of, points_where}
+use Rattle.pass_elide_meaning.specs.pass_elide_edges.pass_elide_proof.pass_proofs.ir_paths.declared.point.Point.{Point}
+use Rattle.pass_elide_meaning.specs.pass_elide_edges.pass_elide_proof.pass_proofs.pass_kept_proof.Needed.{BranchesTo, IsReached, after, along, first}
+use Rattle.pass_elide_meaning.specs.pass_elide_edges.pass_elide_proof.pass_proofs.pass_kept_proof.SuspendRules.{IsCallAt}
+use Rattle.pass_elide_meaning.specs.pass_elide_edges.pass_elide_proof.pass_proofs.rule_windows.Points.{begins, ends, entry}
+use Rattle.pass_elide_meaning.specs.pass_elide_edges.pass_elide_proof.pass_proofs.rule_windows.Sets.{IsAfterEnd, IsWithoutBegin, RunsOut}
+use Rattle.pass_elide_meaning.specs.pass_elide_edges.pass_elide_proof.pass_proofs.ir_laws.facts.renamed.Regular.{passes}
+use Rattle.pass_elide_meaning.specs.pass_elide_edges.pass_elide_proof.pass_proofs.run_step.Step.{AtInstr, AtTerm, fetch}
 use Rattle.run_slots.proofs.run_hooks.pass_renewed_proof.Ahead.{branch_edge, leads_more, next_edge}
 use Rattle.run_slots.proofs.run_hooks.pass_renewed_proof.Left.{after_edge}
 

@@ -2,30 +2,30 @@
 use Rattle.std.proofs.Common.{◌≡◌, ℕ, List, Some, subst, sym, true}
 use Rattle.std.specs.Prelude.{slice_get}
 use Rattle.pass_elide_kept.specs.Runs.{EndsDestroyed, IsAtAnAlloca, IsKeptFramed}
-use Rattle.pass_elide_known.specs.Keeping.{KeepsMore}
+use Rattle.pass_elide_meaning.specs.pass_elide_known.Keeping.{KeepsMore}
 use Rattle.pass_elide_lacks.proofs.OneEnd.{ends_in_block}
 use Rattle.pass_elide_lacks.proofs.RunOut.{no_ret, out_in_runs}
 use Rattle.pass_elide_lacks.specs.Ends.{KeepsEndings}
-use Rattle.pass_elide_runs.proofs.KnownRuns.{knows_framed}
-use Rattle.pass_elide_runs.specs.Keeps.{KeepsRuns, KnowsFramed}
-use Rattle.pass_elide_edges.proofs.pass_elide_proof.Allocas.{knows_allocas}
-use Rattle.pass_elide_edges.proofs.pass_elide_proof.DestroyingEnds.{ended_freed}
-use Rattle.pass_elide_edges.proofs.pass_elide_proof.DestroyingRuns.{destroys_in_runs}
-use Rattle.pass_elide_edges.proofs.pass_elide_proof.ElidedFound.{fetched}
-use Rattle.pass_elide_edges.proofs.pass_elide_proof.ReleasedKept.{released_runs, slotted_runs}
-use Rattle.pass_elide_edges.proofs.pass_elide_proof.SoundSteps.{states_sound}
-use Rattle.pass_elide_edges.specs.pass_elide_proof.Assembling.{framed_after}
-use Rattle.pass_elide_edges.specs.pass_elide_proof.Elision.{Elision, framed, function_in}
-use Rattle.pass_elide_edges.specs.pass_elide_proof.Placing.{HasShape, KeepsPlaces}
-use Rattle.pass_elide_edges.specs.pass_elide_proof.Sound.{KnowsAllocas}
-use Rattle.pass_elide_edges.specs.pass_elide_proof.Statement.{IsEntryCall}
-use Rattle.pass_elide_edges.specs.pass_elide_proof.pass_proofs.ir_base.declared.outcome.Outcome.{Outcome}
-use Rattle.pass_elide_edges.specs.pass_elide_proof.pass_proofs.ir_base.declared.outcome.Word.{Word}
-use Rattle.pass_elide_edges.specs.pass_elide_proof.pass_proofs.ir_model.declared.instr.Instr.{Instr}
-use Rattle.pass_elide_edges.specs.pass_elide_proof.pass_proofs.run_agreement.Machines.{IsFine}
-use Rattle.pass_elide_edges.specs.pass_elide_proof.pass_proofs.run_source.declared.state.Instance.{Instance}
-use Rattle.pass_elide_edges.specs.pass_elide_proof.pass_proofs.run_source.declared.state.Mode.{Mode}
-use Rattle.pass_elide_edges.specs.pass_elide_proof.pass_proofs.run_source.declared.state.State.{State}
+use Rattle.pass_elide_meaning.proofs.pass_elide_runs.KnownRuns.{knows_framed}
+use Rattle.pass_elide_meaning.specs.pass_elide_runs.Keeps.{KeepsRuns, KnowsFramed}
+use Rattle.pass_elide_meaning.proofs.pass_elide_edges.pass_elide_proof.Allocas.{knows_allocas}
+use Rattle.pass_elide_meaning.proofs.pass_elide_edges.pass_elide_proof.DestroyingEnds.{ended_freed}
+use Rattle.pass_elide_meaning.proofs.pass_elide_edges.pass_elide_proof.DestroyingRuns.{destroys_in_runs}
+use Rattle.pass_elide_meaning.proofs.pass_elide_edges.pass_elide_proof.ElidedFound.{fetched}
+use Rattle.pass_elide_meaning.proofs.pass_elide_edges.pass_elide_proof.ReleasedKept.{released_runs, slotted_runs}
+use Rattle.pass_elide_meaning.proofs.pass_elide_edges.pass_elide_proof.SoundSteps.{states_sound}
+use Rattle.pass_elide_meaning.specs.pass_elide_edges.pass_elide_proof.Assembling.{framed_after}
+use Rattle.pass_elide_meaning.specs.pass_elide_edges.pass_elide_proof.Elision.{Elision, framed, function_in}
+use Rattle.pass_elide_meaning.specs.pass_elide_edges.pass_elide_proof.Placing.{HasShape, KeepsPlaces}
+use Rattle.pass_elide_meaning.specs.pass_elide_edges.pass_elide_proof.Sound.{KnowsAllocas}
+use Rattle.pass_elide_meaning.specs.pass_elide_edges.pass_elide_proof.Statement.{IsEntryCall}
+use Rattle.pass_elide_meaning.specs.pass_elide_edges.pass_elide_proof.pass_proofs.ir_base.declared.outcome.Outcome.{Outcome}
+use Rattle.pass_elide_meaning.specs.pass_elide_edges.pass_elide_proof.pass_proofs.ir_base.declared.outcome.Word.{Word}
+use Rattle.pass_elide_meaning.specs.pass_elide_edges.pass_elide_proof.pass_proofs.ir_model.declared.instr.Instr.{Instr}
+use Rattle.pass_elide_meaning.specs.pass_elide_edges.pass_elide_proof.pass_proofs.run_agreement.Machines.{IsFine}
+use Rattle.pass_elide_meaning.specs.pass_elide_edges.pass_elide_proof.pass_proofs.run_source.declared.state.Instance.{Instance}
+use Rattle.pass_elide_meaning.specs.pass_elide_edges.pass_elide_proof.pass_proofs.run_source.declared.state.Mode.{Mode}
+use Rattle.pass_elide_meaning.specs.pass_elide_edges.pass_elide_proof.pass_proofs.run_source.declared.state.State.{State}
 
 module _ (e : Elision) (keeps : KeepsPlaces e) (more : KeepsMore e) (k : KeepsRuns e) (endings : KeepsEndings e)
     (entry : ℕ) (args : List Word) (call : IsEntryCall e entry args) (n : ℕ)

@@ -6,30 +6,30 @@ use Rattle.pass_elide.specs.Elided.{elided_function, function_frames, given_call
 use Rattle.pass_elide.specs.declared.given.GivenFrame.{GivenFrame}
 use Rattle.pass_elide_lacks.proofs.Flat.{Ahead, IsPlaced, Own, ahead_there, placed}
 use Rattle.pass_elide_lacks.proofs.FlatNames.{front_alloca}
-use Rattle.pass_elide_runs.proofs.Shaped.{no_field}
-use Rattle.pass_elide_runs.specs.Slots.{IsAllocaAt}
-use Rattle.pass_elide_edges.proofs.pass_elide_proof.ElidedFound.{fetched}
-use Rattle.pass_elide_edges.proofs.pass_elide_proof.Facts.{some_none}
-use Rattle.pass_elide_edges.proofs.pass_elide_proof.GivingMarkers.{plain_put}
-use Rattle.pass_elide_edges.proofs.pass_elide_proof.Modules.{finds_alike}
-use Rattle.pass_elide_edges.proofs.pass_elide_proof.Sites.{alloca_there}
-use Rattle.pass_elide_edges.proofs.pass_elide_proof.pass_proofs.ir_laws.facts.Lists.{get_within}
-use Rattle.pass_elide_edges.specs.pass_elide_proof.Elision.{Elision, elided_code, function_in, rooms}
-use Rattle.pass_elide_edges.specs.pass_elide_proof.Places.{Rooms, ahead, allocas_ahead, elided_instr, instrs_in, instrs_of, name_at, room_at}
-use Rattle.pass_elide_edges.specs.pass_elide_proof.Placing.{KeepsPlaces}
-use Rattle.pass_elide_edges.specs.pass_elide_proof.pass_proofs.ir_base.declared.name.Name.{Name}
-use Rattle.pass_elide_edges.specs.pass_elide_proof.pass_proofs.ir_model.Ty.{Ty, array, int, ptr}
-use Rattle.pass_elide_edges.specs.pass_elide_proof.pass_proofs.ir_model.declared.instr.Instr.{Instr}
-use Rattle.pass_elide_edges.specs.pass_elide_proof.pass_proofs.ir_model.declared.module.Block.{Block}
-use Rattle.pass_elide_edges.specs.pass_elide_proof.pass_proofs.ir_model.declared.module.Function.{Function}
-use Rattle.pass_elide_edges.specs.pass_elide_proof.pass_proofs.ir_model.declared.module.Module.{Module}
-use Rattle.pass_elide_edges.specs.pass_elide_proof.pass_proofs.ir_model.declared.operand.Arg.{Arg}
-use Rattle.pass_elide_edges.specs.pass_elide_proof.pass_proofs.ir_model.declared.operand.Callee.{Callee}
-use Rattle.pass_elide_edges.specs.pass_elide_proof.pass_proofs.ir_model.declared.operand.Operand.{Operand}
-use Rattle.pass_elide_edges.specs.pass_elide_proof.pass_proofs.run_framed.Framed.{given_ramp, last_value}
-use Rattle.pass_elide_edges.specs.pass_elide_proof.pass_proofs.run_laws.changed.Changed.{Each}
-use Rattle.pass_elide_edges.specs.pass_elide_proof.pass_proofs.run_memory.declared.pointer.Value.{Value}
-use Rattle.pass_elide_edges.specs.pass_elide_proof.pass_proofs.run_step.Values.{Env, arg_value, arg_values, nth, value_in}
+use Rattle.pass_elide_meaning.proofs.pass_elide_runs.Shaped.{no_field}
+use Rattle.pass_elide_meaning.specs.pass_elide_runs.Slots.{IsAllocaAt}
+use Rattle.pass_elide_meaning.proofs.pass_elide_edges.pass_elide_proof.ElidedFound.{fetched}
+use Rattle.pass_elide_meaning.proofs.pass_elide_edges.pass_elide_proof.Facts.{some_none}
+use Rattle.pass_elide_meaning.proofs.pass_elide_edges.pass_elide_proof.GivingMarkers.{plain_put}
+use Rattle.pass_elide_meaning.proofs.pass_elide_edges.pass_elide_proof.Modules.{finds_alike}
+use Rattle.pass_elide_meaning.proofs.pass_elide_edges.pass_elide_proof.Sites.{alloca_there}
+use Rattle.pass_elide_meaning.proofs.pass_elide_edges.pass_elide_proof.pass_proofs.ir_laws.facts.Lists.{get_within}
+use Rattle.pass_elide_meaning.specs.pass_elide_edges.pass_elide_proof.Elision.{Elision, elided_code, function_in, rooms}
+use Rattle.pass_elide_meaning.specs.pass_elide_edges.pass_elide_proof.Places.{Rooms, ahead, allocas_ahead, elided_instr, instrs_in, instrs_of, name_at, room_at}
+use Rattle.pass_elide_meaning.specs.pass_elide_edges.pass_elide_proof.Placing.{KeepsPlaces}
+use Rattle.pass_elide_meaning.specs.pass_elide_edges.pass_elide_proof.pass_proofs.ir_base.declared.name.Name.{Name}
+use Rattle.pass_elide_meaning.specs.pass_elide_edges.pass_elide_proof.pass_proofs.ir_model.Ty.{Ty, array, int, ptr}
+use Rattle.pass_elide_meaning.specs.pass_elide_edges.pass_elide_proof.pass_proofs.ir_model.declared.instr.Instr.{Instr}
+use Rattle.pass_elide_meaning.specs.pass_elide_edges.pass_elide_proof.pass_proofs.ir_model.declared.module.Block.{Block}
+use Rattle.pass_elide_meaning.specs.pass_elide_edges.pass_elide_proof.pass_proofs.ir_model.declared.module.Function.{Function}
+use Rattle.pass_elide_meaning.specs.pass_elide_edges.pass_elide_proof.pass_proofs.ir_model.declared.module.Module.{Module}
+use Rattle.pass_elide_meaning.specs.pass_elide_edges.pass_elide_proof.pass_proofs.ir_model.declared.operand.Arg.{Arg}
+use Rattle.pass_elide_meaning.specs.pass_elide_edges.pass_elide_proof.pass_proofs.ir_model.declared.operand.Callee.{Callee}
+use Rattle.pass_elide_meaning.specs.pass_elide_edges.pass_elide_proof.pass_proofs.ir_model.declared.operand.Operand.{Operand}
+use Rattle.pass_elide_meaning.specs.pass_elide_edges.pass_elide_proof.pass_proofs.run_framed.Framed.{given_ramp, last_value}
+use Rattle.pass_elide_meaning.specs.pass_elide_edges.pass_elide_proof.pass_proofs.run_laws.changed.Changed.{Each}
+use Rattle.pass_elide_meaning.specs.pass_elide_edges.pass_elide_proof.pass_proofs.run_memory.declared.pointer.Value.{Value}
+use Rattle.pass_elide_meaning.specs.pass_elide_edges.pass_elide_proof.pass_proofs.run_step.Values.{Env, arg_value, arg_values, nth, value_in}
 
 -- ---- lists
 

@@ -4,25 +4,25 @@ use Rattle.std.specs.Prelude.{codes, slice_get}
 use Rattle.pass_elide.specs.Elided.{elided_function, frame_allocas, function_frames}
 use Rattle.pass_elide.specs.declared.given.GivenFrame.{GivenFrame}
 use Rattle.pass_elide_lacks.proofs.Flat.{Ahead, IsPlaced, Own, given_alloca, given_intrinsic, given_result, own_there, placed}
-use Rattle.pass_elide_runs.specs.Marks.{MarksAlloca, MarksAllocas}
-use Rattle.pass_elide_runs.specs.Slots.{IsAllocaAt, NamesAllocas}
-use Rattle.pass_elide_edges.proofs.pass_elide_proof.GoesOn.{instr_there}
-use Rattle.pass_elide_edges.proofs.pass_elide_proof.PhiValues.{each_as}
-use Rattle.pass_elide_edges.proofs.pass_elide_proof.Standing.{has_code}
-use Rattle.pass_elide_edges.specs.pass_elide_proof.Edges.{phis_at}
-use Rattle.pass_elide_edges.specs.pass_elide_proof.Places.{Rooms, ahead, allocas_ahead, elided_instr, instrs_of, name_at, put_by, room_at}
-use Rattle.pass_elide_edges.specs.pass_elide_proof.pass_proofs.ir_model.Names.{numbered}
-use Rattle.pass_elide_edges.specs.pass_elide_proof.pass_proofs.ir_model.Ty.{Ty, array, int}
-use Rattle.pass_elide_edges.specs.pass_elide_proof.pass_proofs.ir_model.declared.instr.Instr.{Instr}
-use Rattle.pass_elide_edges.specs.pass_elide_proof.pass_proofs.ir_model.declared.instr.Phi.{Phi}
-use Rattle.pass_elide_edges.specs.pass_elide_proof.pass_proofs.ir_model.declared.module.Function.{Function}
-use Rattle.pass_elide_edges.specs.pass_elide_proof.pass_proofs.ir_model.declared.operand.Arg.{Arg}
-use Rattle.pass_elide_edges.specs.pass_elide_proof.pass_proofs.ir_model.declared.operand.Callee.{Callee}
-use Rattle.pass_elide_edges.specs.pass_elide_proof.pass_proofs.ir_model.declared.operand.Intrinsic.{Intrinsic}
-use Rattle.pass_elide_edges.specs.pass_elide_proof.pass_proofs.ir_parts.Contents.{result_of}
-use Rattle.pass_elide_edges.specs.pass_elide_proof.pass_proofs.pass_fetch.Blocks.{numbered_names}
-use Rattle.pass_elide_edges.specs.pass_elide_proof.pass_proofs.run_laws.changed.Changed.{Each}
-use Rattle.pass_elide_edges.specs.pass_elide_proof.pass_proofs.run_step.Step.{AtInstr, phis_of}
+use Rattle.pass_elide_meaning.specs.pass_elide_runs.Marks.{MarksAlloca, MarksAllocas}
+use Rattle.pass_elide_meaning.specs.pass_elide_runs.Slots.{IsAllocaAt, NamesAllocas}
+use Rattle.pass_elide_meaning.proofs.pass_elide_edges.pass_elide_proof.GoesOn.{instr_there}
+use Rattle.pass_elide_meaning.proofs.pass_elide_edges.pass_elide_proof.PhiValues.{each_as}
+use Rattle.pass_elide_meaning.proofs.pass_elide_edges.pass_elide_proof.Standing.{has_code}
+use Rattle.pass_elide_meaning.specs.pass_elide_edges.pass_elide_proof.Edges.{phis_at}
+use Rattle.pass_elide_meaning.specs.pass_elide_edges.pass_elide_proof.Places.{Rooms, ahead, allocas_ahead, elided_instr, instrs_of, name_at, put_by, room_at}
+use Rattle.pass_elide_meaning.specs.pass_elide_edges.pass_elide_proof.pass_proofs.ir_model.Names.{numbered}
+use Rattle.pass_elide_meaning.specs.pass_elide_edges.pass_elide_proof.pass_proofs.ir_model.Ty.{Ty, array, int}
+use Rattle.pass_elide_meaning.specs.pass_elide_edges.pass_elide_proof.pass_proofs.ir_model.declared.instr.Instr.{Instr}
+use Rattle.pass_elide_meaning.specs.pass_elide_edges.pass_elide_proof.pass_proofs.ir_model.declared.instr.Phi.{Phi}
+use Rattle.pass_elide_meaning.specs.pass_elide_edges.pass_elide_proof.pass_proofs.ir_model.declared.module.Function.{Function}
+use Rattle.pass_elide_meaning.specs.pass_elide_edges.pass_elide_proof.pass_proofs.ir_model.declared.operand.Arg.{Arg}
+use Rattle.pass_elide_meaning.specs.pass_elide_edges.pass_elide_proof.pass_proofs.ir_model.declared.operand.Callee.{Callee}
+use Rattle.pass_elide_meaning.specs.pass_elide_edges.pass_elide_proof.pass_proofs.ir_model.declared.operand.Intrinsic.{Intrinsic}
+use Rattle.pass_elide_meaning.specs.pass_elide_edges.pass_elide_proof.pass_proofs.ir_parts.Contents.{result_of}
+use Rattle.pass_elide_meaning.specs.pass_elide_edges.pass_elide_proof.pass_proofs.pass_fetch.Blocks.{numbered_names}
+use Rattle.pass_elide_meaning.specs.pass_elide_edges.pass_elide_proof.pass_proofs.run_laws.changed.Changed.{Each}
+use Rattle.pass_elide_meaning.specs.pass_elide_edges.pass_elide_proof.pass_proofs.run_step.Step.{AtInstr, phis_of}
 
 -- ---- names of allocas in front
 

@@ -1,10 +1,10 @@
 -- What was lacking of states of both runs is had in each of them.
 use Rattle.std.proofs.Common.{◌≡◌, ◌⊎◌, inl, inr, ◌∙◌, ℕ, Bool, true, false, List, [], ◌∷◌, length, Option, Some, ap, refl, sym, subst}
 use Rattle.std.specs.Prelude.{slice_get}
-use Rattle.pass_elide_edges.specs.Keeping.{KeepsEnds}
-use Rattle.pass_elide_edges.specs.States.{EndsElided}
-use Rattle.pass_elide_known.specs.Keeping.{KeepsMore, is_marker}
-use Rattle.pass_elide_known.specs.States.{IsKnownGiving, StandsAtElided}
+use Rattle.pass_elide_meaning.specs.pass_elide_edges.Keeping.{KeepsEnds}
+use Rattle.pass_elide_meaning.specs.pass_elide_edges.States.{EndsElided}
+use Rattle.pass_elide_meaning.specs.pass_elide_known.Keeping.{KeepsMore, is_marker}
+use Rattle.pass_elide_meaning.specs.pass_elide_known.States.{IsKnownGiving, StandsAtElided}
 use Rattle.pass_elide_lacks.proofs.AsideStays.{aside_in_runs}
 use Rattle.pass_elide_lacks.proofs.Bare.{IsHeldState, bare_in_runs, named, names_low, phis_low}
 use Rattle.pass_elide_lacks.proofs.FlatNames.{MarksOld, marks_old}
@@ -14,39 +14,39 @@ use Rattle.pass_elide_lacks.specs.Keeps.{KeepsAsked}
 use Rattle.pass_elide_lacks.specs.Rooms.{HoldsNone}
 use Rattle.pass_elide_meaning.proofs.StatesKnown.{ends_giving, known_giving}
 use Rattle.pass_elide_meaning.specs.Lacks.{LacksGiving}
-use Rattle.pass_elide_runs.proofs.Elided.{coroutine_same}
-use Rattle.pass_elide_runs.proofs.ElidedFirst.{giving_slots}
-use Rattle.pass_elide_runs.proofs.Shaped.{shaped_runs}
-use Rattle.pass_elide_runs.specs.Keeps.{KeepsRuns}
-use Rattle.pass_elide_runs.specs.Marks.{MarksAlloca}
-use Rattle.pass_elide_runs.specs.Slots.{HasItsSlots}
-use Rattle.pass_elide_edges.proofs.pass_elide_proof.Allocas.{knows_allocas}
-use Rattle.pass_elide_edges.proofs.pass_elide_proof.GivingMarkers.{plain_put}
-use Rattle.pass_elide_edges.proofs.pass_elide_proof.Modules.{finds_alike}
-use Rattle.pass_elide_edges.specs.pass_elide_proof.Assembling.{elided_after}
-use Rattle.pass_elide_edges.specs.pass_elide_proof.Elision.{Elision, elided, elided_code, function_in, rooms}
-use Rattle.pass_elide_edges.specs.pass_elide_proof.Marking.{HoldsNoFrame, second_operand}
-use Rattle.pass_elide_edges.specs.pass_elide_proof.OwnSlots.{CountsSlots}
-use Rattle.pass_elide_edges.specs.pass_elide_proof.Places.{instrs_of}
-use Rattle.pass_elide_edges.specs.pass_elide_proof.Placing.{KeepsPlaces}
-use Rattle.pass_elide_edges.specs.pass_elide_proof.Statement.{IsEntryCall}
-use Rattle.pass_elide_edges.specs.pass_elide_proof.pass_proofs.ir_base.declared.outcome.Outcome.{Outcome}
-use Rattle.pass_elide_edges.specs.pass_elide_proof.pass_proofs.ir_base.declared.outcome.Word.{Word}
-use Rattle.pass_elide_edges.specs.pass_elide_proof.pass_proofs.ir_model.Names.{function_at}
-use Rattle.pass_elide_edges.specs.pass_elide_proof.pass_proofs.ir_model.Ty.{Ty}
-use Rattle.pass_elide_edges.specs.pass_elide_proof.pass_proofs.ir_model.declared.instr.Instr.{Instr}
-use Rattle.pass_elide_edges.specs.pass_elide_proof.pass_proofs.ir_model.declared.module.Function.{Function}
-use Rattle.pass_elide_edges.specs.pass_elide_proof.pass_proofs.ir_model.declared.module.Module.{Module}
-use Rattle.pass_elide_edges.specs.pass_elide_proof.pass_proofs.ir_model.declared.operand.Arg.{Arg}
-use Rattle.pass_elide_edges.specs.pass_elide_proof.pass_proofs.ir_model.declared.operand.Callee.{Callee}
-use Rattle.pass_elide_edges.specs.pass_elide_proof.pass_proofs.ir_model.declared.operand.Intrinsic.{Intrinsic}
-use Rattle.pass_elide_edges.specs.pass_elide_proof.pass_proofs.ir_model.declared.operand.Operand.{Operand}
-use Rattle.pass_elide_edges.specs.pass_elide_proof.pass_proofs.ir_paths.Windows.{operand_at}
-use Rattle.pass_elide_edges.specs.pass_elide_proof.pass_proofs.run_agreement.Machines.{IsFine}
-use Rattle.pass_elide_edges.specs.pass_elide_proof.pass_proofs.run_framed.Framed.{framed_state_at}
-use Rattle.pass_elide_edges.specs.pass_elide_proof.pass_proofs.run_source.declared.state.State.{State}
-use Rattle.pass_elide_edges.specs.pass_elide_proof.pass_proofs.run_step.Step.{block_of}
-use Rattle.pass_elide_edges.specs.pass_elide_proof.pass_proofs.run_step.Values.{Env, arg_values, nth, operand_value, value_in}
+use Rattle.pass_elide_meaning.proofs.pass_elide_runs.Elided.{coroutine_same}
+use Rattle.pass_elide_meaning.proofs.pass_elide_runs.ElidedFirst.{giving_slots}
+use Rattle.pass_elide_meaning.proofs.pass_elide_runs.Shaped.{shaped_runs}
+use Rattle.pass_elide_meaning.specs.pass_elide_runs.Keeps.{KeepsRuns}
+use Rattle.pass_elide_meaning.specs.pass_elide_runs.Marks.{MarksAlloca}
+use Rattle.pass_elide_meaning.specs.pass_elide_runs.Slots.{HasItsSlots}
+use Rattle.pass_elide_meaning.proofs.pass_elide_edges.pass_elide_proof.Allocas.{knows_allocas}
+use Rattle.pass_elide_meaning.proofs.pass_elide_edges.pass_elide_proof.GivingMarkers.{plain_put}
+use Rattle.pass_elide_meaning.proofs.pass_elide_edges.pass_elide_proof.Modules.{finds_alike}
+use Rattle.pass_elide_meaning.specs.pass_elide_edges.pass_elide_proof.Assembling.{elided_after}
+use Rattle.pass_elide_meaning.specs.pass_elide_edges.pass_elide_proof.Elision.{Elision, elided, elided_code, function_in, rooms}
+use Rattle.pass_elide_meaning.specs.pass_elide_edges.pass_elide_proof.Marking.{HoldsNoFrame, second_operand}
+use Rattle.pass_elide_meaning.specs.pass_elide_edges.pass_elide_proof.OwnSlots.{CountsSlots}
+use Rattle.pass_elide_meaning.specs.pass_elide_edges.pass_elide_proof.Places.{instrs_of}
+use Rattle.pass_elide_meaning.specs.pass_elide_edges.pass_elide_proof.Placing.{KeepsPlaces}
+use Rattle.pass_elide_meaning.specs.pass_elide_edges.pass_elide_proof.Statement.{IsEntryCall}
+use Rattle.pass_elide_meaning.specs.pass_elide_edges.pass_elide_proof.pass_proofs.ir_base.declared.outcome.Outcome.{Outcome}
+use Rattle.pass_elide_meaning.specs.pass_elide_edges.pass_elide_proof.pass_proofs.ir_base.declared.outcome.Word.{Word}
+use Rattle.pass_elide_meaning.specs.pass_elide_edges.pass_elide_proof.pass_proofs.ir_model.Names.{function_at}
+use Rattle.pass_elide_meaning.specs.pass_elide_edges.pass_elide_proof.pass_proofs.ir_model.Ty.{Ty}
+use Rattle.pass_elide_meaning.specs.pass_elide_edges.pass_elide_proof.pass_proofs.ir_model.declared.instr.Instr.{Instr}
+use Rattle.pass_elide_meaning.specs.pass_elide_edges.pass_elide_proof.pass_proofs.ir_model.declared.module.Function.{Function}
+use Rattle.pass_elide_meaning.specs.pass_elide_edges.pass_elide_proof.pass_proofs.ir_model.declared.module.Module.{Module}
+use Rattle.pass_elide_meaning.specs.pass_elide_edges.pass_elide_proof.pass_proofs.ir_model.declared.operand.Arg.{Arg}
+use Rattle.pass_elide_meaning.specs.pass_elide_edges.pass_elide_proof.pass_proofs.ir_model.declared.operand.Callee.{Callee}
+use Rattle.pass_elide_meaning.specs.pass_elide_edges.pass_elide_proof.pass_proofs.ir_model.declared.operand.Intrinsic.{Intrinsic}
+use Rattle.pass_elide_meaning.specs.pass_elide_edges.pass_elide_proof.pass_proofs.ir_model.declared.operand.Operand.{Operand}
+use Rattle.pass_elide_meaning.specs.pass_elide_edges.pass_elide_proof.pass_proofs.ir_paths.Windows.{operand_at}
+use Rattle.pass_elide_meaning.specs.pass_elide_edges.pass_elide_proof.pass_proofs.run_agreement.Machines.{IsFine}
+use Rattle.pass_elide_meaning.specs.pass_elide_edges.pass_elide_proof.pass_proofs.run_framed.Framed.{framed_state_at}
+use Rattle.pass_elide_meaning.specs.pass_elide_edges.pass_elide_proof.pass_proofs.run_source.declared.state.State.{State}
+use Rattle.pass_elide_meaning.specs.pass_elide_edges.pass_elide_proof.pass_proofs.run_step.Step.{block_of}
+use Rattle.pass_elide_meaning.specs.pass_elide_edges.pass_elide_proof.pass_proofs.run_step.Values.{Env, arg_values, nth, operand_value, value_in}
 
 running_fine : (t : State) → t.outcome ≡ Outcome.Running → IsFine t.outcome
 running_fine t runs = subst IsFine (sym runs) tt

@@ -2,31 +2,31 @@
 use Rattle.std.proofs.Common.{◌≡◌, ◌≢◌, ◌⊎◌, inl, inr, ◌∙◌, ◌++◌, ℕ, Bool, true, List, [], ◌∷◌, length, None, Option, Some, ap, if◌then◌else◌, refl, sym, subst}
 use Rattle.std.specs.Prelude.{filter, not, slice_get}
 use Rattle.pass_elide_lacks.proofs.Changes.{AreAs, changed_as, ended_as, gone_as, set_as}
-use Rattle.pass_elide_runs.proofs.KnownModes.{IsAsleep, asleep}
-use Rattle.pass_elide_runs.proofs.Runs.{runs_keep, runs_keep_by}
-use Rattle.pass_elide_runs.proofs.Stacks.{Comes, comes, slotted_on, woken_on}
-use Rattle.pass_elide_edges.proofs.pass_elide_proof.Begun.{end_or_before}
-use Rattle.pass_elide_edges.proofs.pass_elide_proof.Changing.{WasSet, was_set}
-use Rattle.pass_elide_edges.proofs.pass_elide_proof.OwnSlots.{start_counts, step_counts}
-use Rattle.pass_elide_edges.proofs.pass_elide_proof.Saves.{own_number}
-use Rattle.pass_elide_edges.proofs.pass_elide_proof.SoundSteps.{states_sound}
-use Rattle.pass_elide_edges.proofs.pass_elide_proof.pass_proofs.ir_laws.facts.Lists.{get_last}
-use Rattle.pass_elide_edges.specs.pass_elide_proof.OwnSlots.{CountsSlots, HaveNoSlots}
-use Rattle.pass_elide_edges.specs.pass_elide_proof.Sound.{IsSoundState, KnowsAllocas, NestsNone}
-use Rattle.pass_elide_edges.specs.pass_elide_proof.StepCases.{LeadsTo, ended}
-use Rattle.pass_elide_edges.specs.pass_elide_proof.pass_proofs.ir_base.declared.outcome.Outcome.{Outcome}
-use Rattle.pass_elide_edges.specs.pass_elide_proof.pass_proofs.ir_base.declared.outcome.Word.{Word}
-use Rattle.pass_elide_edges.specs.pass_elide_proof.pass_proofs.run_agreement.Machines.{IsFine}
-use Rattle.pass_elide_edges.specs.pass_elide_proof.pass_proofs.run_framed.Framed.{FramedGiven, framed_state_at}
-use Rattle.pass_elide_edges.specs.pass_elide_proof.pass_proofs.run_laws.changed.Changed.{Each}
-use Rattle.pass_elide_edges.specs.pass_elide_proof.pass_proofs.run_memory.declared.pointer.Value.{Value}
-use Rattle.pass_elide_edges.specs.pass_elide_proof.pass_proofs.run_source.Source.{begun, is_among, new_instance}
-use Rattle.pass_elide_edges.specs.pass_elide_proof.pass_proofs.run_source.State.{gives, own_facts, settled, with_memory}
-use Rattle.pass_elide_edges.specs.pass_elide_proof.pass_proofs.run_source.declared.state.Instance.{Instance}
-use Rattle.pass_elide_edges.specs.pass_elide_proof.pass_proofs.run_source.declared.state.State.{State}
-use Rattle.pass_elide_edges.specs.pass_elide_proof.pass_proofs.run_source.declared.state.Status.{Status}
-use Rattle.pass_elide_edges.specs.pass_elide_proof.pass_proofs.run_step.Values.{arg_values, nth}
-use Rattle.pass_elide_edges.specs.pass_elide_proof.pass_proofs.run_step.declared.world.Slot.{Slot}
+use Rattle.pass_elide_meaning.proofs.pass_elide_runs.KnownModes.{IsAsleep, asleep}
+use Rattle.pass_elide_meaning.proofs.pass_elide_runs.Runs.{runs_keep, runs_keep_by}
+use Rattle.pass_elide_meaning.proofs.pass_elide_runs.Stacks.{Comes, comes, slotted_on, woken_on}
+use Rattle.pass_elide_meaning.proofs.pass_elide_edges.pass_elide_proof.Begun.{end_or_before}
+use Rattle.pass_elide_meaning.proofs.pass_elide_edges.pass_elide_proof.Changing.{WasSet, was_set}
+use Rattle.pass_elide_meaning.proofs.pass_elide_edges.pass_elide_proof.OwnSlots.{start_counts, step_counts}
+use Rattle.pass_elide_meaning.proofs.pass_elide_edges.pass_elide_proof.Saves.{own_number}
+use Rattle.pass_elide_meaning.proofs.pass_elide_edges.pass_elide_proof.SoundSteps.{states_sound}
+use Rattle.pass_elide_meaning.proofs.pass_elide_edges.pass_elide_proof.pass_proofs.ir_laws.facts.Lists.{get_last}
+use Rattle.pass_elide_meaning.specs.pass_elide_edges.pass_elide_proof.OwnSlots.{CountsSlots, HaveNoSlots}
+use Rattle.pass_elide_meaning.specs.pass_elide_edges.pass_elide_proof.Sound.{IsSoundState, KnowsAllocas, NestsNone}
+use Rattle.pass_elide_meaning.specs.pass_elide_edges.pass_elide_proof.StepCases.{LeadsTo, ended}
+use Rattle.pass_elide_meaning.specs.pass_elide_edges.pass_elide_proof.pass_proofs.ir_base.declared.outcome.Outcome.{Outcome}
+use Rattle.pass_elide_meaning.specs.pass_elide_edges.pass_elide_proof.pass_proofs.ir_base.declared.outcome.Word.{Word}
+use Rattle.pass_elide_meaning.specs.pass_elide_edges.pass_elide_proof.pass_proofs.run_agreement.Machines.{IsFine}
+use Rattle.pass_elide_meaning.specs.pass_elide_edges.pass_elide_proof.pass_proofs.run_framed.Framed.{FramedGiven, framed_state_at}
+use Rattle.pass_elide_meaning.specs.pass_elide_edges.pass_elide_proof.pass_proofs.run_laws.changed.Changed.{Each}
+use Rattle.pass_elide_meaning.specs.pass_elide_edges.pass_elide_proof.pass_proofs.run_memory.declared.pointer.Value.{Value}
+use Rattle.pass_elide_meaning.specs.pass_elide_edges.pass_elide_proof.pass_proofs.run_source.Source.{begun, is_among, new_instance}
+use Rattle.pass_elide_meaning.specs.pass_elide_edges.pass_elide_proof.pass_proofs.run_source.State.{gives, own_facts, settled, with_memory}
+use Rattle.pass_elide_meaning.specs.pass_elide_edges.pass_elide_proof.pass_proofs.run_source.declared.state.Instance.{Instance}
+use Rattle.pass_elide_meaning.specs.pass_elide_edges.pass_elide_proof.pass_proofs.run_source.declared.state.State.{State}
+use Rattle.pass_elide_meaning.specs.pass_elide_edges.pass_elide_proof.pass_proofs.run_source.declared.state.Status.{Status}
+use Rattle.pass_elide_meaning.specs.pass_elide_edges.pass_elide_proof.pass_proofs.run_step.Values.{arg_values, nth}
+use Rattle.pass_elide_meaning.specs.pass_elide_edges.pass_elide_proof.pass_proofs.run_step.declared.world.Slot.{Slot}
 
 -- what instances were has none
 as_none : (xs ys : List Instance) → AreAs xs ys → ((i : ℕ) (x : Instance) → slice_get xs i ≡ Some x → x.slots ≡ [])

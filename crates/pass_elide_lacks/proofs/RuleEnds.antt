@@ -2,24 +2,24 @@
 use Rattle.std.proofs.Common.{◌≡◌, inr, ℕ, true, false, None, refl}
 use Rattle.pass_elide_lacks.proofs.EndPaths.{call_there, suspend_out}
 use Rattle.pass_elide_lacks.specs.Ends.{EndsBeforeRets, HasOneEnd}
-use Rattle.pass_elide_runs.specs.Ends.{EndsOnce}
-use Rattle.pass_elide_edges.proofs.pass_elide_proof.pass_proofs.ir_paths.Search.{or_left, or_right}
-use Rattle.pass_elide_edges.proofs.pass_elide_proof.pass_proofs.kept.sources.Closed.{no_return, not_behind_end, save_ends, suspend_ends}
-use Rattle.pass_elide_edges.proofs.pass_elide_proof.pass_proofs.kept.sources.Names.{StaysInside, end_inside, none_outside, save_inside, suspend_inside}
-use Rattle.pass_elide_edges.proofs.pass_elide_proof.pass_proofs.rule_laws.rules.path_rules.Outside.{of_outside}
-use Rattle.pass_elide_edges.proofs.pass_elide_proof.pass_proofs.rule_laws.rules.source_rules.Once.{one_end}
-use Rattle.pass_elide_edges.proofs.pass_elide_proof.pass_proofs.rule_laws.rules.sources.Places.{instr_there}
-use Rattle.pass_elide_edges.specs.pass_elide_proof.pass_proofs.ir_model.declared.instr.Instr.{Instr}
-use Rattle.pass_elide_edges.specs.pass_elide_proof.pass_proofs.ir_model.declared.module.Function.{Function}
-use Rattle.pass_elide_edges.specs.pass_elide_proof.pass_proofs.ir_model.declared.module.Module.{Module}
-use Rattle.pass_elide_edges.specs.pass_elide_proof.pass_proofs.ir_model.declared.operand.Intrinsic.{Intrinsic}
-use Rattle.pass_elide_edges.specs.pass_elide_proof.pass_proofs.ir_paths.Windows.{is_call_of}
-use Rattle.pass_elide_edges.specs.pass_elide_proof.pass_proofs.ir_paths.declared.point.Point.{Point}
-use Rattle.pass_elide_edges.specs.pass_elide_proof.pass_proofs.pass_kept_proof.SuspendRules.{IsCallAt}
-use Rattle.pass_elide_edges.specs.pass_elide_proof.pass_proofs.rule_laws.rules.function_rules.Kept.{KeepsFunctionRules}
-use Rattle.pass_elide_edges.specs.pass_elide_proof.pass_proofs.rule_shape.OneOfEach.{wrong_call}
-use Rattle.pass_elide_edges.specs.pass_elide_proof.pass_proofs.rule_windows.Outside.{IsFirstOutside, ends_with_it, needs_begin}
-use Rattle.pass_elide_edges.specs.pass_elide_proof.pass_proofs.rule_windows.Sets.{IsWithoutBegin}
+use Rattle.pass_elide_meaning.specs.pass_elide_runs.Ends.{EndsOnce}
+use Rattle.pass_elide_meaning.proofs.pass_elide_edges.pass_elide_proof.pass_proofs.ir_paths.Search.{or_left, or_right}
+use Rattle.pass_elide_meaning.proofs.pass_elide_edges.pass_elide_proof.pass_proofs.kept.sources.Closed.{no_return, not_behind_end, save_ends, suspend_ends}
+use Rattle.pass_elide_meaning.proofs.pass_elide_edges.pass_elide_proof.pass_proofs.kept.sources.Names.{StaysInside, end_inside, none_outside, save_inside, suspend_inside}
+use Rattle.pass_elide_meaning.proofs.pass_elide_edges.pass_elide_proof.pass_proofs.rule_laws.rules.path_rules.Outside.{of_outside}
+use Rattle.pass_elide_meaning.proofs.pass_elide_edges.pass_elide_proof.pass_proofs.rule_laws.rules.source_rules.Once.{one_end}
+use Rattle.pass_elide_meaning.proofs.pass_elide_edges.pass_elide_proof.pass_proofs.rule_laws.rules.sources.Places.{instr_there}
+use Rattle.pass_elide_meaning.specs.pass_elide_edges.pass_elide_proof.pass_proofs.ir_model.declared.instr.Instr.{Instr}
+use Rattle.pass_elide_meaning.specs.pass_elide_edges.pass_elide_proof.pass_proofs.ir_model.declared.module.Function.{Function}
+use Rattle.pass_elide_meaning.specs.pass_elide_edges.pass_elide_proof.pass_proofs.ir_model.declared.module.Module.{Module}
+use Rattle.pass_elide_meaning.specs.pass_elide_edges.pass_elide_proof.pass_proofs.ir_model.declared.operand.Intrinsic.{Intrinsic}
+use Rattle.pass_elide_meaning.specs.pass_elide_edges.pass_elide_proof.pass_proofs.ir_paths.Windows.{is_call_of}
+use Rattle.pass_elide_meaning.specs.pass_elide_edges.pass_elide_proof.pass_proofs.ir_paths.declared.point.Point.{Point}
+use Rattle.pass_elide_meaning.specs.pass_elide_edges.pass_elide_proof.pass_proofs.pass_kept_proof.SuspendRules.{IsCallAt}
+use Rattle.pass_elide_meaning.specs.pass_elide_edges.pass_elide_proof.pass_proofs.rule_laws.rules.function_rules.Kept.{KeepsFunctionRules}
+use Rattle.pass_elide_meaning.specs.pass_elide_edges.pass_elide_proof.pass_proofs.rule_shape.OneOfEach.{wrong_call}
+use Rattle.pass_elide_meaning.specs.pass_elide_edges.pass_elide_proof.pass_proofs.rule_windows.Outside.{IsFirstOutside, ends_with_it, needs_begin}
+use Rattle.pass_elide_meaning.specs.pass_elide_edges.pass_elide_proof.pass_proofs.rule_windows.Sets.{IsWithoutBegin}
 
 suspend_needs : (i : Instr) → is_call_of Intrinsic.CoroSuspend i ≡ true → needs_begin i ≡ true
 suspend_needs i is = or_right (is_call_of Intrinsic.CoroSave i) _ (or_left (is_call_of Intrinsic.CoroSuspend i) _ is)

@@ -3,44 +3,44 @@ use Rattle.std.proofs.Common.{◌≡◌, ◌⊎◌, inl, inr, ◌∙◌, ◌+◌
 use Rattle.std.specs.Prelude.{unwrap_or}
 use Rattle.pass_elide_lacks.proofs.EndPaths.{no_end, out_behind, out_on, term_apart}
 use Rattle.pass_elide_lacks.specs.Ends.{HasRunOut, HaveRunOut, IsRunOut, EndsBeforeRets}
-use Rattle.pass_elide_runs.proofs.Acts.{IsInstr, branches_to, instr_of}
-use Rattle.pass_elide_runs.proofs.KnownModes.{IsAsleep, asleep}
-use Rattle.pass_elide_runs.proofs.Led.{sound_there, state_reached}
-use Rattle.pass_elide_runs.proofs.Runs.{runs_keep_by}
-use Rattle.pass_elide_runs.proofs.Stacks.{Comes, changed_stack, comes, ended_stack, gone_stack, woken_at, woken_on}
-use Rattle.pass_elide_runs.proofs.WakesBy.{IsWoken, wakes_by}
-use Rattle.pass_elide_edges.proofs.pass_elide_proof.ReleasingActs.{goto_there}
-use Rattle.pass_elide_edges.specs.pass_elide_proof.StepCases.{ActsBy, CallsGiven, LeadsTo, ended}
-use Rattle.pass_elide_edges.specs.pass_elide_proof.pass_proofs.ir_base.declared.cause.Cause.{Cause}
-use Rattle.pass_elide_edges.specs.pass_elide_proof.pass_proofs.ir_base.declared.outcome.Outcome.{Outcome}
-use Rattle.pass_elide_edges.specs.pass_elide_proof.pass_proofs.ir_base.declared.outcome.Word.{Word}
-use Rattle.pass_elide_edges.specs.pass_elide_proof.pass_proofs.ir_model.Names.{function_at, same_intrinsic}
-use Rattle.pass_elide_edges.specs.pass_elide_proof.pass_proofs.ir_model.declared.instr.Instr.{Instr}
-use Rattle.pass_elide_edges.specs.pass_elide_proof.pass_proofs.ir_model.declared.instr.Terminator.{Terminator}
-use Rattle.pass_elide_edges.specs.pass_elide_proof.pass_proofs.ir_model.declared.module.Function.{Function}
-use Rattle.pass_elide_edges.specs.pass_elide_proof.pass_proofs.ir_model.declared.module.Module.{Module}
-use Rattle.pass_elide_edges.specs.pass_elide_proof.pass_proofs.ir_model.declared.operand.Arg.{Arg}
-use Rattle.pass_elide_edges.specs.pass_elide_proof.pass_proofs.ir_model.declared.operand.Callee.{Callee}
-use Rattle.pass_elide_edges.specs.pass_elide_proof.pass_proofs.ir_model.declared.operand.Intrinsic.{Intrinsic}
-use Rattle.pass_elide_edges.specs.pass_elide_proof.pass_proofs.ir_paths.Paths.{entry_point, has_point}
-use Rattle.pass_elide_edges.specs.pass_elide_proof.pass_proofs.ir_paths.Windows.{destroy_label, is_call_of, resume_label}
-use Rattle.pass_elide_edges.specs.pass_elide_proof.pass_proofs.ir_paths.declared.point.Point.{Point}
-use Rattle.pass_elide_edges.specs.pass_elide_proof.pass_proofs.pass_kept_proof.Needed.{BranchesTo, IsReached}
-use Rattle.pass_elide_edges.specs.pass_elide_proof.pass_proofs.pass_kept_proof.Related.{IsSoundStatus}
-use Rattle.pass_elide_edges.specs.pass_elide_proof.pass_proofs.pass_kept_proof.SuspendRules.{IsCallAt, IsSwitched}
-use Rattle.pass_elide_edges.specs.pass_elide_proof.pass_proofs.rule_windows.Points.{ends}
-use Rattle.pass_elide_edges.specs.pass_elide_proof.pass_proofs.rule_windows.Sets.{RunsOut}
-use Rattle.pass_elide_edges.specs.pass_elide_proof.pass_proofs.run_agreement.Machines.{IsFine}
-use Rattle.pass_elide_edges.specs.pass_elide_proof.pass_proofs.run_framed.Framed.{FramedGiven, alloca_from, continue_framed, enter_after, framed_act, framed_advance, framed_context, framed_coro, framed_next, framed_slot, framed_state_at, framed_step}
-use Rattle.pass_elide_edges.specs.pass_elide_proof.pass_proofs.run_laws.changed.Changed.{Each}
-use Rattle.pass_elide_edges.specs.pass_elide_proof.pass_proofs.run_memory.declared.pointer.Value.{Value}
-use Rattle.pass_elide_edges.specs.pass_elide_proof.pass_proofs.run_source.Source.{after_end, mode_of}
-use Rattle.pass_elide_edges.specs.pass_elide_proof.pass_proofs.run_source.State.{function_of, gives, instance_at, next, or_undefined, own_instance, settled, with_slots, work_of}
-use Rattle.pass_elide_edges.specs.pass_elide_proof.pass_proofs.run_source.declared.state.Activation.{Activation}
-use Rattle.pass_elide_edges.specs.pass_elide_proof.pass_proofs.run_source.declared.state.Mode.{Mode}
-use Rattle.pass_elide_edges.specs.pass_elide_proof.pass_proofs.run_source.declared.state.State.{State}
-use Rattle.pass_elide_edges.specs.pass_elide_proof.pass_proofs.run_step.Step.{Action, AtInstr, AtTerm, Coro, Deallocate, Done, Enter, GoTo, NewSlot, action_of, fetch}
-use Rattle.pass_elide_edges.specs.pass_elide_proof.pass_proofs.run_step.Values.{arg_values, truth_value, with_result}
+use Rattle.pass_elide_meaning.proofs.pass_elide_runs.Acts.{IsInstr, branches_to, instr_of}
+use Rattle.pass_elide_meaning.proofs.pass_elide_runs.KnownModes.{IsAsleep, asleep}
+use Rattle.pass_elide_meaning.proofs.pass_elide_runs.Led.{sound_there, state_reached}
+use Rattle.pass_elide_meaning.proofs.pass_elide_runs.Runs.{runs_keep_by}
+use Rattle.pass_elide_meaning.proofs.pass_elide_runs.Stacks.{Comes, changed_stack, comes, ended_stack, gone_stack, woken_at, woken_on}
+use Rattle.pass_elide_meaning.proofs.pass_elide_runs.WakesBy.{IsWoken, wakes_by}
+use Rattle.pass_elide_meaning.proofs.pass_elide_edges.pass_elide_proof.ReleasingActs.{goto_there}
+use Rattle.pass_elide_meaning.specs.pass_elide_edges.pass_elide_proof.StepCases.{ActsBy, CallsGiven, LeadsTo, ended}
+use Rattle.pass_elide_meaning.specs.pass_elide_edges.pass_elide_proof.pass_proofs.ir_base.declared.cause.Cause.{Cause}
+use Rattle.pass_elide_meaning.specs.pass_elide_edges.pass_elide_proof.pass_proofs.ir_base.declared.outcome.Outcome.{Outcome}
+use Rattle.pass_elide_meaning.specs.pass_elide_edges.pass_elide_proof.pass_proofs.ir_base.declared.outcome.Word.{Word}
+use Rattle.pass_elide_meaning.specs.pass_elide_edges.pass_elide_proof.pass_proofs.ir_model.Names.{function_at, same_intrinsic}
+use Rattle.pass_elide_meaning.specs.pass_elide_edges.pass_elide_proof.pass_proofs.ir_model.declared.instr.Instr.{Instr}
+use Rattle.pass_elide_meaning.specs.pass_elide_edges.pass_elide_proof.pass_proofs.ir_model.declared.instr.Terminator.{Terminator}
+use Rattle.pass_elide_meaning.specs.pass_elide_edges.pass_elide_proof.pass_proofs.ir_model.declared.module.Function.{Function}
+use Rattle.pass_elide_meaning.specs.pass_elide_edges.pass_elide_proof.pass_proofs.ir_model.declared.module.Module.{Module}
+use Rattle.pass_elide_meaning.specs.pass_elide_edges.pass_elide_proof.pass_proofs.ir_model.declared.operand.Arg.{Arg}
+use Rattle.pass_elide_meaning.specs.pass_elide_edges.pass_elide_proof.pass_proofs.ir_model.declared.operand.Callee.{Callee}
+use Rattle.pass_elide_meaning.specs.pass_elide_edges.pass_elide_proof.pass_proofs.ir_model.declared.operand.Intrinsic.{Intrinsic}
+use Rattle.pass_elide_meaning.specs.pass_elide_edges.pass_elide_proof.pass_proofs.ir_paths.Paths.{entry_point, has_point}
+use Rattle.pass_elide_meaning.specs.pass_elide_edges.pass_elide_proof.pass_proofs.ir_paths.Windows.{destroy_label, is_call_of, resume_label}
+use Rattle.pass_elide_meaning.specs.pass_elide_edges.pass_elide_proof.pass_proofs.ir_paths.declared.point.Point.{Point}
+use Rattle.pass_elide_meaning.specs.pass_elide_edges.pass_elide_proof.pass_proofs.pass_kept_proof.Needed.{BranchesTo, IsReached}
+use Rattle.pass_elide_meaning.specs.pass_elide_edges.pass_elide_proof.pass_proofs.pass_kept_proof.Related.{IsSoundStatus}
+use Rattle.pass_elide_meaning.specs.pass_elide_edges.pass_elide_proof.pass_proofs.pass_kept_proof.SuspendRules.{IsCallAt, IsSwitched}
+use Rattle.pass_elide_meaning.specs.pass_elide_edges.pass_elide_proof.pass_proofs.rule_windows.Points.{ends}
+use Rattle.pass_elide_meaning.specs.pass_elide_edges.pass_elide_proof.pass_proofs.rule_windows.Sets.{RunsOut}
+use Rattle.pass_elide_meaning.specs.pass_elide_edges.pass_elide_proof.pass_proofs.run_agreement.Machines.{IsFine}
+use Rattle.pass_elide_meaning.specs.pass_elide_edges.pass_elide_proof.pass_proofs.run_framed.Framed.{FramedGiven, alloca_from, continue_framed, enter_after, framed_act, framed_advance, framed_context, framed_coro, framed_next, framed_slot, framed_state_at, framed_step}
+use Rattle.pass_elide_meaning.specs.pass_elide_edges.pass_elide_proof.pass_proofs.run_laws.changed.Changed.{Each}
+use Rattle.pass_elide_meaning.specs.pass_elide_edges.pass_elide_proof.pass_proofs.run_memory.declared.pointer.Value.{Value}
+use Rattle.pass_elide_meaning.specs.pass_elide_edges.pass_elide_proof.pass_proofs.run_source.Source.{after_end, mode_of}
+use Rattle.pass_elide_meaning.specs.pass_elide_edges.pass_elide_proof.pass_proofs.run_source.State.{function_of, gives, instance_at, next, or_undefined, own_instance, settled, with_slots, work_of}
+use Rattle.pass_elide_meaning.specs.pass_elide_edges.pass_elide_proof.pass_proofs.run_source.declared.state.Activation.{Activation}
+use Rattle.pass_elide_meaning.specs.pass_elide_edges.pass_elide_proof.pass_proofs.run_source.declared.state.Mode.{Mode}
+use Rattle.pass_elide_meaning.specs.pass_elide_edges.pass_elide_proof.pass_proofs.run_source.declared.state.State.{State}
+use Rattle.pass_elide_meaning.specs.pass_elide_edges.pass_elide_proof.pass_proofs.run_step.Step.{Action, AtInstr, AtTerm, Coro, Deallocate, Done, Enter, GoTo, NewSlot, action_of, fetch}
+use Rattle.pass_elide_meaning.specs.pass_elide_edges.pass_elide_proof.pass_proofs.run_step.Values.{arg_values, truth_value, with_result}
 use Rattle.run_slots.proofs.run_hooks.pass_renewed_proof.Ahead.{branch_edge, next_edge}
 use Rattle.run_slots.specs.run_hooks.Reached.{AllHaveSwitches, IsReachedState}
 

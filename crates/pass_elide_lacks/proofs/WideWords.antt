@@ -1,19 +1,19 @@
 -- Behind an allocation of 2^64 bytes no two states are related.
 use Rattle.std.proofs.Common.{◌≡◌, inl, inr, ◌+◌, ◌^◌, ◌≤◌, ℕ, Bool, true, false, List, [], ◌∷◌, refl, arith}
 use Rattle.pass_elide_lacks.specs.Wide.{the_wide_elision}
-use Rattle.pass_elide_edges.specs.pass_elide_proof.Counts.{uncounted}
-use Rattle.pass_elide_edges.specs.pass_elide_proof.Elision.{differs_in, no_shape}
-use Rattle.pass_elide_edges.specs.pass_elide_proof.Match.{is_given_mode, sides, was_given}
-use Rattle.pass_elide_edges.specs.pass_elide_proof.Statement.{AreRelated, AreRelatedOrOver, ElisionKeepsStates, elided_run, framed_run}
-use Rattle.pass_elide_edges.specs.pass_elide_proof.pass_proofs.ir_base.declared.outcome.Word.{Word}
-use Rattle.pass_elide_edges.specs.pass_elide_proof.pass_proofs.run_agreement.Costs.{AgreesBy, IsNear}
-use Rattle.pass_elide_edges.specs.pass_elide_proof.pass_proofs.run_agreement.Machines.{state_at}
-use Rattle.pass_elide_edges.specs.pass_elide_proof.pass_proofs.run_laws.memory.Pointers.{home_of}
-use Rattle.pass_elide_edges.specs.pass_elide_proof.pass_proofs.run_laws.memory.Standing.{HasBounds, blank_block}
-use Rattle.pass_elide_edges.specs.pass_elide_proof.pass_proofs.run_laws.transfer.Muted.{ended_if}
-use Rattle.pass_elide_edges.specs.pass_elide_proof.pass_proofs.run_memory.declared.block.Kind.{Kind}
-use Rattle.pass_elide_edges.specs.pass_elide_proof.pass_proofs.run_memory.declared.block.MemoryBlock.{MemoryBlock}
-use Rattle.pass_elide_edges.specs.pass_elide_proof.pass_proofs.run_source.declared.state.State.{State}
+use Rattle.pass_elide_meaning.specs.pass_elide_edges.pass_elide_proof.Counts.{uncounted}
+use Rattle.pass_elide_meaning.specs.pass_elide_edges.pass_elide_proof.Elision.{differs_in, no_shape}
+use Rattle.pass_elide_meaning.specs.pass_elide_edges.pass_elide_proof.Match.{is_given_mode, sides, was_given}
+use Rattle.pass_elide_meaning.specs.pass_elide_edges.pass_elide_proof.Statement.{AreRelated, AreRelatedOrOver, ElisionKeepsStates, elided_run, framed_run}
+use Rattle.pass_elide_meaning.specs.pass_elide_edges.pass_elide_proof.pass_proofs.ir_base.declared.outcome.Word.{Word}
+use Rattle.pass_elide_meaning.specs.pass_elide_edges.pass_elide_proof.pass_proofs.run_agreement.Costs.{AgreesBy, IsNear}
+use Rattle.pass_elide_meaning.specs.pass_elide_edges.pass_elide_proof.pass_proofs.run_agreement.Machines.{state_at}
+use Rattle.pass_elide_meaning.specs.pass_elide_edges.pass_elide_proof.pass_proofs.run_laws.memory.Pointers.{home_of}
+use Rattle.pass_elide_meaning.specs.pass_elide_edges.pass_elide_proof.pass_proofs.run_laws.memory.Standing.{HasBounds, blank_block}
+use Rattle.pass_elide_meaning.specs.pass_elide_edges.pass_elide_proof.pass_proofs.run_laws.transfer.Muted.{ended_if}
+use Rattle.pass_elide_meaning.specs.pass_elide_edges.pass_elide_proof.pass_proofs.run_memory.declared.block.Kind.{Kind}
+use Rattle.pass_elide_meaning.specs.pass_elide_edges.pass_elide_proof.pass_proofs.run_memory.declared.block.MemoryBlock.{MemoryBlock}
+use Rattle.pass_elide_meaning.specs.pass_elide_edges.pass_elide_proof.pass_proofs.run_source.declared.state.State.{State}
 
 none_differs : (ramp given : Bool) (v : ℕ) → differs_in no_shape ramp given v ≡ false
 none_differs true true v = refl

@@ -8,29 +8,29 @@ use Rattle.elide_sites.specs.elide_shape.Edges.{edges_of}
 use Rattle.elide_sites.specs.elide_shape.declared.edges.Edge.{Edge}
 use Rattle.pass_elide_lacks.proofs.EndPaths.{suspend_out}
 use Rattle.pass_elide_lacks.specs.Ends.{EndsBeforeRets, HasOneEnd, KeepsEndings}
-use Rattle.pass_elide_edges.proofs.pass_elide_proof.CallersWorked.{worked_save}
-use Rattle.pass_elide_edges.proofs.pass_elide_proof.Facts.{not_both, some_none}
-use Rattle.pass_elide_edges.proofs.pass_elide_proof.PlacingChecked.{or_other, unset}
-use Rattle.pass_elide_edges.proofs.pass_elide_proof.PlacingWorked.{shape_none}
-use Rattle.pass_elide_edges.proofs.pass_elide_proof.ReleasedWorked.{worked_frees}
-use Rattle.pass_elide_edges.proofs.pass_elide_proof.pass_proofs.ir_laws.facts.Truth.{and_first, and_second}
-use Rattle.pass_elide_edges.proofs.pass_elide_proof.pass_proofs.ir_paths.Search.{either, led_to-complete, same_point-same}
-use Rattle.pass_elide_edges.specs.pass_elide_proof.Elision.{Shape, function_in}
-use Rattle.pass_elide_edges.specs.pass_elide_proof.Placing.{HasShape}
-use Rattle.pass_elide_edges.specs.pass_elide_proof.Releasing.{FreesAtOnce}
-use Rattle.pass_elide_edges.specs.pass_elide_proof.Worked.{a_caller, a_coroutine, the_elision}
-use Rattle.pass_elide_edges.specs.pass_elide_proof.pass_proofs.flow_points.Reached.{IsReached}
-use Rattle.pass_elide_edges.specs.pass_elide_proof.pass_proofs.flow_solver.Paths.{IsListed}
-use Rattle.pass_elide_edges.specs.pass_elide_proof.pass_proofs.ir_model.Names.{no_function}
-use Rattle.pass_elide_edges.specs.pass_elide_proof.pass_proofs.ir_model.declared.instr.Terminator.{Terminator}
-use Rattle.pass_elide_edges.specs.pass_elide_proof.pass_proofs.ir_model.declared.operand.Intrinsic.{Intrinsic}
-use Rattle.pass_elide_edges.specs.pass_elide_proof.pass_proofs.ir_paths.Paths.{Leads, has_point, led_to, same_point}
-use Rattle.pass_elide_edges.specs.pass_elide_proof.pass_proofs.ir_paths.Windows.{is_call_of, points_where}
-use Rattle.pass_elide_edges.specs.pass_elide_proof.pass_proofs.ir_paths.declared.point.Point.{Point}
-use Rattle.pass_elide_edges.specs.pass_elide_proof.pass_proofs.pass_kept_proof.SuspendRules.{IsCallAt}
-use Rattle.pass_elide_edges.specs.pass_elide_proof.pass_proofs.rule_windows.Points.{begins, ends, entry}
-use Rattle.pass_elide_edges.specs.pass_elide_proof.pass_proofs.rule_windows.Sets.{IsAfterEnd, IsWithoutBegin, RunsOut}
-use Rattle.pass_elide_edges.specs.pass_elide_proof.pass_proofs.run_step.Step.{AtTerm, Fetched, fetch}
+use Rattle.pass_elide_meaning.proofs.pass_elide_edges.pass_elide_proof.CallersWorked.{worked_save}
+use Rattle.pass_elide_meaning.proofs.pass_elide_edges.pass_elide_proof.Facts.{not_both, some_none}
+use Rattle.pass_elide_meaning.proofs.pass_elide_edges.pass_elide_proof.PlacingChecked.{or_other, unset}
+use Rattle.pass_elide_meaning.proofs.pass_elide_edges.pass_elide_proof.PlacingWorked.{shape_none}
+use Rattle.pass_elide_meaning.proofs.pass_elide_edges.pass_elide_proof.ReleasedWorked.{worked_frees}
+use Rattle.pass_elide_meaning.proofs.pass_elide_edges.pass_elide_proof.pass_proofs.ir_laws.facts.Truth.{and_first, and_second}
+use Rattle.pass_elide_meaning.proofs.pass_elide_edges.pass_elide_proof.pass_proofs.ir_paths.Search.{either, led_to-complete, same_point-same}
+use Rattle.pass_elide_meaning.specs.pass_elide_edges.pass_elide_proof.Elision.{Shape, function_in}
+use Rattle.pass_elide_meaning.specs.pass_elide_edges.pass_elide_proof.Placing.{HasShape}
+use Rattle.pass_elide_meaning.specs.pass_elide_edges.pass_elide_proof.Releasing.{FreesAtOnce}
+use Rattle.pass_elide_meaning.specs.pass_elide_edges.pass_elide_proof.Worked.{a_caller, a_coroutine, the_elision}
+use Rattle.pass_elide_meaning.specs.pass_elide_edges.pass_elide_proof.pass_proofs.flow_points.Reached.{IsReached}
+use Rattle.pass_elide_meaning.specs.pass_elide_edges.pass_elide_proof.pass_proofs.flow_solver.Paths.{IsListed}
+use Rattle.pass_elide_meaning.specs.pass_elide_edges.pass_elide_proof.pass_proofs.ir_model.Names.{no_function}
+use Rattle.pass_elide_meaning.specs.pass_elide_edges.pass_elide_proof.pass_proofs.ir_model.declared.instr.Terminator.{Terminator}
+use Rattle.pass_elide_meaning.specs.pass_elide_edges.pass_elide_proof.pass_proofs.ir_model.declared.operand.Intrinsic.{Intrinsic}
+use Rattle.pass_elide_meaning.specs.pass_elide_edges.pass_elide_proof.pass_proofs.ir_paths.Paths.{Leads, has_point, led_to, same_point}
+use Rattle.pass_elide_meaning.specs.pass_elide_edges.pass_elide_proof.pass_proofs.ir_paths.Windows.{is_call_of, points_where}
+use Rattle.pass_elide_meaning.specs.pass_elide_edges.pass_elide_proof.pass_proofs.ir_paths.declared.point.Point.{Point}
+use Rattle.pass_elide_meaning.specs.pass_elide_edges.pass_elide_proof.pass_proofs.pass_kept_proof.SuspendRules.{IsCallAt}
+use Rattle.pass_elide_meaning.specs.pass_elide_edges.pass_elide_proof.pass_proofs.rule_windows.Points.{begins, ends, entry}
+use Rattle.pass_elide_meaning.specs.pass_elide_edges.pass_elide_proof.pass_proofs.rule_windows.Sets.{IsAfterEnd, IsWithoutBegin, RunsOut}
+use Rattle.pass_elide_meaning.specs.pass_elide_edges.pass_elide_proof.pass_proofs.run_step.Step.{AtTerm, Fetched, fetch}
 use Rattle.run_slots.proofs.run_hooks.pass_renewed_proof.Left.{call_listed}
 
 -- ---- lists

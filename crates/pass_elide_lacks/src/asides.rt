@@ -1,22 +1,22 @@
 //! The block beside the allocation.
 
-ghost use Rattle.pass_elide_edges.specs.Keeping.{KeepsEnds};
-ghost use Rattle.pass_elide_edges.specs.pass_elide_proof.Elision.{Elision, elided};
-ghost use Rattle.pass_elide_edges.specs.pass_elide_proof.Places.{instrs_of};
-ghost use Rattle.pass_elide_edges.specs.pass_elide_proof.Placing.{KeepsPlaces};
-ghost use Rattle.pass_elide_edges.specs.pass_elide_proof.pass_proofs.ir_base.declared.outcome.Word.{Word};
-ghost use Rattle.pass_elide_edges.specs.pass_elide_proof.pass_proofs.ir_model.declared.instr.Instr.{Instr};
-ghost use Rattle.pass_elide_edges.specs.pass_elide_proof.pass_proofs.ir_model.declared.module.Function.{Function};
-ghost use Rattle.pass_elide_edges.specs.pass_elide_proof.pass_proofs.ir_model.declared.module.Module.{Module};
-ghost use Rattle.pass_elide_edges.specs.pass_elide_proof.pass_proofs.ir_model.declared.module.Param.{Param};
-ghost use Rattle.pass_elide_edges.specs.pass_elide_proof.pass_proofs.ir_parts.Contents.{result_of};
-ghost use Rattle.pass_elide_edges.specs.pass_elide_proof.pass_proofs.rule_laws.rules.function_rules.Kept.{KeepsFunctionRules};
-ghost use Rattle.pass_elide_edges.specs.pass_elide_proof.pass_proofs.run_agreement.Machines.{IsFine};
-ghost use Rattle.pass_elide_edges.specs.pass_elide_proof.pass_proofs.run_framed.Framed.{framed_state_at};
-ghost use Rattle.pass_elide_edges.specs.pass_elide_proof.pass_proofs.run_laws.changed.Changed.{Each};
+ghost use Rattle.pass_elide_meaning.specs.pass_elide_edges.Keeping.{KeepsEnds};
+ghost use Rattle.pass_elide_meaning.specs.pass_elide_edges.pass_elide_proof.Elision.{Elision, elided};
+ghost use Rattle.pass_elide_meaning.specs.pass_elide_edges.pass_elide_proof.Places.{instrs_of};
+ghost use Rattle.pass_elide_meaning.specs.pass_elide_edges.pass_elide_proof.Placing.{KeepsPlaces};
+ghost use Rattle.pass_elide_meaning.specs.pass_elide_edges.pass_elide_proof.pass_proofs.ir_base.declared.outcome.Word.{Word};
+ghost use Rattle.pass_elide_meaning.specs.pass_elide_edges.pass_elide_proof.pass_proofs.ir_model.declared.instr.Instr.{Instr};
+ghost use Rattle.pass_elide_meaning.specs.pass_elide_edges.pass_elide_proof.pass_proofs.ir_model.declared.module.Function.{Function};
+ghost use Rattle.pass_elide_meaning.specs.pass_elide_edges.pass_elide_proof.pass_proofs.ir_model.declared.module.Module.{Module};
+ghost use Rattle.pass_elide_meaning.specs.pass_elide_edges.pass_elide_proof.pass_proofs.ir_model.declared.module.Param.{Param};
+ghost use Rattle.pass_elide_meaning.specs.pass_elide_edges.pass_elide_proof.pass_proofs.ir_parts.Contents.{result_of};
+ghost use Rattle.pass_elide_meaning.specs.pass_elide_edges.pass_elide_proof.pass_proofs.rule_laws.rules.function_rules.Kept.{KeepsFunctionRules};
+ghost use Rattle.pass_elide_meaning.specs.pass_elide_edges.pass_elide_proof.pass_proofs.run_agreement.Machines.{IsFine};
+ghost use Rattle.pass_elide_meaning.specs.pass_elide_edges.pass_elide_proof.pass_proofs.run_framed.Framed.{framed_state_at};
+ghost use Rattle.pass_elide_meaning.specs.pass_elide_edges.pass_elide_proof.pass_proofs.run_laws.changed.Changed.{Each};
 ghost use Rattle.pass_elide_lacks.specs.Aside.{StandAside};
 ghost use Rattle.pass_elide_lacks.specs.Keeps.{KeepsAsked};
-ghost use Rattle.pass_elide_runs.specs.Keeps.{KeepsRuns};
+ghost use Rattle.pass_elide_meaning.specs.pass_elide_runs.Keeps.{KeepsRuns};
 ghost use Rattle.std.specs.Prelude.{List, Some, slice_get, ◌≡◌, ◌≢◌, ℕ};
 
 /// In each state of the run that gives frames a ramp that was given its frame alone is in the block beside the

@@ -1,28 +1,28 @@
 //! Ends and rets.
 
-ghost use Rattle.pass_elide_edges.specs.pass_elide_proof.Assembling.{framed_after};
-ghost use Rattle.pass_elide_edges.specs.pass_elide_proof.Elision.{Elision, framed, function_in};
-ghost use Rattle.pass_elide_edges.specs.pass_elide_proof.Placing.{KeepsPlaces};
-ghost use Rattle.pass_elide_edges.specs.pass_elide_proof.Statement.{IsEntryCall};
-ghost use Rattle.pass_elide_edges.specs.pass_elide_proof.pass_proofs.ir_base.declared.outcome.Outcome.{Outcome};
-ghost use Rattle.pass_elide_edges.specs.pass_elide_proof.pass_proofs.ir_base.declared.outcome.Word.{Word};
-ghost use Rattle.pass_elide_edges.specs.pass_elide_proof.pass_proofs.ir_model.declared.instr.Terminator.{Terminator};
-ghost use Rattle.pass_elide_edges.specs.pass_elide_proof.pass_proofs.ir_model.declared.module.Function.{Function};
-ghost use Rattle.pass_elide_edges.specs.pass_elide_proof.pass_proofs.ir_model.declared.module.Module.{Module};
-ghost use Rattle.pass_elide_edges.specs.pass_elide_proof.pass_proofs.ir_model.declared.operand.Arg.{Arg};
-ghost use Rattle.pass_elide_edges.specs.pass_elide_proof.pass_proofs.rule_laws.rules.function_rules.Kept.{KeepsFunctionRules};
-ghost use Rattle.pass_elide_edges.specs.pass_elide_proof.pass_proofs.rule_shape.OneOfEach.{wrong_call};
-ghost use Rattle.pass_elide_edges.specs.pass_elide_proof.pass_proofs.rule_windows.Outside.{IsFirstOutside};
-ghost use Rattle.pass_elide_edges.specs.pass_elide_proof.pass_proofs.run_agreement.Machines.{IsFine};
-ghost use Rattle.pass_elide_edges.specs.pass_elide_proof.pass_proofs.run_framed.Framed.{framed_state_at};
-ghost use Rattle.pass_elide_edges.specs.pass_elide_proof.pass_proofs.run_source.State.{function_of};
-ghost use Rattle.pass_elide_edges.specs.pass_elide_proof.pass_proofs.run_source.declared.state.Mode.{Mode};
-ghost use Rattle.pass_elide_edges.specs.pass_elide_proof.pass_proofs.run_step.Step.{AtTerm, fetch};
+ghost use Rattle.pass_elide_meaning.specs.pass_elide_edges.pass_elide_proof.Assembling.{framed_after};
+ghost use Rattle.pass_elide_meaning.specs.pass_elide_edges.pass_elide_proof.Elision.{Elision, framed, function_in};
+ghost use Rattle.pass_elide_meaning.specs.pass_elide_edges.pass_elide_proof.Placing.{KeepsPlaces};
+ghost use Rattle.pass_elide_meaning.specs.pass_elide_edges.pass_elide_proof.Statement.{IsEntryCall};
+ghost use Rattle.pass_elide_meaning.specs.pass_elide_edges.pass_elide_proof.pass_proofs.ir_base.declared.outcome.Outcome.{Outcome};
+ghost use Rattle.pass_elide_meaning.specs.pass_elide_edges.pass_elide_proof.pass_proofs.ir_base.declared.outcome.Word.{Word};
+ghost use Rattle.pass_elide_meaning.specs.pass_elide_edges.pass_elide_proof.pass_proofs.ir_model.declared.instr.Terminator.{Terminator};
+ghost use Rattle.pass_elide_meaning.specs.pass_elide_edges.pass_elide_proof.pass_proofs.ir_model.declared.module.Function.{Function};
+ghost use Rattle.pass_elide_meaning.specs.pass_elide_edges.pass_elide_proof.pass_proofs.ir_model.declared.module.Module.{Module};
+ghost use Rattle.pass_elide_meaning.specs.pass_elide_edges.pass_elide_proof.pass_proofs.ir_model.declared.operand.Arg.{Arg};
+ghost use Rattle.pass_elide_meaning.specs.pass_elide_edges.pass_elide_proof.pass_proofs.rule_laws.rules.function_rules.Kept.{KeepsFunctionRules};
+ghost use Rattle.pass_elide_meaning.specs.pass_elide_edges.pass_elide_proof.pass_proofs.rule_shape.OneOfEach.{wrong_call};
+ghost use Rattle.pass_elide_meaning.specs.pass_elide_edges.pass_elide_proof.pass_proofs.rule_windows.Outside.{IsFirstOutside};
+ghost use Rattle.pass_elide_meaning.specs.pass_elide_edges.pass_elide_proof.pass_proofs.run_agreement.Machines.{IsFine};
+ghost use Rattle.pass_elide_meaning.specs.pass_elide_edges.pass_elide_proof.pass_proofs.run_framed.Framed.{framed_state_at};
+ghost use Rattle.pass_elide_meaning.specs.pass_elide_edges.pass_elide_proof.pass_proofs.run_source.State.{function_of};
+ghost use Rattle.pass_elide_meaning.specs.pass_elide_edges.pass_elide_proof.pass_proofs.run_source.declared.state.Mode.{Mode};
+ghost use Rattle.pass_elide_meaning.specs.pass_elide_edges.pass_elide_proof.pass_proofs.run_step.Step.{AtTerm, fetch};
 ghost use Rattle.pass_elide_kept.specs.Runs.{EndsInBlock, IsKeptFramed};
-ghost use Rattle.pass_elide_known.specs.Keeping.{KeepsMore};
+ghost use Rattle.pass_elide_meaning.specs.pass_elide_known.Keeping.{KeepsMore};
 ghost use Rattle.pass_elide_lacks.specs.Ends.{EndsBeforeRets, HasOneEnd, HaveRunOut, KeepsEndings};
-ghost use Rattle.pass_elide_runs.specs.Ends.{EndsOnce};
-ghost use Rattle.pass_elide_runs.specs.Keeps.{KeepsRuns};
+ghost use Rattle.pass_elide_meaning.specs.pass_elide_runs.Ends.{EndsOnce};
+ghost use Rattle.pass_elide_meaning.specs.pass_elide_runs.Keeps.{KeepsRuns};
 ghost use Rattle.std.specs.Prelude.{List, None, Option, false, true, ◌≡◌, ℕ};
 
 /// A coroutine that breaks neither K2 nor K5 has one coro.end, and returns behind it. No save, suspend or end stands

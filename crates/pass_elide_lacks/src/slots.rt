@@ -1,17 +1,17 @@
 //! Slots of the run that gives frames.
 
-ghost use Rattle.pass_elide_edges.specs.Keeping.{KeepsEnds};
-ghost use Rattle.pass_elide_edges.specs.pass_elide_proof.Elision.{Elision, elided, elided_code};
-ghost use Rattle.pass_elide_edges.specs.pass_elide_proof.OwnSlots.{CountsSlots};
-ghost use Rattle.pass_elide_edges.specs.pass_elide_proof.Placing.{KeepsPlaces};
-ghost use Rattle.pass_elide_edges.specs.pass_elide_proof.pass_proofs.ir_base.declared.outcome.Word.{Word};
-ghost use Rattle.pass_elide_edges.specs.pass_elide_proof.pass_proofs.ir_model.Names.{function_at};
-ghost use Rattle.pass_elide_edges.specs.pass_elide_proof.pass_proofs.run_agreement.Machines.{IsFine};
-ghost use Rattle.pass_elide_edges.specs.pass_elide_proof.pass_proofs.run_framed.Framed.{framed_state_at};
-ghost use Rattle.pass_elide_known.specs.Keeping.{KeepsMore};
+ghost use Rattle.pass_elide_meaning.specs.pass_elide_edges.Keeping.{KeepsEnds};
+ghost use Rattle.pass_elide_meaning.specs.pass_elide_edges.pass_elide_proof.Elision.{Elision, elided, elided_code};
+ghost use Rattle.pass_elide_meaning.specs.pass_elide_edges.pass_elide_proof.OwnSlots.{CountsSlots};
+ghost use Rattle.pass_elide_meaning.specs.pass_elide_edges.pass_elide_proof.Placing.{KeepsPlaces};
+ghost use Rattle.pass_elide_meaning.specs.pass_elide_edges.pass_elide_proof.pass_proofs.ir_base.declared.outcome.Word.{Word};
+ghost use Rattle.pass_elide_meaning.specs.pass_elide_edges.pass_elide_proof.pass_proofs.ir_model.Names.{function_at};
+ghost use Rattle.pass_elide_meaning.specs.pass_elide_edges.pass_elide_proof.pass_proofs.run_agreement.Machines.{IsFine};
+ghost use Rattle.pass_elide_meaning.specs.pass_elide_edges.pass_elide_proof.pass_proofs.run_framed.Framed.{framed_state_at};
+ghost use Rattle.pass_elide_meaning.specs.pass_elide_known.Keeping.{KeepsMore};
 ghost use Rattle.pass_elide_lacks.specs.Rooms.{HoldsNone};
-ghost use Rattle.pass_elide_runs.specs.Keeps.{KeepsRuns};
-ghost use Rattle.pass_elide_runs.specs.Slots.{NamesAllocas};
+ghost use Rattle.pass_elide_meaning.specs.pass_elide_runs.Keeps.{KeepsRuns};
+ghost use Rattle.pass_elide_meaning.specs.pass_elide_runs.Slots.{NamesAllocas};
 ghost use Rattle.std.specs.Prelude.{List, ℕ};
 
 /// In each state of the run that gives frames slots have blocks of their own. Instances have no slots, since each

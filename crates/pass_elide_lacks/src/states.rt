@@ -1,18 +1,18 @@
 //! States of both runs.
 
-ghost use Rattle.pass_elide_edges.specs.Keeping.{KeepsEnds};
-ghost use Rattle.pass_elide_edges.specs.States.{EndsElided};
-ghost use Rattle.pass_elide_edges.specs.pass_elide_proof.Assembling.{elided_after, framed_after};
-ghost use Rattle.pass_elide_edges.specs.pass_elide_proof.Elision.{Elision};
-ghost use Rattle.pass_elide_edges.specs.pass_elide_proof.Placing.{KeepsPlaces};
-ghost use Rattle.pass_elide_edges.specs.pass_elide_proof.Statement.{IsEntryCall};
-ghost use Rattle.pass_elide_edges.specs.pass_elide_proof.pass_proofs.ir_base.declared.outcome.Outcome.{Outcome};
-ghost use Rattle.pass_elide_edges.specs.pass_elide_proof.pass_proofs.ir_base.declared.outcome.Word.{Word};
-ghost use Rattle.pass_elide_known.specs.Keeping.{KeepsMore};
-ghost use Rattle.pass_elide_known.specs.States.{IsKnownFramed, IsKnownGiving};
+ghost use Rattle.pass_elide_meaning.specs.pass_elide_edges.Keeping.{KeepsEnds};
+ghost use Rattle.pass_elide_meaning.specs.pass_elide_edges.States.{EndsElided};
+ghost use Rattle.pass_elide_meaning.specs.pass_elide_edges.pass_elide_proof.Assembling.{elided_after, framed_after};
+ghost use Rattle.pass_elide_meaning.specs.pass_elide_edges.pass_elide_proof.Elision.{Elision};
+ghost use Rattle.pass_elide_meaning.specs.pass_elide_edges.pass_elide_proof.Placing.{KeepsPlaces};
+ghost use Rattle.pass_elide_meaning.specs.pass_elide_edges.pass_elide_proof.Statement.{IsEntryCall};
+ghost use Rattle.pass_elide_meaning.specs.pass_elide_edges.pass_elide_proof.pass_proofs.ir_base.declared.outcome.Outcome.{Outcome};
+ghost use Rattle.pass_elide_meaning.specs.pass_elide_edges.pass_elide_proof.pass_proofs.ir_base.declared.outcome.Word.{Word};
+ghost use Rattle.pass_elide_meaning.specs.pass_elide_known.Keeping.{KeepsMore};
+ghost use Rattle.pass_elide_meaning.specs.pass_elide_known.States.{IsKnownFramed, IsKnownGiving};
 ghost use Rattle.pass_elide_lacks.specs.Keeps.{KeepsAsked};
 ghost use Rattle.pass_elide_meaning.specs.Lacks.{LacksFramed, LacksGiving, TakesSizes};
-ghost use Rattle.pass_elide_runs.specs.Keeps.{KeepsRuns};
+ghost use Rattle.pass_elide_meaning.specs.pass_elide_runs.Keeps.{KeepsRuns};
 ghost use Rattle.std.specs.Prelude.{List, ◌≡◌, ℕ};
 
 /// In no state of the run that gives frames anything is lacking.

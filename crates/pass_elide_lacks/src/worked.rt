@@ -1,7 +1,7 @@
 //! Worked modules.
 
-ghost use Rattle.pass_elide_edges.specs.pass_elide_proof.Statement.{ElisionKeepsStates};
-ghost use Rattle.pass_elide_edges.specs.pass_elide_proof.Worked.{the_elision};
+ghost use Rattle.pass_elide_meaning.specs.pass_elide_edges.pass_elide_proof.Statement.{ElisionKeepsStates};
+ghost use Rattle.pass_elide_meaning.specs.pass_elide_edges.pass_elide_proof.Worked.{the_elision};
 ghost use Rattle.pass_elide_lacks.specs.Ends.{KeepsEndings};
 ghost use Rattle.pass_elide_lacks.specs.Keeps.{KeepsAsked};
 ghost use Rattle.pass_elide_lacks.specs.Wide.{the_wide_elision};

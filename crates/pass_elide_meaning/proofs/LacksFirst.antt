@@ -10,7 +10,7 @@ use Rattle.pass_elide_edges.specs.pass_elide_proof.Placing.{KeepsPlaces}
 use Rattle.pass_elide_edges.specs.pass_elide_proof.Statement.{IsEntryCall}
 use Rattle.pass_elide_runs.proofs.Small.{words_small}
 use Rattle.pass_elide_runs.specs.Keeps.{KeepsRuns}
-use Rattle.pass_proofs.specs.ir_base.declared.outcome.Word.{Word}
+use Rattle.pass_elide_edges.specs.pass_proofs.ir_base.declared.outcome.Word.{Word}
 
 module _ (e : Elision) (keeps : KeepsPlaces e) (more : KeepsMore e) (entry : ℕ) (args : List Word)
     (call : IsEntryCall e entry args) where

@@ -30,23 +30,23 @@ use Rattle.pass_elide_runs.proofs.Shaped.{shaped_runs}
 use Rattle.pass_elide_runs.proofs.SizeNames.{size_in, sizes_in_runs}
 use Rattle.pass_elide_runs.proofs.Small.{words_small}
 use Rattle.pass_elide_runs.specs.Keeps.{KeepsRuns, KnowsFramed, KnowsGiving}
-use Rattle.pass_proofs.specs.ir_base.declared.outcome.Outcome.{Outcome}
-use Rattle.pass_proofs.specs.ir_base.declared.outcome.Word.{Word}
-use Rattle.pass_proofs.specs.ir_model.Names.{is_local}
-use Rattle.pass_proofs.specs.ir_model.Ty.{Ty}
-use Rattle.pass_proofs.specs.ir_model.declared.instr.Instr.{Instr}
-use Rattle.pass_proofs.specs.ir_model.declared.module.Module.{Module}
-use Rattle.pass_proofs.specs.ir_model.declared.operand.Allocator.{Allocator}
-use Rattle.pass_proofs.specs.ir_model.declared.operand.Arg.{Arg}
-use Rattle.pass_proofs.specs.ir_model.declared.operand.Callee.{Callee}
-use Rattle.pass_proofs.specs.ir_model.declared.operand.Intrinsic.{Intrinsic}
-use Rattle.pass_proofs.specs.ir_model.declared.operand.Operand.{Operand}
-use Rattle.pass_proofs.specs.ir_paths.Windows.{is_call_of, operand_at}
-use Rattle.pass_proofs.specs.pass_kept_proof.SuspendRules.{IsCallAt}
-use Rattle.pass_proofs.specs.run_agreement.Machines.{IsFine}
-use Rattle.pass_proofs.specs.run_source.declared.state.Mode.{Mode}
-use Rattle.pass_proofs.specs.run_source.declared.state.State.{State}
-use Rattle.pass_proofs.specs.run_step.Values.{Env, arg_values, nth, operand_value, value_in}
+use Rattle.pass_elide_edges.specs.pass_proofs.ir_base.declared.outcome.Outcome.{Outcome}
+use Rattle.pass_elide_edges.specs.pass_proofs.ir_base.declared.outcome.Word.{Word}
+use Rattle.pass_elide_edges.specs.pass_proofs.ir_model.Names.{is_local}
+use Rattle.pass_elide_edges.specs.pass_proofs.ir_model.Ty.{Ty}
+use Rattle.pass_elide_edges.specs.pass_proofs.ir_model.declared.instr.Instr.{Instr}
+use Rattle.pass_elide_edges.specs.pass_proofs.ir_model.declared.module.Module.{Module}
+use Rattle.pass_elide_edges.specs.pass_proofs.ir_model.declared.operand.Allocator.{Allocator}
+use Rattle.pass_elide_edges.specs.pass_proofs.ir_model.declared.operand.Arg.{Arg}
+use Rattle.pass_elide_edges.specs.pass_proofs.ir_model.declared.operand.Callee.{Callee}
+use Rattle.pass_elide_edges.specs.pass_proofs.ir_model.declared.operand.Intrinsic.{Intrinsic}
+use Rattle.pass_elide_edges.specs.pass_proofs.ir_model.declared.operand.Operand.{Operand}
+use Rattle.pass_elide_edges.specs.pass_proofs.ir_paths.Windows.{is_call_of, operand_at}
+use Rattle.pass_elide_edges.specs.pass_proofs.pass_kept_proof.SuspendRules.{IsCallAt}
+use Rattle.pass_elide_edges.specs.pass_proofs.run_agreement.Machines.{IsFine}
+use Rattle.pass_elide_edges.specs.pass_proofs.run_source.declared.state.Mode.{Mode}
+use Rattle.pass_elide_edges.specs.pass_proofs.run_source.declared.state.State.{State}
+use Rattle.pass_elide_edges.specs.pass_proofs.run_step.Values.{Env, arg_values, nth, operand_value, value_in}
 use Rattle.run_hooks.specs.Away.{point_in}
 
 running_fine : (s : State) → s.outcome ≡ Outcome.Running → IsFine s.outcome

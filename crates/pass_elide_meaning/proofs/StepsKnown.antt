@@ -11,12 +11,12 @@ use Rattle.pass_elide_edges.specs.pass_elide_proof.Match.{sides}
 use Rattle.pass_elide_edges.specs.pass_elide_proof.Placing.{KeepsPlaces}
 use Rattle.pass_elide_edges.specs.pass_elide_proof.Statement.{AreRelated}
 use Rattle.pass_elide_edges.specs.pass_elide_proof.Stepping.{IsKnownStep}
-use Rattle.pass_proofs.specs.ir_base.declared.outcome.Outcome.{Outcome}
-use Rattle.pass_proofs.specs.run_agreement.Machines.{IsFine}
-use Rattle.pass_proofs.specs.run_framed.Framed.{FramedGiven, framed_advance, framed_next, framed_step}
-use Rattle.pass_proofs.specs.run_source.State.{function_of, or_undefined}
-use Rattle.pass_proofs.specs.run_source.declared.state.State.{State}
-use Rattle.pass_proofs.specs.run_step.Step.{AtInstr, AtTerm, Fetched, Nowhere, fetch}
+use Rattle.pass_elide_edges.specs.pass_proofs.ir_base.declared.outcome.Outcome.{Outcome}
+use Rattle.pass_elide_edges.specs.pass_proofs.run_agreement.Machines.{IsFine}
+use Rattle.pass_elide_edges.specs.pass_proofs.run_framed.Framed.{FramedGiven, framed_advance, framed_next, framed_step}
+use Rattle.pass_elide_edges.specs.pass_proofs.run_source.State.{function_of, or_undefined}
+use Rattle.pass_elide_edges.specs.pass_proofs.run_source.declared.state.State.{State}
+use Rattle.pass_elide_edges.specs.pass_proofs.run_step.Step.{AtInstr, AtTerm, Fetched, Nowhere, fetch}
 
 -- where nothing stands a step is undefined
 nowhere : (g : FramedGiven) (s : State) → s.outcome ≡ Outcome.Running

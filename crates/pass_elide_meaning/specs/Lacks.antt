@@ -10,17 +10,17 @@ use Rattle.pass_elide_edges.specs.pass_elide_proof.Match.{frame_size, is_given_m
 use Rattle.pass_elide_edges.specs.pass_elide_proof.Places.{instrs_of}
 use Rattle.pass_elide_edges.specs.pass_elide_proof.Shapes.{AsksForFrame}
 use Rattle.pass_elide_runs.specs.Names.{AsksSize, IsGivenBy}
-use Rattle.pass_proofs.specs.ir_base.declared.outcome.Word.{Word}
-use Rattle.pass_proofs.specs.ir_model.Ty.{Ty}
-use Rattle.pass_proofs.specs.ir_model.declared.instr.Instr.{Instr}
-use Rattle.pass_proofs.specs.ir_model.declared.module.Function.{Function}
-use Rattle.pass_proofs.specs.ir_model.declared.operand.Allocator.{Allocator}
-use Rattle.pass_proofs.specs.ir_model.declared.operand.Arg.{Arg}
-use Rattle.pass_proofs.specs.ir_model.declared.operand.Callee.{Callee}
-use Rattle.pass_proofs.specs.ir_model.declared.operand.Intrinsic.{Intrinsic}
-use Rattle.pass_proofs.specs.ir_model.declared.operand.Operand.{Operand}
-use Rattle.pass_proofs.specs.ir_paths.Windows.{operand_at}
-use Rattle.pass_proofs.specs.run_source.declared.state.State.{State}
+use Rattle.pass_elide_edges.specs.pass_proofs.ir_base.declared.outcome.Word.{Word}
+use Rattle.pass_elide_edges.specs.pass_proofs.ir_model.Ty.{Ty}
+use Rattle.pass_elide_edges.specs.pass_proofs.ir_model.declared.instr.Instr.{Instr}
+use Rattle.pass_elide_edges.specs.pass_proofs.ir_model.declared.module.Function.{Function}
+use Rattle.pass_elide_edges.specs.pass_proofs.ir_model.declared.operand.Allocator.{Allocator}
+use Rattle.pass_elide_edges.specs.pass_proofs.ir_model.declared.operand.Arg.{Arg}
+use Rattle.pass_elide_edges.specs.pass_proofs.ir_model.declared.operand.Callee.{Callee}
+use Rattle.pass_elide_edges.specs.pass_proofs.ir_model.declared.operand.Intrinsic.{Intrinsic}
+use Rattle.pass_elide_edges.specs.pass_proofs.ir_model.declared.operand.Operand.{Operand}
+use Rattle.pass_elide_edges.specs.pass_proofs.ir_paths.Windows.{operand_at}
+use Rattle.pass_elide_edges.specs.pass_proofs.run_source.declared.state.State.{State}
 
 -- ---- the framed run
 

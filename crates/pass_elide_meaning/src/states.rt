@@ -10,9 +10,9 @@ ghost use Rattle.pass_elide_edges.specs.pass_elide_proof.OwnSlots.{CountsSlots};
 ghost use Rattle.pass_elide_edges.specs.pass_elide_proof.Placing.{KeepsPlaces};
 ghost use Rattle.pass_elide_edges.specs.pass_elide_proof.Statement.{IsEntryCall};
 ghost use Rattle.pass_elide_runs.specs.Keeps.{KeepsRuns};
-ghost use Rattle.pass_proofs.specs.ir_base.declared.outcome.Outcome.{Outcome};
-ghost use Rattle.pass_proofs.specs.ir_base.declared.outcome.Word.{Word};
-ghost use Rattle.pass_proofs.specs.run_source.declared.state.State.{State};
+ghost use Rattle.pass_elide_edges.specs.pass_proofs.ir_base.declared.outcome.Outcome.{Outcome};
+ghost use Rattle.pass_elide_edges.specs.pass_proofs.ir_base.declared.outcome.Word.{Word};
+ghost use Rattle.pass_elide_edges.specs.pass_proofs.run_source.declared.state.State.{State};
 ghost use Rattle.std.specs.Prelude.{List, ◌≡◌, ℕ};
 
 /// In each state of the framed run that is running, what its steps ask of it is had, but for what is still lacking.

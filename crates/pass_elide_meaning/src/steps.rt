@@ -9,10 +9,10 @@ ghost use Rattle.pass_elide_edges.specs.pass_elide_proof.Match.{sides};
 ghost use Rattle.pass_elide_edges.specs.pass_elide_proof.Placing.{KeepsPlaces};
 ghost use Rattle.pass_elide_edges.specs.pass_elide_proof.Statement.{AreRelated};
 ghost use Rattle.pass_elide_edges.specs.pass_elide_proof.Stepping.{IsKnownStep};
-ghost use Rattle.pass_proofs.specs.ir_base.declared.outcome.Outcome.{Outcome};
-ghost use Rattle.pass_proofs.specs.run_agreement.Machines.{IsFine};
-ghost use Rattle.pass_proofs.specs.run_framed.Framed.{framed_step};
-ghost use Rattle.pass_proofs.specs.run_source.declared.state.State.{State};
+ghost use Rattle.pass_elide_edges.specs.pass_proofs.ir_base.declared.outcome.Outcome.{Outcome};
+ghost use Rattle.pass_elide_edges.specs.pass_proofs.run_agreement.Machines.{IsFine};
+ghost use Rattle.pass_elide_edges.specs.pass_proofs.run_framed.Framed.{framed_step};
+ghost use Rattle.pass_elide_edges.specs.pass_proofs.run_source.declared.state.State.{State};
 ghost use Rattle.std.specs.Prelude.{◌≡◌};
 
 /// From related states each step that isn't undefined is of a known kind, by what the framed module keeps and what is

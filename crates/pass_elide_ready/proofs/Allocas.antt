@@ -4,27 +4,27 @@ use Rattle.std.proofs.Common.{◌≡◌, ◌≢◌, ◌⊎◌, inl, inr, ℕ, Bo
 use Rattle.std.proofs.lemmas.Bool.{false≢true}
 use Rattle.std.specs.Prelude.{None, Option, Some, slice_get}
 use Rattle.pass_elide_known.specs.Keeping.{is_marker}
-use Rattle.pass_elide_proof.proofs.ElidedFound.{fetched}
-use Rattle.pass_elide_proof.proofs.OwnPlaces.{instr_there}
-use Rattle.pass_elide_proof.specs.Places.{instrs_of}
+use Rattle.pass_elide_edges.proofs.pass_elide_proof.ElidedFound.{fetched}
+use Rattle.pass_elide_edges.proofs.pass_elide_proof.OwnPlaces.{instr_there}
+use Rattle.pass_elide_edges.specs.pass_elide_proof.Places.{instrs_of}
 use Rattle.pass_elide_runs.specs.Marks.{MarksAllocas}
 use Rattle.pass_elide_runs.specs.Slots.{AllocasFirst, IsAllocaAt, NamesAllocas}
-use Rattle.pass_elide_proof.proofs.pass_proofs.ir_laws.paths.edges.Lists.{listed_at}
-use Rattle.pass_elide_proof.proofs.pass_proofs.ir_laws.paths.woven_rules.Unbroken.{each_listed}
-use Rattle.pass_elide_proof.proofs.pass_proofs.rule_laws.rules.renamed.Uses.{result_spelt}
-use Rattle.pass_elide_proof.specs.pass_proofs.flow_blocks.Edges.{block_edges}
-use Rattle.pass_elide_proof.specs.pass_proofs.flow_solver.Paths.{IsListed}
-use Rattle.pass_elide_proof.specs.pass_proofs.ir_model.declared.instr.Instr.{Instr}
-use Rattle.pass_elide_proof.specs.pass_proofs.ir_model.declared.instr.Phi.{Phi}
-use Rattle.pass_elide_proof.specs.pass_proofs.ir_model.declared.module.Block.{Block}
-use Rattle.pass_elide_proof.specs.pass_proofs.ir_model.declared.module.Function.{Function}
-use Rattle.pass_elide_proof.specs.pass_proofs.ir_model.declared.operand.Arg.{Arg}
-use Rattle.pass_elide_proof.specs.pass_proofs.ir_model.declared.operand.Callee.{Callee}
-use Rattle.pass_elide_proof.specs.pass_proofs.ir_model.declared.operand.Intrinsic.{Intrinsic}
-use Rattle.pass_elide_proof.specs.pass_proofs.ir_model.declared.operand.Operand.{Operand}
-use Rattle.pass_elide_proof.specs.pass_proofs.ir_paths.Windows.{operand_at}
-use Rattle.pass_elide_proof.specs.pass_proofs.run_laws.changed.Changed.{Each}
-use Rattle.pass_elide_proof.specs.pass_proofs.run_step.Step.{is_lifetime, phis_of}
+use Rattle.pass_elide_edges.proofs.pass_elide_proof.pass_proofs.ir_laws.paths.edges.Lists.{listed_at}
+use Rattle.pass_elide_edges.proofs.pass_elide_proof.pass_proofs.ir_laws.paths.woven_rules.Unbroken.{each_listed}
+use Rattle.pass_elide_edges.proofs.pass_elide_proof.pass_proofs.rule_laws.rules.renamed.Uses.{result_spelt}
+use Rattle.pass_elide_edges.specs.pass_elide_proof.pass_proofs.flow_blocks.Edges.{block_edges}
+use Rattle.pass_elide_edges.specs.pass_elide_proof.pass_proofs.flow_solver.Paths.{IsListed}
+use Rattle.pass_elide_edges.specs.pass_elide_proof.pass_proofs.ir_model.declared.instr.Instr.{Instr}
+use Rattle.pass_elide_edges.specs.pass_elide_proof.pass_proofs.ir_model.declared.instr.Phi.{Phi}
+use Rattle.pass_elide_edges.specs.pass_elide_proof.pass_proofs.ir_model.declared.module.Block.{Block}
+use Rattle.pass_elide_edges.specs.pass_elide_proof.pass_proofs.ir_model.declared.module.Function.{Function}
+use Rattle.pass_elide_edges.specs.pass_elide_proof.pass_proofs.ir_model.declared.operand.Arg.{Arg}
+use Rattle.pass_elide_edges.specs.pass_elide_proof.pass_proofs.ir_model.declared.operand.Callee.{Callee}
+use Rattle.pass_elide_edges.specs.pass_elide_proof.pass_proofs.ir_model.declared.operand.Intrinsic.{Intrinsic}
+use Rattle.pass_elide_edges.specs.pass_elide_proof.pass_proofs.ir_model.declared.operand.Operand.{Operand}
+use Rattle.pass_elide_edges.specs.pass_elide_proof.pass_proofs.ir_paths.Windows.{operand_at}
+use Rattle.pass_elide_edges.specs.pass_elide_proof.pass_proofs.run_laws.changed.Changed.{Each}
+use Rattle.pass_elide_edges.specs.pass_elide_proof.pass_proofs.run_step.Step.{is_lifetime, phis_of}
 use Rattle.pass_split_proof.specs.simulation.Premises.{AreAllocasAlone, IsEntryAlloca}
 
 module _ (f : Function) (alone : AreAllocasAlone f) where

@@ -3,26 +3,26 @@ use Rattle.std.proofs.Common.{◌≡◌, ◌≢◌, ◌⊎◌, inl, inr, ⊎_eli
 use Rattle.std.proofs.lemmas.Bool.{false≢true}
 use Rattle.std.specs.Prelude.{None, Some, is_some, not, if◌then◌else◌, ◌&&◌, ◌||◌, ◌==◌}
 use Rattle.pass_elide_edges.specs.Keeping.{EntersAlone, HasEdge}
-use Rattle.pass_elide_proof.specs.Assembling.{WaitsBehind, waits_in}
-use Rattle.pass_elide_proof.specs.EdgesFreeing.{FreesAside, FreesFrame}
-use Rattle.pass_elide_proof.specs.Elision.{Shape}
-use Rattle.pass_elide_proof.specs.Places.{instrs_of}
-use Rattle.pass_elide_proof.specs.Shapes.{JumpsTo}
+use Rattle.pass_elide_edges.specs.pass_elide_proof.Assembling.{WaitsBehind, waits_in}
+use Rattle.pass_elide_edges.specs.pass_elide_proof.EdgesFreeing.{FreesAside, FreesFrame}
+use Rattle.pass_elide_edges.specs.pass_elide_proof.Elision.{Shape}
+use Rattle.pass_elide_edges.specs.pass_elide_proof.Places.{instrs_of}
+use Rattle.pass_elide_edges.specs.pass_elide_proof.Shapes.{JumpsTo}
 use Rattle.pass_elide_ready.proofs.Asked.{after_is, allocates_is, asks_is, beside_is}
 use Rattle.pass_elide_ready.proofs.Entries.{no_edge_back}
 use Rattle.pass_elide_ready.proofs.FreedForm.{after_apart, allocates_apart, frees_there, jump_edge, one_beside, other_edge}
 use Rattle.pass_elide_ready.proofs.Listed.{IsFound, beside_is as table_is, found, nothing, tests_are}
 use Rattle.pass_elide_ready.specs.Form.{Asking, Freeing, HasForm, MeetsSo, beside_of, has_both, shape_by}
-use Rattle.pass_elide_proof.proofs.pass_proofs.ir_laws.facts.Truth.{and_first, and_second, equal_numbers, itself}
-use Rattle.pass_elide_proof.proofs.pass_proofs.ir_laws.facts.local_rules.Woven.{other_number}
-use Rattle.pass_elide_proof.specs.pass_proofs.flow_solver.Paths.{IsListed}
-use Rattle.pass_elide_proof.specs.pass_proofs.ir_model.Names.{position_of}
-use Rattle.pass_elide_proof.specs.pass_proofs.ir_model.declared.instr.Terminator.{Terminator}
-use Rattle.pass_elide_proof.specs.pass_proofs.ir_model.declared.module.Function.{Function}
-use Rattle.pass_elide_proof.specs.pass_proofs.ir_model.declared.module.Module.{Module}
-use Rattle.pass_elide_proof.specs.pass_proofs.ir_model.declared.operand.Operand.{Operand}
-use Rattle.pass_elide_proof.specs.pass_proofs.rule_laws.rules.function_rules.Kept.{KeepsFunctionRules}
-use Rattle.pass_elide_proof.specs.pass_proofs.run_step.Step.{AtTerm, fetch}
+use Rattle.pass_elide_edges.proofs.pass_elide_proof.pass_proofs.ir_laws.facts.Truth.{and_first, and_second, equal_numbers, itself}
+use Rattle.pass_elide_edges.proofs.pass_elide_proof.pass_proofs.ir_laws.facts.local_rules.Woven.{other_number}
+use Rattle.pass_elide_edges.specs.pass_elide_proof.pass_proofs.flow_solver.Paths.{IsListed}
+use Rattle.pass_elide_edges.specs.pass_elide_proof.pass_proofs.ir_model.Names.{position_of}
+use Rattle.pass_elide_edges.specs.pass_elide_proof.pass_proofs.ir_model.declared.instr.Terminator.{Terminator}
+use Rattle.pass_elide_edges.specs.pass_elide_proof.pass_proofs.ir_model.declared.module.Function.{Function}
+use Rattle.pass_elide_edges.specs.pass_elide_proof.pass_proofs.ir_model.declared.module.Module.{Module}
+use Rattle.pass_elide_edges.specs.pass_elide_proof.pass_proofs.ir_model.declared.operand.Operand.{Operand}
+use Rattle.pass_elide_edges.specs.pass_elide_proof.pass_proofs.rule_laws.rules.function_rules.Kept.{KeepsFunctionRules}
+use Rattle.pass_elide_edges.specs.pass_elide_proof.pass_proofs.run_step.Step.{AtTerm, fetch}
 
 -- a block that ends in a branch ends in no jump
 pub no_jump : (f : Function) (block other t one two : ℕ) (x : Operand) → block ≡ other

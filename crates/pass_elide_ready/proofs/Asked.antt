@@ -1,19 +1,19 @@
 -- A coroutine that asks for its frame so does it by the shape that tells of it, in no other way.
 use Rattle.std.proofs.Common.{◌≡◌, ◌≢◌, ℕ, Bool, true, false, List, length, refl, sym, ap, ◌∙◌, subst}
 use Rattle.std.specs.Prelude.{None, Option, Some, nat_le, nat_lt, slice_get, if◌then◌else◌, ◌||◌, ◌==◌}
-use Rattle.pass_elide_proof.specs.Elision.{Shape}
-use Rattle.pass_elide_proof.specs.Places.{instrs_of}
-use Rattle.pass_elide_proof.specs.Shapes.{AsksForFrame, JumpsTo}
+use Rattle.pass_elide_edges.specs.pass_elide_proof.Elision.{Shape}
+use Rattle.pass_elide_edges.specs.pass_elide_proof.Places.{instrs_of}
+use Rattle.pass_elide_edges.specs.pass_elide_proof.Shapes.{AsksForFrame, JumpsTo}
 use Rattle.pass_elide_ready.proofs.Numbers.{above_chosen, below_chosen, beyond_chosen, given_there, most_chosen, other_chosen, same_chosen}
 use Rattle.pass_elide_ready.specs.Form.{Asking, AsksSo, Freeing, beside_of, gives_in, held_at, made_of, shape_by}
-use Rattle.pass_elide_proof.proofs.pass_proofs.ir_laws.facts.Truth.{equal_numbers, itself}
-use Rattle.pass_elide_proof.specs.pass_proofs.ir_model.Names.{position_of}
-use Rattle.pass_elide_proof.specs.pass_proofs.ir_model.declared.instr.Instr.{Instr}
-use Rattle.pass_elide_proof.specs.pass_proofs.ir_model.declared.instr.Terminator.{Terminator}
-use Rattle.pass_elide_proof.specs.pass_proofs.ir_model.declared.module.Function.{Function}
-use Rattle.pass_elide_proof.specs.pass_proofs.ir_model.declared.operand.Operand.{Operand}
-use Rattle.pass_elide_proof.specs.pass_proofs.ir_parts.Contents.{result_of}
-use Rattle.pass_elide_proof.specs.pass_proofs.run_step.Step.{AtTerm, fetch}
+use Rattle.pass_elide_edges.proofs.pass_elide_proof.pass_proofs.ir_laws.facts.Truth.{equal_numbers, itself}
+use Rattle.pass_elide_edges.specs.pass_elide_proof.pass_proofs.ir_model.Names.{position_of}
+use Rattle.pass_elide_edges.specs.pass_elide_proof.pass_proofs.ir_model.declared.instr.Instr.{Instr}
+use Rattle.pass_elide_edges.specs.pass_elide_proof.pass_proofs.ir_model.declared.instr.Terminator.{Terminator}
+use Rattle.pass_elide_edges.specs.pass_elide_proof.pass_proofs.ir_model.declared.module.Function.{Function}
+use Rattle.pass_elide_edges.specs.pass_elide_proof.pass_proofs.ir_model.declared.operand.Operand.{Operand}
+use Rattle.pass_elide_edges.specs.pass_elide_proof.pass_proofs.ir_parts.Contents.{result_of}
+use Rattle.pass_elide_edges.specs.pass_elide_proof.pass_proofs.run_step.Step.{AtTerm, fetch}
 
 pub or_here : (a b : Bool) → a ≡ true → (a || b) ≡ true
 or_here a b e = ap (λ (t : Bool). t || b) e

@@ -4,26 +4,26 @@ use Rattle.std.specs.Prelude.{None, Option, Some, slice_get, unwrap_or, ◌==◌
 use Rattle.elide_shape.specs.Edges.{edges_into, edges_of}
 use Rattle.elide_shape.specs.declared.edges.Edge.{Edge}
 use Rattle.pass_elide_edges.specs.Keeping.{HasEdge}
-use Rattle.pass_elide_proof.specs.Places.{instrs_in, instrs_of}
+use Rattle.pass_elide_edges.specs.pass_elide_proof.Places.{instrs_in, instrs_of}
 use Rattle.pass_elide_ready.proofs.Counted.{one_counted}
 use Rattle.pass_elide_ready.proofs.EdgeRows.{edge_at, edge_listed}
 use Rattle.pass_elide_ready.proofs.Entries.{ending}
-use Rattle.pass_elide_proof.proofs.pass_proofs.edges.paths.Blocks.{position_edge, position_moved, spot}
-use Rattle.pass_elide_proof.proofs.pass_proofs.edges.paths.Edges.{edges_of_block}
-use Rattle.pass_elide_proof.proofs.pass_proofs.edges.rules.Homes.{IsEdge, IsOwn, IsTarget, edge_spots, edge_target, home, spots_apart, spots_no_edge, target_home, target_low}
-use Rattle.pass_elide_proof.proofs.pass_proofs.ir_laws.facts.Truth.{itself}
-use Rattle.pass_elide_proof.specs.pass_proofs.edges.paths.Labels.{IsAmong}
-use Rattle.pass_elide_proof.specs.pass_proofs.flow_solver.Paths.{IsListed}
-use Rattle.pass_elide_proof.specs.pass_proofs.ir_laws.paths.threads.Labels.{HasNamedLabels}
-use Rattle.pass_elide_proof.specs.pass_proofs.ir_model.Names.{position_of}
-use Rattle.pass_elide_proof.specs.pass_proofs.ir_model.declared.instr.Terminator.{Terminator}
-use Rattle.pass_elide_proof.specs.pass_proofs.ir_model.declared.module.Block.{Block}
-use Rattle.pass_elide_proof.specs.pass_proofs.ir_model.declared.module.Function.{Function}
-use Rattle.pass_elide_proof.specs.pass_proofs.ir_paths.Paths.{targets}
-use Rattle.pass_elide_proof.specs.pass_proofs.pass_edges.EdgeBlocks.{with_edge_blocks}
-use Rattle.pass_elide_proof.specs.pass_proofs.pass_edges.Edges.{phi_flags}
-use Rattle.pass_elide_proof.specs.pass_proofs.pass_edges.declared.edge.Edge.{Edge as OwnEdge}
-use Rattle.pass_elide_proof.specs.pass_proofs.run_step.Step.{AtTerm, Nowhere, fetch, fetch_in}
+use Rattle.pass_elide_edges.proofs.pass_elide_proof.pass_proofs.edges.paths.Blocks.{position_edge, position_moved, spot}
+use Rattle.pass_elide_edges.proofs.pass_elide_proof.pass_proofs.edges.paths.Edges.{edges_of_block}
+use Rattle.pass_elide_edges.proofs.pass_elide_proof.pass_proofs.edges.rules.Homes.{IsEdge, IsOwn, IsTarget, edge_spots, edge_target, home, spots_apart, spots_no_edge, target_home, target_low}
+use Rattle.pass_elide_edges.proofs.pass_elide_proof.pass_proofs.ir_laws.facts.Truth.{itself}
+use Rattle.pass_elide_edges.specs.pass_elide_proof.pass_proofs.edges.paths.Labels.{IsAmong}
+use Rattle.pass_elide_edges.specs.pass_elide_proof.pass_proofs.flow_solver.Paths.{IsListed}
+use Rattle.pass_elide_edges.specs.pass_elide_proof.pass_proofs.ir_laws.paths.threads.Labels.{HasNamedLabels}
+use Rattle.pass_elide_edges.specs.pass_elide_proof.pass_proofs.ir_model.Names.{position_of}
+use Rattle.pass_elide_edges.specs.pass_elide_proof.pass_proofs.ir_model.declared.instr.Terminator.{Terminator}
+use Rattle.pass_elide_edges.specs.pass_elide_proof.pass_proofs.ir_model.declared.module.Block.{Block}
+use Rattle.pass_elide_edges.specs.pass_elide_proof.pass_proofs.ir_model.declared.module.Function.{Function}
+use Rattle.pass_elide_edges.specs.pass_elide_proof.pass_proofs.ir_paths.Paths.{targets}
+use Rattle.pass_elide_edges.specs.pass_elide_proof.pass_proofs.pass_edges.EdgeBlocks.{with_edge_blocks}
+use Rattle.pass_elide_edges.specs.pass_elide_proof.pass_proofs.pass_edges.Edges.{phi_flags}
+use Rattle.pass_elide_edges.specs.pass_elide_proof.pass_proofs.pass_edges.declared.edge.Edge.{Edge as OwnEdge}
+use Rattle.pass_elide_edges.specs.pass_elide_proof.pass_proofs.run_step.Step.{AtTerm, Nowhere, fetch, fetch_in}
 
 -- ---- the block of an edge
 

@@ -2,8 +2,8 @@
 use Rattle.std.proofs.Common.{◌≡◌, ◌≢◌, ◌⊎◌, inl, inr, ◌+◌, ℕ, zero, suc, Bool, true, false, List, [], ◌∷◌, refl, sym, ap, ◌∙◌, arith}
 use Rattle.std.proofs.lemmas.Bool.{false≢true}
 use Rattle.std.specs.Prelude.{Some, cond, count_by, find, slice_get}
-use Rattle.pass_elide_proof.proofs.pass_proofs.ir_laws.facts.Lists.{count_cons}
-use Rattle.pass_elide_proof.specs.pass_proofs.flow_solver.Paths.{IsListed}
+use Rattle.pass_elide_edges.proofs.pass_elide_proof.pass_proofs.ir_laws.facts.Lists.{count_cons}
+use Rattle.pass_elide_edges.specs.pass_elide_proof.pass_proofs.flow_solver.Paths.{IsListed}
 
 module _ {A : Type 0} (test : A → Bool) where
   none_counted : (xs : List A) → count_by test xs ≡ 0 → (x : A) → IsListed x xs → test x ≡ true → ⊥

@@ -5,12 +5,12 @@ use Rattle.elide_shape.specs.Edges.{edges_by, edges_of, edges_out}
 use Rattle.elide_shape.specs.declared.edges.Edge.{Edge}
 use Rattle.elide_sites.specs.Destroyed.{is_start, target_if, targets_of}
 use Rattle.elide_sites.specs.declared.destroyed.Way.{Way}
-use Rattle.pass_elide_proof.specs.pass_proofs.flow_blocks.Kinds.{kind_in, kind_of}
-use Rattle.pass_elide_proof.specs.pass_proofs.flow_solver.Paths.{IsListed}
-use Rattle.pass_elide_proof.specs.pass_proofs.ir_model.Names.{position_of}
-use Rattle.pass_elide_proof.specs.pass_proofs.ir_model.declared.module.Block.{Block}
-use Rattle.pass_elide_proof.specs.pass_proofs.ir_model.declared.module.Function.{Function}
-use Rattle.pass_elide_proof.specs.pass_proofs.ir_paths.Paths.{targets}
+use Rattle.pass_elide_edges.specs.pass_elide_proof.pass_proofs.flow_blocks.Kinds.{kind_in, kind_of}
+use Rattle.pass_elide_edges.specs.pass_elide_proof.pass_proofs.flow_solver.Paths.{IsListed}
+use Rattle.pass_elide_edges.specs.pass_elide_proof.pass_proofs.ir_model.Names.{position_of}
+use Rattle.pass_elide_edges.specs.pass_elide_proof.pass_proofs.ir_model.declared.module.Block.{Block}
+use Rattle.pass_elide_edges.specs.pass_elide_proof.pass_proofs.ir_model.declared.module.Function.{Function}
+use Rattle.pass_elide_edges.specs.pass_elide_proof.pass_proofs.ir_paths.Paths.{targets}
 
 -- ---- lists
 

@@ -10,28 +10,28 @@ use Rattle.elide_sites.specs.Destroyed.IsLed.{Start, Step}
 use Rattle.elide_sites.specs.declared.destroyed.Way.{Way}
 use Rattle.pass_elide_ready.specs.Ways.{HasSameWays}
 use Rattle.pass_elide_ready.proofs.EdgeRows.{IsEdgeOf, begins_there, begun, edge_at, edge_is, edge_listed}
-use Rattle.pass_elide_proof.proofs.pass_proofs.edges.paths.Blocks.{get_none, position_edge, position_moved, spot}
-use Rattle.pass_elide_proof.proofs.pass_proofs.edges.paths.Edges.{edges_of_block}
-use Rattle.pass_elide_proof.proofs.pass_proofs.edges.paths.Whole.{first_moved}
-use Rattle.pass_elide_proof.proofs.pass_proofs.edges.rules.Homes.{IsEdge, IsOwn, IsTarget, edge_target, edge_there, home, own_block, own_there, spots_apart, spots_no_edge, target_home, target_low}
-use Rattle.pass_elide_proof.specs.pass_proofs.edges.paths.Labels.{IsSplit}
-use Rattle.pass_elide_proof.specs.pass_proofs.edges.paths.Spots.{table_of}
-use Rattle.pass_elide_proof.specs.pass_proofs.flow_blocks.Kinds.{is_value, kind_at, kind_in, kind_of, kind_of_case, kind_of_ending, suspended}
-use Rattle.pass_elide_proof.specs.pass_proofs.flow_blocks.declared.kinds.EdgeKind.{EdgeKind}
-use Rattle.pass_elide_proof.specs.pass_proofs.flow_solver.Paths.{IsListed}
-use Rattle.pass_elide_proof.specs.pass_proofs.ir_laws.paths.threads.Labels.{HasNamedLabels}
-use Rattle.pass_elide_proof.specs.pass_proofs.ir_model.Names.{position_of}
-use Rattle.pass_elide_proof.specs.pass_proofs.ir_model.declared.instr.Case.{Case}
-use Rattle.pass_elide_proof.specs.pass_proofs.ir_model.declared.instr.Instr.{Instr}
-use Rattle.pass_elide_proof.specs.pass_proofs.ir_model.declared.instr.Terminator.{Terminator}
-use Rattle.pass_elide_proof.specs.pass_proofs.ir_model.declared.module.Block.{Block}
-use Rattle.pass_elide_proof.specs.pass_proofs.ir_model.declared.module.Function.{Function}
-use Rattle.pass_elide_proof.specs.pass_proofs.ir_model.declared.operand.Intrinsic.{Intrinsic}
-use Rattle.pass_elide_proof.specs.pass_proofs.ir_paths.Paths.{targets}
-use Rattle.pass_elide_proof.specs.pass_proofs.ir_paths.Windows.{end_block, is_call_of}
-use Rattle.pass_elide_proof.specs.pass_proofs.pass_edges.EdgeBlocks.{edge_block, split_cases, split_term, with_edge_blocks}
-use Rattle.pass_elide_proof.specs.pass_proofs.pass_edges.Edges.{after_edge, phi_flags}
-use Rattle.pass_elide_proof.specs.pass_proofs.pass_edges.declared.edge.Edge.{Edge as OwnEdge}
+use Rattle.pass_elide_edges.proofs.pass_elide_proof.pass_proofs.edges.paths.Blocks.{get_none, position_edge, position_moved, spot}
+use Rattle.pass_elide_edges.proofs.pass_elide_proof.pass_proofs.edges.paths.Edges.{edges_of_block}
+use Rattle.pass_elide_edges.proofs.pass_elide_proof.pass_proofs.edges.paths.Whole.{first_moved}
+use Rattle.pass_elide_edges.proofs.pass_elide_proof.pass_proofs.edges.rules.Homes.{IsEdge, IsOwn, IsTarget, edge_target, edge_there, home, own_block, own_there, spots_apart, spots_no_edge, target_home, target_low}
+use Rattle.pass_elide_edges.specs.pass_elide_proof.pass_proofs.edges.paths.Labels.{IsSplit}
+use Rattle.pass_elide_edges.specs.pass_elide_proof.pass_proofs.edges.paths.Spots.{table_of}
+use Rattle.pass_elide_edges.specs.pass_elide_proof.pass_proofs.flow_blocks.Kinds.{is_value, kind_at, kind_in, kind_of, kind_of_case, kind_of_ending, suspended}
+use Rattle.pass_elide_edges.specs.pass_elide_proof.pass_proofs.flow_blocks.declared.kinds.EdgeKind.{EdgeKind}
+use Rattle.pass_elide_edges.specs.pass_elide_proof.pass_proofs.flow_solver.Paths.{IsListed}
+use Rattle.pass_elide_edges.specs.pass_elide_proof.pass_proofs.ir_laws.paths.threads.Labels.{HasNamedLabels}
+use Rattle.pass_elide_edges.specs.pass_elide_proof.pass_proofs.ir_model.Names.{position_of}
+use Rattle.pass_elide_edges.specs.pass_elide_proof.pass_proofs.ir_model.declared.instr.Case.{Case}
+use Rattle.pass_elide_edges.specs.pass_elide_proof.pass_proofs.ir_model.declared.instr.Instr.{Instr}
+use Rattle.pass_elide_edges.specs.pass_elide_proof.pass_proofs.ir_model.declared.instr.Terminator.{Terminator}
+use Rattle.pass_elide_edges.specs.pass_elide_proof.pass_proofs.ir_model.declared.module.Block.{Block}
+use Rattle.pass_elide_edges.specs.pass_elide_proof.pass_proofs.ir_model.declared.module.Function.{Function}
+use Rattle.pass_elide_edges.specs.pass_elide_proof.pass_proofs.ir_model.declared.operand.Intrinsic.{Intrinsic}
+use Rattle.pass_elide_edges.specs.pass_elide_proof.pass_proofs.ir_paths.Paths.{targets}
+use Rattle.pass_elide_edges.specs.pass_elide_proof.pass_proofs.ir_paths.Windows.{end_block, is_call_of}
+use Rattle.pass_elide_edges.specs.pass_elide_proof.pass_proofs.pass_edges.EdgeBlocks.{edge_block, split_cases, split_term, with_edge_blocks}
+use Rattle.pass_elide_edges.specs.pass_elide_proof.pass_proofs.pass_edges.Edges.{after_edge, phi_flags}
+use Rattle.pass_elide_edges.specs.pass_elide_proof.pass_proofs.pass_edges.declared.edge.Edge.{Edge as OwnEdge}
 
 -- ---- kinds stay
 

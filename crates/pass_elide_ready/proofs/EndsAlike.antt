@@ -2,18 +2,18 @@
 use Rattle.std.proofs.Common.{◌≡◌, inl, inr, ⊎_elim, ℕ, length, refl, sym, ap, ◌∙◌, subst}
 use Rattle.std.specs.Prelude.{None, Option, Some, slice_get, if◌then◌else◌}
 use Rattle.pass_elide_edges.specs.Keeping.{HasEdge}
-use Rattle.pass_elide_proof.specs.Places.{instrs_in, instrs_of}
-use Rattle.pass_elide_proof.specs.Shapes.{JumpsTo}
+use Rattle.pass_elide_edges.specs.pass_elide_proof.Places.{instrs_in, instrs_of}
+use Rattle.pass_elide_edges.specs.pass_elide_proof.Shapes.{JumpsTo}
 use Rattle.pass_elide_ready.proofs.Entries.{ending}
 use Rattle.pass_elide_ready.specs.Blocks.{AskingBlocks, AsksBlocks, FreeingBlocks, FreesBlocks, MeetsBlocks}
 use Rattle.pass_elide_ready.specs.Ways.{HasSameEnds, SameEnd}
-use Rattle.pass_elide_proof.specs.pass_proofs.flow_solver.Paths.{IsListed}
-use Rattle.pass_elide_proof.specs.pass_proofs.ir_model.declared.instr.Terminator.{Terminator}
-use Rattle.pass_elide_proof.specs.pass_proofs.ir_model.declared.module.Block.{Block}
-use Rattle.pass_elide_proof.specs.pass_proofs.ir_model.declared.module.Function.{Function}
-use Rattle.pass_elide_proof.specs.pass_proofs.ir_model.declared.operand.Operand.{Operand}
-use Rattle.pass_elide_proof.specs.pass_proofs.ir_paths.Paths.{targets}
-use Rattle.pass_elide_proof.specs.pass_proofs.run_step.Step.{AtTerm, Nowhere, fetch, fetch_in}
+use Rattle.pass_elide_edges.specs.pass_elide_proof.pass_proofs.flow_solver.Paths.{IsListed}
+use Rattle.pass_elide_edges.specs.pass_elide_proof.pass_proofs.ir_model.declared.instr.Terminator.{Terminator}
+use Rattle.pass_elide_edges.specs.pass_elide_proof.pass_proofs.ir_model.declared.module.Block.{Block}
+use Rattle.pass_elide_edges.specs.pass_elide_proof.pass_proofs.ir_model.declared.module.Function.{Function}
+use Rattle.pass_elide_edges.specs.pass_elide_proof.pass_proofs.ir_model.declared.operand.Operand.{Operand}
+use Rattle.pass_elide_edges.specs.pass_elide_proof.pass_proofs.ir_paths.Paths.{targets}
+use Rattle.pass_elide_edges.specs.pass_elide_proof.pass_proofs.run_step.Step.{AtTerm, Nowhere, fetch, fetch_in}
 
 pub ends_at : (g : Function) (k : ℕ) (c : Block) → slice_get g.blocks k ≡ Some c
     → fetch g k (length (instrs_of g k)) ≡ AtTerm c.term

@@ -4,21 +4,21 @@ use Rattle.std.specs.Prelude.{None, Option, Some, slice_get}
 use Rattle.pass_elide_edges.specs.Keeping.{HasEdge}
 use Rattle.pass_elide_edges.specs.States.{EntersNoStart}
 use Rattle.pass_elide_kept.specs.Modules.{LeadsOut}
-use Rattle.pass_elide_proof.proofs.pass_proofs.ir_laws.facts.Truth.{itself}
-use Rattle.pass_elide_proof.proofs.pass_proofs.kept.sources.Modules.{at_function}
-use Rattle.pass_elide_proof.proofs.pass_proofs.rule_laws.frames.crossing.Paths.{edge_from}
-use Rattle.pass_elide_proof.proofs.pass_proofs.rule_laws.rules.edges.Entered.{has_listed}
-use Rattle.pass_elide_proof.specs.pass_proofs.flow_blocks.Edges.{block_edges}
-use Rattle.pass_elide_proof.specs.pass_proofs.flow_solver.Paths.{IsListed}
-use Rattle.pass_elide_proof.specs.pass_proofs.ir_model.Names.{function_at, no_function, position_of}
-use Rattle.pass_elide_proof.specs.pass_proofs.ir_model.declared.instr.Terminator.{Terminator}
-use Rattle.pass_elide_proof.specs.pass_proofs.ir_model.declared.module.Block.{Block}
-use Rattle.pass_elide_proof.specs.pass_proofs.ir_model.declared.module.Function.{Function}
-use Rattle.pass_elide_proof.specs.pass_proofs.ir_model.declared.module.Module.{Module}
-use Rattle.pass_elide_proof.specs.pass_proofs.ir_paths.Paths.{targets}
-use Rattle.pass_elide_proof.specs.pass_proofs.pass_kept_proof.Needed.{BranchesTo}
-use Rattle.pass_elide_proof.specs.pass_proofs.rule_laws.rules.function_rules.Kept.{AllKeepFunctionRules, KeepsFunctionRules}
-use Rattle.pass_elide_proof.specs.pass_proofs.run_step.Step.{AtTerm, Fetched, fetch, fetch_in, fetch_or}
+use Rattle.pass_elide_edges.proofs.pass_elide_proof.pass_proofs.ir_laws.facts.Truth.{itself}
+use Rattle.pass_elide_edges.proofs.pass_elide_proof.pass_proofs.kept.sources.Modules.{at_function}
+use Rattle.pass_elide_edges.proofs.pass_elide_proof.pass_proofs.rule_laws.frames.crossing.Paths.{edge_from}
+use Rattle.pass_elide_edges.proofs.pass_elide_proof.pass_proofs.rule_laws.rules.edges.Entered.{has_listed}
+use Rattle.pass_elide_edges.specs.pass_elide_proof.pass_proofs.flow_blocks.Edges.{block_edges}
+use Rattle.pass_elide_edges.specs.pass_elide_proof.pass_proofs.flow_solver.Paths.{IsListed}
+use Rattle.pass_elide_edges.specs.pass_elide_proof.pass_proofs.ir_model.Names.{function_at, no_function, position_of}
+use Rattle.pass_elide_edges.specs.pass_elide_proof.pass_proofs.ir_model.declared.instr.Terminator.{Terminator}
+use Rattle.pass_elide_edges.specs.pass_elide_proof.pass_proofs.ir_model.declared.module.Block.{Block}
+use Rattle.pass_elide_edges.specs.pass_elide_proof.pass_proofs.ir_model.declared.module.Function.{Function}
+use Rattle.pass_elide_edges.specs.pass_elide_proof.pass_proofs.ir_model.declared.module.Module.{Module}
+use Rattle.pass_elide_edges.specs.pass_elide_proof.pass_proofs.ir_paths.Paths.{targets}
+use Rattle.pass_elide_edges.specs.pass_elide_proof.pass_proofs.pass_kept_proof.Needed.{BranchesTo}
+use Rattle.pass_elide_edges.specs.pass_elide_proof.pass_proofs.rule_laws.rules.function_rules.Kept.{AllKeepFunctionRules, KeepsFunctionRules}
+use Rattle.pass_elide_edges.specs.pass_elide_proof.pass_proofs.run_step.Step.{AtTerm, Fetched, fetch, fetch_in, fetch_or}
 use Rattle.run_accepted.proofs.Entries.{never_entered}
 
 -- ---- the end of a block

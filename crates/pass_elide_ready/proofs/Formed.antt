@@ -4,34 +4,34 @@ use Rattle.std.proofs.lemmas.Bool.{false≢true, ltb-true}
 use Rattle.std.specs.List.{list_any}
 use Rattle.std.specs.Prelude.{None, Option, Some, is_some, nat_le, nat_lt, slice_get, if◌then◌else◌, ◌&&◌, ◌||◌, ◌==◌}
 use Rattle.pass_elide_edges.specs.Keeping.{HasEdge}
-use Rattle.pass_elide_proof.specs.Edges.{IsNoAnswer, phis_at}
-use Rattle.pass_elide_proof.specs.Elision.{Shape, differs_in}
-use Rattle.pass_elide_proof.specs.Places.{instrs_in, instrs_of}
-use Rattle.pass_elide_proof.specs.Placing.{SetsPlain, is_test}
+use Rattle.pass_elide_edges.specs.pass_elide_proof.Edges.{IsNoAnswer, phis_at}
+use Rattle.pass_elide_edges.specs.pass_elide_proof.Elision.{Shape, differs_in}
+use Rattle.pass_elide_edges.specs.pass_elide_proof.Places.{instrs_in, instrs_of}
+use Rattle.pass_elide_edges.specs.pass_elide_proof.Placing.{SetsPlain, is_test}
 use Rattle.pass_elide_ready.proofs.Entries.{no_edge_back}
 use Rattle.pass_elide_ready.proofs.FreedForm.{chosen_edge, first_edge, jump_edge, other_edge, second_edge}
 use Rattle.pass_elide_ready.proofs.Listed.{IsFound, found, tested_is}
 use Rattle.pass_elide_ready.proofs.Names.{low_name, no_phi_gives, same_one, same_place}
 use Rattle.pass_elide_ready.proofs.Numbers.{gives_there, is_name_is, not_true}
 use Rattle.pass_elide_ready.specs.Form.{Asking, AsksSo, Freeing, FreesSo, HasForm, gives_freed, gives_in, has_both, passed_by, passed_of, shape_by}
-use Rattle.pass_elide_proof.proofs.pass_proofs.ir_laws.facts.Lists.{at_any}
-use Rattle.pass_elide_proof.proofs.pass_proofs.ir_laws.facts.Truth.{and_first, and_second, equal_numbers, itself}
-use Rattle.pass_elide_proof.proofs.pass_proofs.ir_laws.paths.edges.Lists.{listed_at}
-use Rattle.pass_elide_proof.proofs.pass_proofs.ir_laws.paths.woven_rules.Unbroken.{of_listed}
-use Rattle.pass_elide_proof.specs.pass_proofs.flow_solver.Paths.{IsListed}
-use Rattle.pass_elide_proof.specs.pass_proofs.ir_base.declared.ops.Pred.{Pred}
-use Rattle.pass_elide_proof.specs.pass_proofs.ir_model.Names.{position_of}
-use Rattle.pass_elide_proof.specs.pass_proofs.ir_model.Ty.{Ty, ptr}
-use Rattle.pass_elide_proof.specs.pass_proofs.ir_model.declared.instr.Instr.{Instr}
-use Rattle.pass_elide_proof.specs.pass_proofs.ir_model.declared.instr.Phi.{Phi}
-use Rattle.pass_elide_proof.specs.pass_proofs.ir_model.declared.module.Block.{Block}
-use Rattle.pass_elide_proof.specs.pass_proofs.ir_model.declared.module.Function.{Function}
-use Rattle.pass_elide_proof.specs.pass_proofs.ir_model.declared.module.Module.{Module}
-use Rattle.pass_elide_proof.specs.pass_proofs.ir_model.declared.operand.Intrinsic.{Intrinsic}
-use Rattle.pass_elide_proof.specs.pass_proofs.ir_model.declared.operand.Operand.{Operand}
-use Rattle.pass_elide_proof.specs.pass_proofs.ir_parts.Contents.{result_of}
-use Rattle.pass_elide_proof.specs.pass_proofs.ir_paths.Windows.{call_result, is_call_of}
-use Rattle.pass_elide_proof.specs.pass_proofs.rule_laws.rules.function_rules.Kept.{KeepsFunctionRules}
+use Rattle.pass_elide_edges.proofs.pass_elide_proof.pass_proofs.ir_laws.facts.Lists.{at_any}
+use Rattle.pass_elide_edges.proofs.pass_elide_proof.pass_proofs.ir_laws.facts.Truth.{and_first, and_second, equal_numbers, itself}
+use Rattle.pass_elide_edges.proofs.pass_elide_proof.pass_proofs.ir_laws.paths.edges.Lists.{listed_at}
+use Rattle.pass_elide_edges.proofs.pass_elide_proof.pass_proofs.ir_laws.paths.woven_rules.Unbroken.{of_listed}
+use Rattle.pass_elide_edges.specs.pass_elide_proof.pass_proofs.flow_solver.Paths.{IsListed}
+use Rattle.pass_elide_edges.specs.pass_elide_proof.pass_proofs.ir_base.declared.ops.Pred.{Pred}
+use Rattle.pass_elide_edges.specs.pass_elide_proof.pass_proofs.ir_model.Names.{position_of}
+use Rattle.pass_elide_edges.specs.pass_elide_proof.pass_proofs.ir_model.Ty.{Ty, ptr}
+use Rattle.pass_elide_edges.specs.pass_elide_proof.pass_proofs.ir_model.declared.instr.Instr.{Instr}
+use Rattle.pass_elide_edges.specs.pass_elide_proof.pass_proofs.ir_model.declared.instr.Phi.{Phi}
+use Rattle.pass_elide_edges.specs.pass_elide_proof.pass_proofs.ir_model.declared.module.Block.{Block}
+use Rattle.pass_elide_edges.specs.pass_elide_proof.pass_proofs.ir_model.declared.module.Function.{Function}
+use Rattle.pass_elide_edges.specs.pass_elide_proof.pass_proofs.ir_model.declared.module.Module.{Module}
+use Rattle.pass_elide_edges.specs.pass_elide_proof.pass_proofs.ir_model.declared.operand.Intrinsic.{Intrinsic}
+use Rattle.pass_elide_edges.specs.pass_elide_proof.pass_proofs.ir_model.declared.operand.Operand.{Operand}
+use Rattle.pass_elide_edges.specs.pass_elide_proof.pass_proofs.ir_parts.Contents.{result_of}
+use Rattle.pass_elide_edges.specs.pass_elide_proof.pass_proofs.ir_paths.Windows.{call_result, is_call_of}
+use Rattle.pass_elide_edges.specs.pass_elide_proof.pass_proofs.rule_laws.rules.function_rules.Kept.{KeepsFunctionRules}
 
 either : (a b : Bool) → (a || b) ≡ true → (a ≡ true) ⊎ (b ≡ true)
 either true b e = inl refl

@@ -4,15 +4,15 @@ use Rattle.std.specs.Prelude.{None, Option, Some, slice_get}
 use Rattle.pass_elide_edges.specs.Keeping.{EntersAlone, SetsKnown}
 use Rattle.pass_elide_kept.specs.Modules.{PassesAllocation, PassesFree}
 use Rattle.pass_elide_known.specs.Keeping.{KeepsAside, KeepsFreeing, KeepsTest}
-use Rattle.pass_elide_proof.specs.Assembling.{WaitsBehind}
-use Rattle.pass_elide_proof.specs.Calling.{StartsAlike}
-use Rattle.pass_elide_proof.specs.Edges.{phis_at}
-use Rattle.pass_elide_proof.specs.Elision.{Elision, Shape, differs_in, function_in, no_shape}
-use Rattle.pass_elide_proof.specs.Match.{frame_size}
-use Rattle.pass_elide_proof.specs.Places.{instrs_of}
-use Rattle.pass_elide_proof.specs.Placing.{HasShape, SetsPlain}
-use Rattle.pass_elide_proof.specs.Releasing.{IsFreeing}
-use Rattle.pass_elide_proof.specs.Waking.{GivesNone, IsFreedName, WakesAlike}
+use Rattle.pass_elide_edges.specs.pass_elide_proof.Assembling.{WaitsBehind}
+use Rattle.pass_elide_edges.specs.pass_elide_proof.Calling.{StartsAlike}
+use Rattle.pass_elide_edges.specs.pass_elide_proof.Edges.{phis_at}
+use Rattle.pass_elide_edges.specs.pass_elide_proof.Elision.{Elision, Shape, differs_in, function_in, no_shape}
+use Rattle.pass_elide_edges.specs.pass_elide_proof.Match.{frame_size}
+use Rattle.pass_elide_edges.specs.pass_elide_proof.Places.{instrs_of}
+use Rattle.pass_elide_edges.specs.pass_elide_proof.Placing.{HasShape, SetsPlain}
+use Rattle.pass_elide_edges.specs.pass_elide_proof.Releasing.{IsFreeing}
+use Rattle.pass_elide_edges.specs.pass_elide_proof.Waking.{GivesNone, IsFreedName, WakesAlike}
 use Rattle.pass_elide_ready.proofs.Entries.{enters_no_start}
 use Rattle.pass_elide_ready.proofs.Formed.{plain_alloca, sets_plain}
 use Rattle.pass_elide_ready.proofs.FreedForm.{frees_at_once}
@@ -22,16 +22,16 @@ use Rattle.pass_elide_ready.proofs.Shaped.{form_enters_alone, form_waits_behind,
 use Rattle.pass_elide_ready.specs.Form.{AreFormed, IsFormed}
 use Rattle.pass_elide_ready.specs.Ruled.{IsRuled}
 use Rattle.pass_elide_runs.specs.Marks.{HasPlainAllocas}
-use Rattle.pass_elide_proof.proofs.pass_proofs.ir_laws.paths.woven_rules.Unbroken.{each_listed, of_listed}
-use Rattle.pass_elide_proof.proofs.pass_proofs.rule_laws.rules.sources.Places.{point}
-use Rattle.pass_elide_proof.specs.pass_proofs.ir_base.declared.ops.Pred.{Pred}
-use Rattle.pass_elide_proof.specs.pass_proofs.ir_model.Ty.{Ty}
-use Rattle.pass_elide_proof.specs.pass_proofs.ir_model.declared.instr.Instr.{Instr}
-use Rattle.pass_elide_proof.specs.pass_proofs.ir_model.declared.instr.Phi.{Phi}
-use Rattle.pass_elide_proof.specs.pass_proofs.ir_model.declared.operand.Operand.{Operand}
-use Rattle.pass_elide_proof.specs.pass_proofs.ir_parts.Contents.{result_of}
-use Rattle.pass_elide_proof.specs.pass_proofs.rule_laws.rules.function_rules.Kept.{KeepsFunctionRules}
-use Rattle.pass_elide_proof.specs.pass_proofs.run_laws.changed.Changed.{Each}
+use Rattle.pass_elide_edges.proofs.pass_elide_proof.pass_proofs.ir_laws.paths.woven_rules.Unbroken.{each_listed, of_listed}
+use Rattle.pass_elide_edges.proofs.pass_elide_proof.pass_proofs.rule_laws.rules.sources.Places.{point}
+use Rattle.pass_elide_edges.specs.pass_elide_proof.pass_proofs.ir_base.declared.ops.Pred.{Pred}
+use Rattle.pass_elide_edges.specs.pass_elide_proof.pass_proofs.ir_model.Ty.{Ty}
+use Rattle.pass_elide_edges.specs.pass_elide_proof.pass_proofs.ir_model.declared.instr.Instr.{Instr}
+use Rattle.pass_elide_edges.specs.pass_elide_proof.pass_proofs.ir_model.declared.instr.Phi.{Phi}
+use Rattle.pass_elide_edges.specs.pass_elide_proof.pass_proofs.ir_model.declared.operand.Operand.{Operand}
+use Rattle.pass_elide_edges.specs.pass_elide_proof.pass_proofs.ir_parts.Contents.{result_of}
+use Rattle.pass_elide_edges.specs.pass_elide_proof.pass_proofs.rule_laws.rules.function_rules.Kept.{KeepsFunctionRules}
+use Rattle.pass_elide_edges.specs.pass_elide_proof.pass_proofs.run_laws.changed.Changed.{Each}
 use Rattle.pass_split_proof.proofs.ready.Entering.{coroutine_there}
 
 -- ---- the shape of none

@@ -4,37 +4,37 @@ use Rattle.std.proofs.lemmas.Bool.{false≢true}
 use Rattle.std.specs.List.{list_any}
 use Rattle.std.specs.Prelude.{Some, not, slice_get, if◌then◌else◌, ◌&&◌, ◌||◌, ◌==◌}
 use Rattle.pass_elide_edges.specs.Keeping.{HasEdge}
-use Rattle.pass_elide_proof.proofs.OwnPlaces.{instr_there}
-use Rattle.pass_elide_proof.specs.EdgesFreeing.{FreesAside, FreesFrame}
-use Rattle.pass_elide_proof.specs.Elision.{Shape}
-use Rattle.pass_elide_proof.specs.Places.{instrs_of}
-use Rattle.pass_elide_proof.specs.Releasing.{FreesAtOnce}
-use Rattle.pass_elide_proof.specs.Shapes.{JumpsTo}
+use Rattle.pass_elide_edges.proofs.pass_elide_proof.OwnPlaces.{instr_there}
+use Rattle.pass_elide_edges.specs.pass_elide_proof.EdgesFreeing.{FreesAside, FreesFrame}
+use Rattle.pass_elide_edges.specs.pass_elide_proof.Elision.{Shape}
+use Rattle.pass_elide_edges.specs.pass_elide_proof.Places.{instrs_of}
+use Rattle.pass_elide_edges.specs.pass_elide_proof.Releasing.{FreesAtOnce}
+use Rattle.pass_elide_edges.specs.pass_elide_proof.Shapes.{JumpsTo}
 use Rattle.pass_elide_ready.proofs.Asked.{jumps_alike, or_here, or_there}
 use Rattle.pass_elide_ready.proofs.Listed.{IsFound, beside_is, found, passed_there, tested_is, tests_are, told}
 use Rattle.pass_elide_ready.proofs.Names.{at_point, same_one}
 use Rattle.pass_elide_ready.proofs.Numbers.{any_at, given_there, names_it}
 use Rattle.pass_elide_ready.specs.Form.{Asking, Freeing, FreesSo, FreesSoon, HasForm, MeetsSo, beside_of, frees_name, gives_freed, gives_in, has_both, is_name, shape_by}
-use Rattle.pass_elide_proof.proofs.pass_proofs.ir_laws.facts.Truth.{and_first, equal_numbers, itself}
-use Rattle.pass_elide_proof.proofs.pass_proofs.ir_laws.facts.local_rules.Woven.{other_number}
-use Rattle.pass_elide_proof.proofs.pass_proofs.ir_laws.paths.renamed.Uses.{stands_in}
-use Rattle.pass_elide_proof.proofs.pass_proofs.rule_laws.rules.sources.Places.{point}
-use Rattle.pass_elide_proof.specs.pass_proofs.flow_solver.Paths.{IsListed}
-use Rattle.pass_elide_proof.specs.pass_proofs.ir_base.declared.ops.Pred.{Pred}
-use Rattle.pass_elide_proof.specs.pass_proofs.ir_model.Names.{position_of}
-use Rattle.pass_elide_proof.specs.pass_proofs.ir_model.Ty.{ptr}
-use Rattle.pass_elide_proof.specs.pass_proofs.ir_model.declared.instr.Instr.{Instr}
-use Rattle.pass_elide_proof.specs.pass_proofs.ir_model.declared.instr.Terminator.{Terminator}
-use Rattle.pass_elide_proof.specs.pass_proofs.ir_model.declared.module.Block.{Block}
-use Rattle.pass_elide_proof.specs.pass_proofs.ir_model.declared.module.Function.{Function}
-use Rattle.pass_elide_proof.specs.pass_proofs.ir_model.declared.module.Module.{Module}
-use Rattle.pass_elide_proof.specs.pass_proofs.ir_model.declared.operand.Callee.{Callee}
-use Rattle.pass_elide_proof.specs.pass_proofs.ir_model.declared.operand.Intrinsic.{Intrinsic}
-use Rattle.pass_elide_proof.specs.pass_proofs.ir_model.declared.operand.Operand.{Operand}
-use Rattle.pass_elide_proof.specs.pass_proofs.ir_parts.Contents.{result_of}
-use Rattle.pass_elide_proof.specs.pass_proofs.ir_paths.Windows.{is_call_of}
-use Rattle.pass_elide_proof.specs.pass_proofs.rule_laws.rules.function_rules.Kept.{KeepsFunctionRules}
-use Rattle.pass_elide_proof.specs.pass_proofs.run_step.Step.{AtTerm, fetch}
+use Rattle.pass_elide_edges.proofs.pass_elide_proof.pass_proofs.ir_laws.facts.Truth.{and_first, equal_numbers, itself}
+use Rattle.pass_elide_edges.proofs.pass_elide_proof.pass_proofs.ir_laws.facts.local_rules.Woven.{other_number}
+use Rattle.pass_elide_edges.proofs.pass_elide_proof.pass_proofs.ir_laws.paths.renamed.Uses.{stands_in}
+use Rattle.pass_elide_edges.proofs.pass_elide_proof.pass_proofs.rule_laws.rules.sources.Places.{point}
+use Rattle.pass_elide_edges.specs.pass_elide_proof.pass_proofs.flow_solver.Paths.{IsListed}
+use Rattle.pass_elide_edges.specs.pass_elide_proof.pass_proofs.ir_base.declared.ops.Pred.{Pred}
+use Rattle.pass_elide_edges.specs.pass_elide_proof.pass_proofs.ir_model.Names.{position_of}
+use Rattle.pass_elide_edges.specs.pass_elide_proof.pass_proofs.ir_model.Ty.{ptr}
+use Rattle.pass_elide_edges.specs.pass_elide_proof.pass_proofs.ir_model.declared.instr.Instr.{Instr}
+use Rattle.pass_elide_edges.specs.pass_elide_proof.pass_proofs.ir_model.declared.instr.Terminator.{Terminator}
+use Rattle.pass_elide_edges.specs.pass_elide_proof.pass_proofs.ir_model.declared.module.Block.{Block}
+use Rattle.pass_elide_edges.specs.pass_elide_proof.pass_proofs.ir_model.declared.module.Function.{Function}
+use Rattle.pass_elide_edges.specs.pass_elide_proof.pass_proofs.ir_model.declared.module.Module.{Module}
+use Rattle.pass_elide_edges.specs.pass_elide_proof.pass_proofs.ir_model.declared.operand.Callee.{Callee}
+use Rattle.pass_elide_edges.specs.pass_elide_proof.pass_proofs.ir_model.declared.operand.Intrinsic.{Intrinsic}
+use Rattle.pass_elide_edges.specs.pass_elide_proof.pass_proofs.ir_model.declared.operand.Operand.{Operand}
+use Rattle.pass_elide_edges.specs.pass_elide_proof.pass_proofs.ir_parts.Contents.{result_of}
+use Rattle.pass_elide_edges.specs.pass_elide_proof.pass_proofs.ir_paths.Windows.{is_call_of}
+use Rattle.pass_elide_edges.specs.pass_elide_proof.pass_proofs.rule_laws.rules.function_rules.Kept.{KeepsFunctionRules}
+use Rattle.pass_elide_edges.specs.pass_elide_proof.pass_proofs.run_step.Step.{AtTerm, fetch}
 
 -- ---- what coro.free gives
 

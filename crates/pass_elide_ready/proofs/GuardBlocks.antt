@@ -6,35 +6,35 @@ use Rattle.elide_shape.specs.Edges.{edges_of}
 use Rattle.elide_shape.specs.Guard.{is_guarded}
 use Rattle.elide_shape.specs.declared.edges.Edge.{Edge}
 use Rattle.pass_elide_edges.specs.Keeping.{HasEdge}
-use Rattle.pass_elide_proof.specs.Shapes.{JumpsTo}
+use Rattle.pass_elide_edges.specs.pass_elide_proof.Shapes.{JumpsTo}
 use Rattle.pass_elide_ready.proofs.Comes.{ComesFromEdge, ComesFromOwn, LandsBetween, LandsOwn, comes_from, into_edge, into_single, lands, listed_at, only_edge, same_own}
 use Rattle.pass_elide_ready.proofs.Counted.{two_counted}
 use Rattle.pass_elide_ready.proofs.EdgeRows.{edge_at, edge_listed}
 use Rattle.pass_elide_ready.proofs.EndsAlike.{ends_at}
 use Rattle.pass_elide_ready.proofs.Guards.{IsGuarded, guarded_is}
 use Rattle.pass_elide_ready.specs.Blocks.{AsksBlocks, AskingBlocks}
-use Rattle.pass_elide_proof.proofs.pass_proofs.edges.paths.Blocks.{own_number, position_edge, position_moved, spot}
-use Rattle.pass_elide_proof.proofs.pass_proofs.edges.paths.Edges.{edges_of_block}
-use Rattle.pass_elide_proof.proofs.pass_proofs.edges.paths.Tables.{flag_at}
-use Rattle.pass_elide_proof.proofs.pass_proofs.edges.rules.Homes.{edge_spots, edge_there, own_block, own_there, spots_apart, spots_no_edge, target_low}
-use Rattle.pass_elide_proof.proofs.pass_proofs.ir_laws.facts.Truth.{equal_numbers, itself}
-use Rattle.pass_elide_proof.proofs.pass_proofs.rule_laws.rules.known_labels.Known.{labels_known}
-use Rattle.pass_elide_proof.proofs.pass_proofs.rule_laws.rules.source_rules.Locals.{own_label}
-use Rattle.pass_elide_proof.specs.pass_proofs.edges.paths.Phis.{AreLabelsOnce}
-use Rattle.pass_elide_proof.specs.pass_proofs.flow_solver.Paths.{IsListed}
-use Rattle.pass_elide_proof.specs.pass_proofs.ir_laws.paths.threads.Labels.{HasNamedLabels}
-use Rattle.pass_elide_proof.specs.pass_proofs.ir_model.Names.{first_where, position_of}
-use Rattle.pass_elide_proof.specs.pass_proofs.ir_model.declared.instr.Terminator.{Terminator}
-use Rattle.pass_elide_proof.specs.pass_proofs.ir_model.declared.module.Block.{Block}
-use Rattle.pass_elide_proof.specs.pass_proofs.ir_model.declared.module.Function.{Function}
-use Rattle.pass_elide_proof.specs.pass_proofs.ir_model.declared.module.Module.{Module}
-use Rattle.pass_elide_proof.specs.pass_proofs.ir_model.declared.operand.Operand.{Operand}
-use Rattle.pass_elide_proof.specs.pass_proofs.ir_paths.Paths.{targets}
-use Rattle.pass_elide_proof.specs.pass_proofs.pass_edges.EdgeBlocks.{edge_block, split_label, split_term, with_edge_blocks}
-use Rattle.pass_elide_proof.specs.pass_proofs.pass_edges.Edges.{edge_to, ends_in_suspend, has_phis, is_split, phi_flags, term_edges}
-use Rattle.pass_elide_proof.specs.pass_proofs.pass_edges.declared.edge.Edge.{Edge as OwnEdge}
-use Rattle.pass_elide_proof.specs.pass_proofs.rule_laws.rules.function_rules.Kept.{KeepsFunctionRules}
-use Rattle.pass_elide_proof.specs.pass_proofs.run_step.Step.{AtTerm}
+use Rattle.pass_elide_edges.proofs.pass_elide_proof.pass_proofs.edges.paths.Blocks.{own_number, position_edge, position_moved, spot}
+use Rattle.pass_elide_edges.proofs.pass_elide_proof.pass_proofs.edges.paths.Edges.{edges_of_block}
+use Rattle.pass_elide_edges.proofs.pass_elide_proof.pass_proofs.edges.paths.Tables.{flag_at}
+use Rattle.pass_elide_edges.proofs.pass_elide_proof.pass_proofs.edges.rules.Homes.{edge_spots, edge_there, own_block, own_there, spots_apart, spots_no_edge, target_low}
+use Rattle.pass_elide_edges.proofs.pass_elide_proof.pass_proofs.ir_laws.facts.Truth.{equal_numbers, itself}
+use Rattle.pass_elide_edges.proofs.pass_elide_proof.pass_proofs.rule_laws.rules.known_labels.Known.{labels_known}
+use Rattle.pass_elide_edges.proofs.pass_elide_proof.pass_proofs.rule_laws.rules.source_rules.Locals.{own_label}
+use Rattle.pass_elide_edges.specs.pass_elide_proof.pass_proofs.edges.paths.Phis.{AreLabelsOnce}
+use Rattle.pass_elide_edges.specs.pass_elide_proof.pass_proofs.flow_solver.Paths.{IsListed}
+use Rattle.pass_elide_edges.specs.pass_elide_proof.pass_proofs.ir_laws.paths.threads.Labels.{HasNamedLabels}
+use Rattle.pass_elide_edges.specs.pass_elide_proof.pass_proofs.ir_model.Names.{first_where, position_of}
+use Rattle.pass_elide_edges.specs.pass_elide_proof.pass_proofs.ir_model.declared.instr.Terminator.{Terminator}
+use Rattle.pass_elide_edges.specs.pass_elide_proof.pass_proofs.ir_model.declared.module.Block.{Block}
+use Rattle.pass_elide_edges.specs.pass_elide_proof.pass_proofs.ir_model.declared.module.Function.{Function}
+use Rattle.pass_elide_edges.specs.pass_elide_proof.pass_proofs.ir_model.declared.module.Module.{Module}
+use Rattle.pass_elide_edges.specs.pass_elide_proof.pass_proofs.ir_model.declared.operand.Operand.{Operand}
+use Rattle.pass_elide_edges.specs.pass_elide_proof.pass_proofs.ir_paths.Paths.{targets}
+use Rattle.pass_elide_edges.specs.pass_elide_proof.pass_proofs.pass_edges.EdgeBlocks.{edge_block, split_label, split_term, with_edge_blocks}
+use Rattle.pass_elide_edges.specs.pass_elide_proof.pass_proofs.pass_edges.Edges.{edge_to, ends_in_suspend, has_phis, is_split, phi_flags, term_edges}
+use Rattle.pass_elide_edges.specs.pass_elide_proof.pass_proofs.pass_edges.declared.edge.Edge.{Edge as OwnEdge}
+use Rattle.pass_elide_edges.specs.pass_elide_proof.pass_proofs.rule_laws.rules.function_rules.Kept.{KeepsFunctionRules}
+use Rattle.pass_elide_edges.specs.pass_elide_proof.pass_proofs.run_step.Step.{AtTerm}
 
 nothing : (ys : List Block) → slice_get ys (length ys) ≡ None
 nothing [] = refl

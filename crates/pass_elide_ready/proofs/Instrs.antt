@@ -4,30 +4,30 @@ use Rattle.std.proofs.Common.{◌≡◌, ◌<◌, ◌+◌, ◌/◌, ◌^◌, ℕ
 use Rattle.std.proofs.lemmas.Bool.{false≢true}
 use Rattle.std.specs.List.{list_all}
 use Rattle.std.specs.Prelude.{None, Option, Some, slice_get, ◌&&◌, ◌||◌, ◌==◌}
-use Rattle.pass_elide_proof.proofs.ElidedFound.{fetched}
-use Rattle.pass_elide_proof.specs.Places.{instrs_of}
-use Rattle.pass_elide_proof.specs.Placing.{is_own}
-use Rattle.pass_elide_proof.proofs.pass_proofs.ir_laws.facts.Truth.{and_first, and_second, equal_numbers, holds}
-use Rattle.pass_elide_proof.specs.pass_proofs.ir_laws.facts.counted.Widths.{has_width, is_width}
-use Rattle.pass_elide_proof.specs.pass_proofs.ir_model.Layout.{size_of}
-use Rattle.pass_elide_proof.specs.pass_proofs.ir_model.Ty.{Ty, array, int, named, ptr, structure, token}
-use Rattle.pass_elide_proof.specs.pass_proofs.ir_model.declared.instr.Instr.{Instr}
-use Rattle.pass_elide_proof.specs.pass_proofs.ir_model.declared.module.Function.{Function}
-use Rattle.pass_elide_proof.specs.pass_proofs.ir_model.declared.module.Module.{Module}
-use Rattle.pass_elide_proof.specs.pass_proofs.ir_model.declared.operand.Arg.{Arg}
-use Rattle.pass_elide_proof.specs.pass_proofs.ir_model.declared.operand.Callee.{Callee}
-use Rattle.pass_elide_proof.specs.pass_proofs.ir_model.declared.operand.Intrinsic.{Intrinsic}
-use Rattle.pass_elide_proof.specs.pass_proofs.ir_parts.Contents.{instr_types}
-use Rattle.pass_elide_proof.specs.pass_proofs.rule_laws.rules.counted.Widths.{first_other_width, is_of_other_width}
-use Rattle.pass_elide_proof.specs.pass_proofs.rule_laws.rules.function_rules.Kept.{KeepsFunctionRules}
-use Rattle.pass_elide_proof.specs.pass_proofs.rule_locals.Extents.{breaks_extents, is_aligned, is_sized}
-use Rattle.pass_elide_proof.specs.pass_proofs.rule_locals.Instrs.{on_instr}
-use Rattle.pass_elide_proof.specs.pass_proofs.rule_locals.Intrinsics.{is_inner}
-use Rattle.pass_elide_proof.specs.pass_proofs.rule_names.declared.stage.Stage.{Stage}
-use Rattle.pass_elide_proof.specs.pass_proofs.run_laws.embedded.Related.{HasBytes}
-use Rattle.pass_elide_proof.specs.pass_proofs.run_memory.Memory.{access_bytes}
-use Rattle.pass_elide_proof.specs.pass_proofs.run_step.Step.{AtInstr, is_alignment}
-use Rattle.pass_elide_proof.specs.pass_proofs.run_step.Values.{access_of}
+use Rattle.pass_elide_edges.proofs.pass_elide_proof.ElidedFound.{fetched}
+use Rattle.pass_elide_edges.specs.pass_elide_proof.Places.{instrs_of}
+use Rattle.pass_elide_edges.specs.pass_elide_proof.Placing.{is_own}
+use Rattle.pass_elide_edges.proofs.pass_elide_proof.pass_proofs.ir_laws.facts.Truth.{and_first, and_second, equal_numbers, holds}
+use Rattle.pass_elide_edges.specs.pass_elide_proof.pass_proofs.ir_laws.facts.counted.Widths.{has_width, is_width}
+use Rattle.pass_elide_edges.specs.pass_elide_proof.pass_proofs.ir_model.Layout.{size_of}
+use Rattle.pass_elide_edges.specs.pass_elide_proof.pass_proofs.ir_model.Ty.{Ty, array, int, named, ptr, structure, token}
+use Rattle.pass_elide_edges.specs.pass_elide_proof.pass_proofs.ir_model.declared.instr.Instr.{Instr}
+use Rattle.pass_elide_edges.specs.pass_elide_proof.pass_proofs.ir_model.declared.module.Function.{Function}
+use Rattle.pass_elide_edges.specs.pass_elide_proof.pass_proofs.ir_model.declared.module.Module.{Module}
+use Rattle.pass_elide_edges.specs.pass_elide_proof.pass_proofs.ir_model.declared.operand.Arg.{Arg}
+use Rattle.pass_elide_edges.specs.pass_elide_proof.pass_proofs.ir_model.declared.operand.Callee.{Callee}
+use Rattle.pass_elide_edges.specs.pass_elide_proof.pass_proofs.ir_model.declared.operand.Intrinsic.{Intrinsic}
+use Rattle.pass_elide_edges.specs.pass_elide_proof.pass_proofs.ir_parts.Contents.{instr_types}
+use Rattle.pass_elide_edges.specs.pass_elide_proof.pass_proofs.rule_laws.rules.counted.Widths.{first_other_width, is_of_other_width}
+use Rattle.pass_elide_edges.specs.pass_elide_proof.pass_proofs.rule_laws.rules.function_rules.Kept.{KeepsFunctionRules}
+use Rattle.pass_elide_edges.specs.pass_elide_proof.pass_proofs.rule_locals.Extents.{breaks_extents, is_aligned, is_sized}
+use Rattle.pass_elide_edges.specs.pass_elide_proof.pass_proofs.rule_locals.Instrs.{on_instr}
+use Rattle.pass_elide_edges.specs.pass_elide_proof.pass_proofs.rule_locals.Intrinsics.{is_inner}
+use Rattle.pass_elide_edges.specs.pass_elide_proof.pass_proofs.rule_names.declared.stage.Stage.{Stage}
+use Rattle.pass_elide_edges.specs.pass_elide_proof.pass_proofs.run_laws.embedded.Related.{HasBytes}
+use Rattle.pass_elide_edges.specs.pass_elide_proof.pass_proofs.run_memory.Memory.{access_bytes}
+use Rattle.pass_elide_edges.specs.pass_elide_proof.pass_proofs.run_step.Step.{AtInstr, is_alignment}
+use Rattle.pass_elide_edges.specs.pass_elide_proof.pass_proofs.run_step.Values.{access_of}
 use Rattle.pass_split_proof.proofs.ready.Blocks.{is_small_alloca}
 use Rattle.pass_split_proof.proofs.ready.Intrinsics.{in_coroutine}
 use Rattle.pass_split_proof.proofs.ready.Rules.{at_instr}

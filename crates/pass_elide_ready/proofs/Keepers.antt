@@ -6,14 +6,14 @@ use Rattle.elide_sites.specs.Sites.{AreSites}
 use Rattle.elide_sites.specs.declared.destroyed.Way.{Way}
 use Rattle.pass_elide_kept.specs.Modules.{KeepsHandlesAndEnds}
 use Rattle.pass_elide_known.specs.Keeping.{KeepsMore, KeepsPhi}
-use Rattle.pass_elide_proof.proofs.Allocas.{knows_allocas}
-use Rattle.pass_elide_proof.specs.CallersStack.{ReturnsFrame}
-use Rattle.pass_elide_proof.specs.Edges.{label_from, phis_at}
-use Rattle.pass_elide_proof.specs.Elision.{Elision, elided_code, framed, function_in}
-use Rattle.pass_elide_proof.specs.Match.{frame_size}
-use Rattle.pass_elide_proof.specs.Placing.{HasShape}
-use Rattle.pass_elide_proof.specs.Releasing.{HoldsOfRooms}
-use Rattle.pass_elide_proof.specs.Sound.{NestsNone}
+use Rattle.pass_elide_edges.proofs.pass_elide_proof.Allocas.{knows_allocas}
+use Rattle.pass_elide_edges.specs.pass_elide_proof.CallersStack.{ReturnsFrame}
+use Rattle.pass_elide_edges.specs.pass_elide_proof.Edges.{label_from, phis_at}
+use Rattle.pass_elide_edges.specs.pass_elide_proof.Elision.{Elision, elided_code, framed, function_in}
+use Rattle.pass_elide_edges.specs.pass_elide_proof.Match.{frame_size}
+use Rattle.pass_elide_edges.specs.pass_elide_proof.Placing.{HasShape}
+use Rattle.pass_elide_edges.specs.pass_elide_proof.Releasing.{HoldsOfRooms}
+use Rattle.pass_elide_edges.specs.pass_elide_proof.Sound.{NestsNone}
 use Rattle.pass_elide_edges.specs.Keeping.{SetsKnown}
 use Rattle.pass_elide_ready.proofs.Entries.{leads_to_no_entry}
 use Rattle.pass_elide_ready.proofs.Forms.{allocations, asides, form_frees, freeing, frees, phis, plain, tests}
@@ -23,12 +23,12 @@ use Rattle.pass_elide_ready.specs.Form.{AreFormed, IsFormed}
 use Rattle.pass_elide_ready.specs.Ruled.{IsRuled}
 use Rattle.pass_elide_runs.specs.Ends.{EndsOnce}
 use Rattle.pass_elide_runs.specs.Keeps.{KeepsRuns}
-use Rattle.pass_elide_proof.proofs.pass_proofs.ir_laws.paths.woven_rules.Unbroken.{each_listed, of_listed}
-use Rattle.pass_elide_proof.specs.pass_proofs.ir_model.Names.{function_at}
-use Rattle.pass_elide_proof.specs.pass_proofs.ir_model.declared.instr.Phi.{Phi}
-use Rattle.pass_elide_proof.specs.pass_proofs.ir_model.declared.module.Module.{Module}
-use Rattle.pass_elide_proof.specs.pass_proofs.ir_model.declared.operand.Operand.{Operand}
-use Rattle.pass_elide_proof.specs.pass_proofs.run_step.Step.{incoming_from}
+use Rattle.pass_elide_edges.proofs.pass_elide_proof.pass_proofs.ir_laws.paths.woven_rules.Unbroken.{each_listed, of_listed}
+use Rattle.pass_elide_edges.specs.pass_elide_proof.pass_proofs.ir_model.Names.{function_at}
+use Rattle.pass_elide_edges.specs.pass_elide_proof.pass_proofs.ir_model.declared.instr.Phi.{Phi}
+use Rattle.pass_elide_edges.specs.pass_elide_proof.pass_proofs.ir_model.declared.module.Module.{Module}
+use Rattle.pass_elide_edges.specs.pass_elide_proof.pass_proofs.ir_model.declared.operand.Operand.{Operand}
+use Rattle.pass_elide_edges.specs.pass_elide_proof.pass_proofs.run_step.Step.{incoming_from}
 use Rattle.run_hooks.specs.Away.{KeepsAllPlaceRules}
 
 module _ (e : Elision) (ruled : IsRuled e.code) (forms : AreFormed e) where

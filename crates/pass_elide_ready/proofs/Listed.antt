@@ -3,8 +3,8 @@ use Rattle.std.proofs.Common.{◌≡◌, inl, inr, ℕ, Bool, true, false, List,
 use Rattle.std.proofs.lemmas.Bool.{false≢true}
 use Rattle.std.specs.Prelude.{None, Option, Some, if◌then◌else◌, ◌&&◌, ◌||◌, ◌==◌}
 use Rattle.pass_elide_ready.specs.Form.{Freeing, beside_of, has_both, passed_by, passed_of, tested_of, tests_of}
-use Rattle.pass_elide_proof.specs.pass_proofs.flow_solver.Paths.{IsListed}
-use Rattle.pass_elide_proof.specs.pass_proofs.ir_model.declared.module.Function.{Function}
+use Rattle.pass_elide_edges.specs.pass_elide_proof.pass_proofs.flow_solver.Paths.{IsListed}
+use Rattle.pass_elide_edges.specs.pass_elide_proof.pass_proofs.ir_model.declared.module.Function.{Function}
 
 -- ---- tables by a test of each element
 

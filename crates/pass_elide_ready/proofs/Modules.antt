@@ -3,14 +3,14 @@ use Rattle.std.proofs.Common.{◌≡◌, ℕ, Bool, true, false, List, [], refl,
 use Rattle.std.specs.Prelude.{Option, Some, slice_get}
 use Rattle.pass_elide_kept.specs.Modules.{BeginsAlone}
 use Rattle.pass_elide_known.specs.Keeping.{is_marker}
-use Rattle.pass_elide_proof.proofs.ElidedFound.{fetched}
-use Rattle.pass_elide_proof.specs.Callers.{GivesOnce}
-use Rattle.pass_elide_proof.specs.Calling.{MarksOwn}
-use Rattle.pass_elide_proof.specs.Edges.{label_from, phis_at}
-use Rattle.pass_elide_proof.specs.Elision.{Elision, function_in}
-use Rattle.pass_elide_proof.specs.Ordinary.{HasSteadyIndices}
-use Rattle.pass_elide_proof.specs.Places.{instrs_of}
-use Rattle.pass_elide_proof.specs.Placing.{IsSmallAlloca, is_own}
+use Rattle.pass_elide_edges.proofs.pass_elide_proof.ElidedFound.{fetched}
+use Rattle.pass_elide_edges.specs.pass_elide_proof.Callers.{GivesOnce}
+use Rattle.pass_elide_edges.specs.pass_elide_proof.Calling.{MarksOwn}
+use Rattle.pass_elide_edges.specs.pass_elide_proof.Edges.{label_from, phis_at}
+use Rattle.pass_elide_edges.specs.pass_elide_proof.Elision.{Elision, function_in}
+use Rattle.pass_elide_edges.specs.pass_elide_proof.Ordinary.{HasSteadyIndices}
+use Rattle.pass_elide_edges.specs.pass_elide_proof.Places.{instrs_of}
+use Rattle.pass_elide_edges.specs.pass_elide_proof.Placing.{IsSmallAlloca, is_own}
 use Rattle.pass_elide_ready.proofs.Allocas.{allocas_first, marks_allocas, names_allocas, unmarked}
 use Rattle.pass_elide_ready.proofs.Entries.{no_edge_to_entry}
 use Rattle.pass_elide_ready.proofs.Instrs.{alloca_aligned, alloca_small, instr_bytes, own_inside}
@@ -23,28 +23,28 @@ use Rattle.pass_elide_ready.proofs.Suspends.{are_switched, none_from_suspends}
 use Rattle.pass_elide_ready.specs.Ruled.{IsRuled}
 use Rattle.pass_elide_runs.specs.Marks.{MarksAllocas}
 use Rattle.pass_elide_runs.specs.Slots.{AllocasFirst, NamesAllocas}
-use Rattle.pass_elide_proof.proofs.pass_proofs.kept.sources.Modules.{at_function}
-use Rattle.pass_elide_proof.proofs.pass_proofs.kept.sources.Names.{none_outside, save_inside, suspend_inside}
-use Rattle.pass_elide_proof.proofs.pass_proofs.kept.sources.Suspends.{is_switched}
-use Rattle.pass_elide_proof.proofs.pass_proofs.rule_laws.frames.crossing.Paths.{edge_from}
-use Rattle.pass_elide_proof.specs.pass_proofs.edges.rules.Returns.{AreSwitched}
-use Rattle.pass_elide_proof.specs.pass_proofs.ir_model.Names.{function_at, no_function}
-use Rattle.pass_elide_proof.specs.pass_proofs.ir_model.Ty.{Ty}
-use Rattle.pass_elide_proof.specs.pass_proofs.ir_model.declared.instr.Instr.{Instr}
-use Rattle.pass_elide_proof.specs.pass_proofs.ir_model.declared.instr.Phi.{Phi}
-use Rattle.pass_elide_proof.specs.pass_proofs.ir_model.declared.module.Function.{Function}
-use Rattle.pass_elide_proof.specs.pass_proofs.ir_model.declared.module.Module.{Module}
-use Rattle.pass_elide_proof.specs.pass_proofs.ir_model.declared.operand.Arg.{Arg}
-use Rattle.pass_elide_proof.specs.pass_proofs.ir_model.declared.operand.Callee.{Callee}
-use Rattle.pass_elide_proof.specs.pass_proofs.ir_model.declared.operand.Intrinsic.{Intrinsic}
-use Rattle.pass_elide_proof.specs.pass_proofs.ir_model.declared.operand.Operand.{Operand}
-use Rattle.pass_elide_proof.specs.pass_proofs.ir_paths.Windows.{end_block, is_call_of, points_where}
-use Rattle.pass_elide_proof.specs.pass_proofs.ir_paths.declared.point.Point.{Point}
-use Rattle.pass_elide_proof.specs.pass_proofs.pass_kept_proof.SuspendRules.{IsCallAt}
-use Rattle.pass_elide_proof.specs.pass_proofs.rule_laws.rules.function_rules.Kept.{AllKeepFunctionRules}
-use Rattle.pass_elide_proof.specs.pass_proofs.run_laws.changed.Changed.{Each}
-use Rattle.pass_elide_proof.specs.pass_proofs.run_laws.embedded.Related.{HasBytes}
-use Rattle.pass_elide_proof.specs.pass_proofs.run_step.Step.{AtInstr, Nowhere, fetch, incoming_from}
+use Rattle.pass_elide_edges.proofs.pass_elide_proof.pass_proofs.kept.sources.Modules.{at_function}
+use Rattle.pass_elide_edges.proofs.pass_elide_proof.pass_proofs.kept.sources.Names.{none_outside, save_inside, suspend_inside}
+use Rattle.pass_elide_edges.proofs.pass_elide_proof.pass_proofs.kept.sources.Suspends.{is_switched}
+use Rattle.pass_elide_edges.proofs.pass_elide_proof.pass_proofs.rule_laws.frames.crossing.Paths.{edge_from}
+use Rattle.pass_elide_edges.specs.pass_elide_proof.pass_proofs.edges.rules.Returns.{AreSwitched}
+use Rattle.pass_elide_edges.specs.pass_elide_proof.pass_proofs.ir_model.Names.{function_at, no_function}
+use Rattle.pass_elide_edges.specs.pass_elide_proof.pass_proofs.ir_model.Ty.{Ty}
+use Rattle.pass_elide_edges.specs.pass_elide_proof.pass_proofs.ir_model.declared.instr.Instr.{Instr}
+use Rattle.pass_elide_edges.specs.pass_elide_proof.pass_proofs.ir_model.declared.instr.Phi.{Phi}
+use Rattle.pass_elide_edges.specs.pass_elide_proof.pass_proofs.ir_model.declared.module.Function.{Function}
+use Rattle.pass_elide_edges.specs.pass_elide_proof.pass_proofs.ir_model.declared.module.Module.{Module}
+use Rattle.pass_elide_edges.specs.pass_elide_proof.pass_proofs.ir_model.declared.operand.Arg.{Arg}
+use Rattle.pass_elide_edges.specs.pass_elide_proof.pass_proofs.ir_model.declared.operand.Callee.{Callee}
+use Rattle.pass_elide_edges.specs.pass_elide_proof.pass_proofs.ir_model.declared.operand.Intrinsic.{Intrinsic}
+use Rattle.pass_elide_edges.specs.pass_elide_proof.pass_proofs.ir_model.declared.operand.Operand.{Operand}
+use Rattle.pass_elide_edges.specs.pass_elide_proof.pass_proofs.ir_paths.Windows.{end_block, is_call_of, points_where}
+use Rattle.pass_elide_edges.specs.pass_elide_proof.pass_proofs.ir_paths.declared.point.Point.{Point}
+use Rattle.pass_elide_edges.specs.pass_elide_proof.pass_proofs.pass_kept_proof.SuspendRules.{IsCallAt}
+use Rattle.pass_elide_edges.specs.pass_elide_proof.pass_proofs.rule_laws.rules.function_rules.Kept.{AllKeepFunctionRules}
+use Rattle.pass_elide_edges.specs.pass_elide_proof.pass_proofs.run_laws.changed.Changed.{Each}
+use Rattle.pass_elide_edges.specs.pass_elide_proof.pass_proofs.run_laws.embedded.Related.{HasBytes}
+use Rattle.pass_elide_edges.specs.pass_elide_proof.pass_proofs.run_step.Step.{AtInstr, Nowhere, fetch, incoming_from}
 use Rattle.pass_split_proof.proofs.ready.Allocas.{allocas_alone}
 use Rattle.pass_split_proof.proofs.ready.Given.{there_is}
 use Rattle.pass_split_proof.specs.simulation.Premises.{AreAllocasAlone}

@@ -3,31 +3,31 @@ use Rattle.std.proofs.Common.{◌≡◌, ℕ, Bool, true, List, refl, sym, ap, �
 use Rattle.std.proofs.lemmas.Bool.{false≢true}
 use Rattle.std.specs.Prelude.{None, Option, Some, slice_get}
 use Rattle.pass_elide_kept.specs.Modules.{BeginsAlone}
-use Rattle.pass_elide_proof.proofs.ElidedFound.{fetched}
-use Rattle.pass_elide_proof.specs.Edges.{phis_at}
-use Rattle.pass_elide_proof.proofs.pass_proofs.ir_laws.paths.woven_rules.Unbroken.{each_listed}
-use Rattle.pass_elide_proof.proofs.pass_proofs.rule_laws.rules.renamed.Uses.{result_spelt}
-use Rattle.pass_elide_proof.proofs.pass_proofs.rule_laws.rules.source_rules.Ends.{end_first}
-use Rattle.pass_elide_proof.proofs.pass_proofs.rule_laws.rules.source_rules.Once.{one_end}
-use Rattle.pass_elide_proof.proofs.pass_proofs.rule_laws.rules.sources.Places.{instr_there, point}
-use Rattle.pass_elide_proof.specs.pass_proofs.ir_laws.facts.renamed.Regular.{passes}
-use Rattle.pass_elide_proof.specs.pass_proofs.ir_model.Calls.{first_result}
-use Rattle.pass_elide_proof.specs.pass_proofs.ir_model.Ty.{Ty}
-use Rattle.pass_elide_proof.specs.pass_proofs.ir_model.declared.instr.Instr.{Instr}
-use Rattle.pass_elide_proof.specs.pass_proofs.ir_model.declared.instr.Phi.{Phi}
-use Rattle.pass_elide_proof.specs.pass_proofs.ir_model.declared.module.Block.{Block}
-use Rattle.pass_elide_proof.specs.pass_proofs.ir_model.declared.module.Function.{Function}
-use Rattle.pass_elide_proof.specs.pass_proofs.ir_model.declared.module.Module.{Module}
-use Rattle.pass_elide_proof.specs.pass_proofs.ir_model.declared.operand.Arg.{Arg}
-use Rattle.pass_elide_proof.specs.pass_proofs.ir_model.declared.operand.Callee.{Callee}
-use Rattle.pass_elide_proof.specs.pass_proofs.ir_model.declared.operand.Intrinsic.{Intrinsic}
-use Rattle.pass_elide_proof.specs.pass_proofs.ir_paths.Windows.{end_block, instr_at, is_call_of}
-use Rattle.pass_elide_proof.specs.pass_proofs.ir_paths.declared.point.Point.{Point}
-use Rattle.pass_elide_proof.specs.pass_proofs.rule_laws.rules.function_rules.Kept.{KeepsFunctionRules}
-use Rattle.pass_elide_proof.specs.pass_proofs.rule_shape.OneOfEach.{wrong_call}
-use Rattle.pass_elide_proof.specs.pass_proofs.run_framed.Framed.{begin_name}
-use Rattle.pass_elide_proof.specs.pass_proofs.run_laws.changed.Changed.{Each}
-use Rattle.pass_elide_proof.specs.pass_proofs.run_step.Step.{AtInstr, fetch, phis_of}
+use Rattle.pass_elide_edges.proofs.pass_elide_proof.ElidedFound.{fetched}
+use Rattle.pass_elide_edges.specs.pass_elide_proof.Edges.{phis_at}
+use Rattle.pass_elide_edges.proofs.pass_elide_proof.pass_proofs.ir_laws.paths.woven_rules.Unbroken.{each_listed}
+use Rattle.pass_elide_edges.proofs.pass_elide_proof.pass_proofs.rule_laws.rules.renamed.Uses.{result_spelt}
+use Rattle.pass_elide_edges.proofs.pass_elide_proof.pass_proofs.rule_laws.rules.source_rules.Ends.{end_first}
+use Rattle.pass_elide_edges.proofs.pass_elide_proof.pass_proofs.rule_laws.rules.source_rules.Once.{one_end}
+use Rattle.pass_elide_edges.proofs.pass_elide_proof.pass_proofs.rule_laws.rules.sources.Places.{instr_there, point}
+use Rattle.pass_elide_edges.specs.pass_elide_proof.pass_proofs.ir_laws.facts.renamed.Regular.{passes}
+use Rattle.pass_elide_edges.specs.pass_elide_proof.pass_proofs.ir_model.Calls.{first_result}
+use Rattle.pass_elide_edges.specs.pass_elide_proof.pass_proofs.ir_model.Ty.{Ty}
+use Rattle.pass_elide_edges.specs.pass_elide_proof.pass_proofs.ir_model.declared.instr.Instr.{Instr}
+use Rattle.pass_elide_edges.specs.pass_elide_proof.pass_proofs.ir_model.declared.instr.Phi.{Phi}
+use Rattle.pass_elide_edges.specs.pass_elide_proof.pass_proofs.ir_model.declared.module.Block.{Block}
+use Rattle.pass_elide_edges.specs.pass_elide_proof.pass_proofs.ir_model.declared.module.Function.{Function}
+use Rattle.pass_elide_edges.specs.pass_elide_proof.pass_proofs.ir_model.declared.module.Module.{Module}
+use Rattle.pass_elide_edges.specs.pass_elide_proof.pass_proofs.ir_model.declared.operand.Arg.{Arg}
+use Rattle.pass_elide_edges.specs.pass_elide_proof.pass_proofs.ir_model.declared.operand.Callee.{Callee}
+use Rattle.pass_elide_edges.specs.pass_elide_proof.pass_proofs.ir_model.declared.operand.Intrinsic.{Intrinsic}
+use Rattle.pass_elide_edges.specs.pass_elide_proof.pass_proofs.ir_paths.Windows.{end_block, instr_at, is_call_of}
+use Rattle.pass_elide_edges.specs.pass_elide_proof.pass_proofs.ir_paths.declared.point.Point.{Point}
+use Rattle.pass_elide_edges.specs.pass_elide_proof.pass_proofs.rule_laws.rules.function_rules.Kept.{KeepsFunctionRules}
+use Rattle.pass_elide_edges.specs.pass_elide_proof.pass_proofs.rule_shape.OneOfEach.{wrong_call}
+use Rattle.pass_elide_edges.specs.pass_elide_proof.pass_proofs.run_framed.Framed.{begin_name}
+use Rattle.pass_elide_edges.specs.pass_elide_proof.pass_proofs.run_laws.changed.Changed.{Each}
+use Rattle.pass_elide_edges.specs.pass_elide_proof.pass_proofs.run_step.Step.{AtInstr, fetch, phis_of}
 use Rattle.pass_split_proof.proofs.ready.Begins.{begin_makes, begin_name_is, no_phi_begins, only_begin}
 use Rattle.pass_split_proof.proofs.ready.Intrinsics.{in_coroutine}
 

@@ -2,23 +2,23 @@
 use Rattle.std.proofs.Common.{◌≡◌, inl, inr, ⊎_elim, ℕ, zero, suc, ◌+◌, ◌≤◌, Bool, true, false, List, [], ◌∷◌, ◌++◌, length, refl, sym, ap, ◌∙◌, subst, arith}
 use Rattle.std.proofs.lemmas.Bool.{cases_eq}
 use Rattle.std.specs.Prelude.{None, Option, Some, count_by, flat_map, map, slice_get, ◌==◌}
-use Rattle.pass_elide_proof.proofs.pass_proofs.ir_laws.facts.Lists.{count_both}
-use Rattle.pass_elide_proof.proofs.pass_proofs.ir_laws.facts.Truth.{equal_numbers}
-use Rattle.pass_elide_proof.proofs.pass_proofs.rule_laws.rules.uses.Switched.{hits_listed}
-use Rattle.pass_elide_proof.specs.pass_proofs.flow_solver.Paths.{IsListed}
-use Rattle.pass_elide_proof.specs.pass_proofs.frame_crossing.EdgeUses.{IsUsedOn, blocks_uses, edge_use, incoming_uses, phis_uses, uses_by}
-use Rattle.pass_elide_proof.specs.pass_proofs.frame_crossing.Paths.{used_by}
-use Rattle.pass_elide_proof.specs.pass_proofs.ir_model.Names.{is_local, position_of}
-use Rattle.pass_elide_proof.specs.pass_proofs.ir_model.declared.instr.Incoming.{Incoming}
-use Rattle.pass_elide_proof.specs.pass_proofs.ir_model.declared.instr.Instr.{Instr}
-use Rattle.pass_elide_proof.specs.pass_proofs.ir_model.declared.instr.Phi.{Phi}
-use Rattle.pass_elide_proof.specs.pass_proofs.ir_model.declared.module.Block.{Block}
-use Rattle.pass_elide_proof.specs.pass_proofs.ir_model.declared.module.Function.{Function}
-use Rattle.pass_elide_proof.specs.pass_proofs.ir_model.declared.operand.Operand.{Operand}
-use Rattle.pass_elide_proof.specs.pass_proofs.ir_parts.Contents.{ending_operands, instr_operands}
-use Rattle.pass_elide_proof.specs.pass_proofs.rule_shape.Uses.{block_operands, phi_operands, uses_of}
-use Rattle.pass_elide_proof.specs.pass_proofs.rule_uses.Uses.{local_of, locals_in}
-use Rattle.pass_elide_proof.specs.pass_proofs.run_step.Step.{fetch, fetch_in, fetch_or}
+use Rattle.pass_elide_edges.proofs.pass_elide_proof.pass_proofs.ir_laws.facts.Lists.{count_both}
+use Rattle.pass_elide_edges.proofs.pass_elide_proof.pass_proofs.ir_laws.facts.Truth.{equal_numbers}
+use Rattle.pass_elide_edges.proofs.pass_elide_proof.pass_proofs.rule_laws.rules.uses.Switched.{hits_listed}
+use Rattle.pass_elide_edges.specs.pass_elide_proof.pass_proofs.flow_solver.Paths.{IsListed}
+use Rattle.pass_elide_edges.specs.pass_elide_proof.pass_proofs.frame_crossing.EdgeUses.{IsUsedOn, blocks_uses, edge_use, incoming_uses, phis_uses, uses_by}
+use Rattle.pass_elide_edges.specs.pass_elide_proof.pass_proofs.frame_crossing.Paths.{used_by}
+use Rattle.pass_elide_edges.specs.pass_elide_proof.pass_proofs.ir_model.Names.{is_local, position_of}
+use Rattle.pass_elide_edges.specs.pass_elide_proof.pass_proofs.ir_model.declared.instr.Incoming.{Incoming}
+use Rattle.pass_elide_edges.specs.pass_elide_proof.pass_proofs.ir_model.declared.instr.Instr.{Instr}
+use Rattle.pass_elide_edges.specs.pass_elide_proof.pass_proofs.ir_model.declared.instr.Phi.{Phi}
+use Rattle.pass_elide_edges.specs.pass_elide_proof.pass_proofs.ir_model.declared.module.Block.{Block}
+use Rattle.pass_elide_edges.specs.pass_elide_proof.pass_proofs.ir_model.declared.module.Function.{Function}
+use Rattle.pass_elide_edges.specs.pass_elide_proof.pass_proofs.ir_model.declared.operand.Operand.{Operand}
+use Rattle.pass_elide_edges.specs.pass_elide_proof.pass_proofs.ir_parts.Contents.{ending_operands, instr_operands}
+use Rattle.pass_elide_edges.specs.pass_elide_proof.pass_proofs.rule_shape.Uses.{block_operands, phi_operands, uses_of}
+use Rattle.pass_elide_edges.specs.pass_elide_proof.pass_proofs.rule_uses.Uses.{local_of, locals_in}
+use Rattle.pass_elide_edges.specs.pass_elide_proof.pass_proofs.run_step.Step.{fetch, fetch_in, fetch_or}
 use Rattle.pass_elide_ready.proofs.EdgeRows.{listed_either}
 
 module _ (v : ℕ) where

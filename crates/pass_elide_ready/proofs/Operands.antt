@@ -3,27 +3,27 @@ use Rattle.std.proofs.Common.{◌≡◌, ◌<◌, inl, inr, ℕ, Bool, true, fal
 use Rattle.std.proofs.lemmas.Bool.{false≢true}
 use Rattle.std.specs.List.{list_all, list_any}
 use Rattle.std.specs.Prelude.{◌&&◌, ◌||◌}
-use Rattle.pass_elide_proof.specs.Calling.{MarksOwn}
-use Rattle.pass_elide_proof.proofs.pass_proofs.ir_laws.facts.Lists.{at_any}
-use Rattle.pass_elide_proof.proofs.pass_proofs.ir_laws.facts.Truth.{and_first, and_second, holds}
-use Rattle.pass_elide_proof.proofs.pass_proofs.ir_laws.paths.counted.PartFacts.{all_listed}
-use Rattle.pass_elide_proof.proofs.pass_proofs.kept.sources.Stops.{the_local}
-use Rattle.pass_elide_proof.specs.pass_proofs.flow_solver.Paths.{IsListed}
-use Rattle.pass_elide_proof.specs.pass_proofs.ir_model.Names.{is_local}
-use Rattle.pass_elide_proof.specs.pass_proofs.ir_model.declared.instr.Instr.{Instr}
-use Rattle.pass_elide_proof.specs.pass_proofs.ir_model.declared.module.Block.{Block}
-use Rattle.pass_elide_proof.specs.pass_proofs.ir_model.declared.module.Function.{Function}
-use Rattle.pass_elide_proof.specs.pass_proofs.ir_model.declared.module.Module.{Module}
-use Rattle.pass_elide_proof.specs.pass_proofs.ir_model.declared.operand.Arg.{Arg}
-use Rattle.pass_elide_proof.specs.pass_proofs.ir_model.declared.operand.Callee.{Callee}
-use Rattle.pass_elide_proof.specs.pass_proofs.ir_model.declared.operand.Intrinsic.{Intrinsic}
-use Rattle.pass_elide_proof.specs.pass_proofs.ir_model.declared.operand.Operand.{Operand}
-use Rattle.pass_elide_proof.specs.pass_proofs.ir_parts.Contents.{instr_operands, part_labels, part_operands, part_types}
-use Rattle.pass_elide_proof.specs.pass_proofs.ir_parts.Parts.{OfInstr, Part}
-use Rattle.pass_elide_proof.specs.pass_proofs.rule_laws.rules.function_rules.Kept.{KeepsFunctionRules}
-use Rattle.pass_elide_proof.specs.pass_proofs.rule_names.Known.{is_label, is_value, knows_called, knows_operand, knows_type}
-use Rattle.pass_elide_proof.specs.pass_proofs.rule_names.Known.{names_unknown}
-use Rattle.pass_elide_proof.specs.pass_proofs.run_step.Step.{AtInstr, fetch, has_markers, is_marker_of}
+use Rattle.pass_elide_edges.specs.pass_elide_proof.Calling.{MarksOwn}
+use Rattle.pass_elide_edges.proofs.pass_elide_proof.pass_proofs.ir_laws.facts.Lists.{at_any}
+use Rattle.pass_elide_edges.proofs.pass_elide_proof.pass_proofs.ir_laws.facts.Truth.{and_first, and_second, holds}
+use Rattle.pass_elide_edges.proofs.pass_elide_proof.pass_proofs.ir_laws.paths.counted.PartFacts.{all_listed}
+use Rattle.pass_elide_edges.proofs.pass_elide_proof.pass_proofs.kept.sources.Stops.{the_local}
+use Rattle.pass_elide_edges.specs.pass_elide_proof.pass_proofs.flow_solver.Paths.{IsListed}
+use Rattle.pass_elide_edges.specs.pass_elide_proof.pass_proofs.ir_model.Names.{is_local}
+use Rattle.pass_elide_edges.specs.pass_elide_proof.pass_proofs.ir_model.declared.instr.Instr.{Instr}
+use Rattle.pass_elide_edges.specs.pass_elide_proof.pass_proofs.ir_model.declared.module.Block.{Block}
+use Rattle.pass_elide_edges.specs.pass_elide_proof.pass_proofs.ir_model.declared.module.Function.{Function}
+use Rattle.pass_elide_edges.specs.pass_elide_proof.pass_proofs.ir_model.declared.module.Module.{Module}
+use Rattle.pass_elide_edges.specs.pass_elide_proof.pass_proofs.ir_model.declared.operand.Arg.{Arg}
+use Rattle.pass_elide_edges.specs.pass_elide_proof.pass_proofs.ir_model.declared.operand.Callee.{Callee}
+use Rattle.pass_elide_edges.specs.pass_elide_proof.pass_proofs.ir_model.declared.operand.Intrinsic.{Intrinsic}
+use Rattle.pass_elide_edges.specs.pass_elide_proof.pass_proofs.ir_model.declared.operand.Operand.{Operand}
+use Rattle.pass_elide_edges.specs.pass_elide_proof.pass_proofs.ir_parts.Contents.{instr_operands, part_labels, part_operands, part_types}
+use Rattle.pass_elide_edges.specs.pass_elide_proof.pass_proofs.ir_parts.Parts.{OfInstr, Part}
+use Rattle.pass_elide_edges.specs.pass_elide_proof.pass_proofs.rule_laws.rules.function_rules.Kept.{KeepsFunctionRules}
+use Rattle.pass_elide_edges.specs.pass_elide_proof.pass_proofs.rule_names.Known.{is_label, is_value, knows_called, knows_operand, knows_type}
+use Rattle.pass_elide_edges.specs.pass_elide_proof.pass_proofs.rule_names.Known.{names_unknown}
+use Rattle.pass_elide_edges.specs.pass_elide_proof.pass_proofs.run_step.Step.{AtInstr, fetch, has_markers, is_marker_of}
 use Rattle.pass_split_proof.proofs.code.Allocas.{by_instrs}
 use Rattle.pass_split_proof.proofs.ready.Known.{value_low}
 use Rattle.pass_split_proof.proofs.ready.Rules.{at_instr}

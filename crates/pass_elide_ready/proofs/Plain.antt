@@ -2,18 +2,18 @@
 use Rattle.std.proofs.Common.{◌≡◌, ℕ, true, false, List, [], ◌∷◌, refl, sym, ap, ◌∙◌}
 use Rattle.std.specs.Prelude.{None, Some, option_and_then, slice_get}
 use Rattle.pass_elide_kept.specs.Modules.{BeginsAlone}
-use Rattle.pass_elide_proof.proofs.pass_proofs.early.save_simulation.Suspending.{fetch_at}
-use Rattle.pass_elide_proof.proofs.pass_proofs.ir_paths.Search.{or_left, same_point-itself}
-use Rattle.pass_elide_proof.proofs.pass_proofs.kept.sources.Names.{StaysInside, none_outside, save_inside}
-use Rattle.pass_elide_proof.proofs.pass_proofs.rule_laws.frames.alike_slots.Tests.{passed}
-use Rattle.pass_elide_proof.specs.pass_proofs.ir_model.declared.module.Function.{Function}
-use Rattle.pass_elide_proof.specs.pass_proofs.ir_model.declared.module.Module.{Module}
-use Rattle.pass_elide_proof.specs.pass_proofs.ir_model.declared.operand.Intrinsic.{Intrinsic}
-use Rattle.pass_elide_proof.specs.pass_proofs.ir_paths.Paths.{has_point, same_point}
-use Rattle.pass_elide_proof.specs.pass_proofs.ir_paths.Windows.{call_result, instr_at, is_call_of, points_where}
-use Rattle.pass_elide_proof.specs.pass_proofs.ir_paths.declared.point.Point.{Point}
-use Rattle.pass_elide_proof.specs.pass_proofs.rule_laws.rules.function_rules.Kept.{KeepsFunctionRules}
-use Rattle.pass_elide_proof.specs.pass_proofs.run_framed.Framed.{begin_name}
+use Rattle.pass_elide_edges.proofs.pass_elide_proof.pass_proofs.early.save_simulation.Suspending.{fetch_at}
+use Rattle.pass_elide_edges.proofs.pass_elide_proof.pass_proofs.ir_paths.Search.{or_left, same_point-itself}
+use Rattle.pass_elide_edges.proofs.pass_elide_proof.pass_proofs.kept.sources.Names.{StaysInside, none_outside, save_inside}
+use Rattle.pass_elide_edges.proofs.pass_elide_proof.pass_proofs.rule_laws.frames.alike_slots.Tests.{passed}
+use Rattle.pass_elide_edges.specs.pass_elide_proof.pass_proofs.ir_model.declared.module.Function.{Function}
+use Rattle.pass_elide_edges.specs.pass_elide_proof.pass_proofs.ir_model.declared.module.Module.{Module}
+use Rattle.pass_elide_edges.specs.pass_elide_proof.pass_proofs.ir_model.declared.operand.Intrinsic.{Intrinsic}
+use Rattle.pass_elide_edges.specs.pass_elide_proof.pass_proofs.ir_paths.Paths.{has_point, same_point}
+use Rattle.pass_elide_edges.specs.pass_elide_proof.pass_proofs.ir_paths.Windows.{call_result, instr_at, is_call_of, points_where}
+use Rattle.pass_elide_edges.specs.pass_elide_proof.pass_proofs.ir_paths.declared.point.Point.{Point}
+use Rattle.pass_elide_edges.specs.pass_elide_proof.pass_proofs.rule_laws.rules.function_rules.Kept.{KeepsFunctionRules}
+use Rattle.pass_elide_edges.specs.pass_elide_proof.pass_proofs.run_framed.Framed.{begin_name}
 use Rattle.run_accepted.proofs.Plain.{begin_inside}
 
 -- a list of points that has none is empty

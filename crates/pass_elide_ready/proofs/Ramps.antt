@@ -3,27 +3,27 @@
 use Rattle.std.proofs.Common.{◌≡◌, ℕ, zero, suc, Bool, true, false, List, [], ◌∷◌, refl, sym, ap, ◌∙◌}
 use Rattle.std.proofs.lemmas.Bool.{false≢true}
 use Rattle.std.specs.Prelude.{None, Option, Some, codes, option_map, slice_get, if◌then◌else◌, ◌&&◌, ◌||◌}
-use Rattle.pass_elide_proof.proofs.pass_proofs.ir_laws.facts.Truth.{and_first, and_second, same_name-itself}
-use Rattle.pass_elide_proof.proofs.pass_proofs.ir_laws.facts.same_names.Lists.{IsFound, what_is_found}
-use Rattle.pass_elide_proof.proofs.pass_proofs.ir_tables.Tables.{same_name-same}
-use Rattle.pass_elide_proof.proofs.pass_proofs.rule_laws.rules.plain_rules.Once.{once_at}
-use Rattle.pass_elide_proof.proofs.pass_proofs.rule_laws.rules.same_names.Spellings.{OfNoalloc, parts_alike}
-use Rattle.pass_elide_proof.specs.pass_proofs.ir_base.declared.name.Name.{Name}
-use Rattle.pass_elide_proof.specs.pass_proofs.ir_laws.facts.same_names.Short.{HaveShortNames}
-use Rattle.pass_elide_proof.specs.pass_proofs.ir_model.Names.{first_where, function_at, function_named, noalloc_of, same_name}
-use Rattle.pass_elide_proof.specs.pass_proofs.ir_model.Ty.{Ty}
-use Rattle.pass_elide_proof.specs.pass_proofs.ir_model.declared.instr.Instr.{Instr}
-use Rattle.pass_elide_proof.specs.pass_proofs.ir_model.declared.module.Function.{Function}
-use Rattle.pass_elide_proof.specs.pass_proofs.ir_model.declared.module.Module.{Module}
-use Rattle.pass_elide_proof.specs.pass_proofs.ir_model.declared.operand.Arg.{Arg}
-use Rattle.pass_elide_proof.specs.pass_proofs.ir_model.declared.operand.Callee.{Callee}
-use Rattle.pass_elide_proof.specs.pass_proofs.rule_laws.rules.function_rules.Kept.{AllKeepFunctionRules}
-use Rattle.pass_elide_proof.specs.pass_proofs.rule_laws.rules.plain_rules.Items.{KeepsItemRules}
-use Rattle.pass_elide_proof.specs.pass_proofs.rule_names.Known.{knows_name}
-use Rattle.pass_elide_proof.specs.pass_proofs.rule_names.Reserved.{is_odd, is_part, is_reserved}
-use Rattle.pass_elide_proof.specs.pass_proofs.rule_names.declared.stage.Stage.{Stage}
-use Rattle.pass_elide_proof.specs.pass_proofs.run_framed.Framed.{given_ramp}
-use Rattle.pass_elide_proof.specs.pass_proofs.run_step.Step.{AtInstr, fetch}
+use Rattle.pass_elide_edges.proofs.pass_elide_proof.pass_proofs.ir_laws.facts.Truth.{and_first, and_second, same_name-itself}
+use Rattle.pass_elide_edges.proofs.pass_elide_proof.pass_proofs.ir_laws.facts.same_names.Lists.{IsFound, what_is_found}
+use Rattle.pass_elide_edges.proofs.pass_elide_proof.pass_proofs.ir_tables.Tables.{same_name-same}
+use Rattle.pass_elide_edges.proofs.pass_elide_proof.pass_proofs.rule_laws.rules.plain_rules.Once.{once_at}
+use Rattle.pass_elide_edges.proofs.pass_elide_proof.pass_proofs.rule_laws.rules.same_names.Spellings.{OfNoalloc, parts_alike}
+use Rattle.pass_elide_edges.specs.pass_elide_proof.pass_proofs.ir_base.declared.name.Name.{Name}
+use Rattle.pass_elide_edges.specs.pass_elide_proof.pass_proofs.ir_laws.facts.same_names.Short.{HaveShortNames}
+use Rattle.pass_elide_edges.specs.pass_elide_proof.pass_proofs.ir_model.Names.{first_where, function_at, function_named, noalloc_of, same_name}
+use Rattle.pass_elide_edges.specs.pass_elide_proof.pass_proofs.ir_model.Ty.{Ty}
+use Rattle.pass_elide_edges.specs.pass_elide_proof.pass_proofs.ir_model.declared.instr.Instr.{Instr}
+use Rattle.pass_elide_edges.specs.pass_elide_proof.pass_proofs.ir_model.declared.module.Function.{Function}
+use Rattle.pass_elide_edges.specs.pass_elide_proof.pass_proofs.ir_model.declared.module.Module.{Module}
+use Rattle.pass_elide_edges.specs.pass_elide_proof.pass_proofs.ir_model.declared.operand.Arg.{Arg}
+use Rattle.pass_elide_edges.specs.pass_elide_proof.pass_proofs.ir_model.declared.operand.Callee.{Callee}
+use Rattle.pass_elide_edges.specs.pass_elide_proof.pass_proofs.rule_laws.rules.function_rules.Kept.{AllKeepFunctionRules}
+use Rattle.pass_elide_edges.specs.pass_elide_proof.pass_proofs.rule_laws.rules.plain_rules.Items.{KeepsItemRules}
+use Rattle.pass_elide_edges.specs.pass_elide_proof.pass_proofs.rule_names.Known.{knows_name}
+use Rattle.pass_elide_edges.specs.pass_elide_proof.pass_proofs.rule_names.Reserved.{is_odd, is_part, is_reserved}
+use Rattle.pass_elide_edges.specs.pass_elide_proof.pass_proofs.rule_names.declared.stage.Stage.{Stage}
+use Rattle.pass_elide_edges.specs.pass_elide_proof.pass_proofs.run_framed.Framed.{given_ramp}
+use Rattle.pass_elide_edges.specs.pass_elide_proof.pass_proofs.run_step.Step.{AtInstr, fetch}
 use Rattle.pass_split_proof.proofs.ready.Callees.{callee_known}
 use Rattle.pass_split_proof.proofs.ready.Gives.{unknown_ramp}
 use Rattle.pass_split_proof.proofs.ready.Rules.{function_of_instr}

@@ -7,17 +7,17 @@ use Rattle.elide_shape.specs.Edges.{edges_into, jumps_to, ways_on}
 use Rattle.elide_shape.specs.Frees.{are_sides, are_sides_at, is_null_test, is_release_block, is_tested_next, not_null_first, releases, sides_of}
 use Rattle.elide_shape.specs.declared.calls.Dealing.{Dealing}
 use Rattle.pass_elide_ready.proofs.Guards.{IsJumpTo, IsOnlyCall, jump_is, local_is, only_call_is}
-use Rattle.pass_elide_proof.proofs.pass_proofs.ir_laws.facts.Truth.{and_first, and_second, equal_numbers}
-use Rattle.pass_elide_proof.specs.pass_proofs.ir_base.declared.ops.Pred.{Pred}
-use Rattle.pass_elide_proof.specs.pass_proofs.ir_model.Names.{is_local, position_of}
-use Rattle.pass_elide_proof.specs.pass_proofs.ir_model.Ty.{Ty}
-use Rattle.pass_elide_proof.specs.pass_proofs.ir_model.declared.instr.Instr.{Instr}
-use Rattle.pass_elide_proof.specs.pass_proofs.ir_model.declared.instr.Terminator.{Terminator}
-use Rattle.pass_elide_proof.specs.pass_proofs.ir_model.declared.module.Block.{Block}
-use Rattle.pass_elide_proof.specs.pass_proofs.ir_model.declared.module.Function.{Function}
-use Rattle.pass_elide_proof.specs.pass_proofs.ir_model.declared.operand.Operand.{Operand}
-use Rattle.pass_elide_proof.specs.pass_proofs.ir_paths.Windows.{call_operand}
-use Rattle.pass_elide_proof.specs.pass_proofs.rule_shape.Uses.{uses_of}
+use Rattle.pass_elide_edges.proofs.pass_elide_proof.pass_proofs.ir_laws.facts.Truth.{and_first, and_second, equal_numbers}
+use Rattle.pass_elide_edges.specs.pass_elide_proof.pass_proofs.ir_base.declared.ops.Pred.{Pred}
+use Rattle.pass_elide_edges.specs.pass_elide_proof.pass_proofs.ir_model.Names.{is_local, position_of}
+use Rattle.pass_elide_edges.specs.pass_elide_proof.pass_proofs.ir_model.Ty.{Ty}
+use Rattle.pass_elide_edges.specs.pass_elide_proof.pass_proofs.ir_model.declared.instr.Instr.{Instr}
+use Rattle.pass_elide_edges.specs.pass_elide_proof.pass_proofs.ir_model.declared.instr.Terminator.{Terminator}
+use Rattle.pass_elide_edges.specs.pass_elide_proof.pass_proofs.ir_model.declared.module.Block.{Block}
+use Rattle.pass_elide_edges.specs.pass_elide_proof.pass_proofs.ir_model.declared.module.Function.{Function}
+use Rattle.pass_elide_edges.specs.pass_elide_proof.pass_proofs.ir_model.declared.operand.Operand.{Operand}
+use Rattle.pass_elide_edges.specs.pass_elide_proof.pass_proofs.ir_paths.Windows.{call_operand}
+use Rattle.pass_elide_edges.specs.pass_elide_proof.pass_proofs.rule_shape.Uses.{uses_of}
 
 -- ---- the test
 

@@ -7,15 +7,15 @@ use Rattle.elide_shape.specs.declared.calls.Dealing.{Dealing}
 use Rattle.pass_elide_edges.specs.Keeping.{EntersAlone, HasEdge, SetsKnown}
 use Rattle.pass_elide_kept.specs.Modules.{LeadsOut, PassesAllocation, PassesFree}
 use Rattle.pass_elide_known.specs.Keeping.{GiveOnce, KeepsAside, KeepsFreeing, KeepsTest, only_sets}
-use Rattle.pass_elide_proof.specs.Assembling.{WaitsBehind}
-use Rattle.pass_elide_proof.specs.Calling.{IsSetApart, StartsAlike}
-use Rattle.pass_elide_proof.specs.Edges.{phis_at}
-use Rattle.pass_elide_proof.specs.Elision.{Elision, Shape, function_in}
-use Rattle.pass_elide_proof.specs.Match.{frame_size}
-use Rattle.pass_elide_proof.specs.NullTests.{AreWithNull}
-use Rattle.pass_elide_proof.specs.Places.{instrs_in, instrs_of}
-use Rattle.pass_elide_proof.specs.Placing.{HasShape}
-use Rattle.pass_elide_proof.specs.Waking.{GivesNone, IsFreedName, WakesAlike}
+use Rattle.pass_elide_edges.specs.pass_elide_proof.Assembling.{WaitsBehind}
+use Rattle.pass_elide_edges.specs.pass_elide_proof.Calling.{IsSetApart, StartsAlike}
+use Rattle.pass_elide_edges.specs.pass_elide_proof.Edges.{phis_at}
+use Rattle.pass_elide_edges.specs.pass_elide_proof.Elision.{Elision, Shape, function_in}
+use Rattle.pass_elide_edges.specs.pass_elide_proof.Match.{frame_size}
+use Rattle.pass_elide_edges.specs.pass_elide_proof.NullTests.{AreWithNull}
+use Rattle.pass_elide_edges.specs.pass_elide_proof.Places.{instrs_in, instrs_of}
+use Rattle.pass_elide_edges.specs.pass_elide_proof.Placing.{HasShape}
+use Rattle.pass_elide_edges.specs.pass_elide_proof.Waking.{GivesNone, IsFreedName, WakesAlike}
 use Rattle.pass_elide_ready.proofs.Apart.{IsBehind, after_frees_none, after_waits_none, aside_is, behind_frees_none, behind_waits_none, enters_alone, waits_behind}
 use Rattle.pass_elide_ready.proofs.Asked.{allocates_is, asks_for_frame, asks_is, beside_is, waits_there}
 use Rattle.pass_elide_ready.proofs.Entries.{ending, no_edge_back}
@@ -26,26 +26,26 @@ use Rattle.pass_elide_ready.proofs.Modules.{all_rules, begins}
 use Rattle.pass_elide_ready.proofs.Names.{at_point, no_param_gives, no_phi_gives, phis_low, same_one, same_place}
 use Rattle.pass_elide_ready.specs.Form.{Asking, AsksSo, Freeing, IsFormed}
 use Rattle.pass_elide_ready.specs.Ruled.{IsRuled}
-use Rattle.pass_elide_proof.proofs.pass_proofs.ir_laws.facts.Truth.{equal_numbers, itself}
-use Rattle.pass_elide_proof.proofs.pass_proofs.ir_laws.paths.woven_rules.Unbroken.{each_listed, of_listed}
-use Rattle.pass_elide_proof.proofs.pass_proofs.rule_laws.rules.source_rules.Once.{one_begin}
-use Rattle.pass_elide_proof.proofs.pass_proofs.rule_laws.rules.sources.Places.{point}
-use Rattle.pass_elide_proof.specs.pass_proofs.flow_blocks.Reach.{IsReached as IsReachedBlock}
-use Rattle.pass_elide_proof.specs.pass_proofs.ir_base.declared.ops.Pred.{Pred}
-use Rattle.pass_elide_proof.specs.pass_proofs.ir_model.Names.{position_of}
-use Rattle.pass_elide_proof.specs.pass_proofs.ir_model.Ty.{Ty, ptr}
-use Rattle.pass_elide_proof.specs.pass_proofs.ir_model.declared.instr.Instr.{Instr}
-use Rattle.pass_elide_proof.specs.pass_proofs.ir_model.declared.instr.Phi.{Phi}
-use Rattle.pass_elide_proof.specs.pass_proofs.ir_model.declared.module.Block.{Block}
-use Rattle.pass_elide_proof.specs.pass_proofs.ir_model.declared.module.Function.{Function}
-use Rattle.pass_elide_proof.specs.pass_proofs.ir_model.declared.operand.Callee.{Callee}
-use Rattle.pass_elide_proof.specs.pass_proofs.ir_model.declared.operand.Intrinsic.{Intrinsic}
-use Rattle.pass_elide_proof.specs.pass_proofs.ir_model.declared.operand.Operand.{Operand}
-use Rattle.pass_elide_proof.specs.pass_proofs.ir_paths.Windows.{is_call_of}
-use Rattle.pass_elide_proof.specs.pass_proofs.ir_paths.declared.point.Point.{Point}
-use Rattle.pass_elide_proof.specs.pass_proofs.rule_laws.rules.function_rules.Kept.{KeepsFunctionRules}
-use Rattle.pass_elide_proof.specs.pass_proofs.run_laws.changed.Changed.{Each}
-use Rattle.pass_elide_proof.specs.pass_proofs.run_step.Step.{AtTerm, by_pred, fetch}
+use Rattle.pass_elide_edges.proofs.pass_elide_proof.pass_proofs.ir_laws.facts.Truth.{equal_numbers, itself}
+use Rattle.pass_elide_edges.proofs.pass_elide_proof.pass_proofs.ir_laws.paths.woven_rules.Unbroken.{each_listed, of_listed}
+use Rattle.pass_elide_edges.proofs.pass_elide_proof.pass_proofs.rule_laws.rules.source_rules.Once.{one_begin}
+use Rattle.pass_elide_edges.proofs.pass_elide_proof.pass_proofs.rule_laws.rules.sources.Places.{point}
+use Rattle.pass_elide_edges.specs.pass_elide_proof.pass_proofs.flow_blocks.Reach.{IsReached as IsReachedBlock}
+use Rattle.pass_elide_edges.specs.pass_elide_proof.pass_proofs.ir_base.declared.ops.Pred.{Pred}
+use Rattle.pass_elide_edges.specs.pass_elide_proof.pass_proofs.ir_model.Names.{position_of}
+use Rattle.pass_elide_edges.specs.pass_elide_proof.pass_proofs.ir_model.Ty.{Ty, ptr}
+use Rattle.pass_elide_edges.specs.pass_elide_proof.pass_proofs.ir_model.declared.instr.Instr.{Instr}
+use Rattle.pass_elide_edges.specs.pass_elide_proof.pass_proofs.ir_model.declared.instr.Phi.{Phi}
+use Rattle.pass_elide_edges.specs.pass_elide_proof.pass_proofs.ir_model.declared.module.Block.{Block}
+use Rattle.pass_elide_edges.specs.pass_elide_proof.pass_proofs.ir_model.declared.module.Function.{Function}
+use Rattle.pass_elide_edges.specs.pass_elide_proof.pass_proofs.ir_model.declared.operand.Callee.{Callee}
+use Rattle.pass_elide_edges.specs.pass_elide_proof.pass_proofs.ir_model.declared.operand.Intrinsic.{Intrinsic}
+use Rattle.pass_elide_edges.specs.pass_elide_proof.pass_proofs.ir_model.declared.operand.Operand.{Operand}
+use Rattle.pass_elide_edges.specs.pass_elide_proof.pass_proofs.ir_paths.Windows.{is_call_of}
+use Rattle.pass_elide_edges.specs.pass_elide_proof.pass_proofs.ir_paths.declared.point.Point.{Point}
+use Rattle.pass_elide_edges.specs.pass_elide_proof.pass_proofs.rule_laws.rules.function_rules.Kept.{KeepsFunctionRules}
+use Rattle.pass_elide_edges.specs.pass_elide_proof.pass_proofs.run_laws.changed.Changed.{Each}
+use Rattle.pass_elide_edges.specs.pass_elide_proof.pass_proofs.run_step.Step.{AtTerm, by_pred, fetch}
 use Rattle.pass_split_proof.proofs.ready.Entering.{coroutine_there}
 
 -- ---- edges as ends of blocks

@@ -7,22 +7,22 @@ use Rattle.pass_elide.specs.Elided.{coroutine_frame}
 use Rattle.pass_elide.specs.Frames.{callee_layout, frame_of, layout_of, site_frame}
 use Rattle.pass_elide.specs.Places.{is_site}
 use Rattle.pass_elide.specs.declared.given.GivenFrame.{GivenFrame}
-use Rattle.pass_elide_proof.specs.Calling.{DestroysHandles}
-use Rattle.pass_elide_proof.specs.Elision.{Elision, function_in, rooms}
-use Rattle.pass_elide_proof.specs.Places.{instrs_in, phi_count as own_count, room_at}
+use Rattle.pass_elide_edges.specs.pass_elide_proof.Calling.{DestroysHandles}
+use Rattle.pass_elide_edges.specs.pass_elide_proof.Elision.{Elision, function_in, rooms}
+use Rattle.pass_elide_edges.specs.pass_elide_proof.Places.{instrs_in, phi_count as own_count, room_at}
 use Rattle.pass_elide_ready.proofs.Names.{at_point}
 use Rattle.pass_elide_ready.proofs.SitesListed.{IsSiteThere, site_there}
-use Rattle.pass_elide_proof.specs.pass_proofs.ir_base.declared.name.Name.{Name}
-use Rattle.pass_elide_proof.specs.pass_proofs.ir_model.Names.{function_at, function_named, no_function}
-use Rattle.pass_elide_proof.specs.pass_proofs.ir_model.declared.instr.Instr.{Instr}
-use Rattle.pass_elide_proof.specs.pass_proofs.ir_model.declared.module.Block.{Block}
-use Rattle.pass_elide_proof.specs.pass_proofs.ir_model.declared.module.Function.{Function}
-use Rattle.pass_elide_proof.specs.pass_proofs.ir_model.declared.module.Module.{Module}
-use Rattle.pass_elide_proof.specs.pass_proofs.ir_model.declared.operand.Callee.{Callee}
-use Rattle.pass_elide_proof.specs.pass_proofs.ir_paths.Windows.{instr_at}
-use Rattle.pass_elide_proof.specs.pass_proofs.ir_paths.declared.point.Point.{Point}
-use Rattle.pass_elide_proof.specs.pass_proofs.rule_windows.Points.{phi_count, phis_in}
-use Rattle.pass_elide_proof.specs.pass_proofs.run_step.Step.{phis_of}
+use Rattle.pass_elide_edges.specs.pass_elide_proof.pass_proofs.ir_base.declared.name.Name.{Name}
+use Rattle.pass_elide_edges.specs.pass_elide_proof.pass_proofs.ir_model.Names.{function_at, function_named, no_function}
+use Rattle.pass_elide_edges.specs.pass_elide_proof.pass_proofs.ir_model.declared.instr.Instr.{Instr}
+use Rattle.pass_elide_edges.specs.pass_elide_proof.pass_proofs.ir_model.declared.module.Block.{Block}
+use Rattle.pass_elide_edges.specs.pass_elide_proof.pass_proofs.ir_model.declared.module.Function.{Function}
+use Rattle.pass_elide_edges.specs.pass_elide_proof.pass_proofs.ir_model.declared.module.Module.{Module}
+use Rattle.pass_elide_edges.specs.pass_elide_proof.pass_proofs.ir_model.declared.operand.Callee.{Callee}
+use Rattle.pass_elide_edges.specs.pass_elide_proof.pass_proofs.ir_paths.Windows.{instr_at}
+use Rattle.pass_elide_edges.specs.pass_elide_proof.pass_proofs.ir_paths.declared.point.Point.{Point}
+use Rattle.pass_elide_edges.specs.pass_elide_proof.pass_proofs.rule_windows.Points.{phi_count, phis_in}
+use Rattle.pass_elide_edges.specs.pass_elide_proof.pass_proofs.run_step.Step.{phis_of}
 
 same_count : (o : Option Block) → length (phis_of o) ≡ phis_in o
 same_count None = refl

@@ -5,20 +5,20 @@ use Rattle.elide_sites.specs.Chosen.{AreChosen, LeftOut, Nothing, Taken}
 use Rattle.elide_sites.specs.Sites.{AreSites, AreSitesOf, IsSite, IsSiteAt, More, NoFunction, is_named_call, plain_calls}
 use Rattle.pass_elide.specs.Places.{is_at, is_site, same_call_place}
 use Rattle.pass_elide.specs.declared.places.CallPlace.{CallPlace}
-use Rattle.pass_elide_proof.proofs.pass_proofs.ir_laws.facts.Lists.{at_any}
-use Rattle.pass_elide_proof.proofs.pass_proofs.ir_laws.facts.Truth.{and_first, and_second, equal_numbers}
-use Rattle.pass_elide_proof.proofs.pass_proofs.ir_laws.paths.edges.Lists.{listed_at}
-use Rattle.pass_elide_proof.proofs.pass_proofs.ir_laws.paths.source_rules.Locals.{listed_either, listed_left, listed_right}
-use Rattle.pass_elide_proof.proofs.pass_proofs.rule_laws.rules.source_rules.Once.{listed_place}
-use Rattle.pass_elide_proof.specs.pass_proofs.flow_solver.Paths.{IsListed}
-use Rattle.pass_elide_proof.specs.pass_proofs.ir_base.declared.outcome.Place.{Place}
-use Rattle.pass_elide_proof.specs.pass_proofs.ir_model.declared.instr.Instr.{Instr}
-use Rattle.pass_elide_proof.specs.pass_proofs.ir_model.declared.module.Function.{Function}
-use Rattle.pass_elide_proof.specs.pass_proofs.ir_model.declared.module.Module.{Module}
-use Rattle.pass_elide_proof.specs.pass_proofs.ir_paths.Windows.{instr_at}
-use Rattle.pass_elide_proof.specs.pass_proofs.ir_paths.declared.point.Point.{Point}
-use Rattle.pass_elide_proof.specs.pass_proofs.rule_shape.Places.{places_where}
-use Rattle.pass_elide_proof.specs.pass_proofs.rule_windows.Points.{phi_count, point_of}
+use Rattle.pass_elide_edges.proofs.pass_elide_proof.pass_proofs.ir_laws.facts.Lists.{at_any}
+use Rattle.pass_elide_edges.proofs.pass_elide_proof.pass_proofs.ir_laws.facts.Truth.{and_first, and_second, equal_numbers}
+use Rattle.pass_elide_edges.proofs.pass_elide_proof.pass_proofs.ir_laws.paths.edges.Lists.{listed_at}
+use Rattle.pass_elide_edges.proofs.pass_elide_proof.pass_proofs.ir_laws.paths.source_rules.Locals.{listed_either, listed_left, listed_right}
+use Rattle.pass_elide_edges.proofs.pass_elide_proof.pass_proofs.rule_laws.rules.source_rules.Once.{listed_place}
+use Rattle.pass_elide_edges.specs.pass_elide_proof.pass_proofs.flow_solver.Paths.{IsListed}
+use Rattle.pass_elide_edges.specs.pass_elide_proof.pass_proofs.ir_base.declared.outcome.Place.{Place}
+use Rattle.pass_elide_edges.specs.pass_elide_proof.pass_proofs.ir_model.declared.instr.Instr.{Instr}
+use Rattle.pass_elide_edges.specs.pass_elide_proof.pass_proofs.ir_model.declared.module.Function.{Function}
+use Rattle.pass_elide_edges.specs.pass_elide_proof.pass_proofs.ir_model.declared.module.Module.{Module}
+use Rattle.pass_elide_edges.specs.pass_elide_proof.pass_proofs.ir_paths.Windows.{instr_at}
+use Rattle.pass_elide_edges.specs.pass_elide_proof.pass_proofs.ir_paths.declared.point.Point.{Point}
+use Rattle.pass_elide_edges.specs.pass_elide_proof.pass_proofs.rule_shape.Places.{places_where}
+use Rattle.pass_elide_edges.specs.pass_elide_proof.pass_proofs.rule_windows.Points.{phi_count, point_of}
 
 -- ---- lists
 

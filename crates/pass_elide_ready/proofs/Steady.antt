@@ -1,19 +1,19 @@
 -- Where indices into structures are literals, no distance goes by a local that leads into one.
 use Rattle.std.proofs.Common.{◌≡◌, ℕ, Bool, List, [], ◌∷◌, sym, ap, ◌∙◌, subst}
 use Rattle.std.specs.Prelude.{Option, Some, slice_get, unwrap_or}
-use Rattle.pass_elide_proof.proofs.ElidedFound.{fetched}
-use Rattle.pass_elide_proof.specs.Ordinary.{AreSteady, AreSteadyInside, HasSteadyIndices, IsSteady}
-use Rattle.pass_elide_proof.specs.Places.{instrs_of}
-use Rattle.pass_elide_proof.specs.pass_proofs.ir_model.Layout.{field_type, unnamed}
-use Rattle.pass_elide_proof.specs.pass_proofs.ir_model.Ty.{Ty, array, int, named, ptr, structure, token}
-use Rattle.pass_elide_proof.specs.pass_proofs.ir_model.declared.instr.Instr.{Instr}
-use Rattle.pass_elide_proof.specs.pass_proofs.ir_model.declared.module.Function.{Function}
-use Rattle.pass_elide_proof.specs.pass_proofs.ir_model.declared.module.Module.{Module}
-use Rattle.pass_elide_proof.specs.pass_proofs.ir_model.declared.operand.Arg.{Arg}
-use Rattle.pass_elide_proof.specs.pass_proofs.ir_model.declared.operand.Operand.{Operand}
-use Rattle.pass_elide_proof.specs.pass_proofs.run_laws.transfer.Alone.{IsNoLocal}
-use Rattle.pass_elide_proof.specs.pass_proofs.run_step.Step.{AtInstr, fetch}
-use Rattle.pass_elide_proof.specs.pass_proofs.run_step.Values.{arg_value, index_of, number_at, part_at}
+use Rattle.pass_elide_edges.proofs.pass_elide_proof.ElidedFound.{fetched}
+use Rattle.pass_elide_edges.specs.pass_elide_proof.Ordinary.{AreSteady, AreSteadyInside, HasSteadyIndices, IsSteady}
+use Rattle.pass_elide_edges.specs.pass_elide_proof.Places.{instrs_of}
+use Rattle.pass_elide_edges.specs.pass_elide_proof.pass_proofs.ir_model.Layout.{field_type, unnamed}
+use Rattle.pass_elide_edges.specs.pass_elide_proof.pass_proofs.ir_model.Ty.{Ty, array, int, named, ptr, structure, token}
+use Rattle.pass_elide_edges.specs.pass_elide_proof.pass_proofs.ir_model.declared.instr.Instr.{Instr}
+use Rattle.pass_elide_edges.specs.pass_elide_proof.pass_proofs.ir_model.declared.module.Function.{Function}
+use Rattle.pass_elide_edges.specs.pass_elide_proof.pass_proofs.ir_model.declared.module.Module.{Module}
+use Rattle.pass_elide_edges.specs.pass_elide_proof.pass_proofs.ir_model.declared.operand.Arg.{Arg}
+use Rattle.pass_elide_edges.specs.pass_elide_proof.pass_proofs.ir_model.declared.operand.Operand.{Operand}
+use Rattle.pass_elide_edges.specs.pass_elide_proof.pass_proofs.run_laws.transfer.Alone.{IsNoLocal}
+use Rattle.pass_elide_edges.specs.pass_elide_proof.pass_proofs.run_step.Step.{AtInstr, fetch}
+use Rattle.pass_elide_edges.specs.pass_elide_proof.pass_proofs.run_step.Values.{arg_value, index_of, number_at, part_at}
 use Rattle.pass_split_proof.proofs.ready.Distances.{field_index}
 use Rattle.pass_split_proof.specs.ready.Fields.{AreFieldIndices, AreInnerIndices, IsFieldIndex, number_in, type_inside}
 

@@ -4,43 +4,43 @@ use Rattle.std.proofs.Common.{◌≡◌, inl, inr, ℕ, Bool, true, false, List,
 use Rattle.std.proofs.lemmas.Bool.{false≢true}
 use Rattle.std.specs.List.{list_all, list_any}
 use Rattle.std.specs.Prelude.{None, Option, Some, not, slice_get, if◌then◌else◌, ◌&&◌, ◌==◌}
-use Rattle.pass_elide_proof.specs.Edges.{label_from, phis_at}
-use Rattle.pass_elide_proof.specs.Places.{instrs_of}
+use Rattle.pass_elide_edges.specs.pass_elide_proof.Edges.{label_from, phis_at}
+use Rattle.pass_elide_edges.specs.pass_elide_proof.Places.{instrs_of}
 use Rattle.pass_elide_ready.proofs.Names.{at_point}
-use Rattle.pass_elide_proof.proofs.pass_proofs.edges.rules.Switched.{switched}
-use Rattle.pass_elide_proof.proofs.pass_proofs.ir_laws.facts.Truth.{and_first, and_second, equal_numbers, holds}
-use Rattle.pass_elide_proof.proofs.pass_proofs.ir_laws.paths.counted.PartFacts.{all_listed}
-use Rattle.pass_elide_proof.proofs.pass_proofs.ir_laws.paths.renamed.Uses.{stands_in}
-use Rattle.pass_elide_proof.proofs.pass_proofs.ir_laws.paths.uses.Paths.{place_of}
-use Rattle.pass_elide_proof.proofs.pass_proofs.ir_laws.paths.woven_rules.Unbroken.{each_listed}
-use Rattle.pass_elide_proof.proofs.pass_proofs.kept.sources.Names.{none_outside, suspend_inside}
-use Rattle.pass_elide_proof.proofs.pass_proofs.rule_laws.rules.edges.Entered.{from_predecessors, listed_has}
-use Rattle.pass_elide_proof.proofs.pass_proofs.rule_laws.rules.source_rules.Locals.{own_label}
-use Rattle.pass_elide_proof.proofs.pass_proofs.rule_laws.rules.sources.Places.{point}
-use Rattle.pass_elide_proof.proofs.pass_proofs.split.edges.Entered.{leads_to}
-use Rattle.pass_elide_proof.specs.pass_proofs.edges.rules.Phis.{ArePhisEnteredByJumps}
-use Rattle.pass_elide_proof.specs.pass_proofs.edges.rules.Returns.{AreSwitched}
-use Rattle.pass_elide_proof.specs.pass_proofs.flow_solver.Paths.{IsListed}
-use Rattle.pass_elide_proof.specs.pass_proofs.ir_model.Names.{position_of}
-use Rattle.pass_elide_proof.specs.pass_proofs.ir_model.declared.instr.Incoming.{Incoming}
-use Rattle.pass_elide_proof.specs.pass_proofs.ir_model.declared.instr.Instr.{Instr}
-use Rattle.pass_elide_proof.specs.pass_proofs.ir_model.declared.instr.Phi.{Phi}
-use Rattle.pass_elide_proof.specs.pass_proofs.ir_model.declared.instr.Terminator.{Terminator}
-use Rattle.pass_elide_proof.specs.pass_proofs.ir_model.declared.module.Block.{Block}
-use Rattle.pass_elide_proof.specs.pass_proofs.ir_model.declared.module.Function.{Function}
-use Rattle.pass_elide_proof.specs.pass_proofs.ir_model.declared.module.Module.{Module}
-use Rattle.pass_elide_proof.specs.pass_proofs.ir_model.declared.operand.Callee.{Callee}
-use Rattle.pass_elide_proof.specs.pass_proofs.ir_model.declared.operand.Intrinsic.{Intrinsic}
-use Rattle.pass_elide_proof.specs.pass_proofs.ir_model.declared.operand.Operand.{Operand}
-use Rattle.pass_elide_proof.specs.pass_proofs.ir_paths.Windows.{is_call_of}
-use Rattle.pass_elide_proof.specs.pass_proofs.pass_edges.Edges.{has_phis, is_suspend}
-use Rattle.pass_elide_proof.specs.pass_proofs.rule_laws.rules.function_rules.Kept.{KeepsFunctionRules}
-use Rattle.pass_elide_proof.specs.pass_proofs.rule_laws.rules.rows.Returns.{IsSwitched}
-use Rattle.pass_elide_proof.specs.pass_proofs.rule_phis.Edges.{breaks_edges, differs, fits_edges, has, incoming_labels, into_block}
-use Rattle.pass_elide_proof.specs.pass_proofs.rule_phis.Edges.{predecessors}
-use Rattle.pass_elide_proof.specs.pass_proofs.rule_shape.Switches.{wrong_switch}
-use Rattle.pass_elide_proof.specs.pass_proofs.run_laws.changed.Changed.{Each}
-use Rattle.pass_elide_proof.specs.pass_proofs.run_step.Step.{incoming_from, label_of, phis_of}
+use Rattle.pass_elide_edges.proofs.pass_elide_proof.pass_proofs.edges.rules.Switched.{switched}
+use Rattle.pass_elide_edges.proofs.pass_elide_proof.pass_proofs.ir_laws.facts.Truth.{and_first, and_second, equal_numbers, holds}
+use Rattle.pass_elide_edges.proofs.pass_elide_proof.pass_proofs.ir_laws.paths.counted.PartFacts.{all_listed}
+use Rattle.pass_elide_edges.proofs.pass_elide_proof.pass_proofs.ir_laws.paths.renamed.Uses.{stands_in}
+use Rattle.pass_elide_edges.proofs.pass_elide_proof.pass_proofs.ir_laws.paths.uses.Paths.{place_of}
+use Rattle.pass_elide_edges.proofs.pass_elide_proof.pass_proofs.ir_laws.paths.woven_rules.Unbroken.{each_listed}
+use Rattle.pass_elide_edges.proofs.pass_elide_proof.pass_proofs.kept.sources.Names.{none_outside, suspend_inside}
+use Rattle.pass_elide_edges.proofs.pass_elide_proof.pass_proofs.rule_laws.rules.edges.Entered.{from_predecessors, listed_has}
+use Rattle.pass_elide_edges.proofs.pass_elide_proof.pass_proofs.rule_laws.rules.source_rules.Locals.{own_label}
+use Rattle.pass_elide_edges.proofs.pass_elide_proof.pass_proofs.rule_laws.rules.sources.Places.{point}
+use Rattle.pass_elide_edges.proofs.pass_elide_proof.pass_proofs.split.edges.Entered.{leads_to}
+use Rattle.pass_elide_edges.specs.pass_elide_proof.pass_proofs.edges.rules.Phis.{ArePhisEnteredByJumps}
+use Rattle.pass_elide_edges.specs.pass_elide_proof.pass_proofs.edges.rules.Returns.{AreSwitched}
+use Rattle.pass_elide_edges.specs.pass_elide_proof.pass_proofs.flow_solver.Paths.{IsListed}
+use Rattle.pass_elide_edges.specs.pass_elide_proof.pass_proofs.ir_model.Names.{position_of}
+use Rattle.pass_elide_edges.specs.pass_elide_proof.pass_proofs.ir_model.declared.instr.Incoming.{Incoming}
+use Rattle.pass_elide_edges.specs.pass_elide_proof.pass_proofs.ir_model.declared.instr.Instr.{Instr}
+use Rattle.pass_elide_edges.specs.pass_elide_proof.pass_proofs.ir_model.declared.instr.Phi.{Phi}
+use Rattle.pass_elide_edges.specs.pass_elide_proof.pass_proofs.ir_model.declared.instr.Terminator.{Terminator}
+use Rattle.pass_elide_edges.specs.pass_elide_proof.pass_proofs.ir_model.declared.module.Block.{Block}
+use Rattle.pass_elide_edges.specs.pass_elide_proof.pass_proofs.ir_model.declared.module.Function.{Function}
+use Rattle.pass_elide_edges.specs.pass_elide_proof.pass_proofs.ir_model.declared.module.Module.{Module}
+use Rattle.pass_elide_edges.specs.pass_elide_proof.pass_proofs.ir_model.declared.operand.Callee.{Callee}
+use Rattle.pass_elide_edges.specs.pass_elide_proof.pass_proofs.ir_model.declared.operand.Intrinsic.{Intrinsic}
+use Rattle.pass_elide_edges.specs.pass_elide_proof.pass_proofs.ir_model.declared.operand.Operand.{Operand}
+use Rattle.pass_elide_edges.specs.pass_elide_proof.pass_proofs.ir_paths.Windows.{is_call_of}
+use Rattle.pass_elide_edges.specs.pass_elide_proof.pass_proofs.pass_edges.Edges.{has_phis, is_suspend}
+use Rattle.pass_elide_edges.specs.pass_elide_proof.pass_proofs.rule_laws.rules.function_rules.Kept.{KeepsFunctionRules}
+use Rattle.pass_elide_edges.specs.pass_elide_proof.pass_proofs.rule_laws.rules.rows.Returns.{IsSwitched}
+use Rattle.pass_elide_edges.specs.pass_elide_proof.pass_proofs.rule_phis.Edges.{breaks_edges, differs, fits_edges, has, incoming_labels, into_block}
+use Rattle.pass_elide_edges.specs.pass_elide_proof.pass_proofs.rule_phis.Edges.{predecessors}
+use Rattle.pass_elide_edges.specs.pass_elide_proof.pass_proofs.rule_shape.Switches.{wrong_switch}
+use Rattle.pass_elide_edges.specs.pass_elide_proof.pass_proofs.run_laws.changed.Changed.{Each}
+use Rattle.pass_elide_edges.specs.pass_elide_proof.pass_proofs.run_step.Step.{incoming_from, label_of, phis_of}
 use Rattle.pass_split_proof.proofs.code.Allocas.{by_instrs}
 use Rattle.pass_split_proof.proofs.ready.Rules.{at_phi}
 

@@ -2,20 +2,20 @@
 use Rattle.std.proofs.Common.{◌≡◌, inl, inr, ⊎_elim, ℕ, ◌+◌, ◌<◌, ◌≤◌, sym, ap, ◌∙◌, subst, arith}
 use Rattle.std.proofs.lemmas.Bool.{cases_lt}
 use Rattle.std.specs.Prelude.{Some, slice_get}
-use Rattle.pass_elide_proof.proofs.ElidedFound.{fetched}
-use Rattle.pass_elide_proof.specs.Places.{instrs_of}
+use Rattle.pass_elide_edges.proofs.pass_elide_proof.ElidedFound.{fetched}
+use Rattle.pass_elide_edges.specs.pass_elide_proof.Places.{instrs_of}
 use Rattle.pass_elide_ready.proofs.OneUse.{IsUsedThere, no_phi_use, one_place, used_there}
-use Rattle.pass_elide_proof.specs.pass_proofs.flow_solver.Paths.{IsListed}
-use Rattle.pass_elide_proof.specs.pass_proofs.frame_crossing.Crossing.{Crosses}
-use Rattle.pass_elide_proof.specs.pass_proofs.frame_crossing.Paths.{Across, IsNeeded, IsNeededFrom, Next, OnEdge, Use, phis_at, used_by}
-use Rattle.pass_elide_proof.specs.pass_proofs.ir_model.Names.{position_of}
-use Rattle.pass_elide_proof.specs.pass_proofs.ir_model.declared.instr.Instr.{Instr}
-use Rattle.pass_elide_proof.specs.pass_proofs.ir_model.declared.module.Function.{Function}
-use Rattle.pass_elide_proof.specs.pass_proofs.ir_parts.Contents.{result_of}
-use Rattle.pass_elide_proof.specs.pass_proofs.ir_paths.Windows.{destroy_label, resume_label}
-use Rattle.pass_elide_proof.specs.pass_proofs.ir_paths.declared.point.Point.{Point}
-use Rattle.pass_elide_proof.specs.pass_proofs.rule_shape.Uses.{uses_of}
-use Rattle.pass_elide_proof.specs.pass_proofs.run_step.Step.{AtInstr, fetch}
+use Rattle.pass_elide_edges.specs.pass_elide_proof.pass_proofs.flow_solver.Paths.{IsListed}
+use Rattle.pass_elide_edges.specs.pass_elide_proof.pass_proofs.frame_crossing.Crossing.{Crosses}
+use Rattle.pass_elide_edges.specs.pass_elide_proof.pass_proofs.frame_crossing.Paths.{Across, IsNeeded, IsNeededFrom, Next, OnEdge, Use, phis_at, used_by}
+use Rattle.pass_elide_edges.specs.pass_elide_proof.pass_proofs.ir_model.Names.{position_of}
+use Rattle.pass_elide_edges.specs.pass_elide_proof.pass_proofs.ir_model.declared.instr.Instr.{Instr}
+use Rattle.pass_elide_edges.specs.pass_elide_proof.pass_proofs.ir_model.declared.module.Function.{Function}
+use Rattle.pass_elide_edges.specs.pass_elide_proof.pass_proofs.ir_parts.Contents.{result_of}
+use Rattle.pass_elide_edges.specs.pass_elide_proof.pass_proofs.ir_paths.Windows.{destroy_label, resume_label}
+use Rattle.pass_elide_edges.specs.pass_elide_proof.pass_proofs.ir_paths.declared.point.Point.{Point}
+use Rattle.pass_elide_edges.specs.pass_elide_proof.pass_proofs.rule_shape.Uses.{uses_of}
+use Rattle.pass_elide_edges.specs.pass_elide_proof.pass_proofs.run_step.Step.{AtInstr, fetch}
 
 module _ (f : Function) (v q to : ℕ) (once : uses_of f v ≤ 1) (use_there : IsListed v (used_by (fetch f q to))) where
   place : IsUsedThere v f q to

@@ -6,28 +6,28 @@ use Rattle.elide_shape.specs.Calls.{deals_by}
 use Rattle.elide_shape.specs.declared.calls.Dealing.{Dealing}
 use Rattle.pass_elide_edges.specs.Keeping.{HasEdge}
 use Rattle.pass_elide_known.specs.Keeping.{only_sets}
-use Rattle.pass_elide_proof.specs.Edges.{label_from, phis_at}
-use Rattle.pass_elide_proof.specs.Elision.{Elision, Shape, function_in, no_shape}
-use Rattle.pass_elide_proof.specs.NullTests.{AreWithNull}
-use Rattle.pass_elide_proof.specs.Places.{instrs_of}
-use Rattle.pass_elide_proof.specs.Releasing.{IsFreedSoon}
-use Rattle.pass_elide_proof.specs.Shapes.{AreSameFetches, IsAllocating, JumpsTo}
-use Rattle.pass_elide_proof.specs.pass_proofs.flow_blocks.Reach.{IsReached as IsReachedBlock}
-use Rattle.pass_elide_proof.specs.pass_proofs.flow_solver.Paths.{IsListed}
-use Rattle.pass_elide_proof.specs.pass_proofs.ir_base.declared.ops.Pred.{Pred}
-use Rattle.pass_elide_proof.specs.pass_proofs.ir_model.Names.{position_of}
-use Rattle.pass_elide_proof.specs.pass_proofs.ir_model.Ty.{Ty, ptr}
-use Rattle.pass_elide_proof.specs.pass_proofs.ir_model.declared.instr.Instr.{Instr}
-use Rattle.pass_elide_proof.specs.pass_proofs.ir_model.declared.instr.Phi.{Phi}
-use Rattle.pass_elide_proof.specs.pass_proofs.ir_model.declared.instr.Terminator.{Terminator}
-use Rattle.pass_elide_proof.specs.pass_proofs.ir_model.declared.module.Function.{Function}
-use Rattle.pass_elide_proof.specs.pass_proofs.ir_model.declared.operand.Arg.{Arg}
-use Rattle.pass_elide_proof.specs.pass_proofs.ir_model.declared.operand.Callee.{Callee}
-use Rattle.pass_elide_proof.specs.pass_proofs.ir_model.declared.operand.Intrinsic.{Intrinsic}
-use Rattle.pass_elide_proof.specs.pass_proofs.ir_model.declared.operand.Operand.{Operand}
-use Rattle.pass_elide_proof.specs.pass_proofs.ir_parts.Contents.{result_of}
-use Rattle.pass_elide_proof.specs.pass_proofs.ir_paths.Windows.{call_operand, call_result, is_call_of}
-use Rattle.pass_elide_proof.specs.pass_proofs.run_step.Step.{AtInstr, AtTerm, fetch, incoming_from}
+use Rattle.pass_elide_edges.specs.pass_elide_proof.Edges.{label_from, phis_at}
+use Rattle.pass_elide_edges.specs.pass_elide_proof.Elision.{Elision, Shape, function_in, no_shape}
+use Rattle.pass_elide_edges.specs.pass_elide_proof.NullTests.{AreWithNull}
+use Rattle.pass_elide_edges.specs.pass_elide_proof.Places.{instrs_of}
+use Rattle.pass_elide_edges.specs.pass_elide_proof.Releasing.{IsFreedSoon}
+use Rattle.pass_elide_edges.specs.pass_elide_proof.Shapes.{AreSameFetches, IsAllocating, JumpsTo}
+use Rattle.pass_elide_edges.specs.pass_elide_proof.pass_proofs.flow_blocks.Reach.{IsReached as IsReachedBlock}
+use Rattle.pass_elide_edges.specs.pass_elide_proof.pass_proofs.flow_solver.Paths.{IsListed}
+use Rattle.pass_elide_edges.specs.pass_elide_proof.pass_proofs.ir_base.declared.ops.Pred.{Pred}
+use Rattle.pass_elide_edges.specs.pass_elide_proof.pass_proofs.ir_model.Names.{position_of}
+use Rattle.pass_elide_edges.specs.pass_elide_proof.pass_proofs.ir_model.Ty.{Ty, ptr}
+use Rattle.pass_elide_edges.specs.pass_elide_proof.pass_proofs.ir_model.declared.instr.Instr.{Instr}
+use Rattle.pass_elide_edges.specs.pass_elide_proof.pass_proofs.ir_model.declared.instr.Phi.{Phi}
+use Rattle.pass_elide_edges.specs.pass_elide_proof.pass_proofs.ir_model.declared.instr.Terminator.{Terminator}
+use Rattle.pass_elide_edges.specs.pass_elide_proof.pass_proofs.ir_model.declared.module.Function.{Function}
+use Rattle.pass_elide_edges.specs.pass_elide_proof.pass_proofs.ir_model.declared.operand.Arg.{Arg}
+use Rattle.pass_elide_edges.specs.pass_elide_proof.pass_proofs.ir_model.declared.operand.Callee.{Callee}
+use Rattle.pass_elide_edges.specs.pass_elide_proof.pass_proofs.ir_model.declared.operand.Intrinsic.{Intrinsic}
+use Rattle.pass_elide_edges.specs.pass_elide_proof.pass_proofs.ir_model.declared.operand.Operand.{Operand}
+use Rattle.pass_elide_edges.specs.pass_elide_proof.pass_proofs.ir_parts.Contents.{result_of}
+use Rattle.pass_elide_edges.specs.pass_elide_proof.pass_proofs.ir_paths.Windows.{call_operand, call_result, is_call_of}
+use Rattle.pass_elide_edges.specs.pass_elide_proof.pass_proofs.run_step.Step.{AtInstr, AtTerm, fetch, incoming_from}
 
 -- ---- blocks and names
 

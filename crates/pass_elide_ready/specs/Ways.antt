@@ -3,13 +3,13 @@
 use Rattle.std.specs.Prelude.{◌≡◌, ℕ, Some, slice_get}
 use Rattle.elide_shape.specs.Edges.{edges_of}
 use Rattle.elide_sites.specs.Destroyed.{has_at, is_free, is_stop}
-use Rattle.pass_elide_proof.specs.pass_proofs.ir_model.Names.{position_of}
-use Rattle.pass_elide_proof.specs.pass_proofs.ir_model.declared.instr.Terminator.{Terminator}
-use Rattle.pass_elide_proof.specs.pass_proofs.ir_model.declared.module.Block.{Block}
-use Rattle.pass_elide_proof.specs.pass_proofs.ir_model.declared.module.Function.{Function}
-use Rattle.pass_elide_proof.specs.pass_proofs.ir_model.declared.operand.Operand.{Operand}
-use Rattle.pass_elide_proof.specs.pass_proofs.ir_paths.Paths.{targets}
-use Rattle.pass_elide_proof.specs.pass_proofs.ir_paths.Windows.{end_block}
+use Rattle.pass_elide_edges.specs.pass_elide_proof.pass_proofs.ir_model.Names.{position_of}
+use Rattle.pass_elide_edges.specs.pass_elide_proof.pass_proofs.ir_model.declared.instr.Terminator.{Terminator}
+use Rattle.pass_elide_edges.specs.pass_elide_proof.pass_proofs.ir_model.declared.module.Block.{Block}
+use Rattle.pass_elide_edges.specs.pass_elide_proof.pass_proofs.ir_model.declared.module.Function.{Function}
+use Rattle.pass_elide_edges.specs.pass_elide_proof.pass_proofs.ir_model.declared.operand.Operand.{Operand}
+use Rattle.pass_elide_edges.specs.pass_elide_proof.pass_proofs.ir_paths.Paths.{targets}
+use Rattle.pass_elide_edges.specs.pass_elide_proof.pass_proofs.ir_paths.Windows.{end_block}
 
 pub record HasSameWays (f g : Function) : Type 0 where
   pub edges : edges_of g ≡ edges_of f

@@ -4,11 +4,11 @@ ghost use Rattle.elide_shape.specs.Frees.{is_tested_next};
 ghost use Rattle.elide_shape.specs.Guard.{is_guarded};
 ghost use Rattle.pass_elide_ready.specs.Blocks.{AskingBlocks, AsksBlocks, FreeingBlocks, FreesBlocks};
 ghost use Rattle.pass_elide_ready.specs.Ways.{HasSameEnds};
-ghost use Rattle.pass_elide_proof.specs.pass_proofs.ir_model.declared.module.Block.{Block};
-ghost use Rattle.pass_elide_proof.specs.pass_proofs.ir_model.declared.module.Function.{Function};
-ghost use Rattle.pass_elide_proof.specs.pass_proofs.ir_model.declared.module.Module.{Module};
-ghost use Rattle.pass_elide_proof.specs.pass_proofs.pass_edges.EdgeBlocks.{with_edge_blocks};
-ghost use Rattle.pass_elide_proof.specs.pass_proofs.rule_laws.rules.function_rules.Kept.{KeepsFunctionRules};
+ghost use Rattle.pass_elide_edges.specs.pass_elide_proof.pass_proofs.ir_model.declared.module.Block.{Block};
+ghost use Rattle.pass_elide_edges.specs.pass_elide_proof.pass_proofs.ir_model.declared.module.Function.{Function};
+ghost use Rattle.pass_elide_edges.specs.pass_elide_proof.pass_proofs.ir_model.declared.module.Module.{Module};
+ghost use Rattle.pass_elide_edges.specs.pass_elide_proof.pass_proofs.pass_edges.EdgeBlocks.{with_edge_blocks};
+ghost use Rattle.pass_elide_edges.specs.pass_elide_proof.pass_proofs.rule_laws.rules.function_rules.Kept.{KeepsFunctionRules};
 ghost use Rattle.std.specs.Prelude.{Some, slice_get, true, ◌≡◌, ℕ};
 
 /// A guarded coroutine whose edges have blocks asks for its frame at the end of one block. The allocator's block and

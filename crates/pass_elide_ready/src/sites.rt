@@ -2,16 +2,16 @@
 
 ghost use Rattle.elide_sites.specs.Elidable.{IsElidable};
 ghost use Rattle.elide_sites.specs.Sites.{AreSites, callee_in};
-ghost use Rattle.pass_elide_proof.specs.CallersStack.{KeepAllHandles};
-ghost use Rattle.pass_elide_proof.specs.Calling.{DestroysHandles};
-ghost use Rattle.pass_elide_proof.specs.Elision.{Elision, function_in};
-ghost use Rattle.pass_elide_proof.specs.Invariant.{IsSiteOf};
+ghost use Rattle.pass_elide_edges.specs.pass_elide_proof.CallersStack.{KeepAllHandles};
+ghost use Rattle.pass_elide_edges.specs.pass_elide_proof.Calling.{DestroysHandles};
+ghost use Rattle.pass_elide_edges.specs.pass_elide_proof.Elision.{Elision, function_in};
+ghost use Rattle.pass_elide_edges.specs.pass_elide_proof.Invariant.{IsSiteOf};
 ghost use Rattle.pass_elide_ready.specs.Ruled.{IsRuled};
-ghost use Rattle.pass_elide_proof.specs.pass_proofs.ir_base.declared.name.Name.{Name};
-ghost use Rattle.pass_elide_proof.specs.pass_proofs.ir_model.Names.{function_at, function_named};
-ghost use Rattle.pass_elide_proof.specs.pass_proofs.ir_model.declared.instr.Instr.{Instr};
-ghost use Rattle.pass_elide_proof.specs.pass_proofs.ir_model.declared.module.Module.{Module};
-ghost use Rattle.pass_elide_proof.specs.pass_proofs.ir_paths.declared.point.Point.{Point};
+ghost use Rattle.pass_elide_edges.specs.pass_elide_proof.pass_proofs.ir_base.declared.name.Name.{Name};
+ghost use Rattle.pass_elide_edges.specs.pass_elide_proof.pass_proofs.ir_model.Names.{function_at, function_named};
+ghost use Rattle.pass_elide_edges.specs.pass_elide_proof.pass_proofs.ir_model.declared.instr.Instr.{Instr};
+ghost use Rattle.pass_elide_edges.specs.pass_elide_proof.pass_proofs.ir_model.declared.module.Module.{Module};
+ghost use Rattle.pass_elide_edges.specs.pass_elide_proof.pass_proofs.ir_paths.declared.point.Point.{Point};
 ghost use Rattle.std.specs.Prelude.{Some, false, ◌≡◌, ℕ};
 
 /// Handles of the sites of a source are destroyed in its framed form, where functions that are no coroutines are the

@@ -9,7 +9,7 @@ use Rattle.pass_elide_apart.specs.pass_elide_proof.Placing.{HasShape, KeepsPlace
 use Rattle.pass_elide_apart.specs.pass_elide_proof.Releasing.{FreesAtOnce}
 use Rattle.pass_elide_apart.specs.pass_elide_proof.Statement.{IsElisionOf}
 use Rattle.pass_elide_kept.specs.Modules.{KeepsHandlesAndEnds}
-use Rattle.pass_elide_known.specs.Keeping.{KeepsMore}
+use Rattle.pass_elide_meaning.specs.pass_elide_known.Keeping.{KeepsMore}
 use Rattle.pass_elide_apart.specs.pass_elide_runs.Keeps.{KeepsRuns}
 use Rattle.pass_elide_apart.specs.pass_proofs.ir_model.declared.module.Module.{Module}
 use Rattle.pass_elide_apart.specs.pass_proofs.run_laws.memory.Standing.{Embeds, own_homes}

@@ -1,5 +1,5 @@
-use Rattle.pass_elide_edges.specs.pass_elide_proof.Elision.{framed}
-use Rattle.pass_elide_edges.specs.pass_elide_proof.pass_proofs.run_framed.Framed.{framed_state_at}
+use Rattle.pass_elide_meaning.specs.pass_elide_edges.pass_elide_proof.Elision.{framed}
+use Rattle.pass_elide_meaning.specs.pass_elide_edges.pass_elide_proof.pass_proofs.run_framed.Framed.{framed_state_at}
 use Rattle.pass_elide_lacks.proofs.RunOut.{no_ret, out_in_runs}
 use Rattle.pass_elide_lacks.proofs.ends.resumed_activations_come_to_no_ret.Goals as goal
 

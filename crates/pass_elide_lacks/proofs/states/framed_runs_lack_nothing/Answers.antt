@@ -1,7 +1,7 @@
 use Rattle.pass_elide_lacks.proofs.Sizes.{takes_lacks}
 use Rattle.pass_elide_meaning.proofs.StatesKnown.{known_framed}
 use Rattle.pass_elide_lacks.proofs.states.framed_runs_lack_nothing.Goals as goal
-use Rattle.pass_elide_edges.specs.pass_elide_proof.Assembling.{framed_after}
+use Rattle.pass_elide_meaning.specs.pass_elide_edges.pass_elide_proof.Assembling.{framed_after}
 
 pub returns-clause-lacks : goal.returns-clause-lacks
 returns-clause-lacks c e entry args n named = takes_lacks e named (framed_after e entry args n)
