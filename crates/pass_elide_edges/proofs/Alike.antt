@@ -12,6 +12,7 @@ use Rattle.pass_elide_proof.specs.Placing.{IsQuiet}
 use Rattle.pass_elide_proof.specs.Shapes.{AsksForFrame}
 use Rattle.pass_elide_proof.proofs.pass_proofs.ir_laws.facts.Lists.{get_within}
 use Rattle.pass_elide_proof.proofs.pass_proofs.ir_laws.facts.Truth.{either}
+use Rattle.pass_elide_proof.specs.pass_proofs.flow_blocks.Reach.{IsReached as IsReachedBlock}
 use Rattle.pass_elide_proof.specs.pass_proofs.ir_model.Names.{position_of}
 use Rattle.pass_elide_proof.specs.pass_proofs.ir_model.declared.instr.Phi.{Phi}
 use Rattle.pass_elide_proof.specs.pass_proofs.ir_model.declared.module.Function.{Function}
@@ -162,7 +163,8 @@ module _ (e : Elision) (s u : State) (none : e.shape s.top.func ≡ no_shape) wh
 module _ (e : Elision) (s u : State) (k : AsksForFrame (function_in e s.top.func) (e.shape s.top.func))
     (ends : KeepsShape (function_in e s.top.func) (e.shape s.top.func) k)
     (stands : StandsPlain (function_in e s.top.func) (e.shape s.top.func) k s.top.block (is_given_mode u.top.mode)
-    (was_given (sides s u) u.top)) where
+    (was_given (sides s u) u.top))
+    (reached : IsReachedBlock (function_in e s.top.func) (0 ∷ []) [] s.top.block) where
   abbrev f : Function
   f = function_in e s.top.func
 
@@ -198,7 +200,7 @@ module _ (e : Elision) (s u : State) (k : AsksForFrame (function_in e s.top.func
       (phis_at (function_in e s.top.func) (position_of (function_in e s.top.func) label))
   shape_phis label edge sets =
       each_both (SetsKnown f x) Takes (IsPhiAlike e s u (label_from f s.top.block)) phi_alike
-      (phis_at f (position_of f label)) sets (ends.takes s.top.block label edge)
+      (phis_at f (position_of f label)) sets (ends.takes s.top.block label reached edge)
 
   pub holds_still : (label : ℕ) → HasEdge (function_in e s.top.func) s.top.block label
       → s.top.at ≡ length (instrs_of (function_in e s.top.func) s.top.block) → is_given_mode u.top.mode ≡ true

@@ -4,7 +4,7 @@ use Rattle.std.specs.Prelude.{◌≢◌, slice_get}
 use Rattle.pass_elide.specs.Elided.{block_frames, elided_blocks, with_front}
 use Rattle.pass_elide_edges.specs.Keeping.{HasEdge}
 use Rattle.pass_elide_edges.specs.States.{EntersNoStart, StartsBare}
-use Rattle.pass_elide_proof.proofs.Assembly.{framed_stays}
+use Rattle.pass_elide_proof.proofs.Checked.{framed_stays}
 use Rattle.pass_elide_proof.proofs.CallersEdges.{goes_listed}
 use Rattle.pass_elide_proof.proofs.EdgeEntered.{code_of, end_at, term_end}
 use Rattle.pass_elide_proof.proofs.Facts.{not_both}

@@ -8,7 +8,7 @@ use Rattle.pass_elide_edges.proofs.Choosing.{Edge, Leaves, Stays}
 use Rattle.pass_elide_edges.proofs.Fronts.{all_slots, place}
 use Rattle.pass_elide_edges.proofs.Staying.{branch_stays, to_one, to_other, ends_here, gives_none, keeps_windows, leaving_coroutine, stays_by}
 use Rattle.pass_elide_edges.specs.Keeping.{Asked, HasEdge, KeepsEnds, KeepsFreeing, LeavesNone, LooksAt, Plain, ShapesEnds, Tested}
-use Rattle.pass_elide_edges.specs.States.{EndsElided, EndsFramed, StandApart}
+use Rattle.pass_elide_edges.specs.States.{EndsElided, EndsReached, StandApart}
 use Rattle.pass_elide_proof.proofs.EdgeEntered.{same_term}
 use Rattle.pass_elide_proof.proofs.Facts.{not_both, some_none}
 use Rattle.pass_elide_proof.proofs.Given.{own_of}
@@ -65,7 +65,7 @@ pub data Looks (e : Elision) (s t : State) (term : Terminator)
       → was_given (sides s t) t.top ≡ true → Looks e s t term q
 
 module _ (e : Elision) (keeps : KeepsPlaces e) (ends : KeepsEnds e) (s t : State) (r : AreRelated e s t)
-    (first : EndsFramed e s) (second : EndsElided e t) (apart : StandApart e (sides s t) s.top t.top)
+    (first : EndsReached e s) (second : EndsElided e t) (apart : StandApart e (sides s t) s.top t.top)
     (by : PassesBy e t t.top)
     (runs : s.outcome ≡ Outcome.Running)
     (term : Terminator) (there : fetch (function_of (framed e).given s) s.top.block s.top.at ≡ AtTerm term)
@@ -133,7 +133,7 @@ module _ (e : Elision) (keeps : KeepsPlaces e) (ends : KeepsEnds e) (s t : State
             → instance.coroutine ≡ s.top.func
         is_own number instance own =
             let at = own_there s number instance own in
-            own_of (framed e) s first.sound instance (ap (instance_in s.instances) at.0 ∙ at.1)
+            own_of (framed e) s first.ends.sound instance (ap (instance_in s.instances) at.0 ∙ at.1)
 
     -- ---- in a function whose calls give no frame
 
@@ -157,7 +157,7 @@ module _ (e : Elision) (keeps : KeepsPlaces e) (ends : KeepsEnds e) (s t : State
 
     edge_known : left_windows (framed e).given s label ≡ [] → TakesAll e s (standing_at t front) term label
         → IsKnownStep e s t r.beside
-    edge_known stays takes = on (place e keeps s t r.beside first second runs term there beside stands)
+    edge_known stays takes = on (place e keeps s t r.beside first.ends second runs term there beside stands)
       where
         on : IsAtFront e s t ⊎ IsBehindFront e s t → IsKnownStep e s t r.beside
         on (inl at) =
@@ -199,17 +199,17 @@ module _ (e : Elision) (keeps : KeepsPlaces e) (ends : KeepsEnds e) (s t : State
         → TakesAll e s t term label
     takes_shape label edge chosen = record {
       chosen = chosen;
-      phis = shape_phis e s t q k.ends stands_plain label edge (ends.phis s.top.func (position_of f label));
-      held = holds_still e s t q k.ends stands_plain label edge last;
+      phis = shape_phis e s t q k.ends stands_plain first.reached label edge (ends.phis s.top.func (position_of f label));
+      held = holds_still e s t q k.ends stands_plain first.reached label edge last;
     }
 
     takes_standing : (label : ℕ) → HasEdge f s.top.block label → IsAlike e s t (chosen_by term)
         → TakesAll e s (standing_at t front) term label
     takes_standing label edge chosen = record {
       chosen = chosen;
-      phis = shape_phis e s (standing_at t front) q k.ends stands_plain label edge
+      phis = shape_phis e s (standing_at t front) q k.ends stands_plain first.reached label edge
           (ends.phis s.top.func (position_of f label));
-      held = holds_still e s (standing_at t front) q k.ends stands_plain label edge last;
+      held = holds_still e s (standing_at t front) q k.ends stands_plain first.reached label edge last;
     }
 
     -- ---- at what the terminator looks
@@ -246,7 +246,7 @@ module _ (e : Elision) (keeps : KeepsPlaces e) (ends : KeepsEnds e) (s t : State
     looks : (o : Operand) → chosen_by term ≡ o → Looks e s t term q
     looks (Operand.Local v) is =
         looks_at v is
-        (k.ends.looks s.top.block v term
+        (k.ends.looks s.top.block v term first.reached
         ((λ j. fetch f s.top.block (sym last j)) ∙ there) is)
     looks _ is = Alike (λ v at. absurd (cc))
 
@@ -287,7 +287,7 @@ module _ (e : Elision) (keeps : KeepsPlaces e) (ends : KeepsEnds e) (s t : State
           none = gives_none e keeps s.top.func k.shape.coroutine;
           bare = free.bare;
           held = λ mode. subst (IsHeldOn e s) z.to_free
-              (holds_still e s t q k.ends stands_plain (if z.is_eq then z.other else z.one) (to_free z.is_eq) last
+              (holds_still e s t q k.ends stands_plain first.reached (if z.is_eq then z.other else z.one) (to_free z.is_eq) last
               mode);
         }))
       where

@@ -84,6 +84,6 @@ worked_freeing = record {
     aside = aside;
     stays_joins = refl;
     stays_meets = refl;
-    phis = (λ differs. SameOperand Operand.Null (λ v is. absurd (cc)), tt);
+    phis = λ reached. (λ differs. SameOperand Operand.Null (λ v is. absurd (cc)), tt);
   });
 }

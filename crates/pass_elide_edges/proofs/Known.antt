@@ -5,7 +5,7 @@ use Rattle.pass_elide_edges.proofs.Choosing.{Comes, Edge, Goes, Returns, acts, c
 use Rattle.pass_elide_edges.proofs.Rets.{rets_known}
 use Rattle.pass_elide_edges.proofs.Waits.{aside_known, freed_known, way_on_known}
 use Rattle.pass_elide_edges.specs.Keeping.{KeepsEnds, ShapesEnds}
-use Rattle.pass_elide_edges.specs.States.{EndsElided, EndsFramed, StandApart}
+use Rattle.pass_elide_edges.specs.States.{EndsElided, EndsReached, StandApart}
 use Rattle.pass_elide_proof.proofs.Facts.{some_none}
 use Rattle.pass_elide_proof.specs.Elision.{Elision, Shape, framed, function_in, no_shape, rooms}
 use Rattle.pass_elide_proof.specs.Match.{Aside, Beside, Freeing, IsAt, Waiting, sides, was_given}
@@ -23,7 +23,7 @@ use Rattle.pass_elide_proof.specs.pass_proofs.run_source.declared.state.State.{S
 use Rattle.pass_elide_proof.specs.pass_proofs.run_step.Step.{AtTerm, GoTo, fetch, term_action}
 
 module _ (e : Elision) (keeps : KeepsPlaces e) (ends : KeepsEnds e) (s t : State) (r : AreRelated e s t)
-    (first : EndsFramed e s) (second : EndsElided e t) (apart : StandApart e (sides s t) s.top t.top)
+    (first : EndsReached e s) (second : EndsElided e t) (apart : StandApart e (sides s t) s.top t.top)
     (by : PassesBy e t t.top)
     (runs : s.outcome ≡ Outcome.Running) (fine : IsFine (framed_step (framed e) s).outcome) (term : Terminator)
     (there : fetch (function_of (framed e).given s) s.top.block s.top.at ≡ AtTerm term) where
@@ -50,7 +50,7 @@ module _ (e : Elision) (keeps : KeepsPlaces e) (ends : KeepsEnds e) (s t : State
     where
       on : Comes e s term → IsKnownStep e s t r.beside
       on (Returns value is) =
-          rets_known e keeps s t r first second runs value (there ∙ ap AtTerm is) beside stands
+          rets_known e keeps s t r first.ends second runs value (there ∙ ap AtTerm is) beside stands
       on (Goes label goes) = goes_on beside stands label goes (ends.shapes s.top.func)
 
   -- a function whose calls give no frame has no blocks in which the other run waits

@@ -1,10 +1,10 @@
 -- The run that gives frames waits at the end of a block, or stands in a block of its own.
-use Rattle.std.proofs.Common.{◌≡◌, ◌⊎◌, ◌<◌, inl, inr, ℕ, Bool, true, false, [], length, Option, refl, sym, ap, ◌∙◌, subst, arith}
+use Rattle.std.proofs.Common.{◌≡◌, ◌⊎◌, ◌<◌, inl, inr, ℕ, Bool, true, false, [], ◌∷◌, length, Option, refl, sym, ap, ◌∙◌, subst, arith}
 use Rattle.std.specs.Prelude.{◌≢◌, None, Some, if◌then◌else◌}
 use Rattle.pass_elide_edges.proofs.Alike.{each_at, held_none, meets_phis, unmade, unpassed}
 use Rattle.pass_elide_edges.proofs.Staying.{ends_here, gives_none, jump_there, jumps_on, stays_too}
 use Rattle.pass_elide_edges.specs.Keeping.{FreesThere, HasEdge, TakesBlock, KeepsEnds, LeavesNone, MeetsBehind, MeetsPlain, MeetsThere, SetsKnown, ShapesEnds}
-use Rattle.pass_elide_edges.specs.States.{EndsFramed, StandApart}
+use Rattle.pass_elide_edges.specs.States.{EndsReached, StandApart}
 use Rattle.pass_elide_proof.proofs.Facts.{some_none}
 use Rattle.pass_elide_proof.proofs.GivingNone.{own_same}
 use Rattle.pass_elide_proof.proofs.PlacingFacts.{by_truth}
@@ -19,6 +19,7 @@ use Rattle.pass_elide_proof.specs.Shapes.{AsksForFrame, JumpsTo}
 use Rattle.pass_elide_proof.specs.Statement.{AreRelated}
 use Rattle.pass_elide_proof.specs.Stepping.{IsAccompanied, IsKnownStep}
 use Rattle.pass_elide_proof.proofs.pass_proofs.ir_laws.facts.Truth.{either}
+use Rattle.pass_elide_proof.specs.pass_proofs.flow_blocks.Reach.{IsReached as IsReachedBlock}
 use Rattle.pass_elide_proof.specs.pass_proofs.ir_base.declared.outcome.Outcome.{Outcome}
 use Rattle.pass_elide_proof.specs.pass_proofs.ir_model.declared.instr.Terminator.{Terminator}
 use Rattle.pass_elide_proof.specs.pass_proofs.ir_model.declared.module.Function.{Function}
@@ -32,7 +33,7 @@ same_some : (a b : ℕ) → Some a ≡ Some b → a ≡ b
 same_some a b e = cc
 
 module _ (e : Elision) (keeps : KeepsPlaces e) (ends : KeepsEnds e) (s t : State) (r : AreRelated e s t)
-    (first : EndsFramed e s) (apart : StandApart e (sides s t) s.top t.top) (runs : s.outcome ≡ Outcome.Running)
+    (first : EndsReached e s) (apart : StandApart e (sides s t) s.top t.top) (runs : s.outcome ≡ Outcome.Running)
     (term : Terminator)
     (there : fetch (function_of (framed e).given s) s.top.block s.top.at ≡ AtTerm term)
     (k : ShapesEnds e s.top.func) where
@@ -193,7 +194,8 @@ module _ (e : Elision) (keeps : KeepsPlaces e) (ends : KeepsEnds e) (s t : State
         by_truth (is_given_mode t.top.mode)
         (λ is_so. meeting q.after q.beside q.begins q.joins q.meets here beside q.many k.ends.asking.stays_joins
         k.ends.asking.stays_meets x.made
-        (λ v. unmade x v (is_given_mode t.top.mode) (was_given (sides s t) t.top) is_so) k.ends.asking.phis
+        (λ v. unmade x v (is_given_mode t.top.mode) (was_given (sides s t) t.top) is_so)
+        (k.ends.asking.phis (subst (IsReachedBlock f (0 ∷ []) []) here first.reached))
         (λ mode. held))
         (λ never. absurd (apart.asked never q here beside))
       where
@@ -207,7 +209,7 @@ module _ (e : Elision) (keeps : KeepsPlaces e) (ends : KeepsEnds e) (s t : State
             taken.there).known
 
         fits : q.memory < length s.top.values
-        fits = subst (λ (n : ℕ). q.memory < n) (sym first.known.acts.0.room) low
+        fits = subst (λ (n : ℕ). q.memory < n) (sym first.ends.known.acts.0.room) low
 
         held : IsHeldOn e s q.begins
         held =
@@ -225,7 +227,8 @@ module _ (e : Elision) (keeps : KeepsPlaces e) (ends : KeepsEnds e) (s t : State
     freed_meet not_after z =
         meeting z.frame.after z.frame.beside z.meets.aside.ends z.meets.aside.joins z.meets.aside.meets here beside
         z.meets.aside.many z.meets.stays_joins z.meets.stays_meets x.passed
-        (λ v. unpassed x v (is_given_mode t.top.mode) (was_given (sides s t) t.top) given) z.meets.phis held
+        (λ v. unpassed x v (is_given_mode t.top.mode) (was_given (sides s t) t.top) given)
+        (z.meets.phis (subst (IsReachedBlock f (0 ∷ []) []) here first.reached)) held
       where
         here : s.top.block ≡ z.frame.after
         here = sym z.after

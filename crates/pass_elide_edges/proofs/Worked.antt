@@ -230,7 +230,7 @@ worked_asking = record {
   stays_jumps = leaves_none k.allocates k.jumps.label;
   stays_joins = leaves_none k.after k.joins.label;
   stays_meets = leaves_none k.beside k.meets.label;
-  phis = subst (λ (b : ℕ). Each (MeetsPlain g the_shape k.after k.beside the_shape.made) (phis_at g b)) (sym begins)
+  phis = λ reached. subst (λ (b : ℕ). Each (MeetsPlain g the_shape k.after k.beside the_shape.made) (phis_at g b)) (sym begins)
       (λ differs. absurd (let no : true ≡ false = differs in cc), tt);
   block = takes_block 4 3 8 7 refl refl refl refl k begins after memory block;
   into_after = λ b label edge is. into_after b label edge (is ∙ after) ∙ sym allocates;
@@ -412,8 +412,8 @@ worked_alone (suc n) =
 own_ends : KeepsShape g the_shape k
 own_ends = record {
   asking = worked_asking;
-  looks = λ b v term there is. looks b v term there is;
-  takes = λ b label edge. takes_at b label edge (position_of g label) refl;
+  looks = λ b v term reached there is. looks b v term there is;
+  takes = λ b label reached edge. takes_at b label edge (position_of g label) refl;
   frees = λ b tests is. absurd (some_none None tests is refl);
   asides = λ b other is. inl ((aside_is b other is).0 ∙ sym after);
 }

@@ -1,11 +1,12 @@
 -- What a framed module keeps at the ends of its blocks, so that what stands there tells what both runs do.
-use Rattle.std.specs.Prelude.{◌≡◌, ◌≢◌, ◌<◌, ◌⊎◌, ℕ, Bool, false, [], filter, length, slice_get, Some, None, if◌then◌else◌}
+use Rattle.std.specs.Prelude.{◌≡◌, ◌≢◌, ◌<◌, ◌⊎◌, ℕ, Bool, false, [], ◌∷◌, filter, length, slice_get, Some, None, if◌then◌else◌}
 use Rattle.pass_elide_proof.specs.Edges.{IsNoAnswer, chosen_by, label_from, phis_at}
 use Rattle.pass_elide_proof.specs.EdgesFreeing.{FreesAside, FreesFrame}
 use Rattle.pass_elide_proof.specs.Elision.{Elision, Shape, function_in, no_shape}
 use Rattle.pass_elide_proof.specs.Places.{instrs_of}
 use Rattle.pass_elide_proof.specs.Placing.{HasShape, IsQuiet, IsQuietOperand}
 use Rattle.pass_elide_proof.specs.Shapes.{AsksForFrame}
+use Rattle.pass_elide_proof.specs.pass_proofs.flow_blocks.Reach.{IsReached as IsReachedBlock}
 use Rattle.pass_elide_proof.specs.pass_proofs.flow_solver.Paths.{IsListed}
 use Rattle.pass_elide_proof.specs.pass_proofs.ir_model.Names.{position_of}
 use Rattle.pass_elide_proof.specs.pass_proofs.ir_model.declared.instr.Instr.{Instr}
@@ -82,8 +83,9 @@ pub record KeepsAsking (f : Function) (x : Shape) (k : AsksForFrame f x) : Type 
   pub stays_jumps : LeavesNone f k.allocates k.jumps.label
   pub stays_joins : LeavesNone f k.after k.joins.label
   pub stays_meets : LeavesNone f k.beside k.meets.label
-  -- before begin both blocks on edges give the same
-  pub phis : Each (MeetsPlain f x k.after k.beside x.made) (phis_at f k.begins)
+  -- before begin both blocks on edges give the same, if a path leads there
+  pub phis : IsReachedBlock f (0 ∷ []) [] k.after
+      → Each (MeetsPlain f x k.after k.beside x.made) (phis_at f k.begins)
   pub block : TakesBlock f x k
   -- blocks on edges are entered over these alone
   pub into_after : (block label : ℕ) → HasEdge f block label → position_of f label ≡ k.after → block ≡ k.allocates
@@ -96,12 +98,14 @@ pub record KeepsAsking (f : Function) (x : Shape) (k : AsksForFrame f x) : Type 
 
 -- ---- where a frame is freed
 
--- behind the block that frees and beside it two blocks lead to one, whose phis take the same from both
+-- Behind the block that frees and beside it two blocks lead to one. Its phis take the same from both, if a path leads
+-- there.
 pub record MeetsBehind (f : Function) (x : Shape) (q : FreesFrame f x) : Type 0 where
   pub aside : FreesAside f x q.after q.beside
   pub stays_joins : LeavesNone f q.after aside.joins.label
   pub stays_meets : LeavesNone f q.beside aside.meets.label
-  pub phis : Each (MeetsPlain f x q.after q.beside x.passed) (phis_at f aside.ends)
+  pub phis : IsReachedBlock f (0 ∷ []) [] q.after
+      → Each (MeetsPlain f x q.after q.beside x.passed) (phis_at f aside.ends)
 
 pub record KeepsFreeing (f : Function) (x : Shape) (q : FreesFrame f x) : Type 0 where
   -- no phis stand in these blocks
@@ -139,12 +143,13 @@ pub data LooksAt (f : Function) (x : Shape) (k : AsksForFrame f x) (block v : �
 
 -- ---- functions
 
--- what ends the blocks of a coroutine whose calls may give its frame
+-- What ends the blocks of a coroutine whose calls may give its frame. Names are asked about where a path leads.
 pub record KeepsShape (f : Function) (x : Shape) (k : AsksForFrame f x) : Type 0 where
   pub asking : KeepsAsking f x k
-  pub looks : (block v : ℕ) (term : Terminator) → fetch f block (length (instrs_of f block)) ≡ AtTerm term
+  pub looks : (block v : ℕ) (term : Terminator) → IsReachedBlock f (0 ∷ []) [] block
+      → fetch f block (length (instrs_of f block)) ≡ AtTerm term
       → chosen_by term ≡ Operand.Local v → LooksAt f x k block v
-  pub takes : (block label : ℕ) → HasEdge f block label
+  pub takes : (block label : ℕ) → IsReachedBlock f (0 ∷ []) [] block → HasEdge f block label
       → Each (λ (p : Phi). (v : ℕ) → incoming_from p.incoming (label_from f block) ≡ Operand.Local v
       → TakesPlain f x k block p v) (phis_at f (position_of f label))
   pub frees : (block tests : ℕ) → x.frees block ≡ Some tests → FreesThere f x block

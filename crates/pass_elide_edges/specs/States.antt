@@ -8,6 +8,7 @@ use Rattle.pass_elide_proof.specs.OwnSlots.{CountsSlots}
 use Rattle.pass_elide_proof.specs.PlacingStates.{IsKnownState}
 use Rattle.pass_elide_proof.specs.Shapes.{AsksForFrame}
 use Rattle.pass_elide_proof.specs.Sound.{IsSoundState}
+use Rattle.pass_elide_proof.specs.pass_proofs.flow_blocks.Reach.{IsReached as IsReachedBlock}
 use Rattle.pass_elide_proof.specs.pass_proofs.ir_model.Names.{function_at, position_of}
 use Rattle.pass_elide_proof.specs.pass_proofs.ir_model.declared.module.Function.{Function}
 use Rattle.pass_elide_proof.specs.pass_proofs.ir_model.declared.module.Module.{Module}
@@ -34,6 +35,11 @@ pub record EndsFramed (e : Elision) (s : State) : Type 0 where
   pub known : IsKnownState e.code s
   pub sound : IsSoundState (framed e) s
   pub slotted : IsSlottedState s
+
+-- of the framed run, whose topmost activation stands in a block to which a path leads
+pub record EndsReached (e : Elision) (s : State) : Type 0 where
+  pub ends : EndsFramed e s
+  pub reached : IsReachedBlock (function_in e s.top.func) (0 ∷ []) [] s.top.block
 
 -- of the run that gives frames
 pub record EndsElided (e : Elision) (t : State) : Type 0 where

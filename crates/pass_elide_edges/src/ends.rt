@@ -1,7 +1,7 @@
 //! What ends a block says what both runs do there, by what the framed module keeps.
 
 ghost use Rattle.pass_elide_edges.specs.Keeping.{KeepsEnds, ShapesEnds};
-ghost use Rattle.pass_elide_edges.specs.States.{EndsElided, EndsFramed, StandApart};
+ghost use Rattle.pass_elide_edges.specs.States.{EndsElided, EndsFramed, EndsReached, StandApart};
 ghost use Rattle.pass_elide_proof.specs.Elision.{Elision, framed, function_in, rooms};
 ghost use Rattle.pass_elide_proof.specs.Match.{AreMadeAlike, IsAtEnd, is_given_mode, sides, was_given};
 ghost use Rattle.pass_elide_proof.specs.Places.{front_at};
@@ -33,7 +33,7 @@ pub fn rets_are_known()
 /// frame is asked for, and an activation whose frame was given at the test of what is to be freed.
 pub fn ends_beside_are_known()
     ensures { (e : Elision) (s t : State) (r : AreRelated e s t) (term : Terminator) → KeepsPlaces e → KeepsEnds e
-        → EndsFramed e s → EndsElided e t → StandApart e (sides s t) s.top t.top → s.outcome ≡ Outcome.Running
+        → EndsReached e s → EndsElided e t → StandApart e (sides s t) s.top t.top → s.outcome ≡ Outcome.Running
         → IsFine (framed_step (framed e) s).outcome
         → fetch (function_of (framed e).given s) s.top.block s.top.at ≡ AtTerm term → t.top.block ≡ s.top.block
         → t.top.at ≡ front_at (rooms e s.top.func) (function_in e s.top.func) s.top.block s.top.at
@@ -44,12 +44,12 @@ pub fn ends_beside_are_known()
 /// activation whose frame was given, when the framed run leaves the block that frees.
 pub fn waiting_ends_are_known()
     ensures allocates { (e : Elision) (s t : State) (r : AreRelated e s t) (term : Terminator) → KeepsPlaces e
-        → KeepsEnds e → EndsFramed e s → StandApart e (sides s t) s.top t.top → s.outcome ≡ Outcome.Running
+        → KeepsEnds e → EndsReached e s → StandApart e (sides s t) s.top t.top → s.outcome ≡ Outcome.Running
         → fetch (function_of (framed e).given s) s.top.block s.top.at ≡ AtTerm term
         → ShapesEnds e s.top.func → IsAtEnd e t.top → is_given_mode t.top.mode ≡ true
         → (e.shape s.top.func).waits s.top.block ≡ Some t.top.block → IsKnownStep e s t r.beside }
     ensures frees { (e : Elision) (s t : State) (r : AreRelated e s t) (term : Terminator) → KeepsPlaces e
-        → KeepsEnds e → EndsFramed e s → StandApart e (sides s t) s.top t.top → s.outcome ≡ Outcome.Running
+        → KeepsEnds e → EndsReached e s → StandApart e (sides s t) s.top t.top → s.outcome ≡ Outcome.Running
         → fetch (function_of (framed e).given s) s.top.block s.top.at ≡ AtTerm term
         → ShapesEnds e s.top.func → IsAtEnd e t.top → was_given (sides s t) t.top ≡ true
         → (e.shape s.top.func).frees s.top.block ≡ Some t.top.block → IsKnownStep e s t r.beside }
@@ -58,7 +58,7 @@ pub fn waiting_ends_are_known()
 /// Where both runs are in blocks of their own they come to the same block.
 pub fn ends_aside_are_known()
     ensures { (e : Elision) (s t : State) (r : AreRelated e s t) (term : Terminator) → KeepsPlaces e → KeepsEnds e
-        → EndsFramed e s → StandApart e (sides s t) s.top t.top → s.outcome ≡ Outcome.Running
+        → EndsReached e s → StandApart e (sides s t) s.top t.top → s.outcome ≡ Outcome.Running
         → fetch (function_of (framed e).given s) s.top.block s.top.at ≡ AtTerm term
         → ShapesEnds e s.top.func → was_given (sides s t) t.top ≡ true
         → (e.shape s.top.func).aside s.top.block ≡ Some t.top.block → t.top.at ≡ s.top.at
@@ -68,7 +68,7 @@ pub fn ends_aside_are_known()
 /// From related states each step at the end of a block that isn't undefined is of a known kind.
 pub fn ends_are_known()
     ensures { (e : Elision) (s t : State) (r : AreRelated e s t) (term : Terminator) → KeepsPlaces e → KeepsEnds e
-        → EndsFramed e s → EndsElided e t → StandApart e (sides s t) s.top t.top → s.outcome ≡ Outcome.Running
+        → EndsReached e s → EndsElided e t → StandApart e (sides s t) s.top t.top → s.outcome ≡ Outcome.Running
         → IsFine (framed_step (framed e) s).outcome
         → fetch (function_of (framed e).given s) s.top.block s.top.at ≡ AtTerm term → IsKnownStep e s t r.beside }
 {}

@@ -157,13 +157,7 @@ module _ (e : Elision) (keeps : KeepsPlaces e) (s t : State) (known : IsKnownFra
   allocated_by (Instr.Call (Some result) must_tail ty (Callee.Allocator a) args) there is =
       let w = word_taken e keeps s runs fine a (Some result) must_tail ty args there is in
       IsWaitedFor.Allocation a result must_tail ty args
-      (allocation_place e keeps s t waits known.known a result must_tail ty args w.0 is there w.1
-      (known.sizes t.top.block a (Some result) must_tail ty args w.0 waits.waits (record {
-        there = instr_there f s.top.block s.top.at (Instr.Call (Some result) must_tail ty (Callee.Allocator a) args)
-            there;
-        allocates = is;
-        takes = w.1;
-      })))
+      (allocation_place e keeps s t waits known.known a result must_tail ty args w.0 is there w.1)
   allocated_by (Instr.Call result must_tail ty (Callee.Named n) args) there is = absurd (cc)
   allocated_by (Instr.Call result must_tail ty (Callee.Local v) args) there is = absurd (cc)
   allocated_by (Instr.Call result must_tail ty (Callee.Intrinsic j) args) there is = absurd (cc)

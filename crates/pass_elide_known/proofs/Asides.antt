@@ -204,7 +204,7 @@ module _ (e : Elision) (keeps : KeepsPlaces e) (more : KeepsMore e) (s t : State
     reads_alike : deals_by Dealing.Frees i ≡ false → (name : ℕ) → IsTrue (reads name i)
         → differs_in x ramp was name ≡ false
     reads_alike frees name is =
-        let p = (keeps.instrs s.top.func).takes s.top.block s.top.at name i here is in
+        let p = (keeps.instrs s.top.func).takes s.top.block s.top.at name i known.reached here is in
         quiet x ramp was name p.need (λ h. p.made kind.begins k.waits) (p.freed frees kind.tests) p.tested
         (λ h. p.passed k.frees)
 

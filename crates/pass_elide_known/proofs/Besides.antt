@@ -180,7 +180,8 @@ module _ (e : Elision) (keeps : KeepsPlaces e) (more : KeepsMore e) (s t : State
         there (alike u ready giving'))
 
     read : (v : ℕ) → operand_at args 0 ≡ Operand.Local v → ReadsPlain x s.top.block call v
-    read v is = (keeps.instrs s.top.func).takes s.top.block s.top.at v call here (first_read args v is)
+    read v is = (keeps.instrs s.top.func).takes s.top.block s.top.at v call known.reached here
+        (first_read args v is)
 
     -- it is no name that coro.free gave
     plain_operand : ((v : ℕ) → operand_at args 0 ≡ Operand.Local v → x.freed v ≡ false) → (u : State)
@@ -304,7 +305,13 @@ module _ (e : Elision) (keeps : KeepsPlaces e) (more : KeepsMore e) (s t : State
       no_allocas_ahead = none_ahead e keeps more s t r known giving runs made_by there block stands inside
 
       at : AreAtInstr e s t (Instr.Alloca name ty align)
-      at = record { runs = runs; there = there; block = block; at = own_here (λ first start. no_allocas_ahead) }
+      at = record {
+        runs = runs;
+        there = there;
+        block = block;
+        at = own_here (λ first start. no_allocas_ahead);
+        reached = known.reached;
+      }
 
       phi_alike : (p : Phi) → KeepsPhi e s.top.func (label_from f from) p → IsPhiAlike e s t (label_from f from) p
       phi_alike p k = record {

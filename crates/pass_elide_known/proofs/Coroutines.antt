@@ -25,7 +25,7 @@ use Rattle.pass_elide_proof.specs.Invariant.{AreGivenBy}
 use Rattle.pass_elide_proof.specs.Match.{AreModes, Given, Same, instance_in, is_given_mode}
 use Rattle.pass_elide_proof.specs.OwnSlots.{HaveNoSlots}
 use Rattle.pass_elide_proof.specs.Places.{front_at, instrs_of}
-use Rattle.pass_elide_proof.specs.Placing.{KeepsPlaces, SetsPlain, is_own}
+use Rattle.pass_elide_proof.specs.Placing.{HasShape, KeepsPlaces, SetsPlain, is_own}
 use Rattle.pass_elide_proof.specs.PlacingStates.{AreAtIntrinsic, IsEntryLowest}
 use Rattle.pass_elide_proof.specs.Returning.{IsAtLeftEnd, LeadsBack}
 use Rattle.pass_elide_proof.specs.Saves.{MaySave}
@@ -200,11 +200,14 @@ module _ (e : Elision) (keeps : KeepsPlaces e) (more : KeepsMore e) (s t : State
       let frame = given_frame t.top.mode given in
       let by = given_by frame.0 frame.1 alone t.below refl r.callers.ramps in
       let mode = frame.1 ∙ ap Mode.GivenRamp by.1 in
+      let shape = subst (HasShape e) func (giving.shapes.ramps.0 given) in
+      let exact = known.exact result must_tail ty args (here Intrinsic.CoroBegin there)
+      (ramp_beside s.top.mode t.top.mode r.beside.top.mode given) shape in
       let room = room_is_given e s t r by.0
       (room_place e keeps s t known.slotted giving.sound giving.called by.0 mode alone) in
       IsKnownStep.Going (IsAccompanied.GivenBegin result must_tail ty args
       (given_begin_place e keeps s t r.beside known.slotted known.sound giving.sound result must_tail ty args
-      (place Intrinsic.CoroBegin there) giving.shapes by.0 mode room))
+      (place Intrinsic.CoroBegin there) giving.shapes by.0 mode room exact))
 
   pub begin_known : At Intrinsic.CoroBegin → IsKnownStep e s t r.beside
   begin_known there =

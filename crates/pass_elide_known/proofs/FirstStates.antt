@@ -62,7 +62,7 @@ module _ (e : Elision) (keeps : KeepsPlaces e) (more : KeepsMore e) (entry : ℕ
     ends = λ result must_tail ty values there stays x is. absurd (cc);
     own = λ result must_tail ty values there mode. absurd (cc);
     small = small;
-    sizes = λ other a result must_tail ty values word waits takes. absurd (no_waits 0 other waits);
+    exact = λ result must_tail ty values there mode. absurd (cc);
     marks = λ j result must_tail ty values marker there.
         absurd (not_both (is_marker (Instr.Call result must_tail ty (Callee.Intrinsic j) values)) marker
         (more.unmarked entry (Instr.Call result must_tail ty (Callee.Intrinsic j) values) there));

@@ -118,7 +118,7 @@ module _ (e : Elision) (keeps : KeepsPlaces e) (s : State) (known : IsKnownFrame
 
   at_instr : (i : Instr) → fetch (function_of (framed e).given s) s.top.block s.top.at ≡ AtInstr i
       → AreAtInstr e s u i
-  at_instr i there = record { runs = runs; there = there; block = r.block; at = r.at }
+  at_instr i there = record { runs = runs; there = there; block = r.block; at = r.at; reached = known.reached }
 
   -- ---- what is done
 

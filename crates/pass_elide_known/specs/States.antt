@@ -3,6 +3,7 @@
 use Rattle.std.specs.Prelude.{◌≡◌, ◌<◌, ◌^◌, ℕ, Bool, true, false, List, [], ◌∷◌, slice_get, Some, None, Option}
 use Rattle.elide_shape.specs.Calls.{deals}
 use Rattle.elide_shape.specs.declared.calls.Dealing.{Dealing}
+use Rattle.pass_elide_proof.specs.Beginning.{BeginsInFrameSize}
 use Rattle.pass_elide_proof.specs.Callers.{HaveBlocks}
 use Rattle.pass_elide_proof.specs.Calling.{at_front}
 use Rattle.pass_elide_proof.specs.Elision.{Elision, elided, elided_code, framed, function_in, function_in_elided}
@@ -10,8 +11,9 @@ use Rattle.pass_elide_proof.specs.Ends.{IsOwnSlot}
 use Rattle.pass_elide_proof.specs.Invariant.{HaveCallers}
 use Rattle.pass_elide_proof.specs.Making.{HaveSlots}
 use Rattle.pass_elide_proof.specs.Marking.{HoldsNoFrame, first_operand, second_operand}
-use Rattle.pass_elide_proof.specs.Match.{frame_size, instance_in, is_given_mode}
+use Rattle.pass_elide_proof.specs.Match.{instance_in, is_given_mode}
 use Rattle.pass_elide_proof.specs.Places.{instrs_of}
+use Rattle.pass_elide_proof.specs.Placing.{HasShape}
 use Rattle.pass_elide_proof.specs.PlacingStates.{HaveShapes, IsCalledBy, IsKnownState, PassesBy}
 use Rattle.pass_elide_proof.specs.Releasing.{AreOfCallees, HaveReleased, IsFreeing}
 use Rattle.pass_elide_proof.specs.Returning.{HaveOwnSlots}
@@ -110,12 +112,13 @@ pub record IsKnownFramed (e : Elision) (s : State) : Type 0 where
   pub own : (result : Option ℕ) (must_tail : Bool) (ty : Option Ty) (args : List Arg)
       → StandsAtOne e s (Instr.Call result must_tail ty (Callee.Intrinsic Intrinsic.CoroEnd) args)
       → s.top.mode ≡ Mode.Resumed → Each (IsOwnSlot e s) s.top.slots
-  -- allocators are asked for small sizes; where a frame is allocated, for the frame's size
+  -- allocators are asked for small sizes
   pub small : (a : Allocator) (result : Option ℕ) (must_tail : Bool) (ty : Option Ty) (args : List Arg) (word : Word)
       → Allocates e s a result must_tail ty args word → word.bits < 2 ^ 64
-  pub sizes : (other : ℕ) (a : Allocator) (result : Option ℕ) (must_tail : Bool) (ty : Option Ty) (args : List Arg)
-      (word : Word) → (e.shape s.top.func).waits s.top.block ≡ Some other
-      → Allocates e s a result must_tail ty args word → word.bits ≡ frame_size e s.top.func
+  -- a ramp whose function's calls may give its frame begins in a block of the frame's size
+  pub exact : (result : Option ℕ) (must_tail : Bool) (ty : Option Ty) (args : List Arg)
+      → StandsAtOne e s (Instr.Call result must_tail ty (Callee.Intrinsic Intrinsic.CoroBegin) args)
+      → s.top.mode ≡ Mode.Ramp → HasShape e s.top.func → BeginsInFrameSize e s args
   pub marks : (j : Intrinsic) (result : Option ℕ) (must_tail : Bool) (ty : Option Ty) (args : List Arg)
       → is_marker (Instr.Call result must_tail ty (Callee.Intrinsic j) args) ≡ true
       → StandsAtOne e s (Instr.Call result must_tail ty (Callee.Intrinsic j) args) → MarksSlot e s args

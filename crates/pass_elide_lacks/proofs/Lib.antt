@@ -14,7 +14,6 @@ pub mod RunOut
 pub mod OneEnd
 pub mod RuleEnds
 pub mod EndsKept
-pub mod Sizes
 pub mod WideWords
 pub mod WorkedAsked
 pub mod WorkedEnds

@@ -1,10 +1,10 @@
 -- Behind an allocation of 2^64 bytes no two states are related.
 use Rattle.std.proofs.Common.{◌≡◌, inl, inr, ◌+◌, ◌^◌, ◌≤◌, ℕ, Bool, true, false, List, [], ◌∷◌, refl, arith}
-use Rattle.pass_elide_lacks.specs.Wide.{the_wide_elision}
+use Rattle.pass_elide_lacks.specs.Wide.{AllWordsKeepStates, the_wide_elision}
 use Rattle.pass_elide_meaning.specs.pass_elide_edges.pass_elide_proof.Counts.{uncounted}
 use Rattle.pass_elide_meaning.specs.pass_elide_edges.pass_elide_proof.Elision.{differs_in, no_shape}
 use Rattle.pass_elide_meaning.specs.pass_elide_edges.pass_elide_proof.Match.{is_given_mode, sides, was_given}
-use Rattle.pass_elide_meaning.specs.pass_elide_edges.pass_elide_proof.Statement.{AreRelated, AreRelatedOrOver, ElisionKeepsStates, elided_run, framed_run}
+use Rattle.pass_elide_meaning.specs.pass_elide_edges.pass_elide_proof.Statement.{AreRelated, AreRelatedOrOver, elided_run, framed_run}
 use Rattle.pass_elide_meaning.specs.pass_elide_edges.pass_elide_proof.pass_proofs.ir_base.declared.outcome.Word.{Word}
 use Rattle.pass_elide_meaning.specs.pass_elide_edges.pass_elide_proof.pass_proofs.run_agreement.Costs.{AgreesBy, IsNear}
 use Rattle.pass_elide_meaning.specs.pass_elide_edges.pass_elide_proof.pass_proofs.run_agreement.Machines.{state_at}
@@ -59,5 +59,5 @@ module _ (n : ℕ) (large : 2 ^ 64 ≤ n) where
       by t (inl r) = no_relation t r
       by t (inr over) = over.returned
 
-pub no_states : (most : ℕ) → ElisionKeepsStates the_wide_elision most → ⊥
+pub no_states : (most : ℕ) → AllWordsKeepStates the_wide_elision most → ⊥
 no_states most claim = no_agreement (2 ^ 64) (omega arith) most (claim 0 (words (2 ^ 64) (omega arith)) refl)

@@ -1,7 +1,10 @@
 -- An entry that hands its parameter to an allocator. No call of it gives a frame.
-use Rattle.std.specs.Prelude.{false, [], ◌∷◌, Some, codes, pos}
-use Rattle.pass_elide_meaning.specs.pass_elide_edges.pass_elide_proof.Elision.{Elision, no_shape}
+use Rattle.std.specs.Prelude.{◌≡◌, ◌+◌, ℕ, List, false, [], ◌∷◌, Some, codes, pos}
+use Rattle.pass_elide_meaning.specs.pass_elide_edges.pass_elide_proof.Counts.{uncounted}
+use Rattle.pass_elide_meaning.specs.pass_elide_edges.pass_elide_proof.Elision.{Elision, function_in, no_shape}
+use Rattle.pass_elide_meaning.specs.pass_elide_edges.pass_elide_proof.Statement.{AreRelatedOrOver, elided_run, framed_run}
 use Rattle.pass_elide_meaning.specs.pass_elide_edges.pass_elide_proof.pass_proofs.ir_base.declared.name.Name.{Name}
+use Rattle.pass_elide_meaning.specs.pass_elide_edges.pass_elide_proof.pass_proofs.ir_base.declared.outcome.Word.{Word}
 use Rattle.pass_elide_meaning.specs.pass_elide_edges.pass_elide_proof.pass_proofs.ir_model.Ty.{int, ptr}
 use Rattle.pass_elide_meaning.specs.pass_elide_edges.pass_elide_proof.pass_proofs.ir_model.declared.instr.Instr.{Instr}
 use Rattle.pass_elide_meaning.specs.pass_elide_edges.pass_elide_proof.pass_proofs.ir_model.declared.instr.Terminator.{Terminator}
@@ -10,6 +13,7 @@ use Rattle.pass_elide_meaning.specs.pass_elide_edges.pass_elide_proof.pass_proof
 use Rattle.pass_elide_meaning.specs.pass_elide_edges.pass_elide_proof.pass_proofs.ir_model.declared.operand.Allocator.{Allocator}
 use Rattle.pass_elide_meaning.specs.pass_elide_edges.pass_elide_proof.pass_proofs.ir_model.declared.operand.Callee.{Callee}
 use Rattle.pass_elide_meaning.specs.pass_elide_edges.pass_elide_proof.pass_proofs.ir_model.declared.operand.Operand.{Operand}
+use Rattle.pass_elide_meaning.specs.pass_elide_edges.pass_elide_proof.pass_proofs.run_agreement.Costs.{AgreesBy, IsNear}
 
 abbrev pub a_wide_caller : Function
 a_wide_caller =
@@ -50,3 +54,10 @@ the_wide_elision =
       answers = [];
       shape = λ func. no_shape;
     }
+
+-- The statement of elision of all words of an entry, whether they fit or not.
+abbrev pub AllWordsKeepStates : Elision → ℕ → Type 0
+AllWordsKeepStates e most =
+    (entry : ℕ) (args : List Word) → (function_in e entry).coroutine ≡ false
+    → AgreesBy (AreRelatedOrOver e) (IsNear (elided_run e entry args) (1 + most) (AreRelatedOrOver e))
+    (uncounted (framed_run e entry args)) (λ s. 1 + most) (uncounted (elided_run e entry args)) (λ t. 1)

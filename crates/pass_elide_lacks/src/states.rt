@@ -2,16 +2,16 @@
 
 ghost use Rattle.pass_elide_meaning.specs.pass_elide_edges.Keeping.{KeepsEnds};
 ghost use Rattle.pass_elide_meaning.specs.pass_elide_edges.States.{EndsElided};
-ghost use Rattle.pass_elide_meaning.specs.pass_elide_edges.pass_elide_proof.Assembling.{elided_after, framed_after};
+ghost use Rattle.pass_elide_meaning.specs.pass_elide_edges.pass_elide_proof.Assembling.{elided_after};
 ghost use Rattle.pass_elide_meaning.specs.pass_elide_edges.pass_elide_proof.Elision.{Elision};
 ghost use Rattle.pass_elide_meaning.specs.pass_elide_edges.pass_elide_proof.Placing.{KeepsPlaces};
 ghost use Rattle.pass_elide_meaning.specs.pass_elide_edges.pass_elide_proof.Statement.{IsEntryCall};
 ghost use Rattle.pass_elide_meaning.specs.pass_elide_edges.pass_elide_proof.pass_proofs.ir_base.declared.outcome.Outcome.{Outcome};
 ghost use Rattle.pass_elide_meaning.specs.pass_elide_edges.pass_elide_proof.pass_proofs.ir_base.declared.outcome.Word.{Word};
 ghost use Rattle.pass_elide_meaning.specs.pass_elide_known.Keeping.{KeepsMore};
-ghost use Rattle.pass_elide_meaning.specs.pass_elide_known.States.{IsKnownFramed, IsKnownGiving};
+ghost use Rattle.pass_elide_meaning.specs.pass_elide_known.States.{IsKnownGiving};
 ghost use Rattle.pass_elide_lacks.specs.Keeps.{KeepsAsked};
-ghost use Rattle.pass_elide_meaning.specs.Lacks.{LacksFramed, LacksGiving, TakesSizes};
+ghost use Rattle.pass_elide_meaning.specs.Lacks.{LacksGiving};
 ghost use Rattle.pass_elide_meaning.specs.pass_elide_runs.Keeps.{KeepsRuns};
 ghost use Rattle.std.specs.Prelude.{List, ◌≡◌, ℕ};
 
@@ -30,13 +30,4 @@ pub fn giving_runs_are_known()
     ensures ends { (e : Elision) (entry : ℕ) (args : List Word) (m : ℕ) → KeepsPlaces e → KeepsMore e → KeepsEnds e
         → KeepsRuns e → IsEntryCall e entry args → (elided_after e entry args m).outcome ≡ Outcome.Running
         → EndsElided e (elided_after e entry args m) }
-{}
-
-/// Where allocators take names of coro.size, nothing is lacking of the framed run either, and its states are known.
-pub fn framed_runs_lack_nothing()
-    ensures lacks { (e : Elision) (entry : ℕ) (args : List Word) (n : ℕ) → TakesSizes e
-        → LacksFramed e (framed_after e entry args n) }
-    ensures known { (e : Elision) (entry : ℕ) (args : List Word) (n : ℕ) → KeepsPlaces e → KeepsMore e → KeepsRuns e
-        → TakesSizes e → IsEntryCall e entry args → (framed_after e entry args n).outcome ≡ Outcome.Running
-        → IsKnownFramed e (framed_after e entry args n) }
 {}

@@ -1,10 +1,9 @@
 //! Worked modules.
 
-ghost use Rattle.pass_elide_meaning.specs.pass_elide_edges.pass_elide_proof.Statement.{ElisionKeepsStates};
 ghost use Rattle.pass_elide_meaning.specs.pass_elide_edges.pass_elide_proof.Worked.{the_elision};
 ghost use Rattle.pass_elide_lacks.specs.Ends.{KeepsEndings};
 ghost use Rattle.pass_elide_lacks.specs.Keeps.{KeepsAsked};
-ghost use Rattle.pass_elide_lacks.specs.Wide.{the_wide_elision};
+ghost use Rattle.pass_elide_lacks.specs.Wide.{AllWordsKeepStates, the_wide_elision};
 ghost use Rattle.std.specs.Prelude.{ℕ};
 
 /// The worked module keeps what is asked of blocks of their own.
@@ -23,5 +22,5 @@ pub fn the_worked_module_keeps_endings()
 /// the machines have 64 bits, so none is that large.
 #[tactic(none)]
 pub fn wide_words_have_no_related_states()
-    ensures { (most : ℕ) → ElisionKeepsStates the_wide_elision most → ⊥ }
+    ensures { (most : ℕ) → AllWordsKeepStates the_wide_elision most → ⊥ }
 {}

@@ -1,5 +1,5 @@
 -- Where both runs start, nothing is lacking.
-use Rattle.std.proofs.Common.{ℕ, List, inr}
+use Rattle.std.proofs.Common.{ℕ, List}
 use Rattle.pass_elide_known.proofs.FirstStates.{framed_start, giving_start}
 use Rattle.pass_elide_known.specs.Keeping.{KeepsMore}
 use Rattle.pass_elide_known.specs.States.{IsKnownFramed, IsKnownGiving}
@@ -15,10 +15,7 @@ use Rattle.pass_elide_edges.specs.pass_proofs.ir_base.declared.outcome.Word.{Wor
 module _ (e : Elision) (keeps : KeepsPlaces e) (more : KeepsMore e) (entry : ℕ) (args : List Word)
     (call : IsEntryCall e entry args) where
   pub framed_lacks : KeepsRuns e → LacksFramed e (framed_after e entry args 0)
-  framed_lacks k = record {
-    sizes = λ other a result must_tail ty vs word waits takes.
-        inr (known.sizes other a result must_tail ty vs word waits takes);
-  }
+  framed_lacks k = record { exact = known.exact }
     where
       known : IsKnownFramed e (framed_after e entry args 0)
       known = framed_start e keeps more entry args call.plain (λ a result must_tail ty vs word takes.

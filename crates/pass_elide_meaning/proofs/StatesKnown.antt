@@ -3,12 +3,11 @@ use Rattle.std.proofs.Common.{◌≡◌, ◌∙◌, ◌⊎◌, ◌∷◌, ℕ, B
 use Rattle.pass_elide_edges.proofs.Runs.{framed_ends}
 use Rattle.pass_elide_edges.specs.States.{EndsElided, EndsFramed}
 use Rattle.pass_elide_known.specs.Keeping.{KeepsMore, is_marker}
-use Rattle.pass_elide_known.specs.States.{Allocates, IsEntering, IsKnownFramed, IsKnownGiving, MarksSlot, StandsAtOne}
-use Rattle.pass_elide_meaning.specs.Lacks.{LacksFramed, LacksGiving, TakesSize}
+use Rattle.pass_elide_known.specs.States.{IsEntering, IsKnownFramed, IsKnownGiving, MarksSlot, StandsAtOne}
+use Rattle.pass_elide_meaning.specs.Lacks.{LacksFramed, LacksGiving}
 use Rattle.pass_elide_edges.proofs.pass_elide_proof.Allocas.{knows_allocas}
 use Rattle.pass_elide_edges.proofs.pass_elide_proof.ElidedFound.{fetched}
 use Rattle.pass_elide_edges.proofs.pass_elide_proof.OwnSlots.{counted_own}
-use Rattle.pass_elide_edges.proofs.pass_elide_proof.PlacingStarts.{begins_of}
 use Rattle.pass_elide_edges.proofs.pass_elide_proof.ReleasedCallees.{callees_in_runs}
 use Rattle.pass_elide_edges.proofs.pass_elide_proof.ReleasedKept.{released_runs, slotted_runs}
 use Rattle.pass_elide_edges.proofs.pass_elide_proof.ReleasedRooms.{callees_hold}
@@ -16,7 +15,6 @@ use Rattle.pass_elide_edges.proofs.pass_elide_proof.SlotStates.{slots_lead_in_ru
 use Rattle.pass_elide_edges.proofs.pass_elide_proof.SoundSteps.{states_sound}
 use Rattle.pass_elide_edges.specs.pass_elide_proof.Assembling.{elided_after, framed_after}
 use Rattle.pass_elide_edges.specs.pass_elide_proof.Elision.{Elision, elided, elided_code, framed, function_in}
-use Rattle.pass_elide_edges.specs.pass_elide_proof.Match.{frame_size}
 use Rattle.pass_elide_edges.specs.pass_elide_proof.OwnSlots.{CountsSlots}
 use Rattle.pass_elide_edges.specs.pass_elide_proof.Placing.{KeepsPlaces}
 use Rattle.pass_elide_edges.specs.pass_elide_proof.Releasing.{IsFreeing}
@@ -27,7 +25,6 @@ use Rattle.pass_elide_runs.proofs.KnownRuns.{knows_framed, knows_giving, saved_g
 use Rattle.pass_elide_runs.proofs.OwnEnds.{ends_go}
 use Rattle.pass_elide_runs.proofs.OwnedSlots.{marks_slot, own_slots}
 use Rattle.pass_elide_runs.proofs.Shaped.{shaped_runs}
-use Rattle.pass_elide_runs.proofs.SizeNames.{size_in, sizes_in_runs}
 use Rattle.pass_elide_runs.proofs.Small.{words_small}
 use Rattle.pass_elide_runs.specs.Keeps.{KeepsRuns, KnowsFramed, KnowsGiving}
 use Rattle.pass_elide_edges.specs.pass_proofs.ir_base.declared.outcome.Outcome.{Outcome}
@@ -36,7 +33,6 @@ use Rattle.pass_elide_edges.specs.pass_proofs.ir_model.Names.{is_local}
 use Rattle.pass_elide_edges.specs.pass_proofs.ir_model.Ty.{Ty}
 use Rattle.pass_elide_edges.specs.pass_proofs.ir_model.declared.instr.Instr.{Instr}
 use Rattle.pass_elide_edges.specs.pass_proofs.ir_model.declared.module.Module.{Module}
-use Rattle.pass_elide_edges.specs.pass_proofs.ir_model.declared.operand.Allocator.{Allocator}
 use Rattle.pass_elide_edges.specs.pass_proofs.ir_model.declared.operand.Arg.{Arg}
 use Rattle.pass_elide_edges.specs.pass_proofs.ir_model.declared.operand.Callee.{Callee}
 use Rattle.pass_elide_edges.specs.pass_proofs.ir_model.declared.operand.Intrinsic.{Intrinsic}
@@ -110,15 +106,6 @@ module _ (e : Elision) (keeps : KeepsPlaces e) (more : KeepsMore e) (k : KeepsRu
   no_token : (x : Operand) → x ≡ Operand.None → (v : ℕ) → is_local v x ≡ false
   no_token x none v = ap (is_local v) none
 
-  sized : (other : ℕ) (a : Allocator) (result : Option ℕ) (must_tail : Bool) (ty : Option Ty) (vs : List Arg)
-      (word : Word) → Allocates e s a result must_tail ty vs word
-      → TakesSize (function_in e s.top.func) vs ⊎ (word.bits ≡ frame_size e s.top.func)
-      → word.bits ≡ frame_size e s.top.func
-  sized other a result must_tail ty vs word takes (inr is) = is
-  sized other a result must_tail ty vs word takes (inl x) =
-      size_in e k.small s (sizes_in_runs e k.small (begins_of e keeps) entry args n fine) x.name x.given word
-      (sym (nth_local e.code s.top.values vs x.name x.takes) ∙ takes.takes)
-
   marked : (j : Intrinsic) (result : Option ℕ) (must_tail : Bool) (ty : Option Ty) (vs : List Arg)
       → is_marker (Instr.Call result must_tail ty (Callee.Intrinsic j) vs) ≡ true
       → StandsAtOne e s (Instr.Call result must_tail ty (Callee.Intrinsic j) vs) → MarksSlot e s vs
@@ -152,8 +139,7 @@ module _ (e : Elision) (keeps : KeepsPlaces e) (more : KeepsMore e) (k : KeepsRu
         knows.kinds.0;
     small = λ a result must_tail ty vs word takes. words_small (framed e) k.switches k.types keeps.ungiven entry args
         call.fits n a result must_tail ty vs word takes.allocates takes.there takes.takes;
-    sizes = λ other a result must_tail ty vs word waits takes. sized other a result must_tail ty vs word takes
-        (lacks.sizes other a result must_tail ty vs word waits takes);
+    exact = lacks.exact;
     marks = marked;
   }
 

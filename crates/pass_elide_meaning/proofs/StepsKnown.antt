@@ -34,7 +34,8 @@ module _ (e : Elision) (s t : State) (r : AreRelated e s t) (keeps : KeepsPlaces
       → IsKnownStep e s t r.beside
   known_by Nowhere is = absurd (nowhere (framed e) s runs is fine)
   known_by (AtInstr i) is = instruction_known e keeps more s t r known giving runs fine i is
-  known_by (AtTerm term) is = ends_known e keeps ends s t r first second apart r.passed.0 runs fine term is
+  known_by (AtTerm term) is = ends_known e keeps ends s t r (record { ends = first; reached = known.reached }) second apart r.passed.0
+      runs fine term is
 
   pub step_known : IsKnownStep e s t r.beside
   step_known = known_by (fetch (function_of (framed e).given s) s.top.block s.top.at) refl

@@ -3,7 +3,7 @@
 ghost use Rattle.pass_elide_edges.specs.States.{EndsElided, EndsFramed};
 ghost use Rattle.pass_elide_known.specs.Keeping.{KeepsMore};
 ghost use Rattle.pass_elide_known.specs.States.{IsKnownFramed, IsKnownGiving};
-ghost use Rattle.pass_elide_meaning.specs.Lacks.{LacksFramed, LacksGiving, TakesSizes};
+ghost use Rattle.pass_elide_meaning.specs.Lacks.{LacksFramed, LacksGiving};
 ghost use Rattle.pass_elide_edges.specs.pass_elide_proof.Assembling.{elided_after, framed_after};
 ghost use Rattle.pass_elide_edges.specs.pass_elide_proof.Elision.{Elision};
 ghost use Rattle.pass_elide_edges.specs.pass_elide_proof.OwnSlots.{CountsSlots};
@@ -12,7 +12,6 @@ ghost use Rattle.pass_elide_edges.specs.pass_elide_proof.Statement.{IsEntryCall}
 ghost use Rattle.pass_elide_runs.specs.Keeps.{KeepsRuns};
 ghost use Rattle.pass_elide_edges.specs.pass_proofs.ir_base.declared.outcome.Outcome.{Outcome};
 ghost use Rattle.pass_elide_edges.specs.pass_proofs.ir_base.declared.outcome.Word.{Word};
-ghost use Rattle.pass_elide_edges.specs.pass_proofs.run_source.declared.state.State.{State};
 ghost use Rattle.std.specs.Prelude.{List, ◌≡◌, ℕ};
 
 /// In each state of the framed run that is running, what its steps ask of it is had, but for what is still lacking.
@@ -41,9 +40,4 @@ pub fn runs_start_lacking_nothing()
         → IsEntryCall e entry args → LacksFramed e (framed_after e entry args 0) }
     ensures giving { (e : Elision) (entry : ℕ) (args : List Word) → KeepsPlaces e → KeepsMore e
         → IsEntryCall e entry args → LacksGiving e (elided_after e entry args 0) }
-{}
-
-/// Where allocators take names of coro.size, nothing is lacking of the framed run.
-pub fn named_sizes_lack_nothing()
-    ensures { (e : Elision) (s : State) → TakesSizes e → LacksFramed e s }
 {}

@@ -9,7 +9,7 @@ use Rattle.pass_elide_proof.proofs.Sized.{other_value, stepped}
 use Rattle.pass_elide_proof.specs.Allocating.{IsAtAllocation}
 use Rattle.pass_elide_proof.specs.Counts.{capped, counted, given_frames}
 use Rattle.pass_elide_proof.specs.Elision.{Elision, differs_in, elided, framed, function_in, rooms}
-use Rattle.pass_elide_proof.specs.Match.{AreActivations, AreAsked, AreBelow, AreElided, AreInstances, AreMates, AreNamed, AreReleased, Aside, Beside, Freeing, HasAlloca, HasAllocas, HoldApart, HoldsBlock, IsAt, IsHeld, Sides, Waiting, frame_size, held_blocks, held_name, holds_one, instance_in, is_given_mode, sides, was_given}
+use Rattle.pass_elide_proof.specs.Match.{AreActivations, AreAsked, AreBelow, AreElided, AreInstances, AreMates, AreNamed, AreReleased, Aside, Beside, Freeing, HasAlloca, HasAllocas, HoldApart, HoldsBlock, IsAt, IsHeld, Sides, Waiting, held_blocks, held_name, holds_one, instance_in, is_given_mode, sides, was_given}
 use Rattle.pass_elide_proof.specs.Places.{allocas_ahead}
 use Rattle.pass_proofs.proofs.ir_laws.facts.Lists.{get_before, get_front, get_last, get_within, map_same}
 use Rattle.pass_proofs.proofs.ir_laws.facts.Truth.{equal_numbers, itself, not_equal}
@@ -39,7 +39,7 @@ use Rattle.pass_proofs.specs.run_source.declared.state.Activation.{Activation}
 use Rattle.pass_proofs.specs.run_source.declared.state.Instance.{Instance}
 use Rattle.pass_proofs.specs.run_source.declared.state.State.{State}
 use Rattle.pass_proofs.specs.run_step.Step.{AtInstr, Done, Fetched, allocated, with_length}
-use Rattle.pass_proofs.specs.run_step.Values.{Env, arg_values, nth, pointer_to, value_in, with_value}
+use Rattle.pass_proofs.specs.run_step.Values.{Env, pointer_to, value_in, with_value}
 use Rattle.pass_proofs.specs.run_step.declared.world.Slot.{Slot}
 
 -- ---- one home more, to which no pointer leads
@@ -127,32 +127,28 @@ module _ (e : Elision) (s t : State) (a : Allocator) (result : ℕ) (must_tail :
   m = s.world.memory
 
   abbrev x : MemoryBlock
-  x = blank_block (frame_size e f) 16 Kind.Allocator
+  x = blank_block at.word.bits 16 Kind.Allocator
 
   -- the state behind the call
   abbrev u : State
-  u = settled s (allocated (work_of s) (Some result) (frame_size e f))
+  u = settled s (allocated (work_of s) (Some result) at.word.bits)
 
   abbrev Allocates : Allocator → Type 0
   Allocates b = deals Dealing.Allocates b ≡ true → framed_next (framed e) s (call b) ≡ Ok u
 
-  sized : nth (arg_values e.code s.top.values args) 0 ≡ Value.Int
-      (record { width = at.word.width; bits = frame_size e f })
-  sized = at.size ∙ ap (λ (n : ℕ). Value.Int (record { width = at.word.width; bits = n })) at.is_size
-
   goes : (b : Allocator) → Allocates b
   goes Allocator.Malloc h =
       ap (λ (v : Value). framed_act (framed e) s (with_length v
-      (λ n. Done (allocated (work_of s) (Some result) n)))) sized
+      (λ n. Done (allocated (work_of s) (Some result) n)))) at.size
   goes Allocator.Znwm h =
       ap (λ (v : Value). framed_act (framed e) s (with_length v
-      (λ n. Done (allocated (work_of s) (Some result) n)))) sized
+      (λ n. Done (allocated (work_of s) (Some result) n)))) at.size
   goes Allocator.Free h = absurd (cc)
   goes Allocator.ZdlPv h = absurd (cc)
   goes Allocator.ZdlPvm h = absurd (cc)
 
   pub allocates_here : framed_step (framed e) s
-      ≡ settled s (allocated (work_of s) (Some result) (frame_size e s.top.func))
+      ≡ settled s (allocated (work_of s) (Some result) at.word.bits)
   allocates_here = stepped (framed e) s u (call a) at.runs at.there (goes a at.allocates)
 
   -- ---- homes and what is hidden
@@ -308,14 +304,15 @@ module _ (e : Elision) (s t : State) (a : Allocator) (result : ℕ) (must_tail :
   all_more b c own (inr made) =
       inr (allocas_more c own (allocas_ahead (rooms e b.func) (function_in e b.func)) made.0, made.1)
 
-  held_more : (b : Activation) (size : ℕ) (o : Option ℕ) → HoldsBlock r.hides m b size o
-      → HoldsBlock hides (m ++ x ∷ []) b size o
-  held_more b size None h = tt
-  held_more b size (Some name) h = record {
+  held_more : (b : Activation) (o : Option ℕ) → HoldsBlock r.hides m b o
+      → HoldsBlock hides (m ++ x ∷ []) b o
+  held_more b None h = tt
+  held_more b (Some name) h = record {
     block = h.block;
+    size = h.size;
     address = h.address;
     hidden = or_left (r.hides h.block) (h.block == length m) h.hidden;
-    there = get_before m (x ∷ []) h.block (blank_block size 16 Kind.Allocator) h.there;
+    there = get_before m (x ∷ []) h.block (blank_block h.size 16 Kind.Allocator) h.there;
   }
 
   slots_more : (ss : List Slot) → map (moved_slot r.homes) ss ≡ map (moved_slot homes) ss
@@ -351,7 +348,7 @@ module _ (e : Elision) (s t : State) (a : Allocator) (result : ℕ) (must_tail :
     own = h.own;
     slots = h.slots ∙ ap (λ (ss : List Slot). ss ++ h.own) (slots_more b.slots);
     allocas = all_more b c h.own h.allocas;
-    held = held_more b (frame_size e b.func) (held_name e (is_given_mode c.mode) b) h.held;
+    held = held_more b (held_name e (is_given_mode c.mode) b) h.held;
   }
 
   below : (bs cs : List Activation) → AreBelow e r.homes r.hides d bs cs → AreBelow e homes hides k bs cs
@@ -446,10 +443,16 @@ module _ (e : Elision) (s t : State) (a : Allocator) (result : ℕ) (must_tail :
   allocas own (inr made) =
       inr (allocas_more t.top own (allocas_ahead (rooms e f) (function_in e f)) made.0, made.1)
 
-  held : (b : Bool) → b ≡ true → HoldsBlock hides (m ++ x ∷ []) u.top (frame_size e f) (held_name e b u.top)
+  held : (b : Bool) → b ≡ true → HoldsBlock hides (m ++ x ∷ []) u.top (held_name e b u.top)
   held true holds =
-      subst (λ (o : Option ℕ). HoldsBlock hides (m ++ x ∷ []) u.top (frame_size e f) o) (sym at.behind)
-      (record { block = length m; address = new_value; hidden = hides_new; there = get_last m x })
+      subst (λ (o : Option ℕ). HoldsBlock hides (m ++ x ∷ []) u.top o) (sym at.behind)
+      (record {
+        block = length m;
+        size = at.word.bits;
+        address = new_value;
+        hidden = hides_new;
+        there = get_last m x;
+      })
   held false holds = absurd (cc)
 
   top : AreActivations e homes hides k u.top t.top
@@ -475,11 +478,11 @@ module _ (e : Elision) (s t : State) (a : Allocator) (result : ℕ) (must_tail :
   target (Value.Ptr (Pointer.At b o)) = b
   target v = 0
 
-  held_old : (b : Activation) (size q : ℕ) (o : Option ℕ) → o ≡ Some q → HoldsBlock r.hides m b size o
+  held_old : (b : Activation) (q : ℕ) (o : Option ℕ) → o ≡ Some q → HoldsBlock r.hides m b o
       → target (value_in b.values q) < length m
-  held_old b size q o is h =
-      let old : IsHeld r.hides m b size q = subst (λ (p : Option ℕ). HoldsBlock r.hides m b size p) is h in
-      let lt = get_within m old.block (blank_block size 16 Kind.Allocator) old.there in
+  held_old b q o is h =
+      let old : IsHeld r.hides m b q = subst (λ (p : Option ℕ). HoldsBlock r.hides m b p) is h in
+      let lt = get_within m old.block (blank_block old.size 16 Kind.Allocator) old.there in
       subst (λ (n : ℕ). n < length m) (ap target (sym old.address)) lt
 
   held_below : (bs cs : List Activation) → AreBelow e r.homes r.hides d bs cs → (n q : ℕ) (b c : Activation)
@@ -493,7 +496,7 @@ module _ (e : Elision) (s t : State) (a : Allocator) (result : ℕ) (must_tail :
       let name : held_name e (is_given_mode z.mode) y ≡ Some q
       = (λ j. held_name e (is_given_mode (second j).mode) (first j)) ∙ is in
       subst (λ (o : Activation). target (value_in o.values q) < length m) first
-      (held_old y (frame_size e y.func) q (held_name e (is_given_mode z.mode) y) name h.0.1.held)
+      (held_old y q (held_name e (is_given_mode z.mode) y) name h.0.1.held)
   held_below (y ∷ ys) (z ∷ zs) h (suc n) q b c eb ec is = held_below ys zs h.1 n q b c eb ec is
 
   top_name : (b : Bool) → b ≡ true → (p : ℕ) → held_name e b u.top ≡ Some p → result ≡ p

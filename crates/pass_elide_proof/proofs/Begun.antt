@@ -9,7 +9,7 @@ use Rattle.pass_elide_proof.proofs.Sides.{HaveOthers, SidesGoOn, WasFree, acting
 use Rattle.pass_elide_proof.specs.Beginning.{IsKnownTo}
 use Rattle.pass_elide_proof.specs.Counts.{capped, counted, given_frames}
 use Rattle.pass_elide_proof.specs.Elision.{Elision, elided, framed, function_in, rooms}
-use Rattle.pass_elide_proof.specs.Match.{AreActivations, AreElided, AreInstances, AreMates, AreNamed, AreReleased, HasAlloca, HasAllocas, HoldsBlock, IsFreedAs, IsNoGivenFrame, Runs, Sides, frame_size, held_blocks, held_name, holds_one, instance_in, is_given_mode, sides, was_given}
+use Rattle.pass_elide_proof.specs.Match.{AreActivations, AreElided, AreInstances, AreMates, AreNamed, AreReleased, HasAlloca, HasAllocas, HoldsBlock, IsFreedAs, IsNoGivenFrame, Runs, Sides, held_blocks, held_name, holds_one, instance_in, is_given_mode, sides, was_given}
 use Rattle.pass_elide_proof.specs.Places.{allocas_ahead}
 use Rattle.pass_proofs.proofs.ir_laws.facts.Lists.{get_before, get_front, get_within}
 use Rattle.pass_proofs.proofs.run_laws.memory.Homes.{value_on}
@@ -428,10 +428,10 @@ module _ (e : Elision) (s t : State) (r : AreElided e s t) (b k size most : ℕ)
     abbrev other_behind : Activation
     other_behind = went c result second t.top.has_left
 
-    held : HoldsBlock now u.world.memory behind (frame_size e s.top.func)
+    held : HoldsBlock now u.world.memory behind
         (held_name e (is_given_mode t.top.mode) behind)
     held =
-        subst (λ (o : Option ℕ). HoldsBlock now u.world.memory behind (frame_size e s.top.func) o) (sym none) tt
+        subst (λ (o : Option ℕ). HoldsBlock now u.world.memory behind o) (sym none) tt
 
     here : IsHere e a c
     here = record { block = p.block; own = p.own }

@@ -1,13 +1,13 @@
 -- A block of the first run and the block in which it stands die in both runs.
-use Rattle.std.proofs.Common.{◌≡◌, ◌≢◌, ◌+◌, ◌<◌, inl, inr, ⊎_elim, ℕ, zero, suc, Bool, true, false, List, [], ◌∷◌, length, refl, sym, ap, ◌∙◌, subst, not, ◌||◌, ◌==◌}
+use Rattle.std.proofs.Common.{◌≡◌, ◌≢◌, ◌+◌, ◌<◌, inl, inr, ⊎_elim, ℕ, Bool, true, false, List, [], ◌∷◌, length, refl, sym, ap, ◌∙◌, subst, not, ◌||◌, ◌==◌}
 use Rattle.std.proofs.lemmas.Bool.{cases_eq}
 use Rattle.std.specs.Option.{option_map_or}
-use Rattle.std.specs.Prelude.{None, Option, Some, filter, if◌then◌else◌, option_map, slice_get}
+use Rattle.std.specs.Prelude.{None, Option, Some, if◌then◌else◌, option_map, slice_get}
 use Rattle.pass_elide_proof.proofs.FrameDies.{changed_long}
 use Rattle.pass_elide_proof.proofs.KindsStay.{given_kept, many_kept, one_kept}
 use Rattle.pass_elide_proof.specs.Counts.{capped, counted, given_frames}
 use Rattle.pass_elide_proof.specs.Elision.{Elision, elided, framed, function_in, rooms}
-use Rattle.pass_elide_proof.specs.Match.{AreActivations, AreBelow, AreElided, AreInstances, AreMates, AreNamed, AreReleased, HasAlloca, HasAllocas, HoldsBlock, IsAt, IsFreedAs, IsNoGivenFrame, Sides, frame_size, held_blocks, held_name, instance_in, is_given_mode, sides, was_given}
+use Rattle.pass_elide_proof.specs.Match.{AreActivations, AreBelow, AreElided, AreInstances, AreMates, AreNamed, AreReleased, HasAlloca, HasAllocas, HoldsBlock, IsAt, IsFreedAs, IsNoGivenFrame, Sides, held_blocks, held_name, instance_in, is_given_mode, sides, was_given}
 use Rattle.pass_elide_proof.specs.Places.{allocas_ahead}
 use Rattle.pass_proofs.proofs.ir_laws.facts.Lists.{get_within}
 use Rattle.pass_proofs.proofs.run_laws.embedded.Mirrors.{bounds_changed, dies_embedded}
@@ -15,22 +15,21 @@ use Rattle.pass_proofs.proofs.run_laws.memory.Written.{changed_elsewhere, change
 use Rattle.pass_proofs.proofs.run_laws.transfer.Muted.{muted_change, muted_get}
 use Rattle.pass_proofs.proofs.run_laws.transfer.Places.{muted_at}
 use Rattle.pass_proofs.specs.ir_model.declared.instr.Instr.{Instr}
-use Rattle.pass_proofs.specs.run_framed.Framed.{frame_rights, is_given, is_stack_block}
+use Rattle.pass_proofs.specs.run_framed.Framed.{frame_rights, is_given}
 use Rattle.pass_proofs.specs.run_laws.changed.Changed.{Each}
 use Rattle.pass_proofs.specs.run_laws.embedded.Making.{whole_home}
 use Rattle.pass_proofs.specs.run_laws.embedded.Marks.{LivesAlone}
 use Rattle.pass_proofs.specs.run_laws.embedded.Related.{AreWorlds}
 use Rattle.pass_proofs.specs.run_laws.memory.Pointers.{Home, home_of}
-use Rattle.pass_proofs.specs.run_laws.memory.Standing.{AreBoundsKept, Embeds, blank_block}
+use Rattle.pass_proofs.specs.run_laws.memory.Standing.{AreBoundsKept, Embeds}
 use Rattle.pass_proofs.specs.run_laws.transfer.Muted.{ended_if, muted}
 use Rattle.pass_proofs.specs.run_laws.transfer.Places.{AreStanding}
 use Rattle.pass_proofs.specs.run_memory.Memory.{Rights, is_live, killed, killed_block, may_compare_at, with_block}
 use Rattle.pass_proofs.specs.run_memory.Pointers.{moved}
 use Rattle.pass_proofs.specs.run_memory.declared.block.Byte.{Byte}
-use Rattle.pass_proofs.specs.run_memory.declared.block.Kind.{Kind}
 use Rattle.pass_proofs.specs.run_memory.declared.block.MemoryBlock.{MemoryBlock}
 use Rattle.pass_proofs.specs.run_memory.declared.pointer.Offset.{Offset}
-use Rattle.pass_proofs.specs.run_source.State.{is_finished, with_memory}
+use Rattle.pass_proofs.specs.run_source.State.{with_memory}
 use Rattle.pass_proofs.specs.run_source.declared.state.Activation.{Activation}
 use Rattle.pass_proofs.specs.run_source.declared.state.Instance.{Instance}
 use Rattle.pass_proofs.specs.run_source.declared.state.State.{State}
@@ -275,11 +274,12 @@ module _ (e : Elision) (s t : State) (r : AreElided e s t) (b k : ℕ) (x : Memo
   hidden_other : (c : ℕ) → r.hides c ≡ true → c ≢ b
   hidden_other c is same = lit (r.hides c) is (ap r.hides same ∙ shown)
 
-  held_left : (a : Activation) (size : ℕ) (o : Option ℕ) → HoldsBlock r.hides m a size o
-      → HoldsBlock r.hides (killed m b) a size o
-  held_left a size None h = tt
-  held_left a size (Some name) h = record {
+  held_left : (a : Activation) (o : Option ℕ) → HoldsBlock r.hides m a o
+      → HoldsBlock r.hides (killed m b) a o
+  held_left a None h = tt
+  held_left a (Some name) h = record {
     block = h.block;
+    size = h.size;
     address = h.address;
     hidden = h.hidden;
     there = changed_elsewhere m b h.block killed_block (hidden_other h.block h.hidden) ∙ h.there;
@@ -302,7 +302,7 @@ module _ (e : Elision) (s t : State) (r : AreElided e s t) (b k : ℕ) (x : Memo
     own = h.own;
     slots = h.slots;
     allocas = all_left a c h.own h.allocas;
-    held = held_left a (frame_size e a.func) (held_name e (is_given_mode c.mode) a) h.held;
+    held = held_left a (held_name e (is_given_mode c.mode) a) h.held;
   }
 
   below_left : (bs cs : List Activation) → AreBelow e r.homes r.hides d bs cs → AreBelow e r.homes r.hides q bs cs

@@ -7,7 +7,7 @@ use Rattle.pass_elide.specs.declared.given.GivenFrame.{GivenFrame}
 use Rattle.pass_elide_proof.proofs.Modules.{finds_alike}
 use Rattle.pass_elide_proof.specs.Calling.{IsSetApart, StartsAlike}
 use Rattle.pass_elide_proof.specs.Elision.{Elision, elided_code, function_in, function_in_elided, rooms}
-use Rattle.pass_elide_proof.specs.Match.{AreActivations, AreModes, Beside, Given, HoldsBlock, Same, Sides, frame_size, held_name, is_given_mode}
+use Rattle.pass_elide_proof.specs.Match.{AreActivations, AreModes, Beside, Given, HoldsBlock, Same, Sides, held_name, is_given_mode}
 use Rattle.pass_proofs.proofs.run_laws.transfer.Sets.{set_elsewhere, set_length, set_stands}
 use Rattle.pass_proofs.proofs.ir_laws.facts.Truth.{is_number}
 use Rattle.pass_proofs.specs.ir_model.declared.instr.Instr.{Instr}
@@ -159,7 +159,7 @@ module _ (e : Elision) (homes : List Home) (hides : ℕ → Bool) (d : Sides) (f
       was true given = absurd (cc)
       was false given = absurd (cc)
 
-      held : (b : Bool) → HoldsBlock hides d.memory (called e.code func vs result (mode_of f)) (frame_size e func)
+      held : (b : Bool) → HoldsBlock hides d.memory (called e.code func vs result (mode_of f))
           (held_name e (is_given_mode (if b then Mode.Ramp else Mode.Plain)) (called e.code func vs result (mode_of f)))
       held true = tt
       held false = tt
@@ -240,7 +240,7 @@ module _ (e : Elision) (homes : List Home) (hides : ℕ → Bool) (d : Sides) (f
           own = [];
           slots = refl;
           allocas = inl (refl, refl, refl);
-          held = subst (λ (o : Option ℕ). HoldsBlock hides d.memory x (frame_size e func) o) (sym starts.holds) tt;
+          held = subst (λ (o : Option ℕ). HoldsBlock hides d.memory x o) (sym starts.holds) tt;
         }
 
     pub ramp_holds : held_name e true (called e.code func vs result (mode_of (function_in e func))) ≡ None

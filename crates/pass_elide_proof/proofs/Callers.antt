@@ -8,7 +8,7 @@ use Rattle.pass_elide_proof.proofs.Standing.{has_code}
 use Rattle.pass_elide_proof.specs.Calling.{AreReady, HoldsStill, IsAlike, at_front, differing}
 use Rattle.pass_elide_proof.specs.Counts.{capped, given_frames}
 use Rattle.pass_elide_proof.specs.Elision.{Elision, elided, elided_code, framed, function_in, function_in_elided, rooms}
-use Rattle.pass_elide_proof.specs.Match.{AreActivations, AreBelow, AreElided, Beside, HasAlloca, HoldApart, HoldsBlock, Sides, frame_size, held_blocks, held_name, holds_one, is_given_mode, sides}
+use Rattle.pass_elide_proof.specs.Match.{AreActivations, AreBelow, AreElided, Beside, HasAlloca, HoldApart, HoldsBlock, Sides, held_blocks, held_name, holds_one, is_given_mode, sides}
 use Rattle.pass_elide_proof.specs.Places.{allocas_ahead, elided_instr, front_at, instrs_of, name_at, own_at, room_at}
 use Rattle.pass_proofs.specs.ir_model.Ty.{Ty}
 use Rattle.pass_proofs.specs.ir_model.declared.instr.Instr.{Instr}
@@ -109,19 +109,20 @@ module _ (e : Elision) (s t : State) (r : AreReady e s t) where
   behind_too = record t.top { at = t.top.at + 1 }
 
   module _ (holds : HoldsStill e s) where
-    held_to : (o : Option ℕ) → HoldsBlock r.beside.hides s.world.memory s.top (frame_size e s.top.func) o
-        → HoldsBlock r.beside.hides s.world.memory behind (frame_size e s.top.func) o
+    held_to : (o : Option ℕ) → HoldsBlock r.beside.hides s.world.memory s.top o
+        → HoldsBlock r.beside.hides s.world.memory behind o
     held_to None h = tt
-    held_to (Some name) h = record { block = h.block; address = h.address; hidden = h.hidden; there = h.there }
+    held_to (Some name) h =
+        record { block = h.block; size = h.size; address = h.address; hidden = h.hidden; there = h.there }
 
     pub same_name : (b : Bool) → held_name e b behind ≡ held_name e b s.top
     same_name true = holds
     same_name false = refl
 
-    held : HoldsBlock r.beside.hides s.world.memory behind (frame_size e s.top.func)
+    held : HoldsBlock r.beside.hides s.world.memory behind
         (held_name e (is_given_mode t.top.mode) behind)
     held =
-        subst (λ (o : Option ℕ). HoldsBlock r.beside.hides s.world.memory behind (frame_size e s.top.func) o)
+        subst (λ (o : Option ℕ). HoldsBlock r.beside.hides s.world.memory behind o)
         (sym (same_name (is_given_mode t.top.mode)))
         (held_to (held_name e (is_given_mode t.top.mode) s.top) r.beside.top.held)
 

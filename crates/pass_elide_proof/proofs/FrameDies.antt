@@ -1,12 +1,12 @@
 -- The block of a frame that was given in the second run dies in the first one.
 use Rattle.std.proofs.Common.{◌≡◌, ◌≢◌, ◌+◌, ◌<◌, inl, inr, ⊎_elim, ℕ, zero, suc, Bool, true, false, List, [], ◌∷◌, length, refl, sym, ap, ◌∙◌, subst, not, ◌||◌}
-use Rattle.std.proofs.lemmas.Bool.{cases_eq, false≢true}
+use Rattle.std.proofs.lemmas.Bool.{cases_eq}
 use Rattle.std.specs.Prelude.{None, Option, Some, option_map, slice_get}
 use Rattle.pass_elide_proof.specs.Counts.{counted}
 use Rattle.pass_elide_proof.specs.Elision.{Elision, elided, framed, function_in, rooms}
-use Rattle.pass_elide_proof.specs.Match.{AreActivations, AreBelow, AreElided, AreMates, AreReleased, HasAlloca, HasAllocas, HoldsBlock, IsNoGivenFrame, Sides, frame_size, held_name, is_given_mode, sides}
+use Rattle.pass_elide_proof.specs.Match.{AreActivations, AreBelow, AreElided, AreMates, AreReleased, HasAlloca, HasAllocas, HoldsBlock, IsNoGivenFrame, Sides, held_name, is_given_mode, sides}
 use Rattle.pass_elide_proof.specs.Places.{allocas_ahead}
-use Rattle.pass_proofs.proofs.run_laws.memory.Written.{changed_elsewhere, changed_here}
+use Rattle.pass_proofs.proofs.run_laws.memory.Written.{changed_elsewhere}
 use Rattle.pass_proofs.proofs.run_laws.transfer.Muted.{muted_get}
 use Rattle.pass_proofs.proofs.run_laws.transfer.Places.{fewer_stand, muted_at}
 use Rattle.pass_proofs.specs.ir_model.declared.instr.Instr.{Instr}
@@ -14,12 +14,10 @@ use Rattle.pass_proofs.specs.run_framed.Framed.{frame_rights, is_given}
 use Rattle.pass_proofs.specs.run_laws.changed.Changed.{Each}
 use Rattle.pass_proofs.specs.run_laws.embedded.Related.{AreWorlds}
 use Rattle.pass_proofs.specs.run_laws.memory.Pointers.{Home, home_of}
-use Rattle.pass_proofs.specs.run_laws.memory.Standing.{blank_block}
 use Rattle.pass_proofs.specs.run_laws.transfer.Muted.{ended_if, muted}
 use Rattle.pass_proofs.specs.run_laws.transfer.Places.{AreStanding, IsComparable}
 use Rattle.pass_proofs.specs.run_memory.Memory.{Rights, disowned, is_live, killed, killed_block, may_compare_at, with_block}
 use Rattle.pass_proofs.specs.run_memory.Pointers.{moved}
-use Rattle.pass_proofs.specs.run_memory.declared.block.Kind.{Kind}
 use Rattle.pass_proofs.specs.run_memory.declared.block.MemoryBlock.{MemoryBlock}
 use Rattle.pass_proofs.specs.run_memory.declared.pointer.Offset.{Offset}
 use Rattle.pass_proofs.specs.run_source.State.{with_memory}
@@ -240,11 +238,12 @@ module _ (e : Elision) (s t : State) (r : AreElided e s t) (m : List MemoryBlock
   all_left a c own (inr made) =
       inr (allocas_left c own (allocas_ahead (rooms e a.func) (function_in e a.func)) made.0, made.1)
 
-  held_left : (a : Activation) (size : ℕ) (o : Option ℕ) → HoldsBlock r.hides old a size o
-      → HoldsBlock r.hides m a size o
-  held_left a size None h = tt
-  held_left a size (Some name) h = record {
+  held_left : (a : Activation) (o : Option ℕ) → HoldsBlock r.hides old a o
+      → HoldsBlock r.hides m a o
+  held_left a None h = tt
+  held_left a (Some name) h = record {
     block = h.block;
+    size = h.size;
     address = h.address;
     hidden = h.hidden;
     there = dies.others h.block (hidden_other h.block h.hidden) ∙ h.there;
@@ -267,7 +266,7 @@ module _ (e : Elision) (s t : State) (r : AreElided e s t) (m : List MemoryBlock
     own = h.own;
     slots = h.slots;
     allocas = all_left a c h.own h.allocas;
-    held = held_left a (frame_size e a.func) (held_name e (is_given_mode c.mode) a) h.held;
+    held = held_left a (held_name e (is_given_mode c.mode) a) h.held;
   }
 
   below_left : (bs cs : List Activation) → AreBelow e r.homes r.hides d bs cs → AreBelow e r.homes r.hides k bs cs

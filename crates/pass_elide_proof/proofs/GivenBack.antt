@@ -4,7 +4,7 @@ use Rattle.std.specs.Prelude.{None, Some, slice_get}
 use Rattle.pass_elide.specs.Elided.{frame_allocas, function_frames}
 use Rattle.pass_elide.specs.declared.given.GivenFrame.{GivenFrame}
 use Rattle.pass_elide_proof.specs.Elision.{Elision, function_in, rooms}
-use Rattle.pass_elide_proof.specs.Match.{AreActivations, AreAsked, AreMadeAlike, AreReleased, Aside, Beside, Freeing, HasAlloca, HasAllocas, HoldsBlock, IsAt, IsAtEnd, Sides, Skips, Waiting, frame_size, held_name, is_given_mode, was_given}
+use Rattle.pass_elide_proof.specs.Match.{AreActivations, AreAsked, AreMadeAlike, AreReleased, Aside, Beside, Freeing, HasAlloca, HasAllocas, HoldsBlock, IsAt, IsAtEnd, Sides, Skips, Waiting, held_name, is_given_mode, was_given}
 use Rattle.pass_elide_proof.specs.Places.{instrs_of}
 use Rattle.pass_elide_proof.specs.Returning.{SetsAlike}
 use Rattle.pass_proofs.proofs.ir_laws.facts.Truth.{is_number}
@@ -182,10 +182,11 @@ module _ (e : Elision) (homes : List Home) (hides : ℕ → Bool) (d : Sides) (a
       by false is set = absurd (cc)
 
   held_on : (o : Option ℕ) → held_name e (is_given_mode c.mode) a ≡ o
-      → HoldsBlock hides d.memory a (frame_size e a.func) o → HoldsBlock hides d.memory ours (frame_size e a.func) o
+      → HoldsBlock hides d.memory a o → HoldsBlock hides d.memory ours o
   held_on None is k = tt
   held_on (Some w) is k = record {
     block = k.block;
+    size = k.size;
     address = held_stays w is ∙ k.address;
     hidden = k.hidden;
     there = k.there;
@@ -217,6 +218,6 @@ module _ (e : Elision) (homes : List Home) (hides : ℕ → Bool) (d : Sides) (a
     own = h.own;
     slots = h.slots;
     allocas = all_on h.own h.allocas;
-    held = subst (λ (o : Option ℕ). HoldsBlock hides d.memory ours (frame_size e a.func) o)
+    held = subst (λ (o : Option ℕ). HoldsBlock hides d.memory ours o)
         (sym (same_held (is_given_mode c.mode))) (held_on (held_name e (is_given_mode c.mode) a) refl h.held);
   }

@@ -150,22 +150,29 @@ module _ (e : Elision) (s t : State) (r : AreElided e s t) (result : Option ℕ)
   name_is : held_name e (is_given_mode t.top.mode) s.top ≡ Some at.memory
   name_is = (λ i. held_name e (ramp i) s.top) ∙ at.holds
 
-  held_block : IsHeld r.hides s.world.memory s.top full at.memory
-  held_block = subst (λ (o : Option ℕ). HoldsBlock r.hides s.world.memory s.top full o) name_is r.top.held
+  held_block : IsHeld r.hides s.world.memory s.top at.memory
+  held_block = subst (λ (o : Option ℕ). HoldsBlock r.hides s.world.memory s.top o) name_is r.top.held
 
-  module _ (held : IsHeld r.hides s.world.memory s.top full at.memory) where
+  module _ (held : IsHeld r.hides s.world.memory s.top at.memory) where
     abbrev b : ℕ
     b = held.block
 
     mem_is : mem ≡ pointer_to b
     mem_is = local_arg e.code s.top.values args 1 at.memory at.takes ∙ held.address
 
+    -- its size is the frame's
+    its_block : slice_get s.world.memory b ≡ Some z
+    its_block =
+        held.there
+        ∙ ap (λ (n : ℕ). Some (blank_block n 16 Kind.Allocator))
+        (at.exact b (blank_block held.size 16 Kind.Allocator) mem_is held.there)
+
     none : (i : ℕ) (x : Instance) → slice_get s.instances i ≡ Some x → x.block ≢ b
     none i x there same =
-        at.frames.owned i x z there (ap (slice_get s.world.memory) same ∙ held.there) refl refl
+        at.frames.owned i x z there (ap (slice_get s.world.memory) same ∙ its_block) refl refl
 
     low : b < length s.world.memory
-    low = get_within s.world.memory b z held.there
+    low = get_within s.world.memory b z its_block
 
     low_home : b < length r.homes
     low_home = let lt = low in let same = r.known in omega (arith, lt, same)
@@ -236,7 +243,7 @@ module _ (e : Elision) (s t : State) (r : AreElided e s t) (result : Option ℕ)
     new_there : slice_get (muted now m) b ≡ Some new
     new_there =
         shown_there now m b new (showing_it r.hides b)
-        (changed_here s.world.memory b (owned_to size) z held.there)
+        (changed_here s.world.memory b (owned_to size) z its_block)
 
     is_new : (x : MemoryBlock) → slice_get (muted now m) b ≡ Some x → new ≡ x
     is_new x there = same_some new x (sym new_there ∙ there)
@@ -338,7 +345,7 @@ module _ (e : Elision) (s t : State) (r : AreElided e s t) (result : Option ℕ)
 
     -- ---- what others hold
 
-    holds_none : HoldsNone e s.world.memory t.instances b z held.there refl s.below t.below
+    holds_none : HoldsNone e s.world.memory t.instances b z its_block refl s.below t.below
     holds_none j name a c there to is same =
         r.once 0 (suc j) at.memory name s.top a t.top c (λ never_so. absurd (cc)) refl there refl to name_is is
         (held.address ∙ sym same)
@@ -363,8 +370,8 @@ module _ (e : Elision) (s t : State) (r : AreElided e s t) (result : Option ℕ)
       world = world;
       others = λ c ne. ap (λ (h : Home). h.block) (other_home c ne);
       held = λ c ne hidden. ne;
-      slots = slots_apart s.world.memory b z held.there refl s.top.slots at.frames.heaps.0;
-      below = others_below e s.world.memory t.instances b z held.there refl s.below t.below at.frames.heaps.1
+      slots = slots_apart s.world.memory b z its_block refl s.top.slots at.frames.heaps.0;
+      below = others_below e s.world.memory t.instances b z its_block refl s.below t.below at.frames.heaps.1
           at.frames.known.1 holds_none;
       mode = given_top (begun_in t k most).top refl ∙ sym (given_top t.top refl);
     }
@@ -413,7 +420,7 @@ module _ (e : Elision) (s t : State) (r : AreElided e s t) (result : Option ℕ)
 
     may : may_be_owned Kind.Allocator size (slice_get s.world.memory b) ≡ true
     may =
-        ap (may_be_owned Kind.Allocator size) held.there
+        ap (may_be_owned Kind.Allocator size) its_block
         ∙ le-leb size full (let same = size_is in omega (arith, same))
 
     goes_first : framed_next (framed e) s (AtInstr call) ≡ Ok (gives (begun_in s b size) result (pointer_to b))

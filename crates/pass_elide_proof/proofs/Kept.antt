@@ -3,7 +3,7 @@ use Rattle.std.proofs.Common.{◌≡◌, ◌<◌, ◌≤◌, inl, inr, ⊎_elim,
 use Rattle.std.specs.Option.{option_map_or}
 use Rattle.std.specs.Prelude.{None, Some, filter, slice_get}
 use Rattle.pass_elide_proof.specs.Elision.{Elision, differs_in, function_in, rooms}
-use Rattle.pass_elide_proof.specs.Match.{AreActivations, AreBelow, AreReleased, HasAlloca, HasAllocas, HoldsBlock, IsAt, IsNoGivenFrame, Sides, frame_size, held_name, instance_in, is_given_mode, was_given}
+use Rattle.pass_elide_proof.specs.Match.{AreActivations, AreBelow, AreReleased, HasAlloca, HasAllocas, HoldsBlock, IsAt, IsNoGivenFrame, Sides, held_name, instance_in, is_given_mode, was_given}
 use Rattle.pass_elide_proof.specs.Places.{allocas_ahead}
 use Rattle.pass_proofs.specs.ir_model.declared.instr.Instr.{Instr}
 use Rattle.pass_proofs.specs.run_framed.Framed.{is_given}
@@ -41,14 +41,15 @@ module _ (e : Elision) (homes : List Home) (hides : ℕ → Bool) (d k : Sides) 
     tested = h.tested;
   }
 
-  held_kept : (a : Activation) (size : ℕ) (o : Option ℕ) → HoldsBlock hides d.memory a size o
-      → HoldsBlock hides k.memory a size o
-  held_kept a size None h = tt
-  held_kept a size (Some name) h = record {
+  held_kept : (a : Activation) (o : Option ℕ) → HoldsBlock hides d.memory a o
+      → HoldsBlock hides k.memory a o
+  held_kept a None h = tt
+  held_kept a (Some name) h = record {
     block = h.block;
+    size = h.size;
     address = h.address;
     hidden = h.hidden;
-    there = keeps.hidden h.block size h.hidden h.there;
+    there = keeps.hidden h.block h.size h.hidden h.there;
   }
 
   allocas_each : (c : Activation) (own : List Slot) (is : List Instr)
@@ -85,7 +86,7 @@ module _ (e : Elision) (homes : List Home) (hides : ℕ → Bool) (d k : Sides) 
     own = h.own;
     slots = h.slots;
     allocas = all_kept a c h.own to h.allocas;
-    held = held_kept a (frame_size e a.func) (held_name e (is_given_mode c.mode) a) h.held;
+    held = held_kept a (held_name e (is_given_mode c.mode) a) h.held;
   }
 
   -- so do those below

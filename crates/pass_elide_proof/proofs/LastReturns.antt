@@ -1,6 +1,6 @@
 -- A framed run returns from its last activation alone: where it has returned, none is below.
 use Rattle.std.proofs.Common.{◌≡◌, ◌∙◌, ◌⊎◌, inl, inr, ℕ, zero, suc, Bool, true, false, List, [], ◌∷◌, Err, None, Ok, Option, Result, Some, ap, if◌then◌else◌, refl, subst, sym, ◌&&◌, ◌==◌}
-use Rattle.pass_elide_proof.proofs.Assembly.{framed_stays}
+use Rattle.pass_elide_proof.proofs.Checked.{framed_stays}
 use Rattle.pass_elide_proof.proofs.StepCases.{leads_to, then_ok}
 use Rattle.pass_elide_proof.specs.StepCases.{LeadsTo, ended}
 use Rattle.pass_proofs.proofs.run_agreement.Compose.{returned_fine}

@@ -126,6 +126,8 @@ pub mod Popped
 pub mod EndsResumed
 pub mod StepKinds
 pub mod WaitingFalls
+pub mod Checked
+pub mod Passing
 pub mod Assembly
 pub mod StartsRelated
 pub mod LastAgain

@@ -1,23 +1,22 @@
 -- Where both runs have returned, the first made one allocator call more for each instance whose frame was given.
-use Rattle.std.proofs.Common.{◌≡◌, ◌+◌, ◌-◌, ◌≤◌, ◌∙◌, ◌⊎◌, ⊎_elim, inl, inr, ℕ, Bool, true, false, List, [], ◌∷◌, ap, arith, refl, subst, sym}
+use Rattle.std.proofs.Common.{◌≡◌, ◌+◌, ◌-◌, ◌≤◌, ◌∙◌, ◌⊎◌, ⊎_elim, inl, inr, ℕ, Bool, false, List, [], ◌∷◌, ap, arith, refl, subst, sym}
 use Rattle.std.proofs.lemmas.Bool.{cases_lt}
-use Rattle.pass_elide_proof.proofs.Assembly.{assembled, framed_stays}
+use Rattle.pass_elide_proof.proofs.Assembly.{assembled}
+use Rattle.pass_elide_proof.proofs.Checked.{checked_at, framed_stays}
 use Rattle.pass_elide_proof.proofs.LastReturns.{runs_over_alone}
-use Rattle.pass_elide_proof.specs.Assembling.{KnowsSteps, WaitsBehind, elided_after, framed_after}
+use Rattle.pass_elide_proof.specs.Assembling.{KnowsSteps, WaitsBehind, elided_after}
+use Rattle.pass_elide_proof.specs.Checked.{checked_run}
 use Rattle.pass_elide_proof.specs.Counts.{LosesCalls, capped, given_frames}
 use Rattle.pass_elide_proof.specs.Elision.{Elision, elided, framed, function_in}
 use Rattle.pass_elide_proof.specs.Invariant.{AreGivenBy}
 use Rattle.pass_elide_proof.specs.Match.{AreBelow, Sides, held_blocks, held_name, holds_one, is_given_mode}
-use Rattle.pass_elide_proof.specs.Statement.{AreRelated, AreRelatedOrOver, IsElisionOf, elided_run, framed_run}
+use Rattle.pass_elide_proof.specs.Statement.{AreRelated, AreRelatedOrOver, IsElisionOf, elided_run}
 use Rattle.pass_proofs.proofs.run_agreement.Compose.{returned_fine}
 use Rattle.pass_proofs.proofs.run_agreement.Runs.{iterate-add, over_stays, returned_over}
-use Rattle.pass_proofs.specs.ir_base.declared.outcome.Outcome.{Outcome}
 use Rattle.pass_proofs.specs.ir_base.declared.outcome.Word.{Word}
 use Rattle.pass_proofs.specs.ir_model.declared.module.Module.{Module}
 use Rattle.pass_proofs.specs.run_agreement.Machines.{IsReturned, Machine, Stays, iterate, state_at}
-use Rattle.pass_proofs.specs.run_framed.Framed.{framed_step}
 use Rattle.pass_proofs.specs.run_laws.memory.Pointers.{Home}
-use Rattle.pass_proofs.specs.run_memory.declared.pointer.Value.{Value}
 use Rattle.pass_proofs.specs.run_source.declared.state.Activation.{Activation}
 use Rattle.pass_proofs.specs.run_source.declared.state.Instance.{Instance}
 use Rattle.pass_proofs.specs.run_source.declared.state.Mode.{Mode}
@@ -77,20 +76,22 @@ related_count e s t r none =
 
 module _ (e : Elision) (source : Module) (most : ℕ) (is : IsElisionOf e source most)
     (waits : (func : ℕ) → WaitsBehind (function_in e func) (e.shape func)) (entry : ℕ) (args : List Word)
-    (Keeps : State → State → Type 0) (knows : KnowsSteps e entry args Keeps) where
+    (passes : State → Bool) (Keeps : State → State → Type 0) (knows : KnowsSteps e entry args passes Keeps) where
   counted_by : (s t : State) → AreRelatedOrOver e s t → IsReturned s.outcome → s.below ≡ []
       → (s.world.allocs ≡ capped (t.world.allocs + given_frames t)) × (t.outcome ≡ s.outcome)
   counted_by s t (inl r) over none = (related_count e s t r none, r.beside.outcome)
   counted_by s t (inr r) over none = (r.allocs, r.outcome)
 
-  pub loses : LosesCalls (framed_run e entry args) (elided_run e entry args)
+  pub loses : LosesCalls (checked_run e passes entry args) (elided_run e entry args)
   loses i j ours theirs =
-      let found = (assembled e source most is waits entry args Keeps knows).forward i
-      (returned_fine (framed_after e entry args i).outcome ours) in
+      let fine = returned_fine (state_at (checked_run e passes entry args) i).outcome ours in
+      let same = checked_at e passes entry args i fine in
+      let found = (assembled e source most is waits entry args passes Keeps knows).forward i fine in
       let k = found.steps in
-      let counted = counted_by (framed_after e entry args i) (elided_after e entry args k) found.related ours
-      (runs_over_alone (framed e) entry args i ours) in
-      let same : elided_after e entry args j ≡ elided_after e entry args k
+      let counted = counted_by (state_at (checked_run e passes entry args) i) (elided_after e entry args k)
+      found.related ours (ap (λ (s : State). s.below) same
+      ∙ runs_over_alone (framed e) entry args i (subst (λ (s : State). IsReturned s.outcome) same ours)) in
+      let last : elided_after e entry args j ≡ elided_after e entry args k
       = same_state (elided_run e entry args) (framed_stays (elided e)) k j
       (subst IsReturned (sym counted.1) ours) theirs in
-      counted.0 ∙ ap (λ (t : State). capped (t.world.allocs + given_frames t)) (sym same)
+      counted.0 ∙ ap (λ (t : State). capped (t.world.allocs + given_frames t)) (sym last)

@@ -3,7 +3,7 @@ use Rattle.std.proofs.Common.{◌≡◌, ◌≢◌, ◌<◌, inl, inr, ℕ, suc,
 use Rattle.std.specs.Option.{option_map_or}
 use Rattle.std.specs.Prelude.{None, Option, Some, filter, if◌then◌else◌, map, slice_get}
 use Rattle.pass_elide_proof.specs.Elision.{Elision, differs_in, function_in, rooms}
-use Rattle.pass_elide_proof.specs.Match.{AreActivations, AreBelow, AreInstances, AreNamed, Aside, Beside, Freeing, HasAlloca, HasAllocas, HoldsBlock, IsAt, IsFreedAs, IsNoGivenFrame, Sides, Waiting, frame_size, held_name, instance_in, is_given_mode, was_given}
+use Rattle.pass_elide_proof.specs.Match.{AreActivations, AreBelow, AreInstances, AreNamed, Aside, Beside, Freeing, HasAlloca, HasAllocas, HoldsBlock, IsAt, IsFreedAs, IsNoGivenFrame, Sides, Waiting, held_name, instance_in, is_given_mode, was_given}
 use Rattle.pass_elide_proof.specs.Places.{allocas_ahead}
 use Rattle.pass_proofs.proofs.run_laws.memory.Homes.{value_on}
 use Rattle.pass_proofs.specs.ir_model.Ty.{array, int}
@@ -174,12 +174,12 @@ module _ (e : Elision) (d : Sides) (memory other : List MemoryBlock) (homes more
     room = h.room;
   }
 
-  pub held_on : (a : Activation) (size : ℕ) (o : Option ℕ) → HoldsBlock hides d.memory a size o
-      → HoldsBlock later memory a size o
-  held_on a size None h = tt
-  held_on a size (Some name) h =
-      let still = on.held h.block size h.hidden h.there in
-      record { block = h.block; address = h.address; hidden = still.0; there = still.1 }
+  pub held_on : (a : Activation) (o : Option ℕ) → HoldsBlock hides d.memory a o
+      → HoldsBlock later memory a o
+  held_on a None h = tt
+  held_on a (Some name) h =
+      let still = on.held h.block h.size h.hidden h.there in
+      record { block = h.block; size = h.size; address = h.address; hidden = still.0; there = still.1 }
 
   abbrev pub SlotsStay : Activation → Type 0
   SlotsStay a = map (moved_slot more) a.slots ≡ map (moved_slot homes) a.slots
@@ -200,7 +200,7 @@ module _ (e : Elision) (d : Sides) (memory other : List MemoryBlock) (homes more
     own = h.own;
     slots = h.slots ∙ ap (λ (ss : List Slot). ss ++ h.own) (sym slots);
     allocas = has_allocas a c h.own h.allocas;
-    held = held_on a (frame_size e a.func) (held_name e (is_given_mode c.mode) a) h.held;
+    held = held_on a (held_name e (is_given_mode c.mode) a) h.held;
   }
 
   -- ---- those below, and instances

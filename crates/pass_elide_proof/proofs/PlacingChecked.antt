@@ -265,7 +265,7 @@ module _ (e : Elision) (func : ℕ) (h : PassesTests e func) where
 
   pub keeps_instrs : KeepsInstrs e func
   keeps_instrs = record {
-    takes = λ block at v i there is.
+    takes = λ block at v i reached there is.
         read_is (e.shape func) block i v
         (listed_all (read_ok (e.shape func) block i) (locals_in (instr_operands i)) v
         (tested_at (reads_ok (e.shape func)) f block at i h.reads there) (read_used v i is));

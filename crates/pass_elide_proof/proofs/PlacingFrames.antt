@@ -11,7 +11,7 @@ use Rattle.pass_elide_proof.proofs.OwnPlaces.{instr_there}
 use Rattle.pass_elide_proof.proofs.PlacingCalls.{call_place, plain_name}
 use Rattle.pass_elide_proof.proofs.PlacingFacts.{by_truth, holds_over, no_frames}
 use Rattle.pass_elide_proof.proofs.Slotted.{frame_dead, slotted_frames}
-use Rattle.pass_elide_proof.specs.Beginning.{HasRoomAt, IsAtBegin, IsAtGivenBegin}
+use Rattle.pass_elide_proof.specs.Beginning.{BeginsInFrameSize, HasRoomAt, IsAtBegin, IsAtGivenBegin}
 use Rattle.pass_elide_proof.specs.Elision.{Elision, Shape, elided, framed, function_in, no_shape, rooms}
 use Rattle.pass_elide_proof.specs.Ending.{FreesGiven}
 use Rattle.pass_elide_proof.specs.Match.{AreElided, instance_in, is_given_mode, sides, was_given}
@@ -72,8 +72,8 @@ module _ (e : Elision) (keeps : KeepsPlaces e) (s t : State) (r : AreElided e s 
   }
 
   pub given_begin_place : HaveShapes e t → (block : ℕ) → t.top.mode ≡ Mode.GivenRamp (pointer_to block)
-      → HasRoomAt e s t r block → IsAtGivenBegin e s t r result must_tail ty args
-  given_begin_place shapes block mode room =
+      → HasRoomAt e s t r block → BeginsInFrameSize e s args → IsAtGivenBegin e s t r result must_tail ty args
+  given_begin_place shapes block mode room exact =
       let k = subst (λ (n : ℕ). HasShape e n) r.top.func (shapes.ramps.0 (ap is_given_mode mode)) in
       let here = k.begun s.top.block s.top.at call there refl in
       let one : Some k.asks.start ≡ Some call
@@ -87,6 +87,7 @@ module _ (e : Elision) (keeps : KeepsPlaces e) (s t : State) (r : AreElided e s 
         mode = mode;
         room = room;
         small = k.small;
+        exact = exact;
         memory = k.asks.memory;
         takes = sym (ap (λ (i : Instr). call_operand i 1) same) ∙ k.asks.takes;
         holds = (λ j. (e.shape s.top.func).holds (here.0 j) (here.1 j))

@@ -1,5 +1,5 @@
 -- What is asked of an instruction that both runs execute themselves, by what the module keeps.
-use Rattle.std.proofs.Common.{◌≡◌, ℕ, true, false, sym, ◌∙◌, arith}
+use Rattle.std.proofs.Common.{◌≡◌, ℕ, true, false, sym, ◌∙◌}
 use Rattle.std.specs.Prelude.{IsTrue, None, Some, slice_get}
 use Rattle.elide_shape.specs.Calls.{deals_by}
 use Rattle.elide_shape.specs.declared.calls.Dealing.{Dealing}
@@ -37,7 +37,7 @@ module _ (e : Elision) (keeps : KeepsPlaces e) (s t : State) (i : Instr) (func :
   there = instr_there f s.top.block s.top.at i at.there
 
   read : (v : ℕ) → IsTrue (reads v i) → ReadsPlain x s.top.block i v
-  read v is = (keeps.instrs s.top.func).takes s.top.block s.top.at v i there is
+  read v is = (keeps.instrs s.top.func).takes s.top.block s.top.at v i at.reached there is
 
   set : (v : ℕ) → given_by i ≡ Some v → SetsPlain f x s.top.block s.top.at i v
   set v is = (keeps.instrs s.top.func).sets s.top.block s.top.at v i there (gives_result i v is)

@@ -9,7 +9,6 @@ use Rattle.pass_elide_proof.proofs.OwnPlaces.{instr_there}
 use Rattle.pass_elide_proof.proofs.PlacingFacts.{holds_over, no_frames}
 use Rattle.pass_elide_proof.specs.Allocating.{IsAtAllocation}
 use Rattle.pass_elide_proof.specs.Elision.{Elision, Shape, framed, function_in, no_shape, rooms}
-use Rattle.pass_elide_proof.specs.Match.{frame_size}
 use Rattle.pass_elide_proof.specs.Places.{allocas_ahead, instrs_of}
 use Rattle.pass_elide_proof.specs.Placing.{HasShape, KeepsPlaces, SetsPlain, is_test}
 use Rattle.pass_elide_proof.specs.PlacingStates.{IsKnownState, IsLeftWaiting}
@@ -126,9 +125,9 @@ module _ (e : Elision) (keeps : KeepsPlaces e) (s t : State) (waits : IsLeftWait
       (args : List Arg) (word : Word) → deals Dealing.Allocates a ≡ true
       → fetch (function_of (framed e).given s) s.top.block s.top.at
       ≡ AtInstr (Instr.Call (Some result) must_tail ty (Callee.Allocator a) args)
-      → nth (arg_values e.code s.top.values args) 0 ≡ Value.Int word → word.bits ≡ frame_size e s.top.func
+      → nth (arg_values e.code s.top.values args) 0 ≡ Value.Int word
       → IsAtAllocation e s t a result must_tail ty args
-  allocation_place known a result must_tail ty args word allocates there size is_size =
+  allocation_place known a result must_tail ty args word allocates there size =
       let call = Instr.Call (Some result) must_tail ty (Callee.Allocator a) args in
       let asks = shaped.asks in
       let spot = among e keeps s t waits shaped call there in
@@ -151,7 +150,6 @@ module _ (e : Elision) (keeps : KeepsPlaces e) (s t : State) (waits : IsLeftWait
             omega (arith, low, room);
         word = word;
         size = size;
-        is_size = is_size;
         before = held_here e keeps s t waits shaped call there None s.top.at
             (asks.free_before s.top.at (omega (arith, at)));
         behind = held_here e keeps s t waits shaped call there (Some result) (s.top.at + 1)

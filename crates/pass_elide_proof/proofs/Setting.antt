@@ -7,7 +7,7 @@ use Rattle.pass_elide.specs.declared.given.GivenFrame.{GivenFrame}
 use Rattle.pass_elide_proof.proofs.Sized.{other_value}
 use Rattle.pass_elide_proof.specs.Counts.{capped, given_frames}
 use Rattle.pass_elide_proof.specs.Elision.{Elision, Shape, differs_in, function_in, rooms}
-use Rattle.pass_elide_proof.specs.Match.{AreActivations, AreAsked, AreElided, AreModes, AreNamed, AreReleased, Beside, HasAlloca, HasAllocas, HoldApart, HoldsBlock, IsAt, Sides, frame_size, held_blocks, held_name, holds_one, instance_in, is_given_mode, sides, was_given}
+use Rattle.pass_elide_proof.specs.Match.{AreActivations, AreAsked, AreElided, AreModes, AreNamed, AreReleased, Beside, HasAlloca, HasAllocas, HoldApart, HoldsBlock, IsAt, Sides, held_blocks, held_name, holds_one, instance_in, is_given_mode, sides, was_given}
 use Rattle.pass_elide_proof.specs.Places.{allocas_ahead, front_at, own_at}
 use Rattle.pass_proofs.proofs.ir_laws.facts.Truth.{either}
 use Rattle.pass_proofs.specs.ir_model.Ty.{array, int}
@@ -134,7 +134,7 @@ module _ (e : Elision) (homes : List Home) (hides : ℕ → Bool) (d : Sides) (a
   }
 
   pub held_too : IsAt e homes (was_given d c) a c → AreActing e homes hides d a c
-      → HoldsBlock hides d.memory a (frame_size e a.func) (held_name e (is_given_mode c.mode) a)
+      → HoldsBlock hides d.memory a (held_name e (is_given_mode c.mode) a)
       → AreActivations e homes hides d a c
   held_too place h held = record {
     func = h.func;
@@ -278,21 +278,22 @@ module _ (e : Elision) (hides : ℕ → Bool) (memory : List MemoryBlock) (a : A
     (result : Option ℕ) (v : Value) (left : Bool)
     (holds : held_name e given (went a result v left) ≡ held_name e given a)
     (kept : (name : ℕ) → held_name e given a ≡ Some name → result ≡ Some name → ⊥) where
-  by_name : (o : Option ℕ) → held_name e given a ≡ o → HoldsBlock hides memory a (frame_size e a.func) o
-      → HoldsBlock hides memory (went a result v left) (frame_size e a.func) o
+  by_name : (o : Option ℕ) → held_name e given a ≡ o → HoldsBlock hides memory a o
+      → HoldsBlock hides memory (went a result v left) o
   by_name None is z = tt
   by_name (Some name) is z = record {
     block = z.block;
+    size = z.size;
     address = other_than a.values result name v (kept name is) ∙ z.address;
     hidden = z.hidden;
     there = z.there;
   }
 
-  pub still_held : HoldsBlock hides memory a (frame_size e a.func) (held_name e given a)
-      → HoldsBlock hides memory (went a result v left) (frame_size e a.func)
+  pub still_held : HoldsBlock hides memory a (held_name e given a)
+      → HoldsBlock hides memory (went a result v left)
       (held_name e given (went a result v left))
   still_held z =
-      subst (λ (o : Option ℕ). HoldsBlock hides memory (went a result v left) (frame_size e a.func) o) (sym holds)
+      subst (λ (o : Option ℕ). HoldsBlock hides memory (went a result v left) o) (sym holds)
       (by_name (held_name e given a) refl z)
 
 module _ (e : Elision) (a b c g : Activation) (bs cs : List Activation)

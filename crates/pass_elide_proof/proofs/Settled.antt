@@ -5,7 +5,7 @@ use Rattle.pass_elide_proof.proofs.Onward.{GoesOn, KeepsAddress, SlotsStay, allo
 use Rattle.pass_elide_proof.proofs.OwnPlaces.{IsNewName, ahead_new}
 use Rattle.pass_elide_proof.specs.Counts.{capped, counted, given_frames}
 use Rattle.pass_elide_proof.specs.Elision.{Elision, Shape, differs_in, elided, framed, function_in, rooms}
-use Rattle.pass_elide_proof.specs.Match.{AreActivations, AreAsked, AreElided, AreMates, AreNamed, AreReleased, HasAlloca, HasAllocas, HoldApart, HoldsBlock, IsAt, Sides, frame_size, held_blocks, held_name, holds_one, is_given_mode, sides, was_given}
+use Rattle.pass_elide_proof.specs.Match.{AreActivations, AreAsked, AreElided, AreMates, AreNamed, AreReleased, HasAlloca, HasAllocas, HoldApart, HoldsBlock, IsAt, Sides, held_blocks, held_name, holds_one, is_given_mode, sides, was_given}
 use Rattle.pass_elide_proof.specs.Ordinary.{with_at}
 use Rattle.pass_elide_proof.specs.Places.{allocas_ahead}
 use Rattle.pass_proofs.proofs.ir_laws.facts.Lists.{each_of_each}
@@ -166,21 +166,22 @@ module _ (e : Elision) (s t : State) (n : ℕ) (r : AreElided e s (with_at t n))
   held_value false name is holds = absurd (cc)
 
   held_by : (ss : List Slot) (o : Option ℕ) → held_name e ramp s.top ≡ o
-      → HoldsBlock r.hides d.memory s.top (frame_size e f) o
-      → HoldsBlock later v.world.memory (ahead ss) (frame_size e f) o
+      → HoldsBlock r.hides d.memory s.top o
+      → HoldsBlock later v.world.memory (ahead ss) o
   held_by ss None is h = tt
   held_by ss (Some name) is h =
-      let still = on.held h.block (frame_size e f) h.hidden h.there in
+      let still = on.held h.block h.size h.hidden h.there in
       record {
         block = h.block;
+        size = h.size;
         address = held_value ramp name refl is ∙ h.address;
         hidden = still.0;
         there = still.1;
       }
 
-  held : (ss : List Slot) → HoldsBlock later v.world.memory (ahead ss) (frame_size e f) (held_name e ramp (ahead ss))
+  held : (ss : List Slot) → HoldsBlock later v.world.memory (ahead ss) (held_name e ramp (ahead ss))
   held ss =
-      subst (λ (o : Option ℕ). HoldsBlock later v.world.memory (ahead ss) (frame_size e f) o)
+      subst (λ (o : Option ℕ). HoldsBlock later v.world.memory (ahead ss) o)
       (sym (same_held ramp ss refl)) (held_by ss (held_name e ramp s.top) refl r.top.held)
 
   -- ---- the activation

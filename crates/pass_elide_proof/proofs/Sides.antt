@@ -3,7 +3,7 @@ use Rattle.std.proofs.Common.{◌≡◌, ◌<◌, inl, inr, ⊎_elim, ℕ, Bool,
 use Rattle.std.specs.Prelude.{None, Option, Some, map, slice_get}
 use Rattle.pass_elide_proof.proofs.Setting.{AreActing, acting, held_too}
 use Rattle.pass_elide_proof.specs.Elision.{Elision, function_in, rooms}
-use Rattle.pass_elide_proof.specs.Match.{AreActivations, AreBelow, AreNamed, AreReleased, Aside, Beside, Freeing, HasAlloca, HasAllocas, HoldsBlock, IsAt, IsNoGivenFrame, Sides, Waiting, frame_size, held_name, instance_in, is_given_mode, was_given}
+use Rattle.pass_elide_proof.specs.Match.{AreActivations, AreBelow, AreNamed, AreReleased, Aside, Beside, Freeing, HasAlloca, HasAllocas, HoldsBlock, IsAt, IsNoGivenFrame, Sides, Waiting, held_name, instance_in, is_given_mode, was_given}
 use Rattle.pass_elide_proof.specs.Places.{allocas_ahead}
 use Rattle.pass_proofs.specs.ir_model.declared.instr.Instr.{Instr}
 use Rattle.pass_proofs.specs.run_laws.changed.Changed.{Each}
@@ -111,13 +111,13 @@ module _ (e : Elision) (homes more : List Home) (hides now : ℕ → Bool) (d k 
   slots_on (z ∷ ss) h =
       λ i. record { alloca = z.alloca; block = sym (go.blocks z.block h.0) i } ∷ slots_on ss h.1 i
 
-  held_on : (a : Activation) (size : ℕ) (o : Option ℕ) → ((name block : ℕ) → o ≡ Some name
-      → value_in a.values name ≡ pointer_to block → other block) → HoldsBlock hides d.memory a size o
-      → HoldsBlock now k.memory a size o
-  held_on a size None away h = tt
-  held_on a size (Some name) away h =
-      let still = go.held h.block size (away name h.block refl h.address) h.hidden h.there in
-      record { block = h.block; address = h.address; hidden = still.0; there = still.1 }
+  held_on : (a : Activation) (o : Option ℕ) → ((name block : ℕ) → o ≡ Some name
+      → value_in a.values name ≡ pointer_to block → other block) → HoldsBlock hides d.memory a o
+      → HoldsBlock now k.memory a o
+  held_on a None away h = tt
+  held_on a (Some name) away h =
+      let still = go.held h.block h.size (away name h.block refl h.address) h.hidden h.there in
+      record { block = h.block; size = h.size; address = h.address; hidden = still.0; there = still.1 }
 
   -- ---- activations
 
@@ -164,7 +164,7 @@ module _ (e : Elision) (homes more : List Home) (hides now : ℕ → Bool) (d k 
   activation_on a c has h =
       held_too e more now k a c (place_still a c has.is_known has.slots h.place)
       (acting_on a c has.is_known has.slots (acting e homes hides d a c h))
-      (held_on a (frame_size e a.func) (held_name e (is_given_mode c.mode) a) has.held h.held)
+      (held_on a (held_name e (is_given_mode c.mode) a) has.held h.held)
 
   pub below_on : (bs cs : List Activation) → HaveOthers e other known bs cs → AreBelow e homes hides d bs cs
       → AreBelow e more now k bs cs

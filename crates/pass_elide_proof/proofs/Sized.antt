@@ -6,7 +6,7 @@ use Rattle.std.specs.Prelude.{None, Option, Some, if◌then◌else◌, pos}
 use Rattle.pass_elide_proof.specs.Counts.{capped, given_frames}
 use Rattle.pass_elide_proof.specs.Elision.{Elision, differs_in, framed, function_in, rooms}
 use Rattle.pass_elide_proof.specs.Places.{allocas_ahead}
-use Rattle.pass_elide_proof.specs.Match.{AreActivations, AreAsked, AreElided, AreNamed, AreReleased, HasAlloca, HasAllocas, HoldApart, HoldsBlock, Sides, Waiting, frame_size, held_blocks, held_name, holds_one, instance_in, is_given_mode, sides, was_given}
+use Rattle.pass_elide_proof.specs.Match.{AreActivations, AreAsked, AreElided, AreNamed, AreReleased, HasAlloca, HasAllocas, HoldApart, HoldsBlock, Sides, Waiting, held_blocks, held_name, holds_one, instance_in, is_given_mode, sides, was_given}
 use Rattle.pass_elide_proof.specs.Sizes.{IsAtMade, IsAtSize}
 use Rattle.pass_proofs.specs.ir_base.declared.outcome.Outcome.{Outcome}
 use Rattle.pass_proofs.specs.ir_model.Ty.{Ty}
@@ -139,19 +139,20 @@ module _ (e : Elision) (s t : State) (result : Option ℕ) (w : Value) (r : AreE
 
   -- what the activation holds is as it was
   held_by : (o : Option ℕ) → (e.shape f).holds s.top.block s.top.at ≡ o
-      → HoldsBlock r.hides d.memory s.top (frame_size e f) o → HoldsBlock r.hides d.memory u.top (frame_size e f) o
+      → HoldsBlock r.hides d.memory s.top o → HoldsBlock r.hides d.memory u.top o
   held_by None is h = tt
   held_by (Some name) is h = record {
     block = h.block;
+    size = h.size;
     address = other_result s.top.values result name w (λ v set. at.kept v name set is) ∙ h.address;
     hidden = h.hidden;
     there = h.there;
   }
 
-  held : (b : Bool) → b ≡ true → HoldsBlock r.hides d.memory s.top (frame_size e f) (held_name e b s.top)
-      → HoldsBlock r.hides d.memory u.top (frame_size e f) (held_name e b u.top)
+  held : (b : Bool) → b ≡ true → HoldsBlock r.hides d.memory s.top (held_name e b s.top)
+      → HoldsBlock r.hides d.memory u.top (held_name e b u.top)
   held true holds h =
-      subst (λ (o : Option ℕ). HoldsBlock r.hides d.memory u.top (frame_size e f) o) (sym at.holds)
+      subst (λ (o : Option ℕ). HoldsBlock r.hides d.memory u.top o) (sym at.holds)
       (held_by ((e.shape f).holds s.top.block s.top.at) refl h)
   held false holds h = absurd (cc)
 

@@ -3,7 +3,7 @@ use Rattle.std.proofs.Common.{◌≡◌, ◌≢◌, ◌+◌, ℕ, zero, suc, Boo
 use Rattle.std.specs.Prelude.{None, Option, Some, slice_get}
 use Rattle.pass_elide_proof.specs.Counts.{capped, given_frames}
 use Rattle.pass_elide_proof.specs.Elision.{Elision}
-use Rattle.pass_elide_proof.specs.Match.{AreActivations, AreAsked, AreElided, AreNamed, AreReleased, HasAllocas, HoldApart, HoldsBlock, IsAt, Sides, frame_size, held_blocks, held_name, holds_one, is_given_mode, sides, was_given}
+use Rattle.pass_elide_proof.specs.Match.{AreActivations, AreAsked, AreElided, AreNamed, AreReleased, HasAllocas, HoldApart, HoldsBlock, IsAt, Sides, held_blocks, held_name, holds_one, is_given_mode, sides, was_given}
 use Rattle.pass_proofs.specs.run_memory.declared.block.MemoryBlock.{MemoryBlock}
 use Rattle.pass_proofs.specs.run_source.declared.state.Activation.{Activation}
 use Rattle.pass_proofs.specs.run_source.declared.state.State.{State}
@@ -33,13 +33,14 @@ same_count env other None (Some u) same = absurd same
 same_count env other (Some v) None same = absurd same
 same_count env other (Some v) (Some u) same = refl
 
-holds_along : (hides : ℕ → Bool) (memory : List MemoryBlock) (a b : Activation) (size : ℕ) (o q : Option ℕ)
-    → SameHeld a.values b.values o q → HoldsBlock hides memory a size o → HoldsBlock hides memory b size q
-holds_along hides memory a b size None None same h = tt
-holds_along hides memory a b size None (Some u) same h = absurd same
-holds_along hides memory a b size (Some v) None same h = absurd same
-holds_along hides memory a b size (Some v) (Some u) same h = record {
+holds_along : (hides : ℕ → Bool) (memory : List MemoryBlock) (a b : Activation) (o q : Option ℕ)
+    → SameHeld a.values b.values o q → HoldsBlock hides memory a o → HoldsBlock hides memory b q
+holds_along hides memory a b None None same h = tt
+holds_along hides memory a b None (Some u) same h = absurd same
+holds_along hides memory a b (Some v) None same h = absurd same
+holds_along hides memory a b (Some v) (Some u) same h = record {
   block = h.block;
+  size = h.size;
   address = same ∙ h.address;
   hidden = h.hidden;
   there = h.there;
@@ -86,7 +87,7 @@ module _ (e : Elision) (s t : State) (r : AreElided e s t) (block at : ℕ) (vs 
       own = r.top.own;
       slots = r.top.slots;
       allocas = allocas;
-      held = holds_along r.hides s.world.memory s.top a (frame_size e s.top.func) (held_name e mode s.top)
+      held = holds_along r.hides s.world.memory s.top a (held_name e mode s.top)
           (held_name e mode a) held r.top.held;
     }
 

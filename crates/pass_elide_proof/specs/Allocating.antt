@@ -3,7 +3,7 @@ use Rattle.std.specs.Prelude.{◌≡◌, ◌+◌, ◌<◌, ℕ, Bool, true, List
 use Rattle.elide_shape.specs.Calls.{deals}
 use Rattle.elide_shape.specs.declared.calls.Dealing.{Dealing}
 use Rattle.pass_elide_proof.specs.Elision.{Elision, framed, function_in, rooms}
-use Rattle.pass_elide_proof.specs.Match.{IsAtEnd, frame_size, is_given_mode}
+use Rattle.pass_elide_proof.specs.Match.{IsAtEnd, is_given_mode}
 use Rattle.pass_elide_proof.specs.Places.{allocas_ahead}
 use Rattle.pass_elide_proof.specs.Sizes.{IsMadeThere}
 use Rattle.pass_proofs.specs.ir_base.declared.outcome.Outcome.{Outcome}
@@ -32,10 +32,9 @@ pub record IsAtAllocation (e : Elision) (s t : State) (a : Allocator) (result : 
   pub none : allocas_ahead (rooms e s.top.func) (function_in e s.top.func) ≡ []
   pub made : IsMadeThere (e.shape s.top.func) result
   pub room : result < length s.top.values
-  -- it asks for the frame's size
+  -- it asks for a block of any size
   pub word : Word
   pub size : nth (arg_values e.code s.top.values args) 0 ≡ Value.Int word
-  pub is_size : word.bits ≡ frame_size e s.top.func
   -- from now on it holds a block, by this name
   pub before : (e.shape s.top.func).holds s.top.block s.top.at ≡ None
   pub behind : (e.shape s.top.func).holds s.top.block (s.top.at + 1) ≡ Some result

@@ -1,6 +1,6 @@
 -- Agreement of whole runs by their steps: what is asked of each pair of states to which the runs come, and how long the
 -- second run waits.
-use Rattle.std.specs.Prelude.{◌≡◌, ◌+◌, ◌-◌, ℕ, Bool, false, List, [], ◌∷◌, length, is_some, ◌||◌, if◌then◌else◌}
+use Rattle.std.specs.Prelude.{◌≡◌, ◌+◌, ◌-◌, ℕ, Bool, true, false, List, [], ◌∷◌, length, is_some, ◌||◌, if◌then◌else◌}
 use Rattle.pass_elide_proof.specs.EdgesFreeing.{FreesFrame}
 use Rattle.pass_elide_proof.specs.Elision.{Elision, Shape, elided, framed, function_in}
 use Rattle.pass_elide_proof.specs.Match.{AreElided}
@@ -25,17 +25,19 @@ abbrev pub elided_after : Elision → ℕ → List Word → ℕ → State
 elided_after e entry args n = state_at (elided_run e entry args) n
 
 -- A relation that implies the one of the simulation holds at the start. From states of which it holds each step that
--- isn't undefined is of a known kind. Behind it the relation holds again, if the states stand beside each other.
-pub record KnowsSteps (e : Elision) (entry : ℕ) (args : List Word) (Keeps : State → State → Type 0) : Type 0 where
+-- isn't undefined is of a known kind, if the state passes. Behind it the relation holds again, if the states stand
+-- beside each other.
+pub record KnowsSteps (e : Elision) (entry : ℕ) (args : List Word) (passes : State → Bool)
+    (Keeps : State → State → Type 0) : Type 0 where
   pub related : (n m : ℕ) → Keeps (framed_after e entry args n) (elided_after e entry args m)
       → AreRelated e (framed_after e entry args n) (elided_after e entry args m)
   pub start : Keeps (framed_after e entry args 0) (elided_after e entry args 0)
   pub known : (n m : ℕ) (k : Keeps (framed_after e entry args n) (elided_after e entry args m))
-      → (framed_after e entry args n).outcome ≡ Outcome.Running
+      → (framed_after e entry args n).outcome ≡ Outcome.Running → passes (framed_after e entry args n) ≡ true
       → IsFine (framed_step (framed e) (framed_after e entry args n)).outcome
       → IsKnownStep e (framed_after e entry args n) (elided_after e entry args m) (related n m k).beside
   pub kept : (n m : ℕ) (k : Keeps (framed_after e entry args n) (elided_after e entry args m))
-      → (framed_after e entry args n).outcome ≡ Outcome.Running
+      → (framed_after e entry args n).outcome ≡ Outcome.Running → passes (framed_after e entry args n) ≡ true
       → IsFine (framed_step (framed e) (framed_after e entry args n)).outcome
       → (place : IsKnownStep e (framed_after e entry args n) (elided_after e entry args m) (related n m k).beside)
       → AreElided e (framed_step (framed e) (framed_after e entry args n)) (iterate (framed_step (elided e))

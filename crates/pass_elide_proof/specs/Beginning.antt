@@ -20,7 +20,7 @@ use Rattle.pass_proofs.specs.run_source.declared.state.Instance.{Instance}
 use Rattle.pass_proofs.specs.run_source.declared.state.Mode.{Mode}
 use Rattle.pass_proofs.specs.run_source.declared.state.State.{State}
 use Rattle.pass_proofs.specs.run_source_tables.Given.{Given}
-use Rattle.pass_proofs.specs.run_step.Values.{pointer_to}
+use Rattle.pass_proofs.specs.run_step.Values.{arg_values, nth, pointer_to}
 use Rattle.pass_proofs.specs.run_step.declared.world.Slot.{Slot}
 
 -- ---- what each state of the runs has
@@ -79,6 +79,12 @@ pub record HasRoomAt (e : Elision) (s t : State) (r : AreElided e s t) (block : 
   pub free : (n : ℕ) → n < length s.world.memory → r.hides n ≡ false → IsNoGivenFrame (sides s t) n
       → (home_of r.homes n).block ≢ block
 
+-- if begin's memory is the start of a block, that has the size of the frame
+abbrev pub BeginsInFrameSize : Elision → State → List Arg → Type 0
+BeginsInFrameSize e s args =
+    (block : ℕ) (z : MemoryBlock) → nth (arg_values e.code s.top.values args) 1 ≡ pointer_to block
+    → slice_get s.world.memory block ≡ Some z → z.size ≡ frame_size e s.top.func
+
 pub record IsAtGivenBegin (e : Elision) (s t : State) (r : AreElided e s t) (result : Option ℕ) (must_tail : Bool)
     (ty : Option Ty) (args : List Arg) : Type 0 where
   pub call : AreAtCall e s t Intrinsic.CoroBegin result must_tail ty args
@@ -87,6 +93,7 @@ pub record IsAtGivenBegin (e : Elision) (s t : State) (r : AreElided e s t) (res
   pub mode : t.top.mode ≡ Mode.GivenRamp (pointer_to block)
   pub room : HasRoomAt e s t r block
   pub small : frame_size e s.top.func < 2 ^ 64
+  pub exact : BeginsInFrameSize e s args
   -- it begins in the block that it holds, and holds it no more
   pub memory : ℕ
   pub takes : operand_at args 1 ≡ Operand.Local memory

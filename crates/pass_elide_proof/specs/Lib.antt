@@ -6,6 +6,8 @@ pub mod Frames
 pub mod Match
 pub mod Invariant
 pub mod Statement
+pub mod Checked
+pub mod Passing
 pub mod NullTests
 pub mod StepCases
 pub mod Stepping

@@ -169,16 +169,17 @@ HasAllocas e homes hides d a c own =
 
 -- ---- the block that an activation allocated, and in which it hasn't begun
 
--- it is hidden and blank, and no other activation has it
-pub record IsHeld (hides : ℕ → Bool) (memory : List MemoryBlock) (a : Activation) (size name : ℕ) : Type 0 where
+-- It is hidden and blank, and no other activation has it. Its size is what the allocator was asked for.
+pub record IsHeld (hides : ℕ → Bool) (memory : List MemoryBlock) (a : Activation) (name : ℕ) : Type 0 where
   pub block : ℕ
+  pub size : ℕ
   pub address : value_in a.values name ≡ pointer_to block
   pub hidden : hides block ≡ true
   pub there : slice_get memory block ≡ Some (blank_block size 16 Kind.Allocator)
 
-abbrev pub HoldsBlock : (ℕ → Bool) → List MemoryBlock → Activation → ℕ → Option ℕ → Type 0
-HoldsBlock hides memory a size None = Unit {0}
-HoldsBlock hides memory a size (Some name) = IsHeld hides memory a size name
+abbrev pub HoldsBlock : (ℕ → Bool) → List MemoryBlock → Activation → Option ℕ → Type 0
+HoldsBlock hides memory a None = Unit {0}
+HoldsBlock hides memory a (Some name) = IsHeld hides memory a name
 
 -- a ramp allocates where the other was given its frame; a resumed activation allocates in both runs
 abbrev pub held_name : Elision → Bool → Activation → Option ℕ
@@ -211,7 +212,7 @@ pub record AreActivations (e : Elision) (homes : List Home) (hides : ℕ → Boo
   pub own : List Slot
   pub slots : c.slots ≡ map (moved_slot homes) a.slots ++ own
   pub allocas : HasAllocas e homes hides d a c own
-  pub held : HoldsBlock hides d.memory a (frame_size e a.func) (held_name e (is_given_mode c.mode) a)
+  pub held : HoldsBlock hides d.memory a (held_name e (is_given_mode c.mode) a)
 
 -- one to one; those below go on behind their calls, where none waits
 abbrev pub AreBelow : Elision → List Home → (ℕ → Bool) → Sides → List Activation → List Activation → Type 0

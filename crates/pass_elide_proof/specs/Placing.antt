@@ -1,5 +1,5 @@
 -- What a framed module keeps, and its shapes, so that what stands at a place tells what both runs do there.
-use Rattle.std.specs.Prelude.{◌≡◌, ◌≢◌, ◌⊎◌, ◌<◌, ◌^◌, ℕ, Bool, true, false, List, [], length, slice_get, IsTrue, Some, None, Option, is_some}
+use Rattle.std.specs.Prelude.{◌≡◌, ◌≢◌, ◌⊎◌, ◌<◌, ◌^◌, ℕ, Bool, true, false, List, [], ◌∷◌, length, slice_get, IsTrue, Some, None, Option, is_some}
 use Rattle.elide_shape.specs.Calls.{deals_by}
 use Rattle.elide_shape.specs.declared.calls.Dealing.{Dealing}
 use Rattle.pass_elide.specs.declared.given.GivenFrame.{GivenFrame}
@@ -11,6 +11,7 @@ use Rattle.pass_elide_proof.specs.Ordinary.{HasSteadyIndices}
 use Rattle.pass_elide_proof.specs.Places.{allocas_ahead, instrs_of, room_at}
 use Rattle.pass_elide_proof.specs.Shapes.{AsksForFrame}
 use Rattle.pass_elide_proof.specs.Waking.{WakesAlike}
+use Rattle.pass_proofs.specs.flow_blocks.Reach.{IsReached as IsReachedBlock}
 use Rattle.pass_proofs.specs.ir_base.declared.name.Name.{Name}
 use Rattle.pass_proofs.specs.ir_model.Layout.{size_of}
 use Rattle.pass_proofs.specs.ir_model.Names.{function_named, noalloc_of}
@@ -92,7 +93,9 @@ pub record IsSmallAlloca (e : Elision) (ty : Ty) (align : ℕ) : Type 0 where
 
 -- what the instructions of a function keep
 pub record KeepsInstrs (e : Elision) (func : ℕ) : Type 0 where
-  pub takes : (block at v : ℕ) (i : Instr) → slice_get (instrs_of (function_in e func) block) at ≡ Some i
+  -- what no path leads to may read anything
+  pub takes : (block at v : ℕ) (i : Instr) → IsReachedBlock (function_in e func) (0 ∷ []) [] block
+      → slice_get (instrs_of (function_in e func) block) at ≡ Some i
       → IsTrue (reads v i) → ReadsPlain (e.shape func) block i v
   pub sets : (block at v : ℕ) (i : Instr) → slice_get (instrs_of (function_in e func) block) at ≡ Some i
       → result_of i ≡ Some v → SetsPlain (function_in e func) (e.shape func) block at i v

@@ -6,6 +6,7 @@ use Rattle.pass_elide_proof.specs.Invariant.{IsSiteOf, StandsAt, behind}
 use Rattle.pass_elide_proof.specs.Match.{IsAtEnd, is_given_mode, sides, was_given}
 use Rattle.pass_elide_proof.specs.Places.{front_at, instrs_of, own_at}
 use Rattle.pass_elide_proof.specs.Placing.{HasShape}
+use Rattle.pass_proofs.specs.flow_blocks.Reach.{IsReached as IsReachedBlock}
 use Rattle.pass_proofs.specs.ir_base.declared.outcome.Outcome.{Outcome}
 use Rattle.pass_proofs.specs.ir_model.Names.{function_at}
 use Rattle.pass_proofs.specs.ir_model.Ty.{Ty}
@@ -28,12 +29,13 @@ use Rattle.pass_proofs.specs.run_step.Step.{AtInstr, fetch}
 
 -- ---- both at an instruction
 
--- All that is put in front of it has been executed.
+-- All that is put in front of it has been executed. A path leads to the block.
 pub record AreAtInstr (e : Elision) (s t : State) (i : Instr) : Type 0 where
   pub runs : s.outcome ≡ Outcome.Running
   pub there : fetch (function_of (framed e).given s) s.top.block s.top.at ≡ AtInstr i
   pub block : t.top.block ≡ s.top.block
   pub at : t.top.at ≡ own_at (rooms e s.top.func) (function_in e s.top.func) s.top.block s.top.at
+  pub reached : IsReachedBlock (function_in e s.top.func) (0 ∷ []) [] s.top.block
 
 -- both at the front of an intrinsic of coroutines
 pub record AreAtIntrinsic (e : Elision) (s t : State) (j : Intrinsic) (result : Option ℕ) (must_tail : Bool)

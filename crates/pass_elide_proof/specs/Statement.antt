@@ -1,13 +1,11 @@
 -- What is to be proved of runs in which callees are given frames.
 use Rattle.std.specs.Prelude.{◌≡◌, ◌⊎◌, ◌+◌, ◌≤◌, ℕ, true, false, List, ◌∷◌, [], length, slice_get, Some, None}
-use Rattle.elide_sites.specs.Destroyed.{FreesWhenDestroyed, IsOn}
+use Rattle.elide_sites.specs.Destroyed.{FreesWhenDestroyed}
 use Rattle.elide_sites.specs.Sites.{AreSites, callee_in}
-use Rattle.elide_sites.specs.declared.destroyed.Way.{Way}
 use Rattle.pass_elide.specs.Elided.{function_frames}
 use Rattle.pass_elide_proof.specs.CallersStack.{AreCalled}
-use Rattle.pass_elide_proof.specs.Counts.{LosesCalls, uncounted}
-use Rattle.pass_elide_proof.specs.Elision.{Elision, elided, elided_code, function_in, rooms}
-use Rattle.pass_elide_proof.specs.Invariant.{DoGivenFramesLive, HaveCallers, IsCalledIn, IsDestroying, IsSiteOf}
+use Rattle.pass_elide_proof.specs.Elision.{Elision, elided_code, function_in, rooms}
+use Rattle.pass_elide_proof.specs.Invariant.{HaveCallers, IsCalledIn, IsSiteOf}
 use Rattle.pass_elide_proof.specs.Match.{AreElided}
 use Rattle.pass_elide_proof.specs.PlacingStates.{HavePassedBy}
 use Rattle.pass_elide_proof.specs.Returning.{HaveReturned}
@@ -17,7 +15,6 @@ use Rattle.pass_proofs.specs.ir_model.declared.instr.Instr.{Instr}
 use Rattle.pass_proofs.specs.ir_paths.declared.point.Point.{Point}
 use Rattle.pass_proofs.specs.ir_model.Names.{function_at}
 use Rattle.pass_proofs.specs.ir_model.declared.module.Module.{Module}
-use Rattle.pass_proofs.specs.run_agreement.Costs.{AgreesBy, IsNear}
 use Rattle.pass_proofs.specs.run_agreement.Machines.{Machine}
 use Rattle.pass_proofs.specs.run_framed.Framed.{is_given}
 use Rattle.pass_proofs.specs.run_source.State.{address_in, is_finished}
@@ -75,22 +72,3 @@ elided_run e entry args = framed_machine (elided_code e) e.layouts entry args e.
 pub record IsEntryCall (e : Elision) (entry : ℕ) (args : List Word) : Type 0 where
   pub plain : (function_in e entry).coroutine ≡ false
   pub fits : AreArguments e.code entry args
-
--- The runs agree by prices of at most one step and one for each site of a function.
-abbrev pub ElisionKeepsStates : Elision → ℕ → Type 0
-ElisionKeepsStates e most =
-    (entry : ℕ) (args : List Word) → (function_in e entry).coroutine ≡ false
-    → AgreesBy (AreRelatedOrOver e) (IsNear (elided_run e entry args) (1 + most) (AreRelatedOrOver e))
-    (uncounted (framed_run e entry args)) (λ s. 1 + most) (uncounted (elided_run e entry args)) (λ t. 1)
-
--- The second makes fewer allocator calls by the calls that it executes without allocation.
-abbrev pub ElisionLosesCalls : Elision → Type 0
-ElisionLosesCalls e =
-    (entry : ℕ) (args : List Word) → (function_in e entry).coroutine ≡ false
-    → LosesCalls (framed_run e entry args) (elided_run e entry args)
-
--- Each frame that is given lives as long as its instance isn't Finished.
-abbrev pub ElisionKeepsFrames : Elision → Type 0
-ElisionKeepsFrames e =
-    (entry : ℕ) (args : List Word) → (function_in e entry).coroutine ≡ false
-    → DoGivenFramesLive (elided e) entry args

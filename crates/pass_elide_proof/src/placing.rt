@@ -6,7 +6,7 @@ ghost use Rattle.pass_elide.specs.declared.given.GivenFrame.{GivenFrame};
 ghost use Rattle.pass_elide_proof.specs.Again.{IsAtAllocaAgain};
 ghost use Rattle.pass_elide_proof.specs.Allocating.{IsAtAllocation};
 ghost use Rattle.pass_elide_proof.specs.Asked.{IsAtAsking as IsAtRequest, asks_same};
-ghost use Rattle.pass_elide_proof.specs.Beginning.{HasRoomAt, IsAtBegin, IsAtGivenBegin};
+ghost use Rattle.pass_elide_proof.specs.Beginning.{BeginsInFrameSize, HasRoomAt, IsAtBegin, IsAtGivenBegin};
 ghost use Rattle.pass_elide_proof.specs.Both.{IsAtAsking, IsAtConstant, is_constant, standing_at};
 ghost use Rattle.pass_elide_proof.specs.Calling.{IsAtCall, IsAtSite, IsBehindFront};
 ghost use Rattle.pass_elide_proof.specs.Edges.{IsEntering};
@@ -19,7 +19,7 @@ ghost use Rattle.pass_elide_proof.specs.Invariant.{HaveCallers};
 ghost use Rattle.pass_elide_proof.specs.Looking.{IsAtDone, IsAtPromise};
 ghost use Rattle.pass_elide_proof.specs.Making.{HaveSlots, IsAtAlloca, IsAtAllocator, IsNotEntering};
 ghost use Rattle.pass_elide_proof.specs.Marking.{HoldsNoFrame, IsAtDeallocation, IsAtMarker, first_operand, second_operand};
-ghost use Rattle.pass_elide_proof.specs.Match.{AreElided, frame_size, is_given_mode, sides, was_given};
+ghost use Rattle.pass_elide_proof.specs.Match.{AreElided, is_given_mode, sides, was_given};
 ghost use Rattle.pass_elide_proof.specs.Ordinary.{IsAtOrdinary};
 ghost use Rattle.pass_elide_proof.specs.Places.{allocas_ahead, front_at, room_at};
 ghost use Rattle.pass_elide_proof.specs.Placing.{HasShape, IsPlain, KeepsPlaces};
@@ -134,7 +134,7 @@ pub fn waiting_places_are_known()
         → deals Dealing.Allocates a ≡ true
         → fetch (function_of (framed e).given s) s.top.block s.top.at
         ≡ AtInstr (Instr.Call (Some result) must_tail ty (Callee.Allocator a) args)
-        → nth (arg_values e.code s.top.values args) 0 ≡ Value.Int word → word.bits ≡ frame_size e s.top.func
+        → nth (arg_values e.code s.top.values args) 0 ≡ Value.Int word
         → IsAtAllocation e s t a result must_tail ty args }
 {}
 
@@ -254,7 +254,7 @@ pub fn begin_places_are_known()
         (ty : Option Ty) (args : List Arg) (block : ℕ) → KeepsPlaces e → IsSlottedState s
         → IsSoundState (framed e) s → IsSoundState (elided e) t → HaveShapes e t
         → AreAtIntrinsic e s t Intrinsic.CoroBegin result must_tail ty args
-        → t.top.mode ≡ Mode.GivenRamp (pointer_to block) → HasRoomAt e s t r block
+        → t.top.mode ≡ Mode.GivenRamp (pointer_to block) → HasRoomAt e s t r block → BeginsInFrameSize e s args
         → IsAtGivenBegin e s t r result must_tail ty args }
     ensures rooms { (e : Elision) (s t : State) (block : ℕ) → KeepsPlaces e → IsSlottedState s
         → IsSoundState (elided e) t

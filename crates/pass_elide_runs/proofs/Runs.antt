@@ -1,6 +1,6 @@
 -- What each step keeps that isn't undefined holds in each state of a run that isn't undefined.
 use Rattle.std.proofs.Common.{◌≡◌, ◌⊎◌, inl, inr, ℕ, zero, suc, List, refl, sym, subst}
-use Rattle.pass_elide_proof.proofs.Assembly.{framed_stays}
+use Rattle.pass_elide_proof.proofs.Checked.{framed_stays}
 use Rattle.pass_elide_proof.proofs.StepCases.{leads_to}
 use Rattle.pass_elide_proof.specs.StepCases.{LeadsTo}
 use Rattle.pass_elide_proof.proofs.pass_proofs.run_agreement.Runs.{running_or}

@@ -1,9 +1,9 @@
 -- Frames that are given live in each state of the run that gives them, as long as the framed run isn't undefined.
-use Rattle.std.proofs.Common.{◌≡◌, ◌+◌, ◌<◌, ◌≤◌, ◌∙◌, ◌⊎◌, ⊎_elim, inl, inr, ℕ, zero, suc, List, [], ◌∷◌, ap, arith, length, map, refl, subst, sym}
-use Rattle.pass_elide.specs.Elided.{frame_allocas, function_frames}
-use Rattle.pass_elide.specs.declared.given.GivenFrame.{GivenFrame}
+use Rattle.std.proofs.Common.{◌≡◌, ◌+◌, ◌<◌, ◌≤◌, ◌∙◌, ◌⊎◌, ⊎_elim, inl, inr, ℕ, Bool, true, List, [], ◌∷◌, ap, arith, length, map, refl, subst, sym}
+use Rattle.pass_elide.specs.Elided.{function_frames}
 use Rattle.pass_elide_apart.proofs.pass_elide_proof.AskingSteps.{asking_goes}
-use Rattle.pass_elide_apart.proofs.pass_elide_proof.Assembly.{framed_stays}
+use Rattle.pass_elide_apart.proofs.pass_elide_proof.Assembly.{few_allocas, ones, running_is, same_events}
+use Rattle.pass_elide_apart.proofs.pass_elide_proof.Checked.{checked_advance, checked_is, checked_stays, fine_passes, framed_stays}
 use Rattle.pass_elide_apart.proofs.pass_elide_proof.Calls.{calls_beside}
 use Rattle.pass_elide_apart.proofs.pass_elide_proof.Done.{done_beside}
 use Rattle.pass_elide_apart.proofs.pass_elide_proof.EdgeBeside.{goes_beside}
@@ -22,6 +22,7 @@ use Rattle.pass_elide_apart.proofs.pass_elide_proof.Woken.{waking_beside}
 use Rattle.pass_elide_apart.specs.pass_elide_edges.States.{EndsFramed}
 use Rattle.pass_elide_apart.specs.pass_elide_proof.Assembling.{KnowsSteps, elided_after, framed_after, waiting_left}
 use Rattle.pass_elide_apart.specs.pass_elide_proof.Calling.{AreReady}
+use Rattle.pass_elide_apart.specs.pass_elide_proof.Checked.{checked_step}
 use Rattle.pass_elide_apart.specs.pass_elide_proof.Counts.{uncounted}
 use Rattle.pass_elide_apart.specs.pass_elide_proof.Elision.{Elision, elided, function_in, framed, rooms}
 use Rattle.pass_elide_apart.specs.pass_elide_proof.Match.{AreElided}
@@ -34,43 +35,21 @@ use Rattle.pass_elide_theorem.proofs.Frames.{frames_live}
 use Rattle.pass_elide_theorem.proofs.LastReturns.{last_lives}
 use Rattle.pass_elide_theorem.proofs.OnFronts.{fronts_live}
 use Rattle.pass_elide_theorem.specs.Carried.{AreCarried, DoFramesLive, FollowsLive}
+use Rattle.pass_elide_theorem.specs.Exact.{exact_run, is_exact}
 use Rattle.pass_elide_theorem.specs.Ready.{IsElisionReady}
 use Rattle.pass_elide_apart.proofs.pass_proofs.run_agreement.Compose.{returned_fine}
 use Rattle.pass_elide_apart.proofs.pass_proofs.run_agreement.PricedLockstep.{AdvanceBy, IsPassed, SimulatesBy, lockstep_by}
 use Rattle.pass_elide_apart.proofs.pass_proofs.run_agreement.Runs.{iterate-add, returned_over}
 use Rattle.pass_elide_apart.proofs.pass_proofs.run_agreement.Shows.{ShowsSame}
-use Rattle.pass_elide_apart.specs.pass_proofs.ir_base.declared.outcome.Event.{Event}
 use Rattle.pass_elide_apart.specs.pass_proofs.ir_base.declared.outcome.Outcome.{Outcome}
 use Rattle.pass_elide_apart.specs.pass_proofs.ir_base.declared.outcome.Word.{Word}
 use Rattle.pass_elide_apart.specs.pass_proofs.ir_model.declared.module.Module.{Module}
 use Rattle.pass_elide_apart.specs.pass_proofs.run_agreement.Agreements.{NeverUndefined}
 use Rattle.pass_elide_apart.specs.pass_proofs.run_agreement.Costs.{cost_from}
-use Rattle.pass_elide_apart.specs.pass_proofs.run_agreement.Machines.{IsFine, IsReturned, IsRunning, Machine, at, iterate}
+use Rattle.pass_elide_apart.specs.pass_proofs.run_agreement.Machines.{IsFine, IsReturned, IsRunning, Machine, at, iterate, state_at}
 use Rattle.pass_elide_apart.specs.pass_proofs.run_framed.Framed.{framed_step}
-use Rattle.pass_elide_apart.specs.pass_proofs.run_laws.embedded.Related.{moved_event}
 use Rattle.pass_elide_apart.specs.pass_proofs.run_source.declared.state.State.{State}
 use Rattle.pass_elide_apart.specs.pass_proofs.run_step.Runs.{seen_event}
-
--- ---- small facts
-
-same_events : (es : List Event) → map (moved_event (λ d. d)) es ≡ es
-same_events [] = refl
-same_events (x ∷ es) = ap (λ (ys : List Event). x ∷ ys) (same_events es)
-
--- each frame that is given an alloca has one
-few_allocas : (n : ℕ) (rs : List GivenFrame) → length (frame_allocas n rs) ≤ length rs
-few_allocas n [] = omega arith
-few_allocas n (GivenFrame.Alloca size align ∷ rs) = let few = few_allocas (n + 1) rs in omega (arith, few)
-few_allocas n (GivenFrame.Field base distance ∷ rs) = let few = few_allocas (n + 1) rs in omega (arith, few)
-
-ones : {S : Type 0} (step : S → S) (n : ℕ) (s : S) → cost_from step (λ t. 1) n s ≡ n
-ones step zero s = refl
-ones step (suc n) s = let rest = ones step n (step s) in omega (arith, rest)
-
-running_is : (o : Outcome) → IsRunning o → o ≡ Outcome.Running
-running_is (Outcome.Returned v) h = absurd h
-running_is Outcome.Running h = refl
-running_is (Outcome.Undefined cause place) h = absurd h
 
 -- ---- the states stay beside each other, or the entry returns
 
@@ -116,9 +95,16 @@ module _ (e : Elision) (s u : State) (r : AreReady e s u) (fine : IsFine (framed
 -- ---- both runs
 
 module _ (e : Elision) (source : Module) (most : ℕ) (ready : IsElisionReady e source most) (entry : ℕ)
-    (args : List Word) (call : IsEntryCall e entry args) (knows : KnowsSteps e entry args (AreCarried e)) where
+    (args : List Word) (call : IsEntryCall e entry args) (callees : ℕ → Bool)
+    (knows : KnowsSteps e entry args (is_exact e callees) (AreCarried e)) where
   abbrev A : Machine State
   A = uncounted (framed_run e entry args)
+
+  abbrev C : Machine State
+  C = uncounted (exact_run e callees entry args)
+
+  abbrev exact : State → Bool
+  exact = is_exact e callees
 
   abbrev B : Machine State
   B = uncounted (elided_run e entry args)
@@ -169,6 +155,7 @@ module _ (e : Elision) (source : Module) (most : ℕ) (ready : IsElisionReady e 
 
   module _ (n m : ℕ) (keeps : AreCarried e (framed_after e entry args n) (elided_after e entry args m))
       (runs : (framed_after e entry args n).outcome ≡ Outcome.Running)
+      (is_passed : is_exact e callees (framed_after e entry args n) ≡ true)
       (fine : IsFine (framed_step (framed e) (framed_after e entry args n)).outcome) where
     abbrev s : State
     s = framed_after e entry args n
@@ -218,7 +205,7 @@ module _ (e : Elision) (source : Module) (most : ℕ) (ready : IsElisionReady e 
         let q : AreReady e s t = places_ready e s t r at in leaves t q (place q) over
 
     k : IsKnownStep e (framed_after e entry args n) (elided_after e entry args m) (knows.related n m keeps).beside
-    k = knows.known n m keeps runs fine
+    k = knows.known n m keeps runs is_passed fine
 
     abbrev steps : ℕ
     steps = steps_of e s t r k
@@ -227,7 +214,7 @@ module _ (e : Elision) (source : Module) (most : ℕ) (ready : IsElisionReady e 
     leads = ⊎_elim (λ beside. inl beside) (λ over. behind k over) (followed e s t r fine k)
 
     next : K (framed_step (framed e) s) (iterate (framed_step (elided e)) (steps_of e s t r k) t)
-    next = ⊎_elim (λ beside. inl (knows.kept n m keeps runs fine k beside)) (λ over. inr over) leads
+    next = ⊎_elim (λ beside. inl (knows.kept n m keeps runs is_passed fine k beside)) (λ over. inr over) leads
 
     few : steps ≤ 1 + most
     few =
@@ -276,19 +263,27 @@ module _ (e : Elision) (source : Module) (most : ℕ) (ready : IsElisionReady e 
       };
     }
 
-  advances : (c : ℕ) (s t : State) → Along c s t → IsRunning s.outcome → IsFine (framed_step (framed e) s).outcome
-      → Advances c s t
+  abbrev Checks : ℕ → State → State → Type 0
+  Checks c s t = AdvanceBy C price B cost Along V (waiting_left e) c s t
+
+  advances : (c : ℕ) (s t : State) → Along c s t → IsRunning s.outcome
+      → IsFine (checked_step e (is_exact e callees) s).outcome → Checks c s t
   advances c s t k runs fine =
-      subst (λ (p : State × State). K p.0 p.1 → IsRunning p.0.outcome → IsFine (framed_step (framed e) p.0).outcome
-      → Advances c p.0 p.1) (λ j. (sym k.comes j, sym k.other j)) (at_once k.first k.second) k.keeps runs fine
+      let is = fine_passes e exact s runs fine in
+      let still : IsFine (framed_step (framed e) s).outcome
+      = subst (λ (z : State). IsFine z.outcome) (checked_is e exact s is) fine in
+      checked_advance e exact entry args price B cost Along V (waiting_left e) c s t is
+      (subst (λ (p : State × State). K p.0 p.1 → IsRunning p.0.outcome → is_exact e callees p.0 ≡ true
+      → IsFine (framed_step (framed e) p.0).outcome → Advances c p.0 p.1) (λ j. (sym k.comes j, sym k.other j))
+      (at_once k.first k.second) k.keeps runs is still)
     where
       at_once : (n m : ℕ) → K (framed_after e entry args n) (elided_after e entry args m)
-          → IsRunning (framed_after e entry args n).outcome
+          → IsRunning (framed_after e entry args n).outcome → is_exact e callees (framed_after e entry args n) ≡ true
           → IsFine (framed_step (framed e) (framed_after e entry args n)).outcome
           → Advances c (framed_after e entry args n) (elided_after e entry args m)
-      at_once n m (inl keeps) runs fine =
-          advances_at n m keeps (running_is (framed_after e entry args n).outcome runs) fine c
-      at_once n m (inr over) runs fine =
+      at_once n m (inl keeps) runs is fine =
+          advances_at n m keeps (running_is (framed_after e entry args n).outcome runs) is fine c
+      at_once n m (inr over) runs is fine =
           absurd (returned_over (framed_after e entry args n).outcome over.0.returned runs)
 
   shown : (c : ℕ) (s t : State) → Along c s t → ShowsSame (B.seen t) (A.seen s)
@@ -297,24 +292,24 @@ module _ (e : Elision) (source : Module) (most : ℕ) (ready : IsElisionReady e 
       (shows (framed_after e entry args k.first) (elided_after e entry args k.second)
       (subst (λ (p : State × State). K p.0 p.1) (λ j. (k.comes j, k.other j)) k.keeps))
 
-  simulates : SimulatesBy A price B cost Along V (waiting_left e)
+  simulates : SimulatesBy C price B cost Along V (waiting_left e)
   simulates = record {
     begin = record { first = 0; second = 0; comes = refl; other = refl; keeps = inl knows.start };
     same = shown;
     counts = λ c s t k. refl;
     holds = lives;
     advance = advances;
-    stays_a = framed_stays (framed e);
+    stays_a = checked_stays e exact;
     stays_b = framed_stays (elided e);
   }
 
   -- in each state, if the framed run is never undefined
-  pub frames_last : NeverUndefined (at A) → (m : ℕ) → DoFramesLive (elided_after e entry args m)
-  frames_last fine m = ((lockstep_by A price B cost Along V (waiting_left e) simulates).back fine m).holds
+  pub frames_last : NeverUndefined (at (uncounted (exact_run e callees entry args))) → (m : ℕ) → DoFramesLive (elided_after e entry args m)
+  frames_last fine m = ((lockstep_by C price B cost Along V (waiting_left e) simulates).back fine m).holds
 
   -- else in each up to where it follows the framed run
-  pub frames_last_until : (n : ℕ) → IsFine (framed_after e entry args n).outcome
-      → FollowsLive e entry args n
+  pub frames_last_until : (n : ℕ) → IsFine (state_at (exact_run e callees entry args) n).outcome
+      → FollowsLive e callees entry args n
   frames_last_until n fine =
-      let x = (lockstep_by A price B cost Along V (waiting_left e) simulates).forward n fine in
+      let x = (lockstep_by C price B cost Along V (waiting_left e) simulates).forward n fine in
       record { steps = x.steps; follows = x.follows; live = λ m le. (x.between m le).holds }

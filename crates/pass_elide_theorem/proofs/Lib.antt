@@ -1,3 +1,4 @@
+pub mod Exact
 pub mod States
 pub mod Steps
 pub mod Frames

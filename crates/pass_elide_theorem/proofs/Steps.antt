@@ -1,5 +1,5 @@
 -- Each step from states that are carried is of a known kind, and what is carried stays so.
-use Rattle.std.proofs.Common.{◌≡◌, ◌∙◌, ℕ, List}
+use Rattle.std.proofs.Common.{◌≡◌, ◌∙◌, ℕ, Bool, true, List}
 use Rattle.pass_elide_apart.proofs.Runs.{behind_in_runs, giving_counts}
 use Rattle.pass_elide_apart.proofs.Woken.{known_apart}
 use Rattle.pass_elide_apart.proofs.pass_elide_edges.Starts.{start_apart}
@@ -13,8 +13,11 @@ use Rattle.pass_elide_kept.specs.Kept.{AreKept}
 use Rattle.pass_elide_kept.specs.Runs.{IsKeptFramed, IsKeptGiving}
 use Rattle.pass_elide_meaning.proofs.StatesKnown.{ends_framed, ends_giving, known_framed, known_giving}
 use Rattle.pass_elide_meaning.proofs.StepsKnown.{step_known}
+use Rattle.pass_elide_meaning.specs.Lacks.{LacksGiving}
+use Rattle.pass_elide_theorem.proofs.Exact.{exact_lacks}
 use Rattle.pass_elide_theorem.proofs.States.{DestroyedAreFreed, kept_framed, kept_giving, running_fine}
-use Rattle.pass_elide_theorem.specs.Carried.{AreCarried, LacksRuns, LacksStates}
+use Rattle.pass_elide_theorem.specs.Carried.{AreCarried}
+use Rattle.pass_elide_theorem.specs.Exact.{CoversShapes, is_exact}
 use Rattle.pass_elide_theorem.specs.Ready.{IsElisionReady}
 use Rattle.pass_elide_apart.specs.pass_proofs.ir_base.declared.outcome.Outcome.{Outcome}
 use Rattle.pass_elide_apart.specs.pass_proofs.ir_base.declared.outcome.Word.{Word}
@@ -48,10 +51,13 @@ module _ (e : Elision) (source : Module) (most : ℕ) (ready : IsElisionReady e 
 
   -- ---- a step
 
-  module _ (lacks : LacksRuns e entry args) (freed : (s : State) → DestroyedAreFreed e s)
-      (stays : (s t : State) → StaysKept e s t) (n m : ℕ)
+  module _ (callees : ℕ → Bool) (covers : CoversShapes e callees)
+      (lacks : (m : ℕ) → (elided_after e entry args m).outcome ≡ Outcome.Running
+      → LacksGiving e (elided_after e entry args m))
+      (freed : (s : State) → DestroyedAreFreed e s) (stays : (s t : State) → StaysKept e s t) (n m : ℕ)
       (k : AreCarried e (framed_after e entry args n) (elided_after e entry args m))
       (runs : (framed_after e entry args n).outcome ≡ Outcome.Running)
+      (passes : is_exact e callees (framed_after e entry args n) ≡ true)
       (fine : IsFine (framed_step (framed e) (framed_after e entry args n)).outcome) where
     abbrev s : State
     s = framed_after e entry args n
@@ -62,16 +68,14 @@ module _ (e : Elision) (source : Module) (most : ℕ) (ready : IsElisionReady e 
     going : t.outcome ≡ Outcome.Running
     going = k.kept.related.beside.outcome ∙ runs
 
-    what : LacksStates e s t
-    what = lacks n m k runs going
-
     pub carried_known : IsKnownStep e (framed_after e entry args n) (elided_after e entry args m)
         k.kept.related.beside
     carried_known =
         let counts = giving_counts e ready.places ready.runs ready.more.nests entry args m in
         step_known e s t k.kept.related ready.places ready.more ready.ends
-        (known_framed e ready.places ready.more ready.runs entry args call n runs what.framed)
-        (known_giving e ready.places ready.runs entry args call m going counts ready.more what.giving)
+        (known_framed e ready.places ready.more ready.runs entry args call n runs
+        (exact_lacks e callees covers s passes))
+        (known_giving e ready.places ready.runs entry args call m going counts ready.more (lacks m going))
         (ends_framed e ready.places ready.more entry args n)
         (ends_giving e ready.places ready.runs entry args call m going counts) k.apart.0 runs fine
 
@@ -94,14 +98,17 @@ module _ (e : Elision) (source : Module) (most : ℕ) (ready : IsElisionReady e 
 
   -- ---- all steps
 
-  pub steps_known : LacksRuns e entry args → ((s : State) → DestroyedAreFreed e s)
-      → ((s t : State) → StaysKept e s t)
+  pub steps_known : (callees : ℕ → Bool) → CoversShapes e callees
+      → ((m : ℕ) → (elided_after e entry args m).outcome ≡ Outcome.Running
+      → LacksGiving e (elided_after e entry args m))
+      → ((s : State) → DestroyedAreFreed e s) → ((s t : State) → StaysKept e s t)
       → (AreRelated e (framed_after e entry args 0) (elided_after e entry args 0)
       → AreKept e (framed_after e entry args 0) (elided_after e entry args 0))
-      → KnowsSteps e entry args (AreCarried e)
-  steps_known lacks freed stays kept = record {
+      → KnowsSteps e entry args (is_exact e callees) (AreCarried e)
+  steps_known callees covers lacks freed stays kept = record {
     related = λ n m k. k.kept.related;
     start = start_carried kept;
-    known = λ n m k runs fine. carried_known lacks freed stays n m k runs fine;
-    kept = λ n m k runs fine place next. carried_stays lacks freed stays n m k runs fine place next;
+    known = λ n m k runs passes fine. carried_known callees covers lacks freed stays n m k runs passes fine;
+    kept = λ n m k runs passes fine place next.
+        carried_stays callees covers lacks freed stays n m k runs passes fine place next;
   }

@@ -4,9 +4,9 @@ use Rattle.pass_elide_proof.proofs.assembling.known_steps_keep_states.Goals as g
 use Rattle.pass_elide_proof.specs.Statement.{AreRelated}
 
 pub returns-clause-states : goal.returns-clause-states
-returns-clause-states c = λ e source most is waits knows entry args plain.
-    assembled e source most is waits entry args (AreRelated e) (knows entry args plain)
+returns-clause-states c = λ e source most passes is waits knows entry args call.
+    assembled e source most is waits entry args passes (AreRelated e) (knows entry args call)
 
 pub returns-clause-calls : goal.returns-clause-calls
-returns-clause-calls c = λ e source most is waits knows entry args plain.
-    loses e source most is waits entry args (AreRelated e) (knows entry args plain)
+returns-clause-calls c = λ e source most passes is waits knows entry args call.
+    loses e source most is waits entry args passes (AreRelated e) (knows entry args call)

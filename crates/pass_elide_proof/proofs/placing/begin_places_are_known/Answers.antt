@@ -6,8 +6,9 @@ returns-clause-allocated c = λ e s t result must_tail ty args r keeps slotted f
     begin_place e keeps s t r slotted first second result must_tail ty args at ramp
 
 pub returns-clause-given : goal.returns-clause-given
-returns-clause-given c = λ e s t r result must_tail ty args block keeps slotted first second shapes at mode room.
-    given_begin_place e keeps s t r slotted first second result must_tail ty args at shapes block mode room
+returns-clause-given c = λ e s t r result must_tail ty args block keeps slotted first second shapes at mode room
+    exact. given_begin_place e keeps s t r slotted first second result must_tail ty args at shapes block mode room
+    exact
 
 pub returns-clause-rooms : goal.returns-clause-rooms
 returns-clause-rooms c = λ e s t block keeps slotted second calls mode alone.

@@ -7,5 +7,5 @@ returns-clause-sizes c = λ e s t j result must_tail ty args keeps waits size th
 
 pub returns-clause-allocations : goal.returns-clause-allocations
 returns-clause-allocations c =
-    λ e s t a result must_tail ty args word keeps waits known allocates there size is_size.
-    allocation_place e keeps s t waits known a result must_tail ty args word allocates there size is_size
+    λ e s t a result must_tail ty args word keeps waits known allocates there size.
+    allocation_place e keeps s t waits known a result must_tail ty args word allocates there size
