@@ -4,6 +4,7 @@ use Rattle.std.proofs.Common.{◌≡◌, ◌<◌, ◌+◌, ◌/◌, ◌^◌, ℕ
 use Rattle.std.proofs.lemmas.Bool.{false≢true}
 use Rattle.std.specs.List.{list_all}
 use Rattle.std.specs.Prelude.{None, Option, Some, slice_get, ◌&&◌, ◌||◌, ◌==◌}
+use Rattle.pass_elide_edges.proofs.pass_elide_proof.pass_proofs.rule_laws.rules.function_rules.Stages.{rules_larger}
 use Rattle.pass_elide_edges.proofs.pass_elide_proof.ElidedFound.{fetched}
 use Rattle.pass_elide_edges.specs.pass_elide_proof.Places.{instrs_of}
 use Rattle.pass_elide_edges.specs.pass_elide_proof.Placing.{is_own}
@@ -99,7 +100,7 @@ module _ (m : Module) (k : ℕ) (f : Function) (rules : KeepsFunctionRules m k f
   pub alloca_small : (block at name align : ℕ) (ty : Ty)
       → slice_get (instrs_of f block) at ≡ Some (Instr.Alloca name ty align) → size_of m ty < 2 ^ 64
   alloca_small block at name align ty there =
-      is_small_alloca m k f rules block at name align ty (fetched f block at (Instr.Alloca name ty align) there)
+      is_small_alloca m k f (rules_larger Stage.Source m k f rules) block at name align ty (fetched f block at (Instr.Alloca name ty align) there)
 
 -- ---- own intrinsics
 
@@ -119,5 +120,5 @@ pub own_inside : (m : Module) (k : ℕ) (f : Function) → KeepsFunctionRules m 
     → slice_get (instrs_of f block) at ≡ Some (Instr.Call result must_tail ty (Callee.Intrinsic j) args)
     → is_own j ≡ true → f.coroutine ≡ true
 own_inside m k f rules block at result must_tail ty j args there own =
-    in_coroutine m k f rules block at result must_tail ty j args
+    in_coroutine m k f (rules_larger Stage.Source m k f rules) block at result must_tail ty j args
     (fetched f block at (Instr.Call result must_tail ty (Callee.Intrinsic j) args) there) (own_inner j own)

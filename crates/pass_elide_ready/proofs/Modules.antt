@@ -3,6 +3,8 @@ use Rattle.std.proofs.Common.{◌≡◌, ℕ, Bool, true, false, List, [], refl,
 use Rattle.std.specs.Prelude.{Option, Some, slice_get}
 use Rattle.pass_elide_kept.specs.Modules.{BeginsAlone}
 use Rattle.pass_elide_known.specs.Keeping.{is_marker}
+use Rattle.pass_elide_edges.proofs.pass_elide_proof.pass_proofs.rule_laws.rules.function_rules.Stages.{rules_larger}
+use Rattle.pass_elide_edges.specs.pass_elide_proof.pass_proofs.rule_names.declared.stage.Stage.{Stage}
 use Rattle.pass_elide_edges.proofs.pass_elide_proof.ElidedFound.{fetched}
 use Rattle.pass_elide_edges.specs.pass_elide_proof.Callers.{GivesOnce}
 use Rattle.pass_elide_edges.specs.pass_elide_proof.Calling.{MarksOwn}
@@ -105,7 +107,8 @@ module _ (m : Module) (ruled : IsRuled m) where
   begins = at_function BeginsAlone m begin_in_none begins_in
 
   alone : (func : ℕ) → AreAllocasAlone (function_at m func)
-  alone = allocas_alone m (λ k there. all_rules k (function_at m k) there)
+  alone = allocas_alone m m (λ k there. rules_larger Stage.Source m k (function_at m k)
+      (all_rules k (function_at m k) there))
 
   alone_in : (k : ℕ) (f : Function) → slice_get m.functions k ≡ Some f → AreAllocasAlone f
   alone_in k f there = subst AreAllocasAlone (there_is m k f there) (alone k)

@@ -3,6 +3,8 @@ use Rattle.std.proofs.Common.{◌≡◌, ℕ, Bool, true, List, refl, sym, ap, �
 use Rattle.std.proofs.lemmas.Bool.{false≢true}
 use Rattle.std.specs.Prelude.{None, Option, Some, slice_get}
 use Rattle.pass_elide_kept.specs.Modules.{BeginsAlone}
+use Rattle.pass_elide_edges.proofs.pass_elide_proof.pass_proofs.rule_laws.rules.function_rules.Stages.{rules_larger}
+use Rattle.pass_elide_edges.specs.pass_elide_proof.pass_proofs.rule_names.declared.stage.Stage.{Stage}
 use Rattle.pass_elide_edges.proofs.pass_elide_proof.ElidedFound.{fetched}
 use Rattle.pass_elide_edges.specs.pass_elide_proof.Edges.{phis_at}
 use Rattle.pass_elide_edges.proofs.pass_elide_proof.pass_proofs.ir_laws.paths.woven_rules.Unbroken.{each_listed}
@@ -45,7 +47,7 @@ module _ (m : Module) (k : ℕ) (f : Function) (rules : KeepsFunctionRules m k f
       → block ≡ end_block f
   ends_in_block block at result must_tail ty args here =
       let i : Instr = Instr.Call result must_tail ty (Callee.Intrinsic Intrinsic.CoroEnd) args in
-      let coroutine = in_coroutine m k f rules block at result must_tail ty Intrinsic.CoroEnd args here refl in
+      let coroutine = in_coroutine m k f (rules_larger Stage.Source m k f rules) block at result must_tail ty Intrinsic.CoroEnd args here refl in
       let x = call_there (is_call_of Intrinsic.CoroEnd) (instr_at f (point (end_block f) 0))
       (end_first k f coroutine (calls coroutine)) in
       let same : point block at ≡ point (end_block f) 0 =
@@ -59,7 +61,7 @@ module _ (m : Module) (k : ℕ) (f : Function) (rules : KeepsFunctionRules m k f
     (named : first_result Intrinsic.CoroBegin f ≡ Some begin) (coroutine : f.coroutine ≡ true)
     (calls : wrong_call k f ≡ None) where
   pub begin_named : begin_name f ≡ Some begin
-  begin_named = begin_name_is m k f rules begin named coroutine calls
+  begin_named = begin_name_is m k f (rules_larger Stage.Source m k f rules) begin named coroutine calls
 
   is_begin : (v : ℕ) → begin_name f ≡ Some v → begin ≡ v
   is_begin v e = let both : Some begin ≡ Some v = sym begin_named ∙ e in cc
@@ -70,16 +72,16 @@ module _ (m : Module) (k : ℕ) (f : Function) (rules : KeepsFunctionRules m k f
       on : (o : Option Block) → slice_get f.blocks block ≡ o → Each (λ (x : Phi). x.result ≡ v → ⊥) (phis_of o)
       on None d = tt
       on (Some b) d = each_listed (λ (x : Phi). x.result ≡ v → ⊥) b.phis (λ x l same.
-          no_phi_begins m k f rules begin named block b x d l (same ∙ sym (is_begin v e)))
+          no_phi_begins m k f (rules_larger Stage.Source m k f rules) begin named block b x d l (same ∙ sym (is_begin v e)))
 
   pub begins_alone : BeginsAlone f
   begins_alone = record {
     alone = λ block at v i e there gives.
-        only_begin m k f rules begin named block at i (fetched f block at i there)
+        only_begin m k f (rules_larger Stage.Source m k f rules) begin named block at i (fetched f block at i there)
         (sym (result_spelt i) ∙ gives ∙ ap Some (sym (is_begin v e)));
     phis = no_phi;
     named = λ block at v i there begins e.
         result_spelt i
-        ∙ begin_makes m k f rules begin named coroutine calls block at i (fetched f block at i there) begins
+        ∙ begin_makes m k f (rules_larger Stage.Source m k f rules) begin named coroutine calls block at i (fetched f block at i there) begins
         ∙ ap Some (is_begin v e);
   }

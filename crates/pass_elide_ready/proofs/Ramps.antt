@@ -3,6 +3,7 @@
 use Rattle.std.proofs.Common.{◌≡◌, ℕ, zero, suc, Bool, true, false, List, [], ◌∷◌, refl, sym, ap, ◌∙◌}
 use Rattle.std.proofs.lemmas.Bool.{false≢true}
 use Rattle.std.specs.Prelude.{None, Option, Some, codes, option_map, slice_get, if◌then◌else◌, ◌&&◌, ◌||◌}
+use Rattle.pass_elide_edges.proofs.pass_elide_proof.pass_proofs.rule_laws.rules.function_rules.Stages.{rules_larger}
 use Rattle.pass_elide_edges.proofs.pass_elide_proof.pass_proofs.ir_laws.facts.Truth.{and_first, and_second, same_name-itself}
 use Rattle.pass_elide_edges.proofs.pass_elide_proof.pass_proofs.ir_laws.facts.same_names.Lists.{IsFound, what_is_found}
 use Rattle.pass_elide_edges.proofs.pass_elide_proof.pass_proofs.ir_tables.Tables.{same_name-same}
@@ -47,7 +48,8 @@ module _ (m : Module) (items : KeepsItemRules Stage.Source m) (rules : AllKeepFu
       let unknown = unknown_ramp m items k x.element x.stands
       (and_first x.element.coroutine (same_name (noalloc_of x.element.name) n) x.passes) in
       let known = callee_known m func (function_at m func)
-      (rules func (function_at m func) (function_of_instr m func block at i here)) block at result must_tail ty args n
+      (rules_larger Stage.Source m func (function_at m func)
+      (rules func (function_at m func) (function_of_instr m func block at i here))) block at result must_tail ty args n
       here in
       absurd (false≢true (sym unknown ∙ ap (knows_name m) same ∙ known))
 

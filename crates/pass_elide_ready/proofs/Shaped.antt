@@ -62,7 +62,7 @@ frees_begins_not : (i : Instr) → is_call_of Intrinsic.CoroFree i ≡ true → 
 frees_begins_not (Instr.Call result must_tail ty (Callee.Intrinsic Intrinsic.CoroFree) args) e = refl
 frees_begins_not _ e = absurd (false≢true e)
 
-not_none : {A : Type 0} (o : Option A) → ((y : A) → o ≡ Some y → ⊥) → o ≡ None
+pub not_none : {A : Type 0} (o : Option A) → ((y : A) → o ≡ Some y → ⊥) → o ≡ None
 not_none None h = refl
 not_none (Some y) h = absurd (h y refl)
 
@@ -83,15 +83,15 @@ module _ (e : Elision) (ruled : IsRuled e.code) (func : ℕ) (w : IsFormed e fun
   abbrev s : AsksSo f a
   s = w.form.asking
 
-  there : slice_get e.code.functions func ≡ Some f
+  pub there : slice_get e.code.functions func ≡ Some f
   there = coroutine_there e.code func w.form.coroutine
 
-  rules : KeepsFunctionRules e.code func f
+  pub rules : KeepsFunctionRules e.code func f
   rules = all_rules e.code ruled func f there
 
   -- ---- the shape
 
-  pub has_shape : frame_size e func < 2 ^ 32 → HasShape e func
+  abbrev pub has_shape : frame_size e func < 2 ^ 32 → HasShape e func
   has_shape small = record {
     coroutine = w.form.coroutine;
     asks = asks_for_frame f a qs s (e.shape func) w.shape;
@@ -108,7 +108,7 @@ module _ (e : Elision) (ruled : IsRuled e.code) (func : ℕ) (w : IsFormed e fun
         one_begin func f w.form.coroutine x.calls (point block at) (point a.begins a.begin) i s.start
         (at_point f block at i stands) (at_point f a.begins a.begin s.start s.is_start) begins s.is_begin in
         (ap (λ (p : Point). p.block) same, ap (λ (p : Point). p.at) same);
-    small = lower small;
+    small = let lt = small in omega (arith, lt);
     bare = s.bare;
     empty = s.bare_after;
     empty_beside = s.bare_beside;
@@ -117,9 +117,6 @@ module _ (e : Elision) (ruled : IsRuled e.code) (func : ℕ) (w : IsFormed e fun
         not_asked e.code func f rules a qs w.form (e.shape func) w.shape y.element (w.form.freeing y.element y.listed)
         (equal_numbers y.element.tested a.need y.passes));
   }
-    where
-      lower : frame_size e func < 2 ^ 32 → frame_size e func < 2 ^ 64
-      lower lt = omega (arith, lt)
 
   pub form_waits_behind : WaitsBehind f (e.shape func)
   form_waits_behind = waits_behind e.code func f rules a qs w.form (e.shape func) w.shape

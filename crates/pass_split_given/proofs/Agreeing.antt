@@ -26,13 +26,13 @@ use Rattle.pass_split_proof.proofs.priced.Prices.{exits_paid}
 use Rattle.pass_split_proof.proofs.simulation.Agreement.{price_within}
 use Rattle.pass_split_proof.specs.first_exits.Parted.{parted_module}
 use Rattle.pass_split_proof.specs.priced.Returns.{AllJumpBehind}
+use Rattle.pass_split_proof.specs.priced.Split.{SplitKeeps}
 use Rattle.pass_split_proof.specs.simulation.Knowing.{KnowsGiven}
 use Rattle.pass_split_proof.specs.simulation.Premises.{ArePremisesMet}
-use Rattle.pass_split_proof.specs.simulation.Statement.{IsEntryOfParts, parts_given}
+use Rattle.pass_split_proof.specs.simulation.Statement.{IsBetween, IsEntryOfParts, parts_given}
 use Rattle.pass_split_proof.specs.states.Related.{AreRelated, Follows, part_price}
 use Rattle.run_access_worked.specs.run_plain.Plain.{plain_first}
 use Rattle.run_access_worked.specs.run_plain.declared.state.PlainState.{PlainState}
-use Rattle.run_types.specs.States.{AreArguments}
 
 module _ (ls : Layouts) (m : Module)
     (starts : (entry other : ℕ) (args : List Word) (answers : List ℤ) → IsEntryOfParts ls m entry other
@@ -46,31 +46,31 @@ module _ (ls : Layouts) (m : Module)
   plain_entry entry other e = ap (λ (o : Option Function). (unwrap_or o no_function).coroutine) e.there ∙ e.plain
 
   pub given_calls_kept : PartsKeepGivenCalls ls m
-  given_calls_kept entry other args answers e words gives = assembled_by ls m entry other args answers
+  given_calls_kept entry other args answers e gives = assembled_by ls m entry other args answers
       (KnowsGiven (framed_given m ls.coroutines answers)) (starts entry other args answers e)
       (starts_know (framed_given m ls.coroutines answers) (parts_given ls m answers) entry other args)
       (given_all_followed (framed_given m ls.coroutines answers) (parts_given ls m answers) (met answers) (more
       answers)
-      entry args (plain_entry entry other e) words gives)
+      entry args (plain_entry entry other e) gives)
 
 pub given_calls_agree : (ls : Layouts) (m : Module) → PartsKeepGivenCalls ls m → (entry other : ℕ) (args : List Word)
-    (answers : List ℤ) → IsEntryOfParts ls m entry other → AreArguments m entry args
+    (answers : List ℤ) → IsEntryOfParts ls m entry other
     → GivesFramesWell (framed_given m ls.coroutines answers) entry args
     → AgreesWithin 4 (at (framed_machine m ls entry args answers))
     (at (plain_machine (parted_module ls m) other args answers))
-given_calls_agree ls m keeps entry other args answers e words gives = agrees_within_by_steps
+given_calls_agree ls m keeps entry other args answers e gives = agrees_within_by_steps
     (Follows (framed_given m ls.coroutines answers) (parts_given ls m answers))
-    (IsNear (plain_machine (parted_module ls m) other args answers) 9
-    (AreRelated (framed_given m ls.coroutines answers) (parts_given ls m answers)))
+    (IsBetween (framed_given m ls.coroutines answers) (parts_given ls m answers)
+    (plain_machine (parted_module ls m) other args answers))
     (framed_machine m ls entry args answers) (part_price (framed_given m ls.coroutines answers))
     (plain_machine (parted_module ls m) other args answers) (λ t. 1) 4
-    (λ s. price_within _ _) (λ t. omega arith) (keeps entry other args answers e words gives)
+    (λ s. price_within _ _) (λ t. omega arith) (keeps entry other args answers e gives)
 
 -- ---- behind blocks on edges
 
 module _ (layouts : Layouts) (m : Module) (names : AreLocalsNamed m) (kept : AreExitsKept m) (behind : AllJumpBehind m)
     (keeps : PartsKeepGivenCalls layouts (exits_split m)) (entry other : ℕ) (args : List Word) (answers : List ℤ)
-    (is : IsEntryOfParts layouts (exits_split m) entry other) (words : AreArguments (exits_split m) entry args)
+    (is : IsEntryOfParts layouts (exits_split m) entry other)
     (gives : GivesFramesWell (framed_given (exits_split m) layouts.coroutines answers) entry args) where
   abbrev A : Machine State
   A = framed_machine m layouts entry args answers
@@ -92,17 +92,18 @@ module _ (layouts : Layouts) (m : Module) (names : AreLocalsNamed m) (kept : Are
       m) answers)
 
   abbrev Close : State → PlainState → Type 0
-  Close = IsNear C 9 (AreRelated (framed_given (exits_split m) layouts.coroutines answers)
-      (parts_given layouts (exits_split m) answers))
+  Close = IsBetween (framed_given (exits_split m) layouts.coroutines answers)
+      (parts_given layouts (exits_split m) answers) C
 
   abbrev cost : State → ℕ
   cost = part_price (framed_given (exits_split m) layouts.coroutines answers)
+
+  pub given_splits_keep : SplitKeeps layouts m entry other args answers
+  given_splits_keep = compose_by Moved Near Follow Close A (λ s. 4) B cost C (λ t. 1)
+      (exits_paid m names kept behind layouts entry args answers) (keeps entry other args answers is gives)
 
   pub given_splits_agree : AgreesWithin 4 (at (framed_machine m layouts entry args answers))
       (at (plain_machine (parted_module layouts (exits_split m)) other args answers))
   given_splits_agree =
       agrees_within_by_steps (Through Moved Follow) (Through Near Close) A (λ s. 4) C (λ t. 1) 4 (λ s. omega arith)
-      (λ t. omega arith)
-      (compose_by Moved Near Follow Close A (λ s. 4) B cost C (λ t. 1)
-      (exits_paid m names kept behind layouts entry args answers)
-      (keeps entry other args answers is words gives))
+      (λ t. omega arith) given_splits_keep

@@ -21,19 +21,16 @@ use Rattle.pass_split_proof.specs.simulation.Premises.{ArePremisesMet}
 use Rattle.pass_split_proof.specs.states.Related.{AreRelated}
 use Rattle.run_access_worked.specs.run_plain.Plain.{PlainGiven}
 use Rattle.run_access_worked.specs.run_plain.declared.state.PlainState.{PlainState}
-use Rattle.run_types.proofs.Meanings.{framed_keeps_fitting}
-use Rattle.run_types.proofs.Runs.{states_fit}
 use Rattle.run_types.proofs.run_hooks.Keeping.{framed_keeps}
 use Rattle.run_types.proofs.run_hooks.Reaching.{states_reached}
 use Rattle.run_types.proofs.run_hooks.Steps.{framed_steps, same_runs}
-use Rattle.run_types.specs.States.{AreArguments, IsFittingState}
 use Rattle.run_types.specs.run_hooks.Hooks.{step_of}
 use Rattle.run_types.specs.run_hooks.Meanings.{framed_hooks}
 use Rattle.run_types.specs.run_hooks.Reached.{IsReachedState}
 
 module _ (g : FramedGiven) (h : PlainGiven) (met : ArePremisesMet g h) (more : AreGivenPremisesMet g h) (entry : ℕ)
     (args : List Word) (plain : (function_at g.given.code entry).coroutine ≡ false)
-    (words : AreArguments g.given.code entry args) (gives : GivesFramesWell g entry args) where
+    (gives : GivesFramesWell g entry args) where
   asks : HasOwnBlocks g.given.code
   asks = record {
     allocas = met.functions.allocas;
@@ -48,15 +45,14 @@ module _ (g : FramedGiven) (h : PlainGiven) (met : ArePremisesMet g h) (more : A
   as_hooks n = same_runs (framed_step g) (step_of (framed_hooks g)) (framed_steps g) n
       (first_state g.given.code entry args)
 
-  holds : (n : ℕ) → IsHeldState g (framed_state_at g entry args n)
-  holds n = record {
+  holds : (n : ℕ) → (framed_state_at g entry args n).outcome ≡ Outcome.Running
+      → IsHeldState g (framed_state_at g entry args n)
+  holds n runs = record {
     own = runs_own g asks entry args plain n;
     kept = runs_kept g entry args marks n;
     reached = subst (IsReachedState g.given) (sym (as_hooks n))
         (states_reached (framed_hooks g) met.functions.switches (framed_keeps g) entry args n);
-    fits = (subst (IsFittingState g.given.code) (sym (as_hooks n))
-        (states_fit (framed_hooks g) met.functions.switches (framed_keeps g) met.functions.typed
-        (framed_keeps_fitting g met.functions.typed more.types) entry args n words)).top;
+    small = gives.small n runs;
   }
 
   module _ (n : ℕ) (t : PlainState) (r : AreRelated g h (framed_state_at g entry args n) t)
@@ -65,14 +61,14 @@ module _ (g : FramedGiven) (h : PlainGiven) (met : ArePremisesMet g h) (more : A
       (fine : IsFine (framed_step g (framed_state_at g entry args n)).outcome) where
     giving : IsGivingState g h (framed_state_at g entry args n) t r
     giving = record {
-      held = holds n;
+      held = holds n runs;
       knows = knows;
       sleepers = λ i x e sleeps. suspended_held g entry args marks gives.live n i x e sleeps;
       live = gives.live n;
       starts = gives.starts n runs;
       saves = gives.saves n runs;
       begins = λ k. block_begin_followed g h entry args gives.blocks
-          (λ func coroutine. (met.functions.coroutines func coroutine).laid) more.nests n t r (holds n).own
+          (λ func coroutine. (met.functions.coroutines func coroutine).laid) more.nests n t r (holds n runs).own
           runs fine k;
       places = more.places (framed_state_at g entry args n) t r;
     }

@@ -12,15 +12,20 @@ ghost use Rattle.pass_split_proof.specs.pass_proofs.ir_base.declared.outcome.Wor
 ghost use Rattle.pass_split_proof.specs.pass_proofs.ir_laws.facts.sound_states.Named.{AreLocalsNamed};
 ghost use Rattle.pass_split_proof.specs.pass_proofs.ir_model.Names.{function_at};
 ghost use Rattle.pass_split_proof.specs.pass_proofs.ir_model.declared.module.Module.{Module};
+ghost use Rattle.pass_split_proof.specs.pass_proofs.rule_names.declared.stage.Stage.{Stage};
 ghost use Rattle.pass_split_proof.specs.pass_proofs.run_agreement.Agreements.{AgreesWithin};
 ghost use Rattle.pass_split_proof.specs.pass_proofs.run_agreement.Machines.{IsFine, at};
 ghost use Rattle.pass_split_proof.specs.pass_proofs.run_framed.Framed.{FramedGiven, framed_given, framed_state_at, framed_step};
 ghost use Rattle.pass_split_proof.specs.pass_proofs.run_source.Source.{first_state};
 ghost use Rattle.pass_split_proof.specs.pass_proofs.run_states.moved_states.Beside.{framed_machine};
-ghost use Rattle.pass_split_given.specs.Premises.{AreGivenPremisesMet, GivesFramesWell};
+ghost use Rattle.pass_split_given.specs.Premises.{AreGivenPremisesMet, GivesFramesWell, ReleasesWhenDestroyed};
 ghost use Rattle.pass_split_given.specs.Whole.{PartsKeepGivenCalls};
 ghost use Rattle.pass_split_proof.specs.first_exits.Parted.{parted_module};
+ghost use Rattle.pass_split_proof.specs.given_begins.Runs.{NestsNoFrames};
+ghost use Rattle.pass_split_proof.specs.given_calls.Ramps.{HasCalledRamps};
 ghost use Rattle.pass_split_proof.specs.priced.Returns.{AllJumpBehind};
+ghost use Rattle.pass_split_proof.specs.priced.Split.{SplitKeeps};
+ghost use Rattle.pass_split_proof.specs.ready.Module.{IsFollowableIn};
 ghost use Rattle.pass_split_proof.specs.simulation.Followed.{IsFollowed};
 ghost use Rattle.pass_split_proof.specs.simulation.Knowing.{KnowsGiven};
 ghost use Rattle.pass_split_proof.specs.simulation.Premises.{ArePremisesMet};
@@ -28,7 +33,6 @@ ghost use Rattle.pass_split_proof.specs.simulation.Statement.{IsEntryOfParts, pa
 ghost use Rattle.pass_split_proof.specs.states.Related.{AreRelated};
 ghost use Rattle.run_access_worked.specs.run_plain.Plain.{PlainGiven, plain_first};
 ghost use Rattle.run_access_worked.specs.run_plain.declared.state.PlainState.{PlainState as ThePlainState};
-ghost use Rattle.run_types.specs.States.{AreArguments};
 ghost use Rattle.std.specs.Prelude.{◌≡◌, ℕ, ℤ, List, false};
 
 /// The states in which the runs start know all of frames that callers give: there are none.
@@ -40,7 +44,7 @@ pub fn runs_start_knowing()
 /// In a run that gives frames well each step is followed from states that know of them.
 pub fn given_steps_are_followed()
     ensures { (g : FramedGiven) (h : PlainGiven) → ArePremisesMet g h → AreGivenPremisesMet g h → (entry : ℕ)
-        (args : List Word) → (function_at g.given.code entry).coroutine ≡ false → AreArguments g.given.code entry args
+        (args : List Word) → (function_at g.given.code entry).coroutine ≡ false
         → GivesFramesWell g entry args → (n : ℕ) (t : ThePlainState)
         (r : AreRelated g h (framed_state_at g entry args n) t) → KnowsGiven g (framed_state_at g entry args n) t
         → (framed_state_at g entry args n).outcome ≡ Outcome.Running
@@ -60,20 +64,39 @@ pub fn parts_keep_given_calls()
         (parts_given ls m answers)) → PartsKeepGivenCalls ls m }
 {}
 
+/// So it is of a module whose runs may be followed by the rules of another, which has the ramps that are called. A part
+/// that a resume calls comes to no release, where calls give frames.
+pub fn ruled_modules_keep_given_calls()
+    ensures { (stage : Stage) (r : Module) (ls : Layouts) (m : Module) → IsFollowableIn stage r ls m
+        → HasCalledRamps r m
+        → ((answers : List ℤ) → NestsNoFrames (framed_given m ls.coroutines answers))
+        → ((answers : List ℤ) → ReleasesWhenDestroyed (framed_given m ls.coroutines answers)
+        (parts_given ls m answers)) → PartsKeepGivenCalls ls m }
+{}
+
 /// So the runs agree within 4.
 pub fn given_calls_of_parts_bound_steps()
     ensures { (ls : Layouts) (m : Module) → PartsKeepGivenCalls ls m → (entry other : ℕ) (args : List Word)
-        (answers : List ℤ) → IsEntryOfParts ls m entry other → AreArguments m entry args
+        (answers : List ℤ) → IsEntryOfParts ls m entry other
         → GivesFramesWell (framed_given m ls.coroutines answers) entry args
         → AgreesWithin 4 (at (framed_machine m ls entry args answers))
         (at (plain_machine (parted_module ls m) other args answers)) }
+{}
+
+/// Both passes in a row keep states beside each other, with blocks on edges that leave windows.
+pub fn given_split_runs_keep_states()
+    ensures { (layouts : Layouts) (m : Module) → AreLocalsNamed m → AreExitsKept m → AllJumpBehind m
+        → PartsKeepGivenCalls layouts (exits_split m) → (entry other : ℕ) (args : List Word) (answers : List ℤ)
+        → IsEntryOfParts layouts (exits_split m) entry other
+        → GivesFramesWell (framed_given (exits_split m) layouts.coroutines answers) entry args
+        → SplitKeeps layouts m entry other args answers }
 {}
 
 /// And within 4 behind blocks on edges that leave windows, which the edges pay.
 pub fn given_split_runs_agree()
     ensures { (layouts : Layouts) (m : Module) → AreLocalsNamed m → AreExitsKept m → AllJumpBehind m
         → PartsKeepGivenCalls layouts (exits_split m) → (entry other : ℕ) (args : List Word) (answers : List ℤ)
-        → IsEntryOfParts layouts (exits_split m) entry other → AreArguments (exits_split m) entry args
+        → IsEntryOfParts layouts (exits_split m) entry other
         → GivesFramesWell (framed_given (exits_split m) layouts.coroutines answers) entry args
         → AgreesWithin 4 (at (framed_machine m layouts entry args answers))
         (at (plain_machine (parted_module layouts (exits_split m)) other args answers)) }

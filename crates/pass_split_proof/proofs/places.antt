@@ -1,6 +1,7 @@
 pub mod Coded
 pub mod Cuts
 pub mod Fronts
+pub mod Labels
 pub mod Laws
 pub mod Lines
 pub mod Parts

@@ -10,6 +10,7 @@ pub mod Entering
 pub mod Entries
 pub mod Functions
 pub mod Given
+pub mod GivenCalls
 pub mod Gives
 pub mod Globals
 pub mod Intrinsics

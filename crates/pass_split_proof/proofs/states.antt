@@ -4,6 +4,7 @@ pub mod Closed
 pub mod Controls
 pub mod Fresh
 pub mod Headed
+pub mod Headers
 pub mod Judged
 pub mod Killed
 pub mod OwnHomes

@@ -17,6 +17,7 @@ pub mod Saves
 pub mod Settled
 pub mod Slots
 pub mod Small
+pub mod Through
 pub mod Waking
 pub mod Woken
 pub mod WokenStates

@@ -4,6 +4,7 @@ pub mod Here
 pub mod Places
 pub mod Quiet
 pub mod Runs
+pub mod Small
 pub mod Starts
 pub mod Ungiven
 pub mod Woken

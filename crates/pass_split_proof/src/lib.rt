@@ -24,6 +24,7 @@ pub mod own_blocks;
 pub mod places;
 pub mod priced;
 pub mod ready;
+pub mod ruled;
 pub mod silent;
 pub mod simulation;
 pub mod states;

@@ -12,6 +12,7 @@ ghost use Rattle.pass_cleanup.specs.Cleaned.{plain_machine};
 ghost use Rattle.pass_proofs.specs.exits.states.Exits.{AreExitsKept, exits_split};
 ghost use Rattle.pass_split_proof.specs.first_exits.Parted.{parted_module};
 ghost use Rattle.pass_split_proof.specs.priced.Returns.{AllJumpBehind};
+ghost use Rattle.pass_split_proof.specs.priced.Split.{SplitKeeps};
 ghost use Rattle.pass_split_proof.specs.simulation.Statement.{IsEntryOfParts};
 ghost use Rattle.pass_split_proof.specs.states.Related.{part_price};
 ghost use Rattle.pass_split_proof.specs.whole.Whole.{PartsKeepCalls};
@@ -30,6 +31,14 @@ pub fn exit_blocks_are_paid()
         (framed_machine m layouts entry args answers) (λ s. 4)
         (framed_machine (exits_split m) layouts entry args answers)
         (part_price (framed_given (exits_split m) layouts.coroutines answers)) }
+{}
+
+/// So both passes in a row keep states beside each other, where the parts of the module with these blocks keep calls.
+pub fn split_runs_keep_states()
+    ensures { (layouts : Layouts) (m : Module) → AreLocalsNamed m → AreExitsKept m → AllJumpBehind m
+        → PartsKeepCalls layouts (exits_split m) → (entry other : ℕ) (args : List Word) (answers : List ℤ)
+        → IsEntryOfParts layouts (exits_split m) entry other → AreArguments (exits_split m) entry args
+        → SplitKeeps layouts m entry other args answers }
 {}
 
 /// So a framed run agrees within 4 with the run of the parts, where that with these blocks keeps calls.

@@ -71,8 +71,8 @@ pub fn layouts_stand_by_their_coroutines()
         → slice_get fs k ≡ Some f → f.coroutine ≡ false → layout_of ls k ≡ no_layout k }
 {}
 
-/// The functions of the module have what steps ask: coroutines stand with their parts, allocas stand alone, suspends
-/// have switches, and values have types.
+/// The functions of the module have what steps ask: coroutines stand with their parts, allocas stand alone, and
+/// suspends have switches.
 pub fn functions_are_ready()
     ensures { (ls : Layouts) (m : Module) → IsFollowable ls m → (answers : List ℤ)
         → AreFunctionsMet (framed_given m ls.coroutines answers) (parts_given ls m answers) }

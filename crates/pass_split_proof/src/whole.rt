@@ -18,12 +18,13 @@ ghost use Rattle.pass_proofs.specs.run_agreement.Agreements.{AgreesWithin};
 ghost use Rattle.pass_proofs.specs.run_agreement.Machines.{at};
 ghost use Rattle.pass_proofs.specs.run_framed.Framed.{framed_given};
 ghost use Rattle.pass_proofs.specs.run_states.moved_states.Beside.{framed_machine};
+ghost use Rattle.run_types.specs.Rules.{KeepsAllTypes};
 ghost use Rattle.run_types.specs.States.{AreArguments};
 
-/// A framed module in which no call gives a frame and its parts keep states beside each other, where what steps ask of
-/// the module is met.
+/// A framed module in which no call gives a frame and its parts keep states beside each other, where values have their
+/// types and what steps ask of the module is met.
 pub fn parts_keep_calls()
-    ensures { (ls : Layouts) (m : Module) → IsPartable ls m → GivesNoFrame m
+    ensures { (ls : Layouts) (m : Module) → IsPartable ls m → GivesNoFrame m → KeepsAllTypes m
         → ((answers : List ℤ) → ArePremisesMet (framed_given m ls.coroutines answers) (parts_given ls m answers))
         → PartsKeepCalls ls m }
 {}

@@ -20,7 +20,7 @@ use Rattle.pass_split_proof.proofs.held.Moves.{ok_is}
 use Rattle.pass_split_proof.proofs.simulation.Knowing.{goes_knows, new_kept, same_places, set_kept}
 use Rattle.pass_split_proof.proofs.states.Twins.{twin_at}
 use Rattle.pass_split_proof.proofs.states.Values.{values_set}
-use Rattle.pass_split_proof.proofs.steps.Followed.{fine_ok, framed_does, here_on, many_followed}
+use Rattle.pass_split_proof.proofs.steps.Followed.{fine_ok, framed_does, here_on, many_followed, still_on}
 use Rattle.pass_split_proof.proofs.steps.Saves.{set_there, values_extra}
 use Rattle.pass_split_proof.proofs.steps.Settled.{plain_does}
 use Rattle.pass_split_proof.proofs.steps.Small.{pointer_loaded}
@@ -267,14 +267,10 @@ module _ (g : FramedGiven) (h : PlainGiven) (s : State) (t : PlainState) (r : Ar
         two_more : (n : ℕ) → n + 2 ≡ n + 1 + 1
         two_more n = omega arith
 
-    on_way : (i : ℕ) → i < 2 → IsOn s (iterate (plain_step h) i t)
+    on_way : (i : ℕ) → i < 2 → IsOn g s (iterate (plain_step h) i t)
     on_way zero lt = here_on g h s t r k.at.running
-    on_way (suc zero) lt = subst (IsOn s) (sym step_one) (record {
-      goes = k.at.running;
-      running = r.outcome ∙ k.at.running;
-      events = r.world.events;
-      allocs = r.world.allocs;
-    })
+    on_way (suc zero) lt = subst (IsOn g s) (sym step_one)
+        (still_on g h s t r k.at.running (r.outcome ∙ k.at.running) refl)
     on_way (suc (suc i)) lt = absurd (none i lt)
       where
         none : (i : ℕ) → suc (suc i) < 2 → ⊥

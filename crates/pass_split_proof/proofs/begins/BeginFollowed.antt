@@ -22,7 +22,7 @@ use Rattle.pass_split_proof.proofs.simulation.Knowing.{more_calls, more_know, ne
 use Rattle.pass_split_proof.proofs.states.SameKind.{given_kept}
 use Rattle.pass_split_proof.proofs.states.OwnHomes.{own_pointer}
 use Rattle.pass_split_proof.proofs.states.Written.{length-changed}
-use Rattle.pass_split_proof.proofs.steps.BegunStates.{begin_related, begin_steps, runs}
+use Rattle.pass_split_proof.proofs.steps.BegunStates.{begin_related, begin_steps, runs, runs_keeping}
 use Rattle.pass_split_proof.proofs.steps.Followed.{framed_does, many_followed}
 use Rattle.pass_split_proof.proofs.steps.Operands.{operand_stands}
 use Rattle.pass_split_proof.specs.begins.Beginning.{IsAtBegin}
@@ -35,7 +35,7 @@ use Rattle.pass_split_proof.specs.code.Positions.{is_given}
 use Rattle.pass_split_proof.specs.states.Going.{stands_at}
 use Rattle.pass_split_proof.specs.states.Instances.{StandsThere, address_of_part, destroyer_of, is_given_in, shape_at}
 use Rattle.pass_split_proof.specs.states.Memories.{homes_of}
-use Rattle.pass_split_proof.specs.states.Related.{AreRelated, IsOn, credit_of, is_ramp, left_of_call, left_of_calls, weight}
+use Rattle.pass_split_proof.specs.states.Related.{AreHeadersKept, AreRelated, IsOn, credit_of, is_ramp, left_of_call, left_of_calls, weight}
 use Rattle.pass_split_proof.specs.steps.Begins.{HasBeginCode, begun_to}
 use Rattle.pass_proofs.specs.run_agreement.Machines.{IsFine, iterate}
 use Rattle.pass_proofs.specs.run_framed.Framed.{FramedGiven, framed_begin, framed_step}
@@ -58,6 +58,8 @@ use Rattle.pass_proofs.specs.run_source.declared.state.State.{State}
 use Rattle.pass_proofs.specs.run_step.Step.{AtInstr, Coro, Fetched, value_at}
 use Rattle.pass_proofs.specs.run_step.Values.{Env, address_of, operand_value, with_value}
 use Rattle.pass_proofs.specs.run_step.declared.world.Slot.{Slot}
+use Rattle.pass_split_proof.proofs.states.Headers.{headers_all}
+use Rattle.pass_split_proof.proofs.steps.Through.{line_through}
 
 module _ (g : FramedGiven) (h : PlainGiven) (s : State) (t : PlainState) (r : AreRelated g h s t)
     (goes : s.outcome ≡ Outcome.Running) (fine : IsFine (framed_step g s).outcome) (k : IsAtBegin g h s t r) where
@@ -225,7 +227,8 @@ module _ (g : FramedGiven) (h : PlainGiven) (s : State) (t : PlainState) (r : Ar
   knows_behind know = (
     (
       newest_knows g s.instances x behind s.top.func s.top.mode t.top.func values r.top.part r.top.func
-          (ungiven ∙ sym (ap is_given part_is)) (λ frame e. absurd (no_frame s.top.mode frame k.mode e)),
+          (ungiven ∙ sym (ap is_given part_is)) (λ frame e. absurd (no_frame s.top.mode frame k.mode e))
+          know.0.0.calls,
       more_know g h.code s.instances x s.world.memory behind (homes_of s.world.memory)
           (same_extends s.world.memory behind (length-changed s.world.memory begun.block (owned_to size)))
           (λ i z e. kinds z.block z) s.top.result s.below t.below r.below know.0.1,
@@ -248,12 +251,21 @@ module _ (g : FramedGiven) (h : PlainGiven) (s : State) (t : PlainState) (r : Ar
       leads own_part)
       (refl, (refl, (refl, (refl, tt)))) n le
 
-  on_way : (n : ℕ) → n < 5 → IsOn s (iterate (plain_step h) n t)
+  headers : (n : ℕ) → n ≤ 4 → AreHeadersKept g s (iterate (plain_step h) n t).world.memory
+  headers n le = line_through (λ (m : List MemoryBlock). AreHeadersKept g s m) h
+      (begin_stores (shape_at g s.top.func) r.top.part has_code.name k.memory.value) t _ (r.outcome ∙ goes)
+      has_code.stands.stand
+      (runs_keeping g h s t r k.memory.value has_code x begun.source size refl begun.there begun.fresh k.laid
+      k.sized new
+      roomy leads own_part) (headers_all g s t.world.memory r.frames.headed) n le
+
+  on_way : (n : ℕ) → n < 5 → IsOn g s (iterate (plain_step h) n t)
   on_way n lt = let z = quiet n (less n lt) in record {
     goes = goes;
     running = z.0;
     events = z.1.0 ∙ r.world.events;
     allocs = z.1.1 ∙ r.world.allocs;
+    headers = headers n (less n lt);
   }
     where
       less : (n : ℕ) → n < 5 → n ≤ 4

@@ -19,14 +19,14 @@ use Rattle.pass_split_proof.proofs.simulation.Knowing.{goes_knows, new_kept, set
 use Rattle.pass_split_proof.proofs.states.Judged.{numbering}
 use Rattle.pass_split_proof.proofs.states.Twins.{twin_at}
 use Rattle.pass_split_proof.proofs.steps.Followed.{framed_does, many_followed}
-use Rattle.pass_split_proof.proofs.steps.SavedStates.{runs_here, save_related, save_steps}
+use Rattle.pass_split_proof.proofs.steps.SavedStates.{runs_here, runs_through, save_related, save_steps}
 use Rattle.pass_split_proof.specs.begins.Saving.{IsAtSave}
 use Rattle.pass_proofs.specs.split.rules.Reached.{IsLedTo}
 use Rattle.pass_split_proof.specs.code.Numbers.{IsNumbered}
 use Rattle.pass_split_proof.specs.simulation.Followed.{IsFollowed}
 use Rattle.pass_split_proof.specs.simulation.Knowing.{KnowsGiven}
 use Rattle.pass_split_proof.specs.states.Instances.{IsLaidOut, in_state, is_given_in, is_held, is_held_in, lives_in, resumer_of, shape_at}
-use Rattle.pass_split_proof.specs.states.Related.{AreRelated, IsOn, credit_of, weight}
+use Rattle.pass_split_proof.specs.states.Related.{AreHeadersKept, AreRelated, IsOn, credit_of, fetched_at, is_save_there, weight}
 use Rattle.pass_split_proof.specs.steps.Saves.{HasSaveCode, saved_work}
 use Rattle.pass_proofs.specs.run_agreement.Machines.{IsFine, iterate}
 use Rattle.pass_proofs.specs.run_framed.Framed.{FramedGiven, framed_step, layout_of}
@@ -45,6 +45,10 @@ use Rattle.pass_proofs.specs.run_step.Results.{and_then, found, ok_if}
 use Rattle.pass_proofs.specs.run_step.Step.{AtInstr, Coro, Fetched, Work}
 use Rattle.pass_proofs.specs.run_memory.declared.pointer.Value.{Value}
 use Rattle.pass_proofs.specs.run_step.Values.{value_in, with_value}
+use Rattle.pass_split_proof.proofs.steps.Through.{RunsThrough, line_through}
+use Rattle.pass_split_proof.proofs.states.Headers.{headers_all, headers_saving}
+use Rattle.pass_split_proof.proofs.states.Saved.{indexed_destroyed, others_headed, others_indexed, saved_destroyed}
+use Rattle.pass_split_proof.specs.states.Saved.{with_index, with_save}
 
 -- ---- the framed run
 
@@ -240,12 +244,46 @@ module _ (g : FramedGiven) (h : PlainGiven) (s : State) (t : PlainState) (r : Ar
       (runs_here g h s t r saved.number x number.0 code saved.there mine at_begin held laid small saved.suspend
       counted.0 counted.1 kept)) (refl, (refl, (refl, tt))) n le
 
-  on_way : (n : ℕ) → n < 4 → IsOn s (iterate (plain_step h) n t)
+  -- headers stand, but what is being written
+  abbrev Kept : List MemoryBlock → Type 0
+  Kept n = AreHeadersKept g s n
+
+  at_save : is_save_there (fetched_at g s) ≡ true
+  at_save = ap is_save_there k.there
+
+  with_index_kept : AreHeadersKept g s (with_index g t.world.memory x number.0)
+  with_index_kept = headers_saving g s (with_index g t.world.memory x number.0) saved.number x saved.there
+      saved.own at_save
+      (indexed_destroyed g s.instances saved.number x s.world.memory t.world.memory saved.there held r.frames
+      r.world.memory laid saved.suspend s.top.values kept x.released number.0 counted.0 counted.1)
+      (others_indexed g s.instances saved.number x s.world.memory t.world.memory saved.there held r.frames
+      r.world.memory laid saved.suspend s.top.values kept x.released number.0 counted.0 counted.1)
+
+  with_save_kept : AreHeadersKept g s (with_save g t.world.memory x number.0 (resumer_of g x.coroutine
+      counted.0.suspend))
+  with_save_kept = headers_saving g s (with_save g t.world.memory x number.0 (resumer_of g x.coroutine
+      counted.0.suspend)) saved.number x saved.there saved.own at_save
+      (saved_destroyed g s.instances saved.number x s.world.memory t.world.memory saved.there held r.frames
+      r.world.memory laid saved.suspend s.top.values kept x.released number.0 counted.0 counted.1)
+      (others_headed g s.instances saved.number x s.world.memory t.world.memory saved.there held r.frames
+      r.world.memory laid saved.suspend s.top.values kept x.released number.0 counted.0 counted.1)
+
+  headers : (n : ℕ) → n ≤ 3 → AreHeadersKept g s (iterate (plain_step h) n t).world.memory
+  headers n le = line_through Kept h (save_stores (shape_at g s.top.func) code.name number.0) t w (r.outcome ∙ runs)
+      code.stands.stand
+      (subst (λ (f : ℕ). RunsThrough Kept (plain_context h t) (save_stores (shape_at g f) code.name number.0)
+      (plain_work t) w) mine
+      (runs_through g h s t r saved.number x number.0 code saved.there mine at_begin held laid small saved.suspend
+      counted.0 counted.1 kept Kept (headers_all g s t.world.memory r.frames.headed) with_index_kept with_save_kept))
+      (headers_all g s t.world.memory r.frames.headed) n le
+
+  on_way : (n : ℕ) → n < 4 → IsOn g s (iterate (plain_step h) n t)
   on_way n lt = let z = quiet n (less n lt) in record {
     goes = runs;
     running = z.0;
     events = z.1.0 ∙ r.world.events;
     allocs = z.1.1 ∙ r.world.allocs;
+    headers = headers n (less n lt);
   }
     where
       less : (n : ℕ) → n < 4 → n ≤ 3

@@ -11,8 +11,9 @@ use Rattle.pass_proofs.specs.ir_model.declared.module.Module.{Module}
 use Rattle.pass_proofs.specs.ir_paths.Paths.{targets}
 use Rattle.pass_proofs.specs.pass_intrinsics.declared.shape.Part.{Part}
 use Rattle.pass_proofs.specs.pass_intrinsics.declared.shape.Shape.{Shape}
-use Rattle.pass_proofs.proofs.split.edges.Rules.{own_label_low, own_target_known}
 use Rattle.pass_proofs.specs.pass_split.Pieces.{redirected, redirected_case}
+use Rattle.pass_proofs.specs.rule_names.declared.stage.Stage.{Stage}
+use Rattle.pass_split_proof.proofs.places.Labels.{plain_label_low, plain_target_known}
 use Rattle.pass_split_proof.proofs.places.Transfers.{end_first}
 use Rattle.pass_split_proof.specs.places.Places.{IsCodeOf, OfCoroutine, OfPlain, StartsWithEnd}
 use Rattle.pass_proofs.proofs.rule_laws.rules.sources.Places.{term_there}
@@ -66,8 +67,8 @@ end_begins f q _ _ block at term label (OfCoroutine m k layout begin part x is) 
     = subst (StartsWithEnd f) (sym e) (end_first m k f begin layout x)
 end_begins f q _ _ block at term label (OfPlain m k coroutine rules same) here listed e =
     let own = term_there f block at term here in
-    let known = own_target_known m k f rules own.own label (listed_at f.blocks block own.own own.got)
+    let known = plain_target_known Stage.Plain m k f rules own.own label (listed_at f.blocks block own.own own.got)
     (subst (λ (t : Terminator). IsListed label (targets t)) (sym own.is) listed) in
-    let low : known.block.label < length f.names = own_label_low m k f rules known.block known.listed in
+    let low : known.block.label < length f.names = plain_label_low Stage.Plain m k f rules known.block known.listed in
     let is : known.block.label ≡ length f.names = known.has_label ∙ e in
     absurd (omega (arith, low, is))

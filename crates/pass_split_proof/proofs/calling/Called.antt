@@ -126,6 +126,7 @@ module _ (g : FramedGiven) (h : PlainGiven) (s : State) (t : PlainState) (r : Ar
         (calls_knows g h s t k.func (mode_of (function_at g.given.code k.func)) k.result to
         (plain_called h.code to us k.result).values known
         (λ frame e. absurd (called_ungiven (function_at g.given.code k.func).coroutine frame e))
+        (λ frame e. absurd (called_ungiven (function_at g.given.code k.func).coroutine frame e))
         (λ frame e sets. result_unset g h s t r frame e s.top.block s.top.at i k.there
         (given_name (shape_at g s.top.func)) sets refl))
 

@@ -22,7 +22,7 @@ use Rattle.pass_split_proof.proofs.states.Twins.{twin_at}
 use Rattle.pass_split_proof.proofs.steps.Dispatched.{leads_on, quiet_on}
 use Rattle.pass_split_proof.proofs.steps.Followed.{here_on}
 use Rattle.pass_split_proof.proofs.steps.Saves.{values_extra}
-use Rattle.pass_split_proof.proofs.steps.Slots.{grows, homes_grow, slot_beside, slot_frames, slot_places, stand}
+use Rattle.pass_split_proof.proofs.steps.Slots.{grows, homes_grow, slot_beside, slot_frames, slot_headed, slot_places, stand}
 use Rattle.pass_split_proof.proofs.steps.WokenStates.{is_edge, none_entering, returns_there}
 use Rattle.pass_split_proof.specs.code.Entry.{GoesBack, HasEntry}
 use Rattle.pass_split_proof.specs.entering.Entering.{GoesBehind, IsMakingAgain}
@@ -33,7 +33,7 @@ use Rattle.pass_split_proof.specs.states.Activations.{HasFrame, Inside, RunsPart
 use Rattle.pass_split_proof.specs.states.Going.{stands_at}
 use Rattle.pass_split_proof.specs.states.Instances.{index_length, part_position, shape_at}
 use Rattle.pass_split_proof.specs.states.Memories.{homes_of}
-use Rattle.pass_split_proof.specs.states.Related.{AreRelated, IsOn, credit_of, fetched_at, is_behind_suspend, is_return_label, left_of_call, left_of_calls, part_price, price_of, weight}
+use Rattle.pass_split_proof.specs.states.Related.{AreHeadersKept, AreRelated, IsOn, credit_of, fetched_at, is_behind_suspend, is_return_label, left_of_call, left_of_calls, part_price, price_of, weight}
 use Rattle.pass_split_proof.specs.states.Values.{AreValuesOf}
 use Rattle.pass_split_proof.specs.steps.Dispatch.{IsAtIndex, indexed_work}
 use Rattle.pass_proofs.specs.run_agreement.Machines.{IsFine, iterate}
@@ -53,6 +53,7 @@ use Rattle.pass_proofs.specs.run_step.Step.{Fetched, Work, alloca_kind, fetch, h
 use Rattle.pass_proofs.specs.run_step.Values.{pointer_to, value_in, with_value}
 use Rattle.pass_proofs.specs.run_step.declared.world.Slot.{Slot}
 use Rattle.pass_proofs.specs.run_step.declared.world.World.{World}
+use Rattle.pass_split_proof.proofs.states.Headers.{headers_all}
 
 module _ (g : FramedGiven) (h : PlainGiven) (s : State) (t : PlainState) (r : AreRelated g h s t)
     (runs : s.outcome ≡ Outcome.Running) (fine : IsFine (framed_step g s).outcome) (from label : ℕ)
@@ -319,18 +320,41 @@ module _ (g : FramedGiven) (h : PlainGiven) (s : State) (t : PlainState) (r : Ar
 
     -- ---- the account
 
-    on_quiet : (i : ℕ) → i < 4 → IsOn s (iterate (plain_step h) i w)
+    -- headers stand with the slot's block too
+    headers : AreHeadersKept g s w.world.memory
+    headers = headers_all g s w.world.memory (slot_headed g s.instances s.world.memory t.world.memory size
+        k.alloca.align
+        (alloca_kind f) k.alloca.small (unlike g h s t r runs fine from label k) r.world.memory.twins.long marked too
+        less r.frames)
+
+    on_quiet : (i : ℕ) → i < 4 → IsOn g s (iterate (plain_step h) i w)
     on_quiet i lt = let y = quiet_on h w f (layout_of g.layouts s.top.func) r.top.part number point x.block x.start
         at_index i lt in record {
           goes = runs;
           running = y.0;
           events = ap (λ (v : World). v.events) y.1 ∙ r.world.events;
           allocs = ap (λ (v : World). v.allocs) y.1;
+          headers = subst (λ (v : World). AreHeadersKept g s v.memory) (sym y.1) headers;
         }
 
-    on_way : (i : ℕ) → i < 5 → IsOn s (iterate (plain_step h) i t)
+    -- the last four change no memory
+    still : (i : ℕ) → 5 ≤ i + 1 → i < 5
+        → (iterate (plain_step h) i t).world.memory ≡ (iterate (plain_step h) 5 t).world.memory
+    still zero low lt = absurd (none low)
+      where
+        none : 5 ≤ 0 + 1 → ⊥
+        none low = omega arith
+    still (suc i) low lt = ap (λ (y : PlainState). y.world.memory) (ap (iterate (plain_step h) i) makes)
+        ∙ ap (λ (v : World). v.memory) (quiet_on h w f (layout_of g.layouts s.top.func) r.top.part number point x.block
+        x.start at_index i (less i lt)).1
+        ∙ sym (ap (λ (y : PlainState). y.world.memory) (ap (iterate (plain_step h) 4) makes ∙ arrives))
+      where
+        less : (i : ℕ) → suc i < 5 → i < 4
+        less i lt = omega arith
+
+    on_way : (i : ℕ) → i < 5 → IsOn g s (iterate (plain_step h) i t)
     on_way zero lt = here_on g h s t r runs
-    on_way (suc i) lt = subst (IsOn s) (sym (ap (iterate (plain_step h) i) makes)) (on_quiet i (less i lt))
+    on_way (suc i) lt = subst (IsOn g s) (sym (ap (iterate (plain_step h) i) makes)) (on_quiet i (less i lt))
       where
         less : (i : ℕ) → suc i < 5 → i < 4
         less i lt = omega arith
@@ -356,10 +380,11 @@ module _ (g : FramedGiven) (h : PlainGiven) (s : State) (t : PlainState) (r : Ar
       few = subst (λ (y : State). 5 + credit_of y ≤ weight (fetched_at g s) + 1 + credit_of s) (sym is_going)
           (subst (λ (y : Fetched). 5 + (0 + left_of_calls s.below) ≤ weight y + 1 + credit_of s) (sym k.alloca.there)
           (fits (left_of_call s.top) (left_of_calls s.below)));
-      owed = inr (
-        subst (λ (y : State). 1 + weight (fetched_at g y) ≤ part_price g y) (sym is_going) has_room,
-        subst (ShowsOn s) (sym is_going) (record { goes = runs; events = refl; allocs = refl }),
-      );
+      owed = inr (record {
+        room = subst (λ (y : State). 1 + weight (fetched_at g y) ≤ part_price g y) (sym is_going) has_room;
+        shows = subst (ShowsOn s) (sym is_going) (record { goes = runs; events = refl; allocs = refl });
+        still = still;
+      });
       goes_on = inl (omega arith);
       passes = on_way;
       related = subst (λ (y : State). AreRelated g h y (iterate (plain_step h) 5 t)) (sym is_going)

@@ -17,8 +17,8 @@ use Rattle.pass_proofs.specs.pass_intrinsics.declared.shape.Shape.{Shape}
 use Rattle.pass_proofs.specs.pass_split.Pieces.{begins_again}
 use Rattle.pass_split_proof.proofs.begins.Calm.{IsQuiet, line_quiet}
 use Rattle.pass_split_proof.proofs.begins.SaveCode.{IsMarked, marked, shape_is}
-use Rattle.pass_split_proof.proofs.given_begins.Owners.{owner_beside, owner_frames}
-use Rattle.pass_split_proof.proofs.given_begins.States.{given_begin_related, given_begin_steps, line_runs}
+use Rattle.pass_split_proof.proofs.given_begins.Owners.{held_same, owner_beside, owner_frames}
+use Rattle.pass_split_proof.proofs.given_begins.States.{given_begin_related, given_begin_steps, line_keeping, line_runs}
 use Rattle.pass_split_proof.proofs.given_begins.Within.{has_begun_within}
 use Rattle.pass_split_proof.proofs.simulation.Knowing.{more_calls, more_know, new_kept, newest_knows, same_extends}
 use Rattle.pass_split_proof.proofs.states.SameKind.{given_kept}
@@ -34,9 +34,9 @@ use Rattle.pass_split_proof.specs.simulation.Knowing.{KnowsGiven}
 use Rattle.pass_split_proof.specs.states.Activations.{RunsPart, is_entering}
 use Rattle.pass_split_proof.specs.code.Positions.{is_given}
 use Rattle.pass_split_proof.specs.states.Going.{stands_at}
-use Rattle.pass_split_proof.specs.states.Instances.{AreFrames, StandsThere, address_of_part, destroyer_of, is_given_in, shape_at}
+use Rattle.pass_split_proof.specs.states.Instances.{AreFrames, StandsThere, address_of_part, destroyer_of, is_given_in, is_held, shape_at}
 use Rattle.pass_split_proof.specs.states.Memories.{AreBeside, homes_of}
-use Rattle.pass_split_proof.specs.states.Related.{AreRelated, IsOn, credit_of, is_ramp, left_of_call, left_of_calls, weight}
+use Rattle.pass_split_proof.specs.states.Related.{AreHeadersKept, AreRelated, IsOn, credit_of, is_ramp, left_of_call, left_of_calls, weight}
 use Rattle.pass_split_proof.specs.steps.Begins.{HasBeginCode, begun_to}
 use Rattle.pass_proofs.specs.run_agreement.Machines.{IsFine, iterate}
 use Rattle.pass_proofs.specs.run_framed.Framed.{FramedGiven, framed_begin, framed_step, layout_of}
@@ -60,6 +60,8 @@ use Rattle.pass_proofs.specs.run_source.declared.state.State.{State}
 use Rattle.pass_proofs.specs.run_step.Step.{AtInstr, Coro, Fetched, value_at}
 use Rattle.pass_proofs.specs.run_step.Values.{Env, address_of, arg_values, nth, value_in, with_value}
 use Rattle.pass_proofs.specs.run_step.declared.world.Slot.{Slot}
+use Rattle.pass_split_proof.proofs.states.Headers.{headers_all}
+use Rattle.pass_split_proof.proofs.steps.Through.{line_through}
 
 -- what the begin makes of the memory keeps what there is
 module _ (g : FramedGiven) (s : State) (n : List MemoryBlock) (block start : ℕ) where
@@ -74,6 +76,13 @@ module _ (g : FramedGiven) (s : State) (n : List MemoryBlock) (block start : ℕ
     where
       other : Kind.Stack ≡ Kind.Allocator → ⊥
       other h = cc
+
+  pub within_held : (after : List MemoryBlock) → BeginsWithin g s block start after → (z : Instance)
+      → is_held after z ≡ is_held s.world.memory z
+  within_held after (InBlock u zero there given is) z = ap (λ (m : List MemoryBlock). is_held m z) is
+      ∙ held_same g s.instances s.world.memory n block (owned_to (own_frame g.given s).size) (λ y. refl) u there
+      (no_allocator u.kind given.kind) z
+  within_held after (InField room live is) z = ap (λ (m : List MemoryBlock). is_held m z) is
 
   pub within_frames : (after : List MemoryBlock) → BeginsWithin g s block start after
       → AreFrames g s.instances s.world.memory n → AreFrames g s.instances after n
@@ -221,6 +230,10 @@ module _ (g : FramedGiven) (h : PlainGiven) (s : State) (t : PlainState) (r : Ar
     right : is_given (destroyer_of r.top.part) ≡ true
     right = ap (λ (p : Part). is_given (destroyer_of p)) part_is
 
+    -- frames are there as they were
+    same_held : (z : Instance) → is_held begun.after z ≡ is_held s.world.memory z
+    same_held = within_held g s t.world.memory begun.block begun.start begun.after begun.within
+
     -- ---- both runs
 
     abbrev at_start : Value
@@ -239,9 +252,9 @@ module _ (g : FramedGiven) (h : PlainGiven) (s : State) (t : PlainState) (r : Ar
     related = subst (λ (z : State). AreRelated g h z (iterate (plain_step h) 5 t)) (sym same_state)
         (subst (AreRelated g h w)
         (sym (given_begin_steps g h s t r memory has_code x begun.after refl many frames beside room k.laid new known small
-        leads right (r.outcome ∙ goes)))
+        leads right same_held (r.outcome ∙ goes)))
         (given_begin_related g h s t r memory has_code x begun.after refl many frames beside room k.laid new known small
-        leads right settled))
+        leads right same_held settled))
 
     -- ---- what is known of frames that callers give
 
@@ -286,7 +299,8 @@ module _ (g : FramedGiven) (h : PlainGiven) (s : State) (t : PlainState) (r : Ar
             (room.given ∙ sym (ap is_given part_is))
             (λ frame e. subst (λ (v : Value). IsValue (homes_of begun.after) frame v) (sym (kept frame e))
             (value_on (homes_of s.world.memory) (homes_of begun.after) ext frame
-            (value_in t.top.values (given_name (shape_at g s.top.func))) (know.0.0.given frame e))),
+            (value_in t.top.values (given_name (shape_at g s.top.func))) (know.0.0.given frame e)))
+            know.0.0.calls,
         more_know g h.code s.instances x s.world.memory begun.after (homes_of s.world.memory) ext
             (λ i z e. kinds z.block z) s.top.result s.below t.below r.below know.0.1,
       ),
@@ -297,22 +311,30 @@ module _ (g : FramedGiven) (h : PlainGiven) (s : State) (t : PlainState) (r : Ar
     knows know = subst (λ (z : State). KnowsGiven g z (iterate (plain_step h) 5 t)) (sym same_state)
         (subst (KnowsGiven g w)
         (sym (given_begin_steps g h s t r memory has_code x begun.after refl many frames beside room k.laid new known small
-        leads right (r.outcome ∙ goes)))
+        leads right same_held (r.outcome ∙ goes)))
         (knows_behind know))
 
     quiet : (n : ℕ) → n ≤ 4 → IsQuiet t (iterate (plain_step h) n t)
     quiet n le = line_quiet h (begin_stores (shape_at g s.top.func) r.top.part has_code.name memory) t _
         (r.outcome ∙ goes) has_code.stands.stand
         (line_runs g h s t r memory has_code x begun.after refl many frames beside room k.laid new known small
-        leads right)
+        leads right same_held)
         (refl, (refl, (refl, (refl, tt)))) n le
 
-    on_way : (n : ℕ) → n < 5 → IsOn s (iterate (plain_step h) n t)
+    headers : (n : ℕ) → n ≤ 4 → AreHeadersKept g s (iterate (plain_step h) n t).world.memory
+    headers n le = line_through (λ (m : List MemoryBlock). AreHeadersKept g s m) h
+        (begin_stores (shape_at g s.top.func) r.top.part has_code.name memory) t _ (r.outcome ∙ goes)
+        has_code.stands.stand
+        (line_keeping g h s t r memory has_code x begun.after refl many frames beside room k.laid new known small
+        leads right same_held) (headers_all g s t.world.memory r.frames.headed) n le
+
+    on_way : (n : ℕ) → n < 5 → IsOn g s (iterate (plain_step h) n t)
     on_way n lt = let z = quiet n (less n lt) in record {
       goes = goes;
       running = z.0;
       events = z.1.0 ∙ r.world.events;
       allocs = z.1.1 ∙ r.world.allocs;
+      headers = headers n (less n lt);
     }
       where
         less : (n : ℕ) → n < 5 → n ≤ 4

@@ -51,7 +51,7 @@ module _ (g : FramedGiven) (xs : List Instance) (m n : List MemoryBlock) (b : �
       (cases_eq c b)
 
   -- frames are there as before
-  held_same : (z : Instance) → is_held after z ≡ is_held m z
+  pub held_same : (z : Instance) → is_held after z ≡ is_held m z
   held_same z = ⊎_elim
       (λ is. ap (λ (c : ℕ). is_held_in (slice_get after c) z) is
       ∙ ap (λ (o : Option MemoryBlock). is_held_in o z) (changed_here m b f u there)

@@ -9,7 +9,7 @@ use Rattle.pass_proofs.specs.ir_model.declared.operand.Operand.{Operand}
 use Rattle.pass_proofs.specs.pass_intrinsics.Lowered.{begin_stores, destroyed_by}
 use Rattle.pass_proofs.specs.pass_intrinsics.declared.shape.Part.{Part}
 use Rattle.pass_proofs.specs.pass_intrinsics.declared.shape.Shape.{Shape}
-use Rattle.pass_split_proof.proofs.given_begins.Stored.{begins_at}
+use Rattle.pass_split_proof.proofs.given_begins.Stored.{at_both_headed, at_first_headed, begins_at}
 use Rattle.pass_split_proof.proofs.states.Advanced.{all_beside_on}
 use Rattle.pass_split_proof.proofs.states.Judged.{get_new}
 use Rattle.pass_split_proof.proofs.states.Values.{values_set}
@@ -24,9 +24,9 @@ use Rattle.pass_split_proof.specs.given_begins.Room.{BeginsAt, HasRoom, IsBegun,
 use Rattle.pass_split_proof.specs.states.Activations.{Inside, is_entering}
 use Rattle.pass_split_proof.specs.states.Going.{stands_at}
 use Rattle.pass_split_proof.specs.code.Positions.{is_given}
-use Rattle.pass_split_proof.specs.states.Instances.{AreFrames, IsLaidOut, StandsThere, address_of_part, destroyer_of, is_destroyer, part_position, shape_at}
+use Rattle.pass_split_proof.specs.states.Instances.{AreFrames, IsLaidOut, StandsThere, address_of_part, destroyer_of, is_destroyer, is_held, part_position, shape_at}
 use Rattle.pass_split_proof.specs.states.Memories.{AreBeside, homes_of}
-use Rattle.pass_split_proof.specs.states.Related.{AreRelated}
+use Rattle.pass_split_proof.specs.states.Related.{AreHeadersKept, AreRelated}
 use Rattle.pass_split_proof.specs.states.Values.{AreValuesOf}
 use Rattle.pass_split_proof.specs.steps.Begins.{HasBeginCode, begun_to}
 use Rattle.pass_proofs.specs.run_framed.Framed.{FramedGiven}
@@ -46,6 +46,8 @@ use Rattle.pass_proofs.specs.run_source.declared.state.State.{State}
 use Rattle.pass_proofs.specs.run_step.Runs.{iterate}
 use Rattle.pass_proofs.specs.run_step.Step.{Done, Work, set_memory, set_value, value_at}
 use Rattle.pass_proofs.specs.run_step.Values.{Env, value_in, with_value}
+use Rattle.pass_split_proof.proofs.states.Headers.{headers_all}
+use Rattle.pass_split_proof.proofs.steps.Through.{RunsThrough, runs_of}
 
 none_more : (n : ℕ) → n + 0 ≡ n
 none_more n = omega arith
@@ -57,7 +59,8 @@ module _ (g : FramedGiven) (h : PlainGiven) (s : State) (t : PlainState) (r : Ar
     (room : HasRoom g s.instances x after t.world.memory) (laid : IsLaidOut g x.coroutine) (new : IsBegun x)
     (known : x.block < length s.world.memory) (small : x.start + 16 < 2 ^ 64)
     (leads : value_at (plain_context h t) (plain_work t) ptr p ≡ pointer_at x.block x.start)
-    (right : is_given (destroyer_of r.top.part) ≡ true) where
+    (right : is_given (destroyer_of r.top.part) ≡ true)
+    (same_held : (z : Instance) → is_held after z ≡ is_held s.world.memory z) where
   abbrev shape : Shape
   shape = shape_at g s.top.func
 
@@ -67,16 +70,19 @@ module _ (g : FramedGiven) (h : PlainGiven) (s : State) (t : PlainState) (r : Ar
   abbrev destroyer : Part
   destroyer = destroyer_of r.top.part
 
+  destroys : (part : Part) → is_destroyer (destroyer_of part) ≡ true
+  destroys Part.Ramp = refl
+  destroys Part.GivenRamp = refl
+  destroys Part.Resume = refl
+  destroys Part.Destroy = refl
+  destroys Part.Cleanup = refl
+
+  standing : StandsThere g x.coroutine destroyer
+  standing = subst (λ (k : ℕ). StandsThere g k destroyer) (sym mine) code.standing
+
   stored : BeginsAt g s.instances x after t.world.memory resumes destroyer
   stored = begins_at g s.instances x after t.world.memory room frames beside laid new resumes destroyer
-      (destroys r.top.part) (subst (λ (k : ℕ). StandsThere g k destroyer) (sym mine) code.standing) right
-    where
-      destroys : (part : Part) → is_destroyer (destroyer_of part) ≡ true
-      destroys Part.Ramp = refl
-      destroys Part.GivenRamp = refl
-      destroys Part.Resume = refl
-      destroys Part.Destroy = refl
-      destroys Part.Cleanup = refl
+      (destroys r.top.part) standing right
 
   abbrev at_start : Value
   at_start = pointer_at x.block x.start
@@ -114,35 +120,60 @@ module _ (g : FramedGiven) (h : PlainGiven) (s : State) (t : PlainState) (r : Ar
   low : (n k : ℕ) → k ≤ 8 → n + 16 < 2 ^ 64 → n + k < 2 ^ 64
   low n k le lt = omega arith
 
-  pub line_runs : Runs (plain_context h t) (begin_stores shape r.top.part code.name p) (plain_work t) four
-  line_runs = (
+  -- headers stand on the way
+  first_kept : AreHeadersKept g s (refilled_at t.world.memory x.block x.start (encode 8 resumes))
+  first_kept = headers_all g s (refilled_at t.world.memory x.block x.start (encode 8 resumes))
+      (λ i z e held. at_first_headed g s.instances x after t.world.memory room frames beside laid new resumes destroyer
+      (destroys r.top.part) standing right i z e (same_held z ∙ held) (r.frames.headed i z e held))
+
+  both_kept : AreHeadersKept g s
+      (with_header_at t.world.memory x.block x.start resumes (address_of_part g s.top.func destroyer))
+  both_kept = subst (λ (f : ℕ). AreHeadersKept g s (with_header_at t.world.memory x.block x.start resumes
+      (address_of_part g f destroyer))) mine
+      (headers_all g s (with_header_at t.world.memory x.block x.start resumes (address_of_part g x.coroutine
+      destroyer))
+      (λ i z e held. at_both_headed g s.instances x after t.world.memory room frames beside laid new resumes destroyer
+      (destroys r.top.part) standing right i z e (same_held z ∙ held) (r.frames.headed i z e held)))
+
+  pub line_keeping : RunsThrough (λ n. AreHeadersKept g s n) (plain_context h t)
+      (begin_stores shape r.top.part code.name p) (plain_work t) four
+  line_keeping = (
     one,
     (
       address_done (plain_context h t) (plain_work t) shape.begin x.block x.start 0 p leads
           (low x.start 0 (omega arith) small)
           ∙ ap (λ (o : ℕ). Done (set_value (plain_work t) shape.begin (pointer_at x.block o))) (none_more x.start),
       (
-        two,
+        headers_all g s t.world.memory r.frames.headed,
         (
-          pointer_stored (plain_context h t) one x.block x.start 8 (Operand.Global shape.resume_name)
-              (Operand.Local shape.begin) (Pointer.Func (part_position g s.top.func Part.Resume)) stored.old
-              (set_there t.top.values shape.begin at_start room_for) code.resumes stored.first
-              stored.long (omega arith),
+          two,
           (
-            three,
+            pointer_stored (plain_context h t) one x.block x.start 8 (Operand.Global shape.resume_name)
+                (Operand.Local shape.begin) (Pointer.Func (part_position g s.top.func Part.Resume)) stored.old
+                (set_there t.top.values shape.begin at_start room_for) code.resumes stored.first
+                stored.long (omega arith),
             (
-              address_done (plain_context h t) two code.name x.block x.start 8 (Operand.Local shape.begin)
-                  (set_there t.top.values shape.begin at_start room_for) (low x.start 8 (omega arith) small),
+              first_kept,
               (
-                four,
+                three,
                 (
-                  pointer_stored (plain_context h t) three x.block (x.start + 8) 8
-                      (Operand.Global (destroyed_by shape r.top.part)) (Operand.Local code.name)
-                      (Pointer.Func (part_position g s.top.func destroyer)) stored.older
-                      (set_there with_frame code.name at_second (subst (λ (k : ℕ). code.name < k)
-                      (sym (set_length t.top.values shape.begin at_start)) code.room)) code.destroys
-                      stored.second stored.longer (omega arith),
-                  refl,
+                  address_done (plain_context h t) two code.name x.block x.start 8 (Operand.Local shape.begin)
+                      (set_there t.top.values shape.begin at_start room_for) (low x.start 8 (omega arith) small),
+                  (
+                    first_kept,
+                    (
+                      four,
+                      (
+                        pointer_stored (plain_context h t) three x.block (x.start + 8) 8
+                            (Operand.Global (destroyed_by shape r.top.part)) (Operand.Local code.name)
+                            (Pointer.Func (part_position g s.top.func destroyer)) stored.older
+                            (set_there with_frame code.name at_second (subst (λ (k : ℕ). code.name < k)
+                            (sym (set_length t.top.values shape.begin at_start)) code.room)) code.destroys
+                            stored.second stored.longer (omega arith),
+                        (both_kept, refl),
+                      ),
+                    ),
+                  ),
                 ),
               ),
             ),
@@ -151,6 +182,10 @@ module _ (g : FramedGiven) (h : PlainGiven) (s : State) (t : PlainState) (r : Ar
       ),
     ),
   )
+
+  pub line_runs : Runs (plain_context h t) (begin_stores shape r.top.part code.name p) (plain_work t) four
+  line_runs = runs_of (λ n. AreHeadersKept g s n) (plain_context h t) (begin_stores shape r.top.part code.name p)
+      (plain_work t) four line_keeping
 
   -- it takes five steps
   pub given_begin_steps : t.outcome ≡ Outcome.Running

@@ -11,7 +11,7 @@ use Rattle.pass_split_proof.proofs.states.Judged.{control_closed, control_covere
 use Rattle.pass_split_proof.proofs.states.Standing.{open_bytes, twins_stand}
 use Rattle.pass_split_proof.proofs.states.Written.{range_holds}
 use Rattle.pass_split_proof.specs.given_begins.Room.{BeginsAt, HasRoom, IsBegun, with_header_at}
-use Rattle.pass_split_proof.specs.states.Instances.{AreFrames, AreLaidFrames, IsControl, IsHeadedIn, IsLaidOut, LiesAligned, StandsThere, address_of_part, is_destroyer, is_held, lives_in}
+use Rattle.pass_split_proof.specs.states.Instances.{AreFrames, AreLaidFrames, IsControl, IsHeaded, IsHeadedIn, IsLaidOut, LiesAligned, StandsThere, address_of_part, is_destroyer, is_held, lives_in}
 use Rattle.pass_split_proof.specs.code.Positions.{is_given}
 use Rattle.pass_split_proof.specs.states.Memories.{AreBeside, homes_of}
 use Rattle.run_access_worked.proofs.Begun.{get_more, judge_more}
@@ -271,21 +271,33 @@ module _ (g : FramedGiven) (xs : List Instance) (x : Instance) (m n : List Memor
           running : {suspend : Point} {values : List (Option Value)} → Status.Running ≡ Status.Suspended suspend values → ⊥
           running e = cc
 
-      old_headed : (i : ℕ) (z : Instance) → i < length xs → slice_get xs i ≡ Some z → slice_get more i ≡ Some z
-          → is_held m z ≡ true → IsHeadedIn g m two z
-      old_headed i z lt e e' held' =
-          let was = frames.headed i z e held' in
-          let first = headed_held g n one z (others_move g more m n before lies (length xs) x (get_new xs x) held x.start 8
-          room_one.0 (encode 8 resumes) room_one.1.0
-          (length-encode 8 resumes ∙ sym room_one.1.1) (some_of room_one.0 room_one.1.1) (λ k lt. in_first k
-          (below room_one.0 room_one.1.1 k lt)) i z (other i (length xs) lt) e' held') was in
-          headed_held g one two z (others_move g more m one beside_one lies (length xs) x (get_new xs x) held (x.start + 8) 8
-          room_two.0 (encode 8 destroys) room_two.1.0
-          (length-encode 8 destroys ∙ sym room_two.1.1) (some_of room_two.0 room_two.1.1) (λ k lt. in_second k
-          (below room_two.0 room_two.1.1 k lt)) i z (other i (length xs) lt) e' held') first
-        where
-          other : (i k : ℕ) → i < k → i ≢ k
-          other i k lt e = omega arith
+      -- the headers of old frames stand behind each store
+      module _ (i : ℕ) (z : Instance) (e : slice_get xs i ≡ Some z) (held' : is_held m z ≡ true) where
+        lt : i < length xs
+        lt = slice_get_within xs i z e
+
+        other : i ≢ length xs
+        other same = let less = lt in omega (arith, less, same)
+
+        got : slice_get more i ≡ Some z
+        got = get_more xs x i lt ∙ e
+
+        pub at_first_headed : {given : Bool} → IsHeaded g n given z
+            → IsHeaded g (refilled_at n x.block x.start (encode 8 resumes)) given z
+        at_first_headed = headed_held g n one z (others_move g more m n before lies (length xs) x (get_new xs x) held
+            x.start 8 room_one.0 (encode 8 resumes) room_one.1.0
+            (length-encode 8 resumes ∙ sym room_one.1.1) (some_of room_one.0 room_one.1.1) (λ k lt. in_first k
+            (below room_one.0 room_one.1.1 k lt)) i z other got held')
+
+        second_headed : {given : Bool} → IsHeaded g one given z → IsHeaded g two given z
+        second_headed = headed_held g one two z (others_move g more m one beside_one lies (length xs) x (get_new xs x)
+            held (x.start + 8) 8 room_two.0 (encode 8 destroys) room_two.1.0
+            (length-encode 8 destroys ∙ sym room_two.1.1) (some_of room_two.0 room_two.1.1) (λ k lt. in_second k
+            (below room_two.0 room_two.1.1 k lt)) i z other got held')
+
+        pub at_both_headed : {given : Bool} → IsHeaded g n given z → IsHeaded g
+            (with_header_at n x.block x.start resumes (address_of_part g x.coroutine destroyer)) given z
+        at_both_headed was = second_headed (at_first_headed was)
 
       -- the frame is among those that there are
       pub begins_at : BeginsAt g xs x m n resumes destroyer
@@ -300,7 +312,7 @@ module _ (g : FramedGiven) (xs : List Instance) (x : Instance) (m n : List Memor
         frames = record {
           laid = lies;
           headed = λ i z e held'. more_parted xs x (λ (w : Instance). is_held m w ≡ true → IsHeadedIn g m two w) i z e
-              (λ lt f h. old_headed i z lt f e h)
+              (λ lt f h. at_both_headed i z f h (frames.headed i z f h))
               (λ at f h. subst (IsHeadedIn g m two) (sym f) new_headed) held';
         };
       }

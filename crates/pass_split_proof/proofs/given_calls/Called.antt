@@ -46,6 +46,7 @@ use Rattle.pass_proofs.specs.run_source.declared.state.Mode.{Mode}
 use Rattle.pass_proofs.specs.run_source.declared.state.State.{State}
 use Rattle.pass_proofs.specs.run_step.Step.{AtInstr, Enter, Fetched, action_of, fetch, named_call}
 use Rattle.pass_proofs.specs.run_step.Values.{arg_values, nth, value_in}
+use Rattle.pass_split_proof.proofs.given_calls.Ramps.{called_given}
 
 -- ---- the framed run
 
@@ -204,6 +205,8 @@ module _ (g : FramedGiven) (h : PlainGiven) (s : State) (t : PlainState) (r : Ar
   know known = subst (KnowsGiven g (push s a)) (sym tally.is)
       (calls_knows g h s t k.func (Mode.GivenRamp (last_value vs)) k.result to
       (plain_called h.code to us k.result).values known stands_given
+      (λ frame e. called_given g.given.code s.top.func s.top.block s.top.at k.result false k.ty k.name k.args k.there
+      k.func k.gives)
       (λ frame e sets. result_unset g h s t r frame e s.top.block s.top.at i k.there
       (given_name (shape_at g s.top.func)) sets refl))
 

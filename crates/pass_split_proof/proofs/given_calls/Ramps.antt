@@ -49,12 +49,12 @@ any_of test (y ∷ xs) x (inr h) e = later (test y) (any_of test xs x h e)
     later false r = r
 
 -- the coroutine whose ramp a name is that of
-record IsRampOf (m : Module) (name : Name) (k : ℕ) : Type 0 where
-  there : slice_get m.functions k ≡ Some (function_at m k)
-  coroutine : (function_at m k).coroutine ≡ true
-  named : same_name (noalloc_of (function_at m k).name) name ≡ true
+pub record IsRampOf (m : Module) (name : Name) (k : ℕ) : Type 0 where
+  pub there : slice_get m.functions k ≡ Some (function_at m k)
+  pub coroutine : (function_at m k).coroutine ≡ true
+  pub named : same_name (noalloc_of (function_at m k).name) name ≡ true
 
-ramp_of_name : (m : Module) (name : Name) (k : ℕ) → given_ramp m name ≡ Some k → IsRampOf m name k
+pub ramp_of_name : (m : Module) (name : Name) (k : ℕ) → given_ramp m name ≡ Some k → IsRampOf m name k
 ramp_of_name m name k e =
     let x : IsFound (λ (f : Function). f.coroutine && same_name (noalloc_of f.name) name) m.functions k
     = what_is_found (λ (f : Function). f.coroutine && same_name (noalloc_of f.name) name) m.functions k e in

@@ -9,7 +9,7 @@ use Rattle.pass_proofs.proofs.ir_laws.paths.uses.Paths.{place_of}
 use Rattle.pass_proofs.proofs.rule_laws.rules.source_rules.Locals.{own_label}
 use Rattle.pass_proofs.proofs.rule_laws.rules.turned.Turned.{IsOuter}
 use Rattle.pass_proofs.specs.ir_laws.paths.woven_rules.Pairs.{AreDifferent}
-use Rattle.pass_proofs.specs.rule_laws.rules.function_rules.Kept.{KeepsFunctionRules}
+use Rattle.pass_proofs.specs.rule_laws.rules.function_rules.Kept.{KeepsFunctionRulesAt}
 use Rattle.pass_proofs.specs.rule_names.declared.stage.Stage.{Stage}
 use Rattle.pass_proofs.specs.ir_model.Names.{position_of}
 use Rattle.pass_proofs.specs.ir_model.declared.instr.Instr.{Instr}
@@ -24,9 +24,9 @@ use Rattle.pass_proofs.specs.pass_intrinsics.declared.shape.Part.{Part}
 use Rattle.pass_proofs.specs.pass_intrinsics.declared.shape.Shape.{Shape}
 use Rattle.pass_proofs.proofs.split.edges.Entries.{listed_entry}
 use Rattle.pass_proofs.proofs.split.edges.Pieces.{head_is, labels}
-use Rattle.pass_proofs.proofs.split.edges.Rules.{own_label_low, own_labels_different, own_target_known}
 use Rattle.pass_proofs.proofs.split.edges.Targets.{instr_names_long}
 use Rattle.pass_split_proof.proofs.places.Fronts.{HasCuts, IsCutCode, at_front}
+use Rattle.pass_split_proof.proofs.places.Labels.{plain_label_low, plain_labels_different, plain_target_known}
 use Rattle.pass_split_proof.proofs.places.Parts.{among, blocks_grow}
 use Rattle.pass_proofs.proofs.split.plain_functions.Turned.{same_phis, stays}
 use Rattle.pass_proofs.proofs.split.plain_functions.Whole.{blocks_turned}
@@ -75,7 +75,8 @@ module _ (s : Shape) where
 
 -- ---- the function
 
-module _ (m : Module) (k : ℕ) (f : Function) (coroutine : f.coroutine ≡ false) (rules : KeepsFunctionRules m k f) where
+module _ (m : Module) (k : ℕ) (f : Function) (coroutine : f.coroutine ≡ false)
+    (rules : KeepsFunctionRulesAt Stage.Plain m k f) where
   abbrev s : Shape
   s = plain_shape f
 
@@ -86,11 +87,11 @@ module _ (m : Module) (k : ℕ) (f : Function) (coroutine : f.coroutine ≡ fals
   last = next_after s Part.Ramp [] s.base f.blocks
 
   turned : AreTurned (plain_shape f) (length f.names) f.blocks (plain_of (plain_shape f) f).blocks
-  turned = blocks_turned Stage.Source m k f coroutine rules
+  turned = blocks_turned Stage.Plain m k f coroutine rules
 
   different : AreDifferent (labels g.blocks)
   different = subst AreDifferent (sym (labels_stay s (length f.names) f.blocks g.blocks turned))
-      (own_labels_different m k f rules)
+      (plain_labels_different Stage.Plain m k f rules)
 
   pub found : (q : ℕ) (c : Block) → slice_get g.blocks q ≡ Some c → position_of g c.label ≡ q
   found q c e = ap (λ (o : Option ℕ). unwrap_or o (length g.blocks)) (first_is label_of g.blocks different q c e)
@@ -137,15 +138,15 @@ module _ (m : Module) (k : ℕ) (f : Function) (coroutine : f.coroutine ≡ fals
   no_done : IsNamed g (done_label s) → ⊥
   no_done n =
       let y = turned_home s (length f.names) f.blocks g.blocks turned n.0 n.1.0 in
-      let b = own_target_known m k f rules y.0 (done_label s) y.1.0
+      let b = plain_target_known Stage.Plain m k f rules y.0 (done_label s) y.1.0
       (subst (λ (t : Terminator). IsListed (done_label s) (targets t)) y.1.1 n.1.1) in
-      let low : b.block.label < length f.names = own_label_low m k f rules b.block b.listed in
+      let low : b.block.label < length f.names = plain_label_low Stage.Plain m k f rules b.block b.listed in
       let same : b.block.label ≡ length f.names + 1 = b.has_label in
       absurd (omega (arith, low, same))
 
   no_end : (b : Block) → IsListed b f.blocks → b.label ≡ s.end → ⊥
   no_end b l e =
-      let low : b.label < length f.names = own_label_low m k f rules b l in
+      let low : b.label < length f.names = plain_label_low Stage.Plain m k f rules b l in
       let same : b.label ≡ length f.names = e in
       absurd (omega (arith, low, same))
 
@@ -163,7 +164,7 @@ module _ (m : Module) (k : ℕ) (f : Function) (coroutine : f.coroutine ≡ fals
       record {
         origins = [];
         own = λ q b e. own_label k f rules.definitions q b e;
-        known = λ b label l t. own_target_known m k f rules b label l t;
+        known = λ b label l t. plain_target_known Stage.Plain m k f rules b label l t;
         pieces = has_cuts;
         done = λ n. absurd (no_done n);
         bare = λ b l e. absurd (no_end b l e);

@@ -10,8 +10,9 @@ use Rattle.pass_proofs.specs.exits.states.Exits.{AreExitsKept, exits_split}
 use Rattle.pass_split_proof.proofs.priced.Prices.{exits_paid}
 use Rattle.pass_split_proof.specs.first_exits.Parted.{parted_module}
 use Rattle.pass_split_proof.specs.priced.Returns.{AllJumpBehind}
-use Rattle.pass_split_proof.specs.simulation.Statement.{IsEntryOfParts, parts_given}
-use Rattle.pass_split_proof.specs.states.Related.{AreRelated, Follows, part_price}
+use Rattle.pass_split_proof.specs.priced.Split.{SplitKeeps}
+use Rattle.pass_split_proof.specs.simulation.Statement.{IsBetween, IsEntryOfParts, parts_given}
+use Rattle.pass_split_proof.specs.states.Related.{Follows, part_price}
 use Rattle.pass_split_proof.specs.whole.Whole.{PartsKeepCalls}
 use Rattle.pass_proofs.proofs.run_agreement.Costs.{agrees_within_by_steps, compose_by}
 use Rattle.pass_proofs.specs.run_agreement.Agreements.{AgreesWithin}
@@ -45,16 +46,18 @@ module _ (layouts : Layouts) (m : Module) (names : AreLocalsNamed m) (kept : Are
   Follow = Follows (framed_given (exits_split m) layouts.coroutines answers) (parts_given layouts (exits_split m) answers)
 
   abbrev Close : State → PlainState → Type 0
-  Close = IsNear C 9 (AreRelated (framed_given (exits_split m) layouts.coroutines answers)
-      (parts_given layouts (exits_split m) answers))
+  Close = IsBetween (framed_given (exits_split m) layouts.coroutines answers)
+      (parts_given layouts (exits_split m) answers) C
 
   abbrev cost : State → ℕ
   cost = part_price (framed_given (exits_split m) layouts.coroutines answers)
+
+  pub splits_keep : SplitKeeps layouts m entry other args answers
+  splits_keep = compose_by Moved Near Follow Close A (λ s. 4) B cost C (λ t. 1)
+      (exits_paid m names kept behind layouts entry args answers) (keeps entry other args answers is words)
 
   pub splits_agree : AgreesWithin 4 (at (framed_machine m layouts entry args answers))
       (at (plain_machine (parted_module layouts (exits_split m)) other args answers))
   splits_agree =
       agrees_within_by_steps (Through Moved Follow) (Through Near Close) A (λ s. 4) C (λ t. 1) 4 (λ s. omega arith)
-      (λ t. omega arith)
-      (compose_by Moved Near Follow Close A (λ s. 4) B cost C (λ t. 1)
-      (exits_paid m names kept behind layouts entry args answers) (keeps entry other args answers is words))
+      (λ t. omega arith) splits_keep

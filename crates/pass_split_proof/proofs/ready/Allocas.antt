@@ -15,43 +15,34 @@ use Rattle.pass_proofs.specs.ir_model.declared.instr.Phi.{Phi}
 use Rattle.pass_proofs.specs.ir_model.declared.module.Block.{Block}
 use Rattle.pass_proofs.specs.ir_model.declared.module.Function.{Function}
 use Rattle.pass_proofs.specs.ir_model.declared.module.Module.{Module}
-use Rattle.pass_proofs.specs.ir_model.declared.module.Param.{Param}
 use Rattle.pass_proofs.specs.ir_model.declared.operand.Arg.{Arg}
 use Rattle.pass_proofs.specs.ir_model.declared.operand.Callee.{Callee}
 use Rattle.pass_proofs.specs.ir_model.declared.operand.Intrinsic.{Intrinsic}
 use Rattle.pass_proofs.specs.ir_model.declared.operand.Operand.{Operand}
-use Rattle.pass_proofs.specs.ir_paths.Slots.{is_in_args}
+use Rattle.pass_proofs.specs.ir_parts.Contents.{arg_operands, instr_operands}
 use Rattle.pass_proofs.specs.ir_paths.declared.point.Point.{Point}
-use Rattle.pass_proofs.proofs.pass_kept_proof.Read.{given_result}
-use Rattle.pass_proofs.specs.pass_kept_proof.Crossing.{IsReachedWithout, after_without, first_without, is_param}
-use Rattle.pass_proofs.specs.pass_kept_proof.Needed.{given_by, phis_give, reads_at}
-use Rattle.pass_proofs.proofs.kept.sources.Definite.{definite}
+use Rattle.pass_proofs.proofs.pass_kept_proof.Read.{made_phi}
+use Rattle.pass_proofs.specs.ir_laws.facts.renamed.Regular.{is_result}
+use Rattle.pass_proofs.specs.pass_kept_proof.Needed.{phis_give}
 use Rattle.pass_split_proof.proofs.code.Allocas.{by_instrs}
 use Rattle.pass_split_proof.proofs.ready.Begins.{phi_listed}
 use Rattle.pass_split_proof.proofs.ready.Rules.{at_instr, function_of_instr}
 use Rattle.pass_split_proof.specs.simulation.Premises.{AreAllocasAlone, IsEntryAlloca, MarksAlloca}
-use Rattle.pass_proofs.proofs.rule_laws.rules.renamed.Uses.{result_spelt}
+use Rattle.pass_proofs.proofs.rule_laws.rules.renamed.Uses.{instr_use, none_undefined, of_block, three_kinds}
 use Rattle.pass_proofs.proofs.rule_laws.rules.source_rules.Locals.{no_param, no_phi, result_below, same_result}
 use Rattle.pass_proofs.proofs.rule_laws.rules.source_rules.Slots.{sized_alloca}
 use Rattle.pass_proofs.proofs.rule_laws.rules.sources.Places.{instr_there, point}
-use Rattle.pass_proofs.specs.rule_laws.rules.function_rules.Kept.{KeepsFunctionRules}
+use Rattle.pass_proofs.specs.rule_laws.rules.function_rules.Kept.{KeepsFunctionRulesAt}
 use Rattle.pass_proofs.specs.rule_locals.Entries.{allocates_late}
 use Rattle.pass_proofs.specs.rule_locals.Instrs.{on_instr}
 use Rattle.pass_proofs.specs.rule_locals.Markers.{is_marker, marks, marks_otherwise, marks_size, marks_slot, slot_size}
+use Rattle.pass_proofs.specs.rule_names.declared.stage.Stage.{Stage}
+use Rattle.pass_proofs.specs.rule_uses.Undefined.{Entry, IsUndefined}
+use Rattle.pass_proofs.specs.rule_uses.Uses.{Use, phi_values, uses_of}
 use Rattle.pass_proofs.specs.run_laws.changed.Changed.{result_of}
 use Rattle.pass_proofs.specs.run_step.Step.{AtInstr, fetch, is_lifetime, phis_of}
 
 -- ---- names among parameters and phis
-
-param_any : (v : ℕ) (ps : List Param) → list_any (λ p. p.name == v) ps ≡ true → IsListed v (map (λ p. p.name) ps)
-param_any v [] e = absurd (false≢true e)
-param_any v (p ∷ ps) e = on (p.name == v) refl e (param_any v ps)
-  where
-    on : (b : Bool) → (p.name == v) ≡ b → (b || list_any (λ q. q.name == v) ps) ≡ true
-        → (list_any (λ q. q.name == v) ps ≡ true → IsListed v (map (λ q. q.name) ps))
-        → IsListed v (p.name ∷ map (λ q. q.name) ps)
-    on true h k more = inl (sym (equal_numbers p.name v h))
-    on false h k more = inr (more k)
 
 phi_any : (v : ℕ) (ps : List Phi) → list_any (λ p. p.result == v) ps ≡ true → IsListed v (phi_names ps)
 phi_any v [] e = absurd (false≢true e)
@@ -65,19 +56,6 @@ phi_any v (p ∷ ps) e = on (p.result == v) refl e (phi_any v ps)
 not_true : (b : Bool) → (b ≡ true → ⊥) → b ≡ false
 not_true true h = absurd (h refl)
 not_true false h = refl
-
-earlier : (is : List Instr) (at j : ℕ) (i : Instr) → slice_get is at ≡ Some i → j < at
-    → (k : Instr) × (slice_get is j ≡ Some k)
-earlier [] at j i e lt = absurd (cc)
-earlier (x ∷ is) zero j i e lt = absurd (none j lt)
-  where
-    none : (j : ℕ) → j < 0 → ⊥
-    none j lt = omega arith
-earlier (x ∷ is) (suc at) zero i e lt = (x, refl)
-earlier (x ∷ is) (suc at) (suc j) i e lt = earlier is at j i e (less j at lt)
-  where
-    less : (j at : ℕ) → suc j < suc at → j < at
-    less j at lt = omega arith
 
 -- ---- markers
 
@@ -123,14 +101,16 @@ lifetime_marks (Callee.Intrinsic Intrinsic.LifetimeStart) e = refl
 lifetime_marks (Callee.Intrinsic Intrinsic.LifetimeEnd) e = refl
 lifetime_marks _ e = absurd (false≢true e)
 
+-- the operands are the values of its arguments
 lifetime_reads : (v : ℕ) (result : Option ℕ) (must_tail : Bool) (ty : Option Ty) (callee : Callee) (args : List Arg)
-    → is_lifetime callee ≡ true → is_in_args v args ≡ true
-    → reads_at v (AtInstr (Instr.Call result must_tail ty callee args)) ≡ true
+    → is_lifetime callee ≡ true → list_any (is_local v) (arg_operands args) ≡ true
+    → list_any (is_local v) (instr_operands (Instr.Call result must_tail ty callee args)) ≡ true
 lifetime_reads v result must_tail ty (Callee.Intrinsic Intrinsic.LifetimeStart) args e h = h
 lifetime_reads v result must_tail ty (Callee.Intrinsic Intrinsic.LifetimeEnd) args e h = h
 lifetime_reads v result must_tail ty _ args e h = absurd (false≢true e)
 
-second_local : (v : ℕ) (a b : Arg) → b.value ≡ Operand.Local v → is_in_args v (a ∷ b ∷ []) ≡ true
+second_local : (v : ℕ) (a b : Arg) → b.value ≡ Operand.Local v
+    → list_any (is_local v) (a.value ∷ b.value ∷ []) ≡ true
 second_local v a b e = ap (λ (t : Bool). is_local v a.value || (t || false)) (ap (is_local v) e ∙ itself v)
     ∙ last (is_local v a.value)
   where
@@ -140,7 +120,11 @@ second_local v a b e = ap (λ (t : Bool). is_local v a.value || (t || false)) (a
 
 -- ---- of a function
 
-module _ (m : Module) (k : ℕ) (f : Function) (rules : KeepsFunctionRules m k f) where
+-- a use that no path reaches without a definition
+abbrev IsDefined : Function → Use → Type 0
+IsDefined f u = IsUndefined f u → ⊥
+
+module _ (m : Module) (k : ℕ) (f : Function) (rules : KeepsFunctionRulesAt Stage.Plain m k f) where
   in_entry : (block at name align : ℕ) (ty : Ty) → fetch f block at ≡ AtInstr (Instr.Alloca name ty align) → block ≡ 0
   in_entry block at name align ty here = on (block == 0) refl
       (at_instr k f (on_instr allocates_late) rules.local.allocas block at (Instr.Alloca name ty align) here)
@@ -168,11 +152,6 @@ module _ (m : Module) (k : ℕ) (f : Function) (rules : KeepsFunctionRules m k f
 
   -- up to an alloca no path has made its name
   module _ (made name : ℕ) (x : IsEntryAlloca f made name) where
-    no_own_param : is_param f name ≡ false
-    no_own_param = not_true (is_param f name) (λ e. no_param k f rules.definitions (point 0 made)
-        (Instr.Alloca name x.ty x.align) name (instr_there f 0 made (Instr.Alloca name x.ty x.align) x.there) refl
-        (param_any name f.params e))
-
     no_own_phi : phis_give name (phis_of (slice_get f.blocks 0)) ≡ false
     no_own_phi = on (slice_get f.blocks 0) refl
       where
@@ -182,36 +161,41 @@ module _ (m : Module) (k : ℕ) (f : Function) (rules : KeepsFunctionRules m k f
             (Instr.Alloca name x.ty x.align) name e (phi_any name b.phis h)
             (instr_there f 0 made (Instr.Alloca name x.ty x.align) x.there) refl)
 
-    reached : (b : Block) (at : ℕ) (i : Instr) → slice_get f.blocks 0 ≡ Some b → slice_get b.instrs at ≡ Some i
-        → at ≤ made → (j : ℕ) → j ≤ at → IsReachedWithout f name 0 j
-    reached b at i got there low zero le = first_without no_own_param no_own_phi
-    reached b at i got there low (suc j) le =
-        let y = earlier b.instrs at j i there le in
-        let here : fetch f 0 j ≡ AtInstr y.0 = by_instrs f 0 j b y.0 got y.1 in
-        subst (IsReachedWithout f name 0) (next j) (after_without y.0 here
-        (λ e. apart j (one_place made name x 0 j y.0 here (given_made y.0 e)).1 le)
-        (reached b at i got there low j (less j at le)))
+    phis_unmade : (b : Block) → slice_get f.blocks 0 ≡ Some b → IsListed name (phi_values b) → ⊥
+    phis_unmade b got h = ⊎_elim (λ none. none) (λ g. false≢true (sym no_own_phi
+        ∙ ap (λ (o : Option Block). phis_give name (phis_of o)) got ∙ g)) (made_phi name b.phis [] h)
+
+    -- none of the instructions up to it makes its name
+    unmade : (b : Block) → slice_get f.blocks 0 ≡ Some b → (j : ℕ) (y : Instr) → j < made
+        → slice_get b.instrs j ≡ Some y → is_result name (result_of y) ≡ false
+    unmade b got j y lt there = not_true (is_result name (result_of y)) (λ e. apart
+        (one_place made name x 0 j y (by_instrs f 0 j b y got there) (makes (result_of y) e)).1)
       where
-        next : (j : ℕ) → j + 1 ≡ suc j
-        next j = omega arith
+        apart : j ≡ made → ⊥
+        apart e = omega (arith, e, lt)
 
-        less : (j at : ℕ) → suc j ≤ at → j ≤ at
-        less j at le = omega arith
+        makes : (o : Option ℕ) → is_result name o ≡ true → o ≡ Some name
+        makes None e = absurd (cc)
+        makes (Some n) e = ap Some (equal_numbers n name e)
 
-        apart : (j : ℕ) → j ≡ made → suc j ≤ at → ⊥
-        apart j e le = omega (arith, e, le, low)
-
-        given_made : (y : Instr) → given_by y ≡ Some name → result_of y ≡ Some name
-        given_made y e = sym (result_spelt y) ∙ given_result y name e
-
-    before : (at : ℕ) (i : Instr) → fetch f 0 at ≡ AtInstr i → reads_at name (AtInstr i) ≡ true → at ≤ made → ⊥
+    -- so before it nothing reads it (F2)
+    before : (at : ℕ) (i : Instr) → fetch f 0 at ≡ AtInstr i → list_any (is_local name) (instr_operands i) ≡ true
+        → at ≤ made → ⊥
     before at i here reads low =
         let y = stands_in f (point 0 at) i (instr_there f 0 at i here) in
-        (definite m k f rules).uses name 0 at (reached y.block at i y.got y.stands low at (itself_low at))
-        (ap (reads_at name) here ∙ reads)
+        let u = instr_use (IsDefined f) name k 0 (length y.block.phis) (phi_values y.block) y.block.instrs at i
+        (three_kinds (IsDefined f) f k 0 y.block (of_block (IsDefined f) f k 0 y.block
+        (none_undefined f (uses_of k f) None rules.uses refl) y.got)).instrs y.stands reads (phis_unmade y.block y.got)
+        (λ j z lt there. unmade y.block y.got j z (less j lt) there) in
+        u.listed (record {
+          reaches = Entry;
+          not_before = u.unmade;
+          no_param = λ l. no_param k f rules.definitions (point 0 made) (Instr.Alloca name x.ty x.align) name
+              (instr_there f 0 made (Instr.Alloca name x.ty x.align) x.there) refl l;
+        })
       where
-        itself_low : (n : ℕ) → n ≤ n
-        itself_low n = omega arith
+        less : (j : ℕ) → j < at → j < made
+        less j lt = omega (arith, lt, low)
 
   below : (block at made : ℕ) → (block ≡ 0 → at ≤ made → ⊥) → block ≡ 0 → made < at
   below block at made none first = on (le_or_lt at made)
@@ -256,7 +240,8 @@ module _ (m : Module) (k : ℕ) (f : Function) (rules : KeepsFunctionRules m k f
         before = below block at z.point.at (λ first low. before z.point.at y.name own at i
             (ap (λ (b : ℕ). fetch f b at) (sym first) ∙ here)
             (lifetime_reads y.name result must_tail ty callee args lifetime
-            (ap (is_in_args y.name) y.are ∙ second_local y.name y.size y.pointer y.is)) low);
+            (ap (λ (xs : List Arg). list_any (is_local y.name) (arg_operands xs)) y.are
+            ∙ second_local y.name y.size y.pointer y.is)) low);
       }
 
   known_name : (at name : ℕ) → IsEntryAlloca f at name → name < length f.names
@@ -264,18 +249,18 @@ module _ (m : Module) (k : ℕ) (f : Function) (rules : KeepsFunctionRules m k f
       (instr_there f 0 at (Instr.Alloca name x.ty x.align) x.there) refl
 
 -- each function of a module, where those that stand there break no rule
-pub allocas_alone : (m : Module) → ((k : ℕ) → slice_get m.functions k ≡ Some (function_at m k)
-    → KeepsFunctionRules m k (function_at m k)) → (k : ℕ) → AreAllocasAlone (function_at m k)
-allocas_alone m rules k = record {
-  first = λ block at name align ty here. in_entry m k (function_at m k)
+pub allocas_alone : (ruler m : Module) → ((k : ℕ) → slice_get m.functions k ≡ Some (function_at m k)
+    → KeepsFunctionRulesAt Stage.Plain ruler k (function_at m k)) → (k : ℕ) → AreAllocasAlone (function_at m k)
+allocas_alone ruler m rules k = record {
+  first = λ block at name align ty here. in_entry ruler k (function_at m k)
       (rules k (function_of_instr m k block at (Instr.Alloca name ty align) here)) block at name align ty here;
-  once = λ at name x block other i here gives. one_place m k (function_at m k)
+  once = λ at name x block other i here gives. one_place ruler k (function_at m k)
       (rules k (function_of_instr m k block other i here)) at name x block other i here gives;
-  phis = λ at name x b p l n e. not_by_phi m k (function_at m k)
+  phis = λ at name x b p l n e. not_by_phi ruler k (function_at m k)
       (rules k (function_of_instr m k 0 at (Instr.Alloca name x.ty x.align) x.there)) at name x b p l n e;
-  known = λ at name x. known_name m k (function_at m k)
+  known = λ at name x. known_name ruler k (function_at m k)
       (rules k (function_of_instr m k 0 at (Instr.Alloca name x.ty x.align) x.there)) at name x;
-  marks = λ block at result must_tail ty callee args here lifetime. marks_alloca m k (function_at m k)
+  marks = λ block at result must_tail ty callee args here lifetime. marks_alloca ruler k (function_at m k)
       (rules k (function_of_instr m k block at (Instr.Call result must_tail ty callee args) here)) block at result
       must_tail ty callee args here lifetime;
 }

@@ -21,12 +21,13 @@ use Rattle.pass_proofs.proofs.rule_laws.rules.shape.Stands.{begin_stands}
 use Rattle.pass_proofs.proofs.rule_laws.rules.source_rules.Locals.{no_phi, phi_below, result_below, same_instr}
 use Rattle.pass_proofs.proofs.rule_laws.rules.source_rules.Once.{one_begin}
 use Rattle.pass_proofs.proofs.rule_laws.rules.sources.Places.{instr_there, point}
-use Rattle.pass_proofs.specs.rule_laws.rules.function_rules.Kept.{KeepsFunctionRules}
+use Rattle.pass_proofs.specs.rule_laws.rules.function_rules.Kept.{KeepsFunctionRulesAt}
 use Rattle.pass_proofs.specs.rule_shape.OneOfEach.{wrong_call}
 use Rattle.pass_proofs.specs.run_laws.changed.Changed.{Each, result_of}
 use Rattle.pass_proofs.specs.run_framed.Framed.{begin_name}
 use Rattle.pass_proofs.specs.run_step.Reads.{given_by, given_by_allocator, given_by_intrinsic}
 use Rattle.pass_proofs.specs.run_step.Step.{AtInstr, fetch}
+use Rattle.pass_proofs.specs.rule_names.declared.stage.Stage.{Stage}
 
 intrinsic_gives : (x : Intrinsic) (r : Option ℕ) (v : ℕ) → given_by_intrinsic x r ≡ Some v → r ≡ Some v
 intrinsic_gives Intrinsic.CoroSizeI32 r v e = e
@@ -73,7 +74,7 @@ phi_listed (q ∷ ps) p (inr l) = inr (phi_listed ps p l)
 
 -- ---- of a coroutine
 
-module _ (m : Module) (k : ℕ) (f : Function) (rules : KeepsFunctionRules m k f) (begin : ℕ)
+module _ (m : Module) (k : ℕ) (f : Function) (rules : KeepsFunctionRulesAt Stage.Plain m k f) (begin : ℕ)
     (named : first_result Intrinsic.CoroBegin f ≡ Some begin) where
   -- where begin stands
   record IsBegin : Type 0 where
@@ -148,7 +149,7 @@ module _ (m : Module) (k : ℕ) (f : Function) (rules : KeepsFunctionRules m k f
 
 -- ---- of another function the first new name
 
-module _ (m : Module) (k : ℕ) (f : Function) (rules : KeepsFunctionRules m k f) where
+module _ (m : Module) (k : ℕ) (f : Function) (rules : KeepsFunctionRulesAt Stage.Plain m k f) where
   pub new_made_by_none : (block at : ℕ) (i : Instr) → fetch f block at ≡ AtInstr i
       → result_of i ≡ Some (length f.names) → ⊥
   new_made_by_none block at i here e =
@@ -168,7 +169,7 @@ pub data BeginsBy (f : Function) (v : ℕ) : Type 0 where
   Named : f.coroutine ≡ true → first_result Intrinsic.CoroBegin f ≡ Some v → BeginsBy f v
   New : f.coroutine ≡ false → v ≡ length f.names → BeginsBy f v
 
-module _ (m : Module) (k : ℕ) (f : Function) (rules : KeepsFunctionRules m k f) (v : ℕ) where
+module _ (m : Module) (k : ℕ) (f : Function) (rules : KeepsFunctionRulesAt Stage.Plain m k f) (v : ℕ) where
   pub other_name : BeginsBy f v → (block at : ℕ) (i : Instr) → fetch f block at ≡ AtInstr i
       → is_call_of Intrinsic.CoroBegin i ≡ false → result_of i ≡ Some v → ⊥
   other_name (Named coroutine named) block at i here none e =

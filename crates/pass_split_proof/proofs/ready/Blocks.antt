@@ -6,7 +6,7 @@ use Rattle.std.specs.Prelude.{ℤ, Option, Some, nat_le, slice_get, ◌&&◌, �
 use Rattle.pass_proofs.specs.frame_layout.declared.layout.Layouts.{Layouts}
 use Rattle.pass_proofs.proofs.ir_laws.facts.Truth.{and_first, and_second, holds, itself}
 use Rattle.pass_proofs.proofs.ir_laws.paths.renamed.Uses.{stands_in}
-use Rattle.pass_proofs.specs.ir_model.Layout.{size_of}
+use Rattle.pass_proofs.specs.ir_model.Layout.{extent_of, extent_or, size_of}
 use Rattle.pass_proofs.specs.ir_model.Names.{function_at}
 use Rattle.pass_proofs.specs.ir_model.Ty.{Ty}
 use Rattle.pass_proofs.specs.ir_model.declared.instr.Instr.{Instr}
@@ -21,12 +21,12 @@ use Rattle.pass_split_proof.proofs.ready.At.{others, read, ruled}
 use Rattle.pass_split_proof.proofs.ready.Rules.{at_instr}
 use Rattle.pass_split_proof.specs.making.Blocks.{IsAlloca, IsAtAlloca}
 use Rattle.pass_split_proof.specs.marking.Markers.{IsAtMarker}
-use Rattle.pass_split_proof.specs.ready.Module.{IsFollowable}
+use Rattle.pass_split_proof.specs.ready.Module.{IsFollowableIn}
 use Rattle.pass_split_proof.specs.simulation.Premises.{IsAt, IsAtPlace}
 use Rattle.pass_split_proof.specs.simulation.Statement.{parts_given}
 use Rattle.pass_split_proof.specs.states.Related.{AreRelated}
 use Rattle.pass_proofs.proofs.rule_laws.rules.sources.Places.{instr_there, point}
-use Rattle.pass_proofs.specs.rule_laws.rules.function_rules.Kept.{KeepsFunctionRules}
+use Rattle.pass_proofs.specs.rule_laws.rules.function_rules.Kept.{KeepsFunctionRulesAt}
 use Rattle.pass_proofs.specs.rule_locals.Extents.{breaks_extents, is_aligned, is_sized}
 use Rattle.pass_proofs.specs.rule_locals.Instrs.{on_instr}
 use Rattle.pass_proofs.specs.rule_names.declared.stage.Stage.{Stage}
@@ -105,23 +105,24 @@ is_own_alloca f block at name align ty here made =
     any_by name align ty f.blocks block at x.block x.got x.stands
 
 -- its type is small (Y4)
-pub is_small_alloca : (m : Module) (k : ℕ) (f : Function) → KeepsFunctionRules m k f
+pub is_small_alloca : (m : Module) (k : ℕ) (f : Function) → KeepsFunctionRulesAt Stage.Plain m k f
     → (block at name align : ℕ) (ty : Ty)
     → fetch f block at ≡ AtInstr (Instr.Alloca name ty align) → size_of m ty < 2 ^ 64
 is_small_alloca m k f rules block at name align ty here =
-    let e = at_instr k f (on_instr (breaks_extents Stage.Source m)) rules.local.extents block at
+    let e = at_instr k f (on_instr (breaks_extents Stage.Plain m)) rules.local.extents block at
     (Instr.Alloca name ty align) here in
-    let sized = and_first (is_sized 1048576 (size_of m ty)) (is_aligned align)
-    (holds (is_sized 1048576 (size_of m ty) && is_aligned align) e) in
-    low (size_of m ty) (leb-true (size_of m ty) 1048576
-    (and_second (nat_le 1 (size_of m ty)) (nat_le (size_of m ty) 1048576) sized))
+    let sized = and_first (is_sized 16777216 (size_of m ty)) (is_aligned align)
+    (holds (is_sized 16777216 (size_of m ty) && is_aligned align) e) in
+    low (size_of m ty) (leb-true (size_of m ty) 16777216
+    (and_second (nat_le 1 (size_of m ty)) (nat_le (size_of m ty) 16777216) sized))
   where
-    low : (n : ℕ) → n ≤ 1048576 → n < 2 ^ 64
+    low : (n : ℕ) → n ≤ 16777216 → n < 2 ^ 64
     low n le = omega arith
 
 -- ---- at related states
 
-module _ (ls : Layouts) (m : Module) (w : IsFollowable ls m) (answers : List ℤ) (s : State) (t : PlainState)
+module _ {stage : Stage} {ruler : Module} (ls : Layouts) (m : Module) (w : IsFollowableIn stage ruler ls m)
+    (answers : List ℤ) (s : State) (t : PlainState)
     (r : AreRelated (framed_given m ls.coroutines answers) (parts_given ls m answers) s t) where
   pub is_alloca : (name align : ℕ) (ty : Ty)
       → IsAt (framed_given m ls.coroutines answers) s (AtInstr (Instr.Alloca name ty align))
@@ -132,8 +133,9 @@ module _ (ls : Layouts) (m : Module) (w : IsFollowable ls m) (answers : List ℤ
     align = align;
     there = here;
     sized = refl;
-    small = is_small_alloca m s.top.func (function_at m s.top.func)
-        (ruled ls m w answers s t r (Instr.Alloca name ty align) here).rules s.top.block s.top.at name align ty here;
+    small = subst (λ (n : ℕ). n < 2 ^ 64) (ap (λ ts. (extent_or (extent_of ts ty)).size) w.ruler.types)
+        (is_small_alloca ruler s.top.func (function_at m s.top.func)
+        (ruled ls m w answers s t r (Instr.Alloca name ty align) here).rules s.top.block s.top.at name align ty here);
     among = λ made coroutine. is_own_alloca (function_at m s.top.func) s.top.block s.top.at name align ty here made;
     others = λ e. others ls m w answers s t r (Instr.Alloca name ty align) here refl (ap Some e);
   }

@@ -18,13 +18,14 @@ use Rattle.pass_split_proof.proofs.ready.Rules.{at_instr}
 use Rattle.pass_split_proof.specs.code.Positions.{moved}
 use Rattle.pass_split_proof.specs.first_exits.Parted.{parted_module}
 use Rattle.pass_split_proof.specs.ready.Names.{HasMovedNames}
-use Rattle.pass_proofs.specs.rule_laws.rules.function_rules.Kept.{KeepsFunctionRules}
+use Rattle.pass_proofs.specs.rule_laws.rules.function_rules.Kept.{KeepsFunctionRulesAt}
 use Rattle.pass_proofs.specs.rule_locals.Addresses.{is_no_function, points_to_functions}
 use Rattle.pass_proofs.specs.rule_locals.Transfers.{breaks_transfers}
 use Rattle.pass_proofs.specs.rule_locals.Instrs.{on_instr}
 use Rattle.pass_proofs.specs.rule_names.Known.{is_label, is_value, knows_called, knows_name, knows_operand, knows_type, names_unknown}
 use Rattle.pass_proofs.specs.rule_names.declared.stage.Stage.{Stage}
 use Rattle.pass_proofs.specs.run_step.Step.{AtInstr, fetch}
+use Rattle.pass_proofs.specs.rule_types.Signatures.{calls_otherwise, fits_callee}
 
 module _ (ls : Layouts) (m : Module) (names : HasMovedNames ls m) (functions : ℕ → ℕ)
     (moves : (k : ℕ) → functions k ≡ moved ls.coroutines m m.functions k) where
@@ -46,8 +47,8 @@ module _ (ls : Layouts) (m : Module) (names : HasMovedNames ls m) (functions : �
 
 -- ---- what rules say of calls
 
-module _ (m : Module) (k : ℕ) (f : Function) (rules : KeepsFunctionRules m k f) (block at : ℕ) (result : Option ℕ)
-    (must_tail : Bool) (ty : Option Ty) (args : List Arg) where
+module _ (m : Module) (k : ℕ) (f : Function) (rules : KeepsFunctionRulesAt Stage.Plain m k f) (block at : ℕ)
+    (result : Option ℕ) (must_tail : Bool) (ty : Option Ty) (args : List Arg) where
   -- what is called by its name is known (N2)
   pub callee_known : (n : Name) → fetch f block at ≡ AtInstr (Instr.Call result must_tail ty (Callee.Named n) args)
       → knows_name m n ≡ true
@@ -60,6 +61,12 @@ module _ (m : Module) (k : ℕ) (f : Function) (rules : KeepsFunctionRules m k f
       and_second (list_all (is_label k f) (part_labels x)) (knows_called m x)
       (and_second (list_all (knows_operand m (is_value k f)) (part_operands x)) _
       (and_second (list_all (knows_type m) (part_types x)) _ all))
+
+  -- it is of the types of its callee (Y2)
+  pub call_fits : (callee : Callee) → fetch f block at ≡ AtInstr (Instr.Call result must_tail ty callee args)
+      → fits_callee m ty args callee ≡ true
+  call_fits callee here = holds (fits_callee m ty args callee) (at_instr k f (calls_otherwise m) rules.calls block at
+      (Instr.Call result must_tail ty callee args) here)
 
   -- no local is called (P1)
   pub called_directly : (v : ℕ) → fetch f block at ≡ AtInstr (Instr.Call result must_tail ty (Callee.Local v) args) → ⊥

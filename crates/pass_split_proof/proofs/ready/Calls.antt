@@ -20,7 +20,7 @@ use Rattle.pass_split_proof.proofs.ready.Parts.{callee_ready}
 use Rattle.pass_split_proof.specs.calling.Named.{IsAtCall}
 use Rattle.pass_split_proof.specs.freeing.Deallocating.{IsAtDeallocator, deallocates}
 use Rattle.pass_split_proof.specs.making.Blocks.{IsAtAllocator, allocates}
-use Rattle.pass_split_proof.specs.ready.Module.{IsFollowable}
+use Rattle.pass_split_proof.specs.ready.Module.{IsFollowableIn}
 use Rattle.pass_split_proof.specs.simulation.Premises.{IsAt, IsAtPlace}
 use Rattle.pass_split_proof.specs.simulation.Statement.{parts_given}
 use Rattle.pass_split_proof.specs.states.Related.{AreRelated}
@@ -30,6 +30,7 @@ use Rattle.run_access_worked.specs.run_plain.declared.state.PlainState.{PlainSta
 use Rattle.pass_proofs.specs.run_source.declared.state.State.{State}
 use Rattle.pass_proofs.specs.run_step.Step.{AtInstr}
 use Rattle.pass_proofs.specs.run_step.Values.{arg_values, nth}
+use Rattle.pass_proofs.specs.rule_names.declared.stage.Stage.{Stage}
 
 found_there : (m : Module) (name : Name) (k : ℕ) → function_named m name ≡ Some k
     → slice_get m.functions k ≡ Some (function_at m k)
@@ -40,7 +41,8 @@ found_there m name k e =
 none_more : (n : ℕ) → n ≡ n + 0
 none_more n = omega arith
 
-module _ (ls : Layouts) (m : Module) (w : IsFollowable ls m) (answers : List ℤ) (s : State) (t : PlainState)
+module _ {stage : Stage} {ruler : Module} (ls : Layouts) (m : Module) (w : IsFollowableIn stage ruler ls m)
+    (answers : List ℤ) (s : State) (t : PlainState)
     (r : AreRelated (framed_given m ls.coroutines answers) (parts_given ls m answers) s t) where
   pub call_ready : (result : Option ℕ) (must_tail : Bool) (ty : Option Ty) (name : Name) (args : List Arg) (func : ℕ)
       → IsAt (framed_given m ls.coroutines answers) s (AtInstr
@@ -50,7 +52,7 @@ module _ (ls : Layouts) (m : Module) (w : IsFollowable ls m) (answers : List ℤ
       → IsAtCall (framed_given m ls.coroutines answers) (parts_given ls m answers) s t r
   call_ready result must_tail ty name args func here p found ungiven =
       let i : Instr = Instr.Call result must_tail ty (Callee.Named name) args in
-      let plain_call = not_tail m s.top.func (function_at m s.top.func) (ruled ls m w answers s t r i here).rules
+      let plain_call = not_tail ruler s.top.func (function_at m s.top.func) (ruled ls m w answers s t r i here).rules
       s.top.block
       s.top.at result must_tail ty args (Callee.Named name) here in
       record {

@@ -29,7 +29,6 @@ use Rattle.pass_proofs.specs.pass_intrinsics.Shapes.{save_of, shape_of, token_of
 use Rattle.pass_proofs.specs.pass_intrinsics.declared.shape.Part.{Part}
 use Rattle.pass_proofs.specs.pass_intrinsics.declared.shape.Shape.{Shape}
 use Rattle.pass_proofs.specs.pass_intrinsics.declared.shape.SuspendPoint.{SuspendPoint}
-use Rattle.pass_proofs.proofs.kept.sources.Typed.{calls_fit}
 use Rattle.pass_proofs.specs.split.rules.Reached.{IsLedTo}
 use Rattle.pass_proofs.specs.pass_split.Given.{has_given_call}
 use Rattle.pass_split_proof.proofs.code.Numbers.{is_call, point_of, there_by}
@@ -43,7 +42,7 @@ use Rattle.pass_split_proof.specs.begins.Beginning.{IsAtBegin}
 use Rattle.pass_split_proof.specs.begins.Saving.{IsAtSave}
 use Rattle.pass_split_proof.specs.code.Positions.{is_given, moved, number_of}
 use Rattle.pass_split_proof.specs.first_exits.Parted.{parted_module}
-use Rattle.pass_split_proof.specs.ready.Module.{IsFollowable}
+use Rattle.pass_split_proof.specs.ready.Module.{IsFollowableIn}
 use Rattle.pass_split_proof.specs.silent.Suspending.{IsAtSuspendInPart}
 use Rattle.pass_split_proof.specs.simulation.Premises.{IsAt, IsAtPlace}
 use Rattle.pass_split_proof.specs.simulation.Statement.{parts_given}
@@ -68,6 +67,13 @@ use Rattle.pass_proofs.specs.run_source.declared.state.State.{State}
 use Rattle.pass_proofs.specs.run_source_tables.Given.{facts_at}
 use Rattle.pass_proofs.specs.run_step.Step.{AtInstr, label_of}
 use Rattle.pass_proofs.specs.run_step.Values.{address_from, address_of}
+use Rattle.pass_split_proof.proofs.ready.Callees.{call_fits}
+use Rattle.pass_proofs.specs.rule_names.declared.stage.Stage.{Stage}
+use Rattle.pass_proofs.specs.pass_intrinsics.Shapes.{given_name}
+use Rattle.pass_proofs.specs.run_laws.memory.Pointers.{IsValue}
+use Rattle.pass_split_proof.specs.given_begins.Beginning.{IsAtGivenBegin}
+use Rattle.pass_split_proof.specs.states.Memories.{homes_of}
+use Rattle.pass_proofs.specs.run_step.Values.{value_in}
 
 -- ---- layouts, whatever answers a run is given
 
@@ -143,7 +149,8 @@ suspend_block f p q e =
 
 -- ---- at related states
 
-module _ (ls : Layouts) (m : Module) (w : IsFollowable ls m) (answers : List ℤ) (s : State) (t : PlainState)
+module _ {stage : Stage} {ruler : Module} (ls : Layouts) (m : Module) (w : IsFollowableIn stage ruler ls m)
+    (answers : List ℤ) (s : State) (t : PlainState)
     (r : AreRelated (framed_given m ls.coroutines answers) (parts_given ls m answers) s t) where
   abbrev f : Function
   f = function_at m s.top.func
@@ -206,12 +213,14 @@ module _ (ls : Layouts) (m : Module) (w : IsFollowable ls m) (answers : List ℤ
       let i : Instr = Instr.Call result must_tail ty (Callee.Intrinsic Intrinsic.CoroBegin) args in
       let own = there ls m w answers s t r i here in
       let rules = (ruled ls m w answers s t r i here) in
-      let c = in_coroutine m s.top.func (function_at m s.top.func) rules.rules s.top.block s.top.at result must_tail ty
+      let c = in_coroutine ruler s.top.func (function_at m s.top.func) rules.rules s.top.block s.top.at result
+      must_tail ty
       Intrinsic.CoroBegin args here refl in
-      let makes : result ≡ Some r.top.shape.begin = begin_makes m s.top.func (function_at m s.top.func) rules.rules
+      let makes : result ≡ Some r.top.shape.begin = begin_makes ruler s.top.func (function_at m s.top.func) rules.rules
       r.top.shape.begin (named own c) c (rules.calls c) s.top.block s.top.at i here refl in
-      let fits = calls_fit m s.top.func (function_at m s.top.func) rules.rules s.top.block s.top.at result must_tail ty
-      (Callee.Intrinsic Intrinsic.CoroBegin) args here in
+      let fits = call_fits ruler s.top.func (function_at m s.top.func) rules.rules s.top.block s.top.at result
+      must_tail
+      ty args (Callee.Intrinsic Intrinsic.CoroBegin) here in
       let y = memory_second args (and_second (is_result (intrinsic_result Intrinsic.CoroBegin) ty)
       (are_wanted (intrinsic_params Intrinsic.CoroBegin) args) fits) in
       let readable = subst (λ (xs : List Arg). Each (IsReadable m (parted_module ls m) (function_at m s.top.func))
@@ -244,6 +253,42 @@ module _ (ls : Layouts) (m : Module) (w : IsFollowable ls m) (answers : List ℤ
       room : (at bytes size : ℕ) → 16 ≤ at → at + bytes ≤ size → 16 ≤ size
       room at bytes size low high = omega arith
 
+  pub given_begin_ready : (result : Option ℕ) (must_tail : Bool) (ty : Option Ty) (args : List Arg) (frame : Value)
+      → IsAt (framed_given m ls.coroutines answers) s
+      (AtInstr (Instr.Call result must_tail ty (Callee.Intrinsic Intrinsic.CoroBegin) args))
+      → IsAtPlace (framed_given m ls.coroutines answers) (parts_given ls m answers) s t r
+      → s.top.mode ≡ Mode.GivenRamp frame
+      → IsValue (homes_of s.world.memory) frame (value_in t.top.values (given_name r.top.shape))
+      → has_given_call m (function_at m s.top.func) ≡ true
+      → IsAtGivenBegin (framed_given m ls.coroutines answers) (parts_given ls m answers) s t r
+  given_begin_ready result must_tail ty args frame here p mode given stands =
+      let i : Instr = Instr.Call result must_tail ty (Callee.Intrinsic Intrinsic.CoroBegin) args in
+      let own = there ls m w answers s t r i here in
+      let rules = (ruled ls m w answers s t r i here) in
+      let c = in_coroutine ruler s.top.func (function_at m s.top.func) rules.rules s.top.block s.top.at result
+      must_tail ty Intrinsic.CoroBegin args here refl in
+      let makes : result ≡ Some r.top.shape.begin = begin_makes ruler s.top.func (function_at m s.top.func) rules.rules
+      r.top.shape.begin (named own c) c (rules.calls c) s.top.block s.top.at i here refl in
+      record {
+        coroutine = c;
+        frame = frame;
+        mode = mode;
+        given = given;
+        place = p.place;
+        must_tail = must_tail;
+        ty = ty;
+        args = args;
+        there = here ∙ ap (λ (o : Option ℕ). AtInstr (Instr.Call o must_tail ty
+            (Callee.Intrinsic Intrinsic.CoroBegin) args)) makes;
+        begin = low own c;
+        slots = facts_there s.top.func own;
+        laid = laid own c;
+        stands = stands;
+        resumes = resumes own c;
+        destroys = ap (λ (y : Shape). address_of (parted_module ls m) y.cleanup_name) (same own c)
+            ∙ part_named own c Part.Cleanup (λ e. stands);
+      }
+
   pub save_ready : (result : Option ℕ) (must_tail : Bool) (ty : Option Ty) (args : List Arg)
       → IsAt (framed_given m ls.coroutines answers) s
       (AtInstr (Instr.Call result must_tail ty (Callee.Intrinsic Intrinsic.CoroSave) args))
@@ -255,7 +300,8 @@ module _ (ls : Layouts) (m : Module) (w : IsFollowable ls m) (answers : List ℤ
       let i : Instr = Instr.Call result must_tail ty (Callee.Intrinsic Intrinsic.CoroSave) args in
       let own = there ls m w answers s t r i here in
       let rules = (ruled ls m w answers s t r i here) in
-      let c = in_coroutine m s.top.func (function_at m s.top.func) rules.rules s.top.block s.top.at result must_tail ty
+      let c = in_coroutine ruler s.top.func (function_at m s.top.func) rules.rules s.top.block s.top.at result
+      must_tail ty
       Intrinsic.CoroSave args here refl in
       let x = w.coroutines s.top.func (function_at m s.top.func) own c in
       let n = name_there result (x.named s.top.block s.top.at i here refl) in
@@ -305,7 +351,8 @@ module _ (ls : Layouts) (m : Module) (w : IsFollowable ls m) (answers : List ℤ
       let i : Instr = Instr.Call result must_tail ty (Callee.Intrinsic Intrinsic.CoroSuspend) args in
       let own = there ls m w answers s t r i here in
       let rules = (ruled ls m w answers s t r i here) in
-      let c = in_coroutine m s.top.func (function_at m s.top.func) rules.rules s.top.block s.top.at result must_tail ty
+      let c = in_coroutine ruler s.top.func (function_at m s.top.func) rules.rules s.top.block s.top.at result
+      must_tail ty
       Intrinsic.CoroSuspend args here refl in
       let in_text = instr_there (function_at m s.top.func) s.top.block s.top.at i here in
       let y = stands_in (function_at m s.top.func) (point s.top.block s.top.at) i in_text in

@@ -28,7 +28,7 @@ use Rattle.pass_split_proof.specs.code.Positions.{is_given, moved, number_of}
 use Rattle.pass_split_proof.specs.entering.Entering.{GoesBehind, IsMakingAgain}
 use Rattle.pass_split_proof.specs.first_exits.Parted.{parted_module}
 use Rattle.pass_split_proof.specs.places.Places.{IsCodeOf, OfCoroutine, OfPlain}
-use Rattle.pass_split_proof.specs.ready.Module.{IsFollowable}
+use Rattle.pass_split_proof.specs.ready.Module.{IsFollowableIn}
 use Rattle.pass_split_proof.specs.simulation.Statement.{parts_given}
 use Rattle.pass_split_proof.specs.states.Activations.{RunsPart}
 use Rattle.pass_split_proof.specs.states.Related.{AreRelated}
@@ -38,6 +38,7 @@ use Rattle.run_access_worked.specs.run_plain.declared.state.PlainState.{PlainSta
 use Rattle.pass_proofs.specs.run_source.declared.state.Mode.{Mode}
 use Rattle.pass_proofs.specs.run_source.declared.state.State.{State}
 use Rattle.pass_proofs.specs.run_step.Step.{fetch}
+use Rattle.pass_proofs.specs.rule_names.declared.stage.Stage.{Stage}
 
 -- ---- of a function and a part that goes on
 
@@ -75,7 +76,8 @@ own_label_on f h Part.Ramp p label l e = absurd (cc)
 own_label_on f h Part.GivenRamp p label l e = absurd (cc)
 
 -- a part that goes on stands there: where no call gives a frame none is for given frames
-pub part_is_there : (ls : Layouts) (m : Module) → IsFollowable ls m → (k : ℕ) (part : Part) (s : Shape)
+pub part_is_there : {stage : Stage} {ruler : Module} (ls : Layouts) (m : Module)
+    → IsFollowableIn stage ruler ls m → (k : ℕ) (part : Part) (s : Shape)
     → slice_get m.functions k ≡ Some (function_at m k) → (function_at m k).coroutine ≡ true → goes_on part ≡ true
     → IsCodeOf (function_at m k) (function_at (parted_module ls m)
     (moved ls.coroutines m m.functions k + number_of part))
@@ -93,7 +95,8 @@ part_is_there ls m w k Part.GivenRamp s there c goes coded e = absurd (false≢t
 
 -- ---- at related states
 
-module _ (ls : Layouts) (m : Module) (w : IsFollowable ls m) (answers : List ℤ) (s : State) (t : PlainState)
+module _ {stage : Stage} {ruler : Module} (ls : Layouts) (m : Module) (w : IsFollowableIn stage ruler ls m)
+    (answers : List ℤ) (s : State) (t : PlainState)
     (r : AreRelated (framed_given m ls.coroutines answers) (parts_given ls m answers) s t) (from label : ℕ)
     (mode : s.top.mode ≡ Mode.Entering from label) where
   goes : goes_on r.top.part ≡ true
@@ -145,6 +148,6 @@ module _ (ls : Layouts) (m : Module) (w : IsFollowable ls m) (answers : List ℤ
         own = own_label_on (function_at m s.top.func) own.returns r.top.part y.point label
             (listed_at (suspends_of (function_at m s.top.func)) y.number y.point
             (sym (ap (λ (x : Shape). slice_get x.suspends y.number) same) ∙ y.is)) y.leads;
-        ends = end_first m s.top.func (function_at m s.top.func) own.begin (layout_of ls.coroutines s.top.func)
+        ends = end_first ruler s.top.func (function_at m s.top.func) own.begin (layout_of ls.coroutines s.top.func)
             own.splittable;
       }

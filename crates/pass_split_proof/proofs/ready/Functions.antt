@@ -44,12 +44,12 @@ use Rattle.pass_split_proof.proofs.ready.Intrinsics.{in_coroutine}
 use Rattle.pass_split_proof.proofs.ready.Next.{no_cleanup}
 use Rattle.pass_split_proof.proofs.ready.Parts.{part_callee, part_goes_on}
 use Rattle.pass_split_proof.proofs.ready.Rules.{function_of_instr, function_of_term}
-use Rattle.pass_split_proof.specs.ready.Module.{IsFollowable}
+use Rattle.pass_split_proof.specs.ready.Module.{IsFollowable, IsFollowableIn}
 use Rattle.pass_split_proof.specs.simulation.Premises.{AreFunctionsMet, IsCoroutineThere, is_of_coroutines}
 use Rattle.pass_split_proof.specs.simulation.Statement.{parts_given}
 use Rattle.pass_proofs.proofs.rule_laws.rules.source_rules.Locals.{own_label}
 use Rattle.pass_proofs.proofs.rule_laws.rules.sources.Places.{instr_there, point}
-use Rattle.pass_proofs.specs.rule_laws.rules.function_rules.Kept.{KeepsFunctionRules}
+use Rattle.pass_proofs.specs.rule_laws.rules.function_rules.Kept.{KeepsFunctionRules, KeepsFunctionRulesAt}
 use Rattle.pass_proofs.specs.rule_locals.Intrinsics.{is_inner}
 use Rattle.pass_proofs.specs.rule_shape.Suspends.{is_suspend}
 use Rattle.pass_proofs.specs.rule_values.Kinds.{kind_of, value_kind}
@@ -58,6 +58,7 @@ use Rattle.run_types.specs.run_hooks.Reached.{HasSwitches}
 use Rattle.pass_proofs.specs.run_laws.changed.Changed.{Each}
 use Rattle.pass_proofs.specs.run_step.Step.{AtInstr, fetch, phis_of}
 use Rattle.run_types.specs.Rules.{FitsPhi, KeepsTypes}
+use Rattle.pass_proofs.specs.rule_names.declared.stage.Stage.{Stage}
 
 -- ---- suspends have tokens
 
@@ -106,14 +107,14 @@ goes_at Part.Cleanup p h = refl
 
 -- ---- intrinsics of coroutines (K1)
 
-suspend_inside : (m : Module) (k : ℕ) (f : Function) → KeepsFunctionRules m k f → (block at : ℕ) (i : Instr)
-    → fetch f block at ≡ AtInstr i → is_call_of Intrinsic.CoroSuspend i ≡ true → f.coroutine ≡ true
+suspend_inside : (m : Module) (k : ℕ) (f : Function) → KeepsFunctionRulesAt Stage.Plain m k f → (block at : ℕ)
+    (i : Instr) → fetch f block at ≡ AtInstr i → is_call_of Intrinsic.CoroSuspend i ≡ true → f.coroutine ≡ true
 suspend_inside m k f rules block at (Instr.Call r must_tail ty (Callee.Intrinsic Intrinsic.CoroSuspend) args) here e =
     in_coroutine m k f rules block at r must_tail ty Intrinsic.CoroSuspend args here refl
 suspend_inside m k f rules block at _ here e = absurd (false≢true e)
 
-save_inside : (m : Module) (k : ℕ) (f : Function) → KeepsFunctionRules m k f → (block at : ℕ) (i : Instr)
-    → fetch f block at ≡ AtInstr i → is_call_of Intrinsic.CoroSave i ≡ true → f.coroutine ≡ true
+save_inside : (m : Module) (k : ℕ) (f : Function) → KeepsFunctionRulesAt Stage.Plain m k f → (block at : ℕ)
+    (i : Instr) → fetch f block at ≡ AtInstr i → is_call_of Intrinsic.CoroSave i ≡ true → f.coroutine ≡ true
 save_inside m k f rules block at (Instr.Call r must_tail ty (Callee.Intrinsic Intrinsic.CoroSave) args) here e =
     in_coroutine m k f rules block at r must_tail ty Intrinsic.CoroSave args here refl
 save_inside m k f rules block at _ here e = absurd (false≢true e)
@@ -176,8 +177,10 @@ module _ (m : Module) (k : ℕ) (rules : slice_get m.functions k ≡ Some (funct
 
 -- ---- coroutines
 
-module _ (ls : Layouts) (m : Module) (w : IsFollowable ls m) (answers : List ℤ) where
-  rules_at : (k : ℕ) → slice_get m.functions k ≡ Some (function_at m k) → KeepsFunctionRules m k (function_at m k)
+module _ {stage : Stage} {ruler : Module} (ls : Layouts) (m : Module) (w : IsFollowableIn stage ruler ls m)
+    (answers : List ℤ) where
+  rules_at : (k : ℕ) → slice_get m.functions k ≡ Some (function_at m k)
+      → KeepsFunctionRulesAt Stage.Plain ruler k (function_at m k)
   rules_at k there = (ruled_at ls m w k (function_at m k) there).rules
 
   pub coroutine_met : (k : ℕ) → (function_at m k).coroutine ≡ true
@@ -193,13 +196,14 @@ module _ (ls : Layouts) (m : Module) (w : IsFollowable ls m) (answers : List ℤ
         takes = λ part goes stands. part_callee ls m w answers k there c part stands goes;
         cleanup = λ none coded. no_cleanup ls m k (function_at m k) there c none more.untaken
             (shape_of (function_at m k) (layout_of ls.coroutines k)) coded;
-        ends = end_first m k (function_at m k) own.begin (layout_of ls.coroutines k) own.splittable;
+        ends = end_first ruler k (function_at m k) own.begin (layout_of ls.coroutines k) own.splittable;
         suspends = record { saved = suspends_saved (function_at m k) own.saved; elsewhere = more.apart };
         returns = own.returns;
         blocks = own_label k (function_at m k) own.splittable.rules.definitions;
         entered = λ part p goes l led last. entered (function_at m k) part p (led_is_flagged (function_at m k)
             (labels_tabled (shape_of (function_at m k) (layout_of ls.coroutines k)) part (function_at m k)
-            (cuttable m k (function_at m k) own.begin own.splittable (layout_of ls.coroutines k) part)) p.block led)
+            (cuttable ruler k (function_at m k) own.begin own.splittable (layout_of ls.coroutines k) part)) p.block
+            led)
             (goes_at part p last);
       }
     where
@@ -213,49 +217,57 @@ module _ (ls : Layouts) (m : Module) (w : IsFollowable ls m) (answers : List ℤ
   switches_met k = record {
     switched = λ p c.
         let there = function_of_instr m k p.block p.at c.instr c.stands in
-        let inside = suspend_inside m k (function_at m k) (rules_at k there) p.block p.at c.instr c.stands c.is in
+        let inside = suspend_inside ruler k (function_at m k) (rules_at k there) p.block p.at c.instr c.stands c.is in
         is_switched k (function_at m k) inside ((ruled_at ls m w k (function_at m k) there).switches inside) p c;
     leads = λ p s c found.
         let there = function_of_instr m k p.block p.at c.instr c.stands in
-        let inside = save_inside m k (function_at m k) (rules_at k there) p.block p.at c.instr c.stands c.is in
+        let inside = save_inside ruler k (function_at m k) (rules_at k there) p.block p.at c.instr c.stands c.is in
         (w.coroutines k (function_at m k) there inside).leads p s c found;
-  }
-
-  -- ---- N1, Y1 and Y2
-
-  pub types_met : (k : ℕ) → KeepsTypes m (function_at m k)
-  types_met k = record {
-    instrs = λ block at i here. instrs_fit m k (function_at m k)
-        (rules_at k (function_of_instr m k block at i here)) block at i here;
-    ends = λ block at t here. ends_fit m k (function_at m k) (rules_at k (function_of_term m k block at t here))
-        block at
-        t here;
-    given = λ block at n i kind here is. names_given m k (function_at m k)
-        (rules_at k (function_of_instr m k block at i here)) block at i here n kind is;
-    phis = λ block. phis_all m k (rules_at k) block;
-    params = params_all m k (rules_at k);
-    calls = λ block at result must_tail ty callee args here. calls_fit m k (function_at m k)
-        (rules_at k (function_of_instr m k block at (Instr.Call result must_tail ty callee args) here)) block at result
-        must_tail ty callee args here;
-    loads = λ block at name ty p align here.
-        let there = function_of_instr m k block at (Instr.Load name ty p align) here in
-        loads_fit m k (function_at m k) (rules_at k there) (w.widths k (function_at m k) there) block at name ty p
-        align
-        here;
   }
 
   pub functions_met : AreFunctionsMet (framed_given m ls.coroutines answers) (parts_given ls m answers)
   functions_met = record {
     coroutines = coroutine_met;
-    allocas = allocas_alone m rules_at;
+    allocas = allocas_alone ruler m rules_at;
     switches = switches_met;
-    typed = types_met;
-    intrinsics = λ k block at result must_tail ty x args here of. in_coroutine m k (function_at m k)
+    intrinsics = λ k block at result must_tail ty x args here of. in_coroutine ruler k (function_at m k)
         (rules_at k (function_of_instr m k block at (Instr.Call result must_tail ty (Callee.Intrinsic x) args) here))
         block
         at result must_tail ty x args here (inner_of x of);
-    direct = λ k block at result must_tail ty name args here. called_directly m k (function_at m k)
+    direct = λ k block at result must_tail ty name args here. called_directly ruler k (function_at m k)
         (rules_at k (function_of_instr m k block at (Instr.Call result must_tail ty (Callee.Local name) args) here))
         block
         at result must_tail ty args name here;
+  }
+
+-- ---- N1, Y1 and Y2, where the rules are the module's own
+
+module _ (ls : Layouts) (m : Module) (w : IsFollowable ls m) where
+  own_rules : (k : ℕ) → slice_get m.functions k ≡ Some (function_at m k) → KeepsFunctionRules m k (function_at m k)
+  own_rules k there = on (function_at m k).coroutine refl
+    where
+      on : (c : Bool) → (function_at m k).coroutine ≡ c → KeepsFunctionRules m k (function_at m k)
+      on true e = (w.partable.coroutines k (function_at m k) there e).splittable.rules
+      on false e = w.partable.plain k (function_at m k) there e
+
+  pub types_met : (k : ℕ) → KeepsTypes m (function_at m k)
+  types_met k = record {
+    instrs = λ block at i here. instrs_fit m k (function_at m k)
+        (own_rules k (function_of_instr m k block at i here)) block at i here;
+    ends = λ block at t here. ends_fit m k (function_at m k) (own_rules k (function_of_term m k block at t here))
+        block at
+        t here;
+    given = λ block at n i kind here is. names_given m k (function_at m k)
+        (own_rules k (function_of_instr m k block at i here)) block at i here n kind is;
+    phis = λ block. phis_all m k (own_rules k) block;
+    params = params_all m k (own_rules k);
+    calls = λ block at result must_tail ty callee args here. calls_fit m k (function_at m k)
+        (own_rules k (function_of_instr m k block at (Instr.Call result must_tail ty callee args) here)) block at
+        result
+        must_tail ty callee args here;
+    loads = λ block at name ty p align here.
+        let there = function_of_instr m k block at (Instr.Load name ty p align) here in
+        loads_fit m k (function_at m k) (own_rules k there) (w.widths k (function_at m k) there) block at name ty p
+        align
+        here;
   }

@@ -10,26 +10,33 @@ use Rattle.pass_proofs.specs.ir_model.declared.module.Module.{Module}
 use Rattle.pass_proofs.specs.ir_model.declared.operand.Intrinsic.{Intrinsic}
 use Rattle.pass_proofs.specs.pass_intrinsics.declared.shape.Shape.{Shape}
 use Rattle.pass_split_proof.proofs.ready.Begins.{BeginsBy, Named, New}
-use Rattle.pass_split_proof.specs.ready.Module.{IsFollowable, IsRuled}
+use Rattle.pass_split_proof.specs.ready.Module.{IsFollowableIn, IsRuled}
+use Rattle.pass_split_proof.specs.simulation.Statement.{IsRulerOf}
 use Rattle.pass_split_proof.specs.states.Activations.{IsShapeOf}
 use Rattle.pass_proofs.specs.run_framed.Framed.{framed_given}
+use Rattle.pass_proofs.proofs.rule_laws.rules.function_rules.Stages.{rules_larger}
+use Rattle.pass_proofs.specs.rule_names.declared.stage.Stage.{Stage}
 
 pub there_is : (m : Module) (k : ℕ) (f : Function) → slice_get m.functions k ≡ Some f → function_at m k ≡ f
 there_is m k f e = ap (λ (o : Option Function). unwrap_or o no_function) e
 
-module _ (ls : Layouts) (m : Module) (w : IsFollowable ls m) where
-  pub ruled_at : (k : ℕ) (f : Function) → slice_get m.functions k ≡ Some f → IsRuled m k f
+-- a module is judged by its own rules
+pub own_ruler : (m : Module) → IsRulerOf m m
+own_ruler m = record { types = refl; globals = refl; known = λ x none knows. knows }
+
+module _ {stage : Stage} {ruler : Module} (ls : Layouts) (m : Module) (w : IsFollowableIn stage ruler ls m) where
+  pub ruled_at : (k : ℕ) (f : Function) → slice_get m.functions k ≡ Some f → IsRuled ruler k f
   ruled_at k f there = on f.coroutine refl
     where
-      on : (c : Bool) → f.coroutine ≡ c → IsRuled m k f
+      on : (c : Bool) → f.coroutine ≡ c → IsRuled ruler k f
       on true e = let x = w.partable.coroutines k f there e in record {
-        rules = x.splittable.rules;
+        rules = rules_larger Stage.Source ruler k f x.splittable.rules;
         widths = w.widths k f there;
         calls = λ c. x.splittable.calls;
         switches = λ c. x.splittable.switches;
       }
       on false e = record {
-        rules = w.partable.plain k f there e;
+        rules = rules_larger stage ruler k f (w.partable.plain k f there e);
         widths = w.widths k f there;
         calls = λ c. absurd (false≢true (sym e ∙ c));
         switches = λ c. absurd (false≢true (sym e ∙ c));

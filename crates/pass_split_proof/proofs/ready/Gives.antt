@@ -32,6 +32,7 @@ use Rattle.pass_proofs.specs.rule_names.Known.{knows_name}
 use Rattle.pass_proofs.specs.rule_names.Reserved.{is_odd, is_part, is_part_of, is_reserved, part_name, suffixes}
 use Rattle.pass_proofs.specs.rule_names.declared.stage.Stage.{Stage}
 use Rattle.pass_proofs.specs.run_step.Step.{AtInstr, fetch, fetch_in, fetch_or}
+use Rattle.pass_proofs.proofs.rule_laws.rules.function_rules.Stages.{rules_larger}
 
 -- ---- no instruction calls what passes a test
 
@@ -150,7 +151,7 @@ module _ (n : Module) (k : ℕ) (g : Function) (rules : KeepsFunctionRules n k g
       on : (b : Bool) → same_name x y ≡ b → (b || false) ≡ false
       on false e = refl
       on true e = absurd (false≢true (sym unknown_in ∙ ap (knows_name n) (same_name-same x y e)
-          ∙ callee_known n k g rules block at result must_tail ty args y here))
+          ∙ callee_known n k g (rules_larger Stage.Source n k g rules) block at result must_tail ty args y here))
   not_called block at _ here = refl
 
 fetched : (f : Function) (block at : ℕ) (b : Block) (i : Instr) → slice_get f.blocks block ≡ Some b

@@ -16,23 +16,23 @@ use Rattle.pass_proofs.specs.ir_model.declared.operand.Intrinsic.{Intrinsic}
 use Rattle.pass_proofs.specs.ir_paths.Windows.{is_call_of}
 use Rattle.pass_proofs.specs.pass_intrinsics.Shapes.{shape_of}
 use Rattle.pass_proofs.specs.pass_intrinsics.declared.shape.Shape.{Shape}
-use Rattle.pass_proofs.proofs.kept.sources.Typed.{calls_fit}
 use Rattle.pass_split_proof.proofs.giving.Frames.{block_there}
 use Rattle.pass_split_proof.proofs.ready.At.{begins, others, read, ruled, there}
 use Rattle.pass_split_proof.proofs.ready.Begins.{BeginsBy, Named, New, low_name}
+use Rattle.pass_split_proof.proofs.ready.Callees.{call_fits}
 use Rattle.pass_split_proof.proofs.ready.Known.{first_low}
 use Rattle.pass_split_proof.proofs.ready.Rules.{at_instr}
 use Rattle.pass_split_proof.proofs.ready.Sizes.{frame_align, frame_size}
 use Rattle.pass_split_proof.specs.first_exits.Parted.{parted_module}
 use Rattle.pass_split_proof.specs.giving.Intrinsics.{HasOwnSize, IsAtIntrinsic, is_constant}
-use Rattle.pass_split_proof.specs.ready.Module.{IsFollowable}
+use Rattle.pass_split_proof.specs.ready.Module.{IsFollowableIn}
 use Rattle.pass_split_proof.specs.simulation.Premises.{IsAt, IsAtPlace, asks_frame}
 use Rattle.pass_split_proof.specs.simulation.Statement.{parts_given}
 use Rattle.pass_split_proof.specs.states.Activations.{IsShapeOf}
 use Rattle.pass_split_proof.specs.states.Related.{AreRelated}
 use Rattle.pass_split_proof.specs.steps.Operands.{IsReadable}
 use Rattle.pass_split_proof.specs.steps.Resuming.{IsAtWaking}
-use Rattle.pass_proofs.specs.rule_laws.rules.function_rules.Kept.{KeepsFunctionRules}
+use Rattle.pass_proofs.specs.rule_laws.rules.function_rules.Kept.{KeepsFunctionRulesAt}
 use Rattle.pass_proofs.specs.rule_locals.Intrinsics.{is_inner, misplaces}
 use Rattle.pass_proofs.specs.rule_names.declared.stage.Stage.{Stage}
 use Rattle.pass_proofs.specs.rule_types.Signatures.{are_wanted, is_result}
@@ -48,8 +48,8 @@ use Rattle.pass_proofs.specs.run_step.Step.{AtInstr, fetch}
 
 -- ---- intrinsics of coroutines alone (K1)
 
-pub in_coroutine : (m : Module) (k : ℕ) (f : Function) → KeepsFunctionRules m k f → (block at : ℕ) (result : Option ℕ)
-    (must_tail : Bool) (ty : Option Ty) (x : Intrinsic) (args : List Arg)
+pub in_coroutine : (m : Module) (k : ℕ) (f : Function) → KeepsFunctionRulesAt Stage.Plain m k f → (block at : ℕ)
+    (result : Option ℕ) (must_tail : Bool) (ty : Option Ty) (x : Intrinsic) (args : List Arg)
     → fetch f block at ≡ AtInstr (Instr.Call result must_tail ty (Callee.Intrinsic x) args) → is_inner x ≡ true
     → f.coroutine ≡ true
 in_coroutine m k f rules block at result must_tail ty x args here inner =
@@ -128,7 +128,8 @@ pub coroutine_shape : (ls : Layouts) (m : Module) (answers : List ℤ) (k : ℕ)
 coroutine_shape ls m answers k s (inl h) c = h.1
 coroutine_shape ls m answers k s (inr h) c = absurd (false≢true (sym h.0 ∙ c))
 
-module _ (ls : Layouts) (m : Module) (w : IsFollowable ls m) (answers : List ℤ) (s : State) (t : PlainState)
+module _ {stage : Stage} {ruler : Module} (ls : Layouts) (m : Module) (w : IsFollowableIn stage ruler ls m)
+    (answers : List ℤ) (s : State) (t : PlainState)
     (r : AreRelated (framed_given m ls.coroutines answers) (parts_given ls m answers) s t) where
   pub intrinsic_ready : (result : Option ℕ) (must_tail : Bool) (ty : Option Ty) (x : Intrinsic) (args : List Arg)
       → IsAt (framed_given m ls.coroutines answers) s (AtInstr
@@ -155,7 +156,8 @@ module _ (ls : Layouts) (m : Module) (w : IsFollowable ls m) (answers : List ℤ
   sized_ready result must_tail ty x args here constant =
       let i : Instr = Instr.Call result must_tail ty (Callee.Intrinsic x) args in
       let f : Function = function_at m s.top.func in
-      let coroutine = in_coroutine m s.top.func (function_at m s.top.func) (ruled ls m w answers s t r i here).rules
+      let coroutine = in_coroutine ruler s.top.func (function_at m s.top.func) (ruled ls m w answers s t r i
+      here).rules
       s.top.block s.top.at result must_tail ty x args here (constant_inner x constant) in
       let own = there ls m w answers s t r i here in
       let same = coroutine_shape ls m answers s.top.func r.top.shape r.top.shaped coroutine in
@@ -174,7 +176,7 @@ module _ (ls : Layouts) (m : Module) (w : IsFollowable ls m) (answers : List ℤ
   instance_begins : (i : Instr) → fetch (function_at m s.top.func) s.top.block s.top.at ≡ AtInstr i
       → BeginsBy (function_at m s.top.func) r.top.shape.begin → (own : ℕ) → s.top.instance ≡ Some own
       → r.top.shape.begin < length (function_at m s.top.func).names
-  instance_begins i here (Named coroutine begins) own e = low_name m s.top.func (function_at m s.top.func)
+  instance_begins i here (Named coroutine begins) own e = low_name ruler s.top.func (function_at m s.top.func)
       (ruled ls m w answers s t r i here).rules r.top.shape.begin (Named coroutine begins) coroutine
   instance_begins i here (New plain same) own e =
       let x = r.top.frame own e in
@@ -193,8 +195,8 @@ module _ (ls : Layouts) (m : Module) (w : IsFollowable ls m) (answers : List ℤ
   asking_ready result must_tail ty x args here p asks =
       let i : Instr = Instr.Call result must_tail ty (Callee.Intrinsic x) args in
       let rules = (ruled ls m w answers s t r i here).rules in
-      let fits = calls_fit m s.top.func (function_at m s.top.func) rules s.top.block s.top.at result must_tail ty
-      (Callee.Intrinsic x) args here in
+      let fits = call_fits ruler s.top.func (function_at m s.top.func) rules s.top.block s.top.at result must_tail ty
+      args (Callee.Intrinsic x) here in
       let y = asked_pointer x args asks (and_second (is_result (intrinsic_result x) ty)
       (are_wanted (intrinsic_params x) args) fits) in
       let readable = subst (λ (xs : List Arg). Each (IsReadable m (parted_module ls m) (function_at m s.top.func))
@@ -211,7 +213,8 @@ module _ (ls : Layouts) (m : Module) (w : IsFollowable ls m) (answers : List ℤ
         there = here ∙ ap (λ (xs : List Arg). AtInstr (Instr.Call result must_tail ty (Callee.Intrinsic x) xs)) y.are;
         typed = y.typed;
         readable = readable.0;
-        known = λ v e. first_low m s.top.func (function_at m s.top.func) rules s.top.block s.top.at i here y.arg.value
+        known = λ v e. first_low ruler s.top.func (function_at m s.top.func) rules s.top.block s.top.at i here
+            y.arg.value
             (values_of y.rest) (ap values_of y.are) v e;
         begin = λ own e. instance_begins i here (begins ls m w answers s t r i here) own e;
       }

@@ -13,10 +13,11 @@ use Rattle.pass_proofs.specs.ir_parts.Locals.{locals_of}
 use Rattle.pass_proofs.specs.ir_parts.Parts.{OfInstr, Part}
 use Rattle.pass_proofs.specs.ir_parts.declared.defined.Definition.{Definition}
 use Rattle.pass_split_proof.proofs.ready.Rules.{at_instr}
-use Rattle.pass_proofs.specs.rule_laws.rules.function_rules.Kept.{KeepsFunctionRules}
+use Rattle.pass_proofs.specs.rule_laws.rules.function_rules.Kept.{KeepsFunctionRulesAt}
 use Rattle.pass_proofs.specs.rule_laws.rules.source_rules.Named.{HasTabledLocals}
 use Rattle.pass_proofs.specs.rule_names.Known.{is_kind, is_label, is_value, knows_called, knows_operand, knows_type, names_unknown}
 use Rattle.pass_proofs.specs.run_step.Step.{AtInstr, fetch}
+use Rattle.pass_proofs.specs.rule_names.declared.stage.Stage.{Stage}
 
 defined_low : (n v : ℕ) (ds : List Definition) → ((d : Definition) → IsListed d ds → d.name < n)
     → list_any (λ d. is_kind false d && (d.name == v)) ds ≡ true → v < n
@@ -34,8 +35,8 @@ defined_low n v (d ∷ ds) low e = on (is_kind false d && (d.name == v)) refl e
 pub value_low : (k : ℕ) (f : Function) → HasTabledLocals k f → (v : ℕ) → is_value k f v ≡ true → v < length f.names
 value_low k f tabled v e = defined_low (length f.names) v (locals_of k f) tabled e
 
-module _ (m : Module) (k : ℕ) (f : Function) (rules : KeepsFunctionRules m k f) (block at : ℕ) (i : Instr)
-    (here : fetch f block at ≡ AtInstr i) where
+module _ (m : Module) (k : ℕ) (f : Function) (rules : KeepsFunctionRulesAt Stage.Plain m k f) (block at : ℕ)
+    (i : Instr) (here : fetch f block at ≡ AtInstr i) where
   all_known : list_all (knows_operand m (is_value k f)) (instr_operands i) ≡ true
   all_known =
       let x : Part = OfInstr i in

@@ -2,7 +2,7 @@
 use Rattle.std.proofs.Common.{◌≡◌, ◌<◌, ◌≤◌, ◌/◌, ◌+◌, ℕ, Bool, true, false, List, [], ◌∷◌, length, refl, sym, ◌∙◌, subst, arith}
 use Rattle.std.proofs.lemmas.Bool.{false≢true}
 use Rattle.std.specs.List.{list_all}
-use Rattle.std.specs.Prelude.{ℤ, Option, option_map, ◌||◌, ◌==◌}
+use Rattle.std.specs.Prelude.{ℤ, None, Option, Some, option_map, ◌||◌, ◌==◌}
 use Rattle.pass_proofs.specs.frame_layout.declared.layout.Layouts.{Layouts}
 use Rattle.pass_proofs.proofs.ir_laws.facts.Truth.{and_first, equal_numbers, holds}
 use Rattle.pass_proofs.specs.ir_laws.facts.counted.Widths.{has_width, is_width}
@@ -27,17 +27,18 @@ use Rattle.pass_split_proof.proofs.steps.Operands.{operand_stands}
 use Rattle.pass_split_proof.specs.code.Positions.{moved}
 use Rattle.pass_split_proof.specs.first_exits.Parted.{parted_module}
 use Rattle.pass_split_proof.specs.ready.Fields.{AreInnerIndices}
-use Rattle.pass_split_proof.specs.ready.Module.{IsFollowable, IsRuled}
+use Rattle.pass_split_proof.specs.ready.Module.{IsFollowableIn, IsRuled}
 use Rattle.pass_split_proof.specs.ready.Names.{HasMovedNames}
 use Rattle.pass_split_proof.specs.simulation.Premises.{IsAt, IsAtPlace, first_parts}
-use Rattle.pass_split_proof.specs.simulation.Statement.{parts_given}
+use Rattle.pass_split_proof.specs.simulation.Statement.{IsRulerOf, parts_given}
 use Rattle.pass_split_proof.specs.states.Related.{AreRelated}
 use Rattle.pass_split_proof.specs.states.Values.{AreValuesOf}
 use Rattle.pass_split_proof.specs.steps.Operands.{IsReadable}
 use Rattle.pass_split_proof.specs.steps.Ordinary.{IsAtOrdinary, is_ordinary}
 use Rattle.pass_split_proof.specs.steps.Ready.{IsReadyInPart, moved_functions}
 use Rattle.pass_proofs.specs.rule_laws.rules.counted.Widths.{is_of_other_width}
-use Rattle.pass_proofs.specs.run_framed.Framed.{framed_context, framed_given}
+use Rattle.pass_proofs.specs.rule_names.declared.stage.Stage.{Stage}
+use Rattle.pass_proofs.specs.run_framed.Framed.{FramedGiven, enter_given, framed_context, framed_given, given_call, given_ramp}
 use Rattle.pass_proofs.proofs.run_laws.changed.Kept.{distance_kept}
 use Rattle.pass_proofs.specs.run_laws.changed.Changed.{Each, callee_at, operands_of, values_of}
 use Rattle.pass_proofs.specs.run_laws.embedded.Related.{HasBytes, HasNoSlot, IsSameDistance}
@@ -49,7 +50,7 @@ use Rattle.run_access_worked.specs.run_plain.Plain.{plain_context}
 use Rattle.run_access_worked.specs.run_plain.declared.state.PlainState.{PlainState}
 use Rattle.pass_proofs.specs.run_source.declared.state.State.{State}
 use Rattle.pass_proofs.specs.run_step.Step.{AtInstr, Context, fetch}
-use Rattle.pass_proofs.specs.run_step.Values.{Env, access_of, arg_value, distance, indices_of}
+use Rattle.pass_proofs.specs.run_step.Values.{Env, access_of, arg_value, arg_values, distance, indices_of}
 
 -- ---- what is loaded or stored has a byte
 
@@ -115,10 +116,22 @@ begins_not (Instr.Gep name inbounds ty base indices) e = refl
 
 -- ---- an instruction of a function
 
-module _ (ls : Layouts) (m : Module) (names : HasMovedNames ls m) (functions : ℕ → ℕ)
-    (moves : (k : ℕ) → functions k ≡ moved ls.coroutines m m.functions k) (k : ℕ) (f : Function)
-    (ruled : IsRuled m k f)
-    (block at : ℕ) where
+-- a call by a name gives no frame
+abbrev IsUngiven : Module → Instr → Type 0
+IsUngiven m (Instr.Call r must_tail ty (Callee.Named n) args) = given_ramp m n ≡ None
+IsUngiven m _ = Unit {0}
+
+ungiven_here : (g : FramedGiven) (s : State) (i : Instr) → given_call g s (AtInstr i) ≡ None → IsUngiven g.given.code i
+ungiven_here g s (Instr.Call r must_tail ty (Callee.Named n) args) e = by (given_ramp g.given.code n) e
+  where
+    by : (o : Option ℕ) → enter_given g s r (arg_values g.given.code s.top.values args) o ≡ None → o ≡ None
+    by None e = refl
+    by (Some func) e = absurd (cc)
+ungiven_here g s _ e = tt
+
+module _ {r : Module} (ls : Layouts) (m : Module) (ruler : IsRulerOf r m) (names : HasMovedNames ls m)
+    (functions : ℕ → ℕ) (moves : (k : ℕ) → functions k ≡ moved ls.coroutines m m.functions k) (k : ℕ) (f : Function)
+    (ruled : IsRuled r k f) (block at : ℕ) where
   abbrev n : Module
   n = parted_module ls m
 
@@ -127,29 +140,30 @@ module _ (ls : Layouts) (m : Module) (names : HasMovedNames ls m) (functions : �
       (at_instr k f is_of_other_width ruled.widths block at i here)
 
   module _ (c d : Context) (code : c.code ≡ m) (other_code : d.code ≡ parted_module ls m) (env other : Env) where
-    callee_alike : (i : Instr) → fetch f block at ≡ AtInstr i
+    callee_alike : (i : Instr) → IsUngiven m i → fetch f block at ≡ AtInstr i
         → IsNamedAlike (moved_functions functions) c d (callee_at (AtInstr i))
-    callee_alike (Instr.Call r must_tail ty (Callee.Named x) args) here =
+    callee_alike (Instr.Call result must_tail ty (Callee.Named x) args) ungiven here =
         subst (λ (p : Module × Module). (function_named p.1 x ≡ option_map functions (function_named p.0 x))
         × (declaration_named p.1 x ≡ option_map (λ j. j) (declaration_named p.0 x)))
         (λ i. (sym code i, sym other_code i))
-        (named_alike ls m names functions moves x (callee_known m k f ruled.rules block at r must_tail ty args x here))
-    callee_alike (Instr.Call r must_tail ty (Callee.Allocator a) args) here = tt
-    callee_alike (Instr.Call r must_tail ty (Callee.Intrinsic x) args) here = tt
-    callee_alike (Instr.Call r must_tail ty (Callee.Local v) args) here = tt
-    callee_alike (Instr.Binary name op flags ty a b) here = tt
-    callee_alike (Instr.Icmp name pred ty a b) here = tt
-    callee_alike (Instr.Select name x a b) here = tt
-    callee_alike (Instr.Cast name op nneg arg to) here = tt
-    callee_alike (Instr.Alloca name ty align) here = tt
-    callee_alike (Instr.Load name ty p align) here = tt
-    callee_alike (Instr.Store arg p align) here = tt
-    callee_alike (Instr.Gep name inbounds ty base indices) here = tt
+        (named_alike ls m names functions moves x (ruler.known x ungiven
+        (callee_known r k f ruled.rules block at result must_tail ty args x here)))
+    callee_alike (Instr.Call r must_tail ty (Callee.Allocator a) args) ungiven here = tt
+    callee_alike (Instr.Call r must_tail ty (Callee.Intrinsic x) args) ungiven here = tt
+    callee_alike (Instr.Call r must_tail ty (Callee.Local v) args) ungiven here = tt
+    callee_alike (Instr.Binary name op flags ty a b) ungiven here = tt
+    callee_alike (Instr.Icmp name pred ty a b) ungiven here = tt
+    callee_alike (Instr.Select name x a b) ungiven here = tt
+    callee_alike (Instr.Cast name op nneg arg to) ungiven here = tt
+    callee_alike (Instr.Alloca name ty align) ungiven here = tt
+    callee_alike (Instr.Load name ty p align) ungiven here = tt
+    callee_alike (Instr.Store arg p align) ungiven here = tt
+    callee_alike (Instr.Gep name inbounds ty base indices) ungiven here = tt
 
     pointed_alike : (i : Instr) → fetch f block at ≡ AtInstr i
         → IsPointedAlike (moved_functions functions) c d env (AtInstr i)
-    pointed_alike (Instr.Call r must_tail ty (Callee.Local v) args) here =
-        absurd (called_directly m k f ruled.rules block at r must_tail ty args v here)
+    pointed_alike (Instr.Call result must_tail ty (Callee.Local v) args) here =
+        absurd (called_directly r k f ruled.rules block at result must_tail ty args v here)
     pointed_alike (Instr.Call r must_tail ty (Callee.Named x) args) here = tt
     pointed_alike (Instr.Call r must_tail ty (Callee.Allocator a) args) here = tt
     pointed_alike (Instr.Call r must_tail ty (Callee.Intrinsic x) args) here = tt
@@ -178,7 +192,8 @@ module _ (ls : Layouts) (m : Module) (names : HasMovedNames ls m) (functions : �
       distances_same : (i : Instr) → fetch f block at ≡ AtInstr i
           → AreSameDistances c d env other (AtInstr i) (AtInstr i)
       distances_same (Instr.Gep name inbounds ty base indices) here =
-          let read = instr_readable ls m names k f ruled block at (Instr.Gep name inbounds ty base indices) here in
+          let read = instr_readable ls m ruler.globals names k f ruled block at (Instr.Gep name inbounds ty base
+          indices) here in
           subst (λ (p : Module × Module). IsSameDistance (distance p.0 ty (indices_of p.0 env indices))
           (distance p.1 ty (indices_of p.1 other indices))) (λ i. (sym code i, sym other_code i))
           (same_distance (own_homes 0 size) m (parted_module ls m) env other ty indices
@@ -193,12 +208,12 @@ module _ (ls : Layouts) (m : Module) (names : HasMovedNames ls m) (functions : �
       distances_same (Instr.Load name ty p align) here = tt
       distances_same (Instr.Store arg p align) here = tt
 
-      pub instr_ready : (i : Instr) → fetch f block at ≡ AtInstr i → HasNoSlot (AtInstr i)
+      pub instr_ready : (i : Instr) → IsUngiven m i → fetch f block at ≡ AtInstr i → HasNoSlot (AtInstr i)
           → IsReadyInPart functions f c d env other i
-      instr_ready i here no_slot = record {
+      instr_ready i ungiven here no_slot = record {
         operands = subst (λ (p : Module × Module). Each (IsReadable p.0 p.1 f) (operands_of i))
-            (λ i. (sym code i, sym other_code i)) (instr_readable ls m names k f ruled block at i here);
-        callee = callee_alike i here;
+            (λ i. (sym code i, sym other_code i)) (instr_readable ls m ruler.globals names k f ruled block at i here);
+        callee = callee_alike i ungiven here;
         pointed = pointed_alike i here;
         distance = distances_same i here;
         no_slot = no_slot;
@@ -207,14 +222,16 @@ module _ (ls : Layouts) (m : Module) (names : HasMovedNames ls m) (functions : �
 
 -- ---- at related states
 
-pub ordinary_ready : (ls : Layouts) (m : Module) → IsFollowable ls m → (answers : List ℤ) (s : State) (t : PlainState)
+pub ordinary_ready : {stage : Stage} {ruler : Module} (ls : Layouts) (m : Module)
+    → IsFollowableIn stage ruler ls m → (answers : List ℤ) (s : State) (t : PlainState)
     (r : AreRelated (framed_given m ls.coroutines answers) (parts_given ls m answers) s t) (i : Instr)
     → IsAt (framed_given m ls.coroutines answers) s (AtInstr i)
-    → IsAtPlace (framed_given m ls.coroutines answers) (parts_given ls m answers) s t r → is_ordinary i ≡ true
+    → IsAtPlace (framed_given m ls.coroutines answers) (parts_given ls m answers) s t r
+    → given_call (framed_given m ls.coroutines answers) s (AtInstr i) ≡ None → is_ordinary i ≡ true
     → HasNoSlot (AtInstr i)
     → IsAtOrdinary (first_parts (framed_given m ls.coroutines answers)) (framed_given m ls.coroutines answers)
     (parts_given ls m answers) s t r i
-ordinary_ready ls m w answers s t r i here p ordinary no_slot =
+ordinary_ready {ruler = ruler} ls m w answers s t r i here p ungiven ordinary no_slot =
     let there = function_of_instr m s.top.func s.top.block s.top.at i here in
     let ruled = ruled_at ls m w s.top.func (function_at m s.top.func) there in
     let by = begins_by ls m w answers s.top.func (function_at m s.top.func) r.top.shape refl there r.top.shaped in
@@ -225,14 +242,15 @@ ordinary_ready ls m w answers s t r i here p ordinary no_slot =
       place = p.place;
       there = here;
       ordinary = ordinary;
-      ready = instr_ready ls m w.names (first_parts (framed_given m ls.coroutines answers))
+      ready = instr_ready ls m w.ruler w.names (first_parts (framed_given m ls.coroutines answers))
           (none_more ls m) s.top.func
           (function_at m s.top.func) ruled s.top.block s.top.at
           (framed_context (framed_given m ls.coroutines answers) s) (plain_context (parts_given ls m answers) t) refl
           refl
           s.top.values t.top.values (length s.world.memory) r.globals r.top.values
-          (w.fields s.top.func (function_at m s.top.func) there s.top.block s.top.at) i here no_slot;
-      others = λ e. other_name m s.top.func (function_at m s.top.func) ruled.rules r.top.shape.begin by s.top.block
+          (w.fields s.top.func (function_at m s.top.func) there s.top.block s.top.at) i
+          (ungiven_here (framed_given m ls.coroutines answers) s i ungiven) here no_slot;
+      others = λ e. other_name ruler s.top.func (function_at m s.top.func) ruled.rules r.top.shape.begin by s.top.block
           s.top.at i here (begins_not i ordinary) (gives_result i r.top.shape.begin e);
     }
   where

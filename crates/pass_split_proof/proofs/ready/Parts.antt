@@ -31,12 +31,13 @@ use Rattle.pass_split_proof.specs.code.Entry.{HasEntry}
 use Rattle.pass_split_proof.specs.code.Positions.{is_given, layout_at, moved, number_of}
 use Rattle.pass_split_proof.specs.first_exits.Parted.{parted_function, parted_module}
 use Rattle.pass_split_proof.specs.places.Places.{IsCodeOf, OfCoroutine, OfPlain}
-use Rattle.pass_split_proof.specs.ready.Module.{IsFollowable}
+use Rattle.pass_split_proof.specs.ready.Module.{IsFollowableIn}
 use Rattle.pass_split_proof.specs.simulation.Statement.{IsCoroutinePartable, parts_given}
 use Rattle.pass_split_proof.specs.steps.Calling.{TakesPointer}
 use Rattle.pass_split_proof.specs.steps.Calls.{IsCallee}
 use Rattle.pass_split_proof.specs.steps.Woken.{IsPartThere}
 use Rattle.pass_proofs.specs.run_framed.Framed.{framed_given, layout_of}
+use Rattle.pass_proofs.specs.rule_names.declared.stage.Stage.{Stage}
 
 -- ---- the parts by their kinds
 
@@ -123,9 +124,10 @@ module _ (ls : Layouts) (m : Module) (k : ℕ) (f : Function) (there : slice_get
 
 -- ---- parts that go on
 
-module _ (ls : Layouts) (m : Module) (w : IsFollowable ls m) (answers : List ℤ) (k : ℕ) (f : Function)
-    (there : slice_get m.functions k ≡ Some f) (coroutine : f.coroutine ≡ true) where
-  own : IsCoroutinePartable ls m k f
+module _ {stage : Stage} {ruler : Module} (ls : Layouts) (m : Module) (w : IsFollowableIn stage ruler ls m)
+    (answers : List ℤ) (k : ℕ) (f : Function) (there : slice_get m.functions k ≡ Some f)
+    (coroutine : f.coroutine ≡ true) where
+  own : IsCoroutinePartable ruler ls m k f
   own = w.partable.coroutines k f there coroutine
 
   module _ (part : Part) (stands : is_given part ≡ true → has_given_call m f ≡ true) where
@@ -140,12 +142,13 @@ module _ (ls : Layouts) (m : Module) (w : IsFollowable ls m) (answers : List ℤ
 
     pub part_coded : IsCodeOf f (part_of (shape_of f (layout_of ls.coroutines k)) f part)
         (shape_of f (layout_of ls.coroutines k)) part
-    part_coded = OfCoroutine m k (layout_of ls.coroutines k) own.begin part own.splittable
+    part_coded = OfCoroutine ruler k (layout_of ls.coroutines k) own.begin part own.splittable
         (is_part (shape_of f (layout_of ls.coroutines k)) f part)
 
 -- a coroutine at its position, with the names by which laws speak of it
-module _ (ls : Layouts) (m : Module) (w : IsFollowable ls m) (answers : List ℤ) (k : ℕ)
-    (there : slice_get m.functions k ≡ Some (function_at m k)) (coroutine : (function_at m k).coroutine ≡ true) where
+module _ {stage : Stage} {ruler : Module} (ls : Layouts) (m : Module) (w : IsFollowableIn stage ruler ls m)
+    (answers : List ℤ) (k : ℕ) (there : slice_get m.functions k ≡ Some (function_at m k))
+    (coroutine : (function_at m k).coroutine ≡ true) where
   -- the begin of its shape
   pub own_begin : (shape_of (function_at m k) (layout_of ls.coroutines k)).begin
       ≡ (w.partable.coroutines k (function_at m k) there coroutine).begin
@@ -157,7 +160,7 @@ module _ (ls : Layouts) (m : Module) (w : IsFollowable ls m) (answers : List ℤ
   shape_named = (w.partable.coroutines k (function_at m k) there coroutine).splittable.named ∙ ap Some (sym own_begin)
 
   pub shape_low : (shape_of (function_at m k) (layout_of ls.coroutines k)).begin < length (function_at m k).names
-  shape_low = begin_low m k (function_at m k) (ruled_at ls m w k (function_at m k) there).rules
+  shape_low = begin_low ruler k (function_at m k) (ruled_at ls m w k (function_at m k) there).rules
       (shape_of (function_at m k) (layout_of ls.coroutines k)).begin shape_named
 
   module _ (part : Part) (stands : is_given part ≡ true → has_given_call m (function_at m k) ≡ true) where
@@ -192,9 +195,9 @@ module _ (ls : Layouts) (m : Module) (w : IsFollowable ls m) (answers : List ℤ
           coded = coded;
           entry = subst (λ (q : Function). HasEntry (shape_of (function_at m k) (layout_of ls.coroutines k)) part
               (function_at m k) q) (sym is)
-              (later_entry m k (function_at m k) (part_of (shape_of (function_at m k) (layout_of ls.coroutines k))
+              (later_entry ruler k (function_at m k) (part_of (shape_of (function_at m k) (layout_of ls.coroutines k))
               (function_at m k) part) x.begin (layout_of ls.coroutines k) part x.splittable own goes);
-          named = begin_name_is m k (function_at m k) ruled.rules
+          named = begin_name_is ruler k (function_at m k) ruled.rules
               (shape_of (function_at m k) (layout_of ls.coroutines k)).begin shape_named coroutine
               (ruled.calls coroutine);
           begin = shape_low;
@@ -230,11 +233,12 @@ module _ (ls : Layouts) (m : Module) (w : IsFollowable ls m) (answers : List ℤ
       no e = absurd (false≢true e)
 
 -- another function
-pub plain_callee : (ls : Layouts) (m : Module) (w : IsFollowable ls m) (answers : List ℤ) (k : ℕ)
+pub plain_callee : {stage : Stage} {ruler : Module} (ls : Layouts) (m : Module)
+    (w : IsFollowableIn stage ruler ls m) (answers : List ℤ) (k : ℕ)
     → slice_get m.functions k ≡ Some (function_at m k) → (function_at m k).coroutine ≡ false → (b : Block)
     → slice_get (function_at m k).blocks 0 ≡ Some b
     → IsCallee (framed_given m ls.coroutines answers) (parted_module ls m) k
-plain_callee ls m w answers k there plain b first = record {
+plain_callee {ruler = ruler} ls m w answers k there plain b first = record {
   shape = plain_shape (function_at m k);
   shaped = inr (plain, refl);
   coded = code;
@@ -253,10 +257,11 @@ plain_callee ls m w answers k there plain b first = record {
 
     code : IsCodeOf (function_at m k) (function_at (parted_module ls m) (moved ls.coroutines m m.functions k + 0))
         (plain_shape (function_at m k)) Part.Ramp
-    code = OfPlain m k plain (ruled_at ls m w k (function_at m k) there).rules is
+    code = OfPlain ruler k plain (ruled_at ls m w k (function_at m k) there).rules is
 
 -- each function is entered by a call
-pub callee_ready : (ls : Layouts) (m : Module) (w : IsFollowable ls m) (answers : List ℤ) (k : ℕ)
+pub callee_ready : {stage : Stage} {ruler : Module} (ls : Layouts) (m : Module)
+    (w : IsFollowableIn stage ruler ls m) (answers : List ℤ) (k : ℕ)
     → slice_get m.functions k ≡ Some (function_at m k)
     → IsCallee (framed_given m ls.coroutines answers) (parted_module ls m) k
 callee_ready ls m w answers k there = on (function_at m k).coroutine refl

@@ -1,18 +1,20 @@
 -- What stands at a place of a function that breaks no rule reads operands that may be read in its parts.
-use Rattle.std.proofs.Common.{◌≡◌, ℕ, ◌+◌, Bool, true, false, List, [], ◌∷◌, length, refl, subst}
+use Rattle.std.proofs.Common.{◌≡◌, ℕ, ◌+◌, Bool, true, false, List, [], ◌∷◌, length, refl, sym, ap, ◌∙◌, subst}
 use Rattle.std.specs.List.{list_all}
-use Rattle.std.specs.Prelude.{None, Some, map, not, slice_get, ◌||◌, if◌then◌else◌, ◌==◌}
+use Rattle.std.specs.Prelude.{None, Some, is_some, map, not, slice_get, ◌&&◌, ◌||◌, if◌then◌else◌, ◌==◌}
 use Rattle.pass_proofs.specs.flow_solver.Paths.{IsListed}
 use Rattle.pass_proofs.specs.frame_layout.declared.layout.Layouts.{Layouts}
 use Rattle.pass_proofs.specs.ir_base.declared.outcome.Place.{Place}
 use Rattle.pass_proofs.proofs.ir_laws.paths.uses.Paths.{place_of}
 use Rattle.pass_proofs.proofs.ir_laws.paths.woven_rules.Unbroken.{each_listed as each_of}
+use Rattle.pass_proofs.specs.ir_model.Names.{first_where, same_name}
 use Rattle.pass_proofs.specs.ir_model.declared.instr.Incoming.{Incoming}
 use Rattle.pass_proofs.specs.ir_model.declared.instr.Instr.{Instr}
 use Rattle.pass_proofs.specs.ir_model.declared.instr.Phi.{Phi}
 use Rattle.pass_proofs.specs.ir_model.declared.instr.Terminator.{Terminator}
 use Rattle.pass_proofs.specs.ir_model.declared.module.Block.{Block}
 use Rattle.pass_proofs.specs.ir_model.declared.module.Function.{Function}
+use Rattle.pass_proofs.specs.ir_model.declared.module.GlobalItem.{GlobalItem}
 use Rattle.pass_proofs.specs.ir_model.declared.module.Module.{Module}
 use Rattle.pass_proofs.specs.ir_model.declared.operand.Callee.{Callee}
 use Rattle.pass_proofs.specs.ir_model.declared.operand.Operand.{Operand}
@@ -66,7 +68,19 @@ no_address m place x e = on (list_all (is_no_function m) (part_operands x)) e
     on true h = refl
     on false h = absurd (cc)
 
-module _ (ls : Layouts) (m : Module) (names : HasMovedNames ls m) (k : ℕ) (f : Function) (ruled : IsRuled m k f) where
+module _ (r m : Module) (globals : r.globals ≡ m.globals) where
+  same_global : (x : Operand) → is_no_function m x ≡ is_no_function r x
+  same_global (Operand.Global n) = ap (λ (gs : List GlobalItem). is_some (first_where (λ g. same_name g.name n) gs))
+      (sym globals)
+  same_global _ = refl
+
+  -- in modules with the same globals alike
+  same_globals : (xs : List Operand) → list_all (is_no_function m) xs ≡ list_all (is_no_function r) xs
+  same_globals [] = refl
+  same_globals (x ∷ xs) = λ i. same_global x i && same_globals xs i
+
+module _ {r : Module} (ls : Layouts) (m : Module) (globals : r.globals ≡ m.globals) (names : HasMovedNames ls m)
+    (k : ℕ) (f : Function) (ruled : IsRuled r k f) where
   abbrev Readable : Operand → Type 0
   Readable = IsReadable m (parted_module ls m) f
 
@@ -82,8 +96,9 @@ module _ (ls : Layouts) (m : Module) (names : HasMovedNames ls m) (k : ℕ) (f :
       → Each (IsReadable m (parted_module ls m) f) (operands_of i)
   instr_readable block at i here = subst (λ (xs : List Operand). Each (IsReadable m (parted_module ls m) f) xs)
       (operands_spelt i) (all_readable ls m names f (instr_operands i) (read_instr block at i here)
-      (no_address m (instr_place k block (phi_count f block + at)) (OfInstr i)
-      (at_instr k f (points_to_functions m) ruled.rules.local.function_pointers block at i here)))
+      (same_globals r m globals (instr_operands i)
+      ∙ no_address r (instr_place k block (phi_count f block + at)) (OfInstr i)
+      (at_instr k f (points_to_functions r) ruled.rules.local.function_pointers block at i here)))
 
   -- a terminator that reads nothing that a suspend gives
   pub ending_readable : (block : ℕ) (b : Block) → slice_get f.blocks block ≡ Some b
@@ -91,8 +106,9 @@ module _ (ls : Layouts) (m : Module) (names : HasMovedNames ls m) (k : ℕ) (f :
       → Each (IsReadable m (parted_module ls m) f) (operands_of_term b.term)
   ending_readable block b got read = subst (λ (xs : List Operand). Each (IsReadable m (parted_module ls m) f) xs)
       (ending_spelt b.term) (all_readable ls m names f (ending_operands b.term) read
-      (no_address m (instr_place k block (length b.phis + length b.instrs)) (Ending b.term)
-      (at_ending k f (points_to_functions m) ruled.rules.local.function_pointers block b got)))
+      (same_globals r m globals (ending_operands b.term)
+      ∙ no_address r (instr_place k block (length b.phis + length b.instrs)) (Ending b.term)
+      (at_ending k f (points_to_functions r) ruled.rules.local.function_pointers block b got)))
 
   -- ---- phis
 
@@ -120,8 +136,8 @@ module _ (ls : Layouts) (m : Module) (names : HasMovedNames ls m) (k : ℕ) (f :
   phi_readable block label b p got n =
       let q = place_of b.phis p n in
       taken label p.incoming (all_readable ls m names f (phi_operands p) (read_phi block b p got n)
-      (no_address m (instr_place k block q.0) (OfPhi p)
-      (at_phi k f (points_to_functions m) ruled.rules.local.function_pointers block q.0 b p got q.1)))
+      (same_globals r m globals (phi_operands p) ∙ no_address r (instr_place k block q.0) (OfPhi p)
+      (at_phi k f (points_to_functions r) ruled.rules.local.function_pointers block q.0 b p got q.1)))
 
   pub phis_readable : (block label : ℕ) (b : Block) → slice_get f.blocks block ≡ Some b
       → Each (λ (p : Phi). IsReadable m (parted_module ls m) f (incoming_from p.incoming label)) b.phis

@@ -7,12 +7,12 @@ use Rattle.pass_split_proof.proofs.ready.Blocks.{alloca_ready, marker_ready}
 use Rattle.pass_split_proof.proofs.ready.Calls.{allocator_ready, call_ready, deallocator_ready}
 use Rattle.pass_split_proof.proofs.ready.Coroutine.{begin_ready, save_ready, suspend_ready}
 use Rattle.pass_split_proof.proofs.ready.Entering.{behind_ready, making_ready}
-use Rattle.pass_split_proof.proofs.ready.Functions.{functions_met}
+use Rattle.pass_split_proof.proofs.ready.Functions.{functions_met, types_met}
 use Rattle.pass_split_proof.proofs.ready.Intrinsics.{asking_ready, intrinsic_ready, sized_ready}
 use Rattle.pass_split_proof.proofs.ready.Ordinary.{ordinary_ready}
 use Rattle.pass_split_proof.proofs.ready.Terms.{terms_ready}
 use Rattle.pass_split_proof.proofs.whole.Runs.{calls_kept}
-use Rattle.pass_split_proof.specs.ready.Module.{IsFollowable}
+use Rattle.pass_split_proof.specs.ready.Module.{IsFollowable, IsFollowableIn}
 use Rattle.pass_split_proof.specs.simulation.Given.{GivesNoFrame}
 use Rattle.pass_split_proof.specs.simulation.Premises.{ArePlacesMet, ArePremisesMet}
 use Rattle.pass_split_proof.specs.simulation.Statement.{parts_given}
@@ -21,14 +21,16 @@ use Rattle.pass_split_proof.specs.whole.Whole.{PartsKeepCalls}
 use Rattle.pass_proofs.specs.run_framed.Framed.{framed_given}
 use Rattle.run_access_worked.specs.run_plain.declared.state.PlainState.{PlainState}
 use Rattle.pass_proofs.specs.run_source.declared.state.State.{State}
+use Rattle.pass_proofs.specs.rule_names.declared.stage.Stage.{Stage}
 
-module _ (ls : Layouts) (m : Module) (w : IsFollowable ls m) (answers : List ℤ) where
+module _ {stage : Stage} {ruler : Module} (ls : Layouts) (m : Module) (w : IsFollowableIn stage ruler ls m)
+    (answers : List ℤ) where
   pub places_met : (s : State) (t : PlainState)
       (r : AreRelated (framed_given m ls.coroutines answers) (parts_given ls m answers) s t)
       → ArePlacesMet (framed_given m ls.coroutines answers) (parts_given ls m answers) s t r
   places_met s t r = record {
     term = terms_ready ls m w answers s t r;
-    ordinary = λ i here p ungiven. ordinary_ready ls m w answers s t r i here p;
+    ordinary = ordinary_ready ls m w answers s t r;
     called = call_ready ls m w answers s t r;
     alloca = alloca_ready ls m w answers s t r;
     allocator = allocator_ready ls m w answers s t r;
@@ -50,4 +52,5 @@ module _ (ls : Layouts) (m : Module) (w : IsFollowable ls m) (answers : List ℤ
   premises_met = record { functions = functions_met ls m w answers; places = places_met }
 
 pub calls_followable : (ls : Layouts) (m : Module) → IsFollowable ls m → GivesNoFrame m → PartsKeepCalls ls m
-calls_followable ls m w gives = calls_kept ls m w.partable gives (λ answers. premises_met ls m w answers)
+calls_followable ls m w gives = calls_kept ls m w.partable gives (types_met ls m w)
+    (λ answers. premises_met ls m w answers)

@@ -21,7 +21,7 @@ use Rattle.pass_split_proof.proofs.ready.Rules.{function_of_term}
 use Rattle.pass_split_proof.specs.branching.Terminators.{IsAtTerm}
 use Rattle.pass_split_proof.specs.first_exits.Parted.{parted_module}
 use Rattle.pass_split_proof.specs.places.Places.{IsCodeOf, IsPlace}
-use Rattle.pass_split_proof.specs.ready.Module.{IsFollowable, IsRuled}
+use Rattle.pass_split_proof.specs.ready.Module.{IsFollowableIn, IsRuled}
 use Rattle.pass_split_proof.specs.ready.Names.{HasMovedNames}
 use Rattle.pass_split_proof.specs.simulation.Premises.{IsAt, IsAtPlace}
 use Rattle.pass_split_proof.specs.simulation.Statement.{parts_given}
@@ -36,17 +36,19 @@ use Rattle.run_access_worked.specs.run_plain.Plain.{PlainGiven}
 use Rattle.run_access_worked.specs.run_plain.declared.state.PlainState.{PlainState}
 use Rattle.pass_proofs.specs.run_source.declared.state.State.{State}
 use Rattle.pass_proofs.specs.run_step.Step.{AtTerm, fetch, label_of, phis_of}
+use Rattle.pass_proofs.specs.rule_names.declared.stage.Stage.{Stage}
 
 -- ---- of a function
 
-module _ (ls : Layouts) (m : Module) (names : HasMovedNames ls m) (k : ℕ) (f : Function) (ruled : IsRuled m k f) where
+module _ {r : Module} (ls : Layouts) (m : Module) (globals : r.globals ≡ m.globals) (names : HasMovedNames ls m)
+    (k : ℕ) (f : Function) (ruled : IsRuled r k f) where
   phis_by : (begin : ℕ) → BeginsBy f begin → (block from : ℕ) (o : Option Block) → slice_get f.blocks block ≡ o
       → AreReadablePhis m (parted_module ls m) f from begin (phis_of o)
   phis_by begin by block from None e = record { taken = tt; others = tt }
   phis_by begin by block from (Some b) e = record {
-    taken = phis_readable ls m names k f ruled block from b e;
+    taken = phis_readable ls m globals names k f ruled block from b e;
     others = each_of (λ (p : Phi). p.result ≡ begin → ⊥) b.phis
-        (λ p l. other_phi m k f ruled.rules begin by block b p e l);
+        (λ p l. other_phi r k f ruled.rules begin by block b p e l);
   }
 
   pub phis_ready : (begin : ℕ) → BeginsBy f begin → (block from : ℕ)
@@ -59,13 +61,14 @@ module _ (ls : Layouts) (m : Module) (names : HasMovedNames ls m) (k : ℕ) (f :
   term_readable q s part block at piece offset t coded place here =
       let y = term_there f block at t here in
       subst (λ (u : Terminator). Each (IsReadable m (parted_module ls m) f) (operands_of_term u)) y.is
-      (ending_readable ls m names k f ruled block y.own y.got (λ v l.
+      (ending_readable ls m globals names k f ruled block y.own y.got (λ v l.
       not_read f q s part block at piece offset t coded place here v
       (subst (λ (u : Terminator). IsListed v (locals_in (ending_operands u))) y.is l)))
 
 -- ---- at related states
 
-module _ (ls : Layouts) (m : Module) (w : IsFollowable ls m) (answers : List ℤ) where
+module _ {stage : Stage} {ruler : Module} (ls : Layouts) (m : Module) (w : IsFollowableIn stage ruler ls m)
+    (answers : List ℤ) where
   abbrev g : FramedGiven
   g = framed_given m ls.coroutines answers
 
@@ -84,10 +87,11 @@ module _ (ls : Layouts) (m : Module) (w : IsFollowable ls m) (answers : List ℤ
         settled = p.settled;
         place = p.place;
         there = here;
-        readable = term_readable ls m w.names s.top.func (function_at m s.top.func) ruled
+        readable = term_readable ls m w.ruler.globals w.names s.top.func (function_at m s.top.func) ruled
             (function_at (parted_module ls m) t.top.func) r.top.shape r.top.part s.top.block s.top.at t.top.block
             t.top.at term r.top.coded p.place here;
-        phis = λ label l. phis_ready ls m w.names s.top.func (function_at m s.top.func) ruled r.top.shape.begin by
+        phis = λ label l. phis_ready ls m w.ruler.globals w.names s.top.func (function_at m s.top.func) ruled
+            r.top.shape.begin by
             (position_of (function_at m s.top.func) label)
             (label_of (slice_get (function_at m s.top.func).blocks s.top.block));
       }

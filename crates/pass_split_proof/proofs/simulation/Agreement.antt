@@ -6,11 +6,10 @@ use Rattle.pass_proofs.specs.ir_base.declared.outcome.Word.{Word}
 use Rattle.pass_proofs.specs.ir_model.declared.module.Module.{Module}
 use Rattle.pass_cleanup.specs.Cleaned.{plain_machine}
 use Rattle.pass_split_proof.specs.first_exits.Parted.{parted_module}
-use Rattle.pass_split_proof.specs.simulation.Statement.{IsEntryOfParts, PartsKeepStates, parts_given}
-use Rattle.pass_split_proof.specs.states.Related.{AreRelated, Follows, part_price, price_of}
+use Rattle.pass_split_proof.specs.simulation.Statement.{IsBetween, IsEntryOfParts, PartsKeepStates, parts_given}
+use Rattle.pass_split_proof.specs.states.Related.{Follows, part_price, price_of}
 use Rattle.pass_proofs.proofs.run_agreement.Costs.{agrees_within_by_steps}
 use Rattle.pass_proofs.specs.run_agreement.Agreements.{AgreesWithin}
-use Rattle.pass_proofs.specs.run_agreement.Costs.{IsNear}
 use Rattle.pass_proofs.specs.run_agreement.Machines.{at}
 use Rattle.pass_proofs.specs.run_framed.Framed.{framed_given}
 use Rattle.pass_proofs.specs.run_states.moved_states.Beside.{framed_machine}
@@ -28,8 +27,8 @@ pub parts_agree : (ls : Layouts) (m : Module) → PartsKeepStates ls m
     (at (plain_machine (parted_module ls m) other args answers))
 parts_agree ls m keeps entry other args answers is = agrees_within_by_steps
     (Follows (framed_given m ls.coroutines answers) (parts_given ls m answers))
-    (IsNear (plain_machine (parted_module ls m) other args answers) 9
-    (AreRelated (framed_given m ls.coroutines answers) (parts_given ls m answers)))
+    (IsBetween (framed_given m ls.coroutines answers) (parts_given ls m answers)
+    (plain_machine (parted_module ls m) other args answers))
     (framed_machine m ls entry args answers) (part_price (framed_given m ls.coroutines answers))
     (plain_machine (parted_module ls m) other args answers) (λ t. 1) 4
     (λ s. price_within _ _) (λ t. omega arith) (keeps entry other args answers is)

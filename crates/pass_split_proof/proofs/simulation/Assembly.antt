@@ -11,9 +11,9 @@ use Rattle.pass_cleanup.specs.Cleaned.{plain_machine}
 use Rattle.pass_split_proof.proofs.simulation.Agreement.{price_within}
 use Rattle.pass_split_proof.proofs.simulation.Weights.{weight_some, weight_within}
 use Rattle.pass_split_proof.specs.first_exits.Parted.{parted_module}
-use Rattle.pass_split_proof.specs.simulation.Followed.{AreStepsFollowed, AreStepsFollowedBy, IsFollowed, IsFollowedBy, ShowsOn}
-use Rattle.pass_split_proof.specs.simulation.Statement.{IsEntryOfParts, PartsKeepStates, parts_given}
-use Rattle.pass_split_proof.specs.states.Related.{AreRelated, Follows, IsFollowing, IsOn, credit_of, fetched_at, is_behind_suspend, measure, part_price, weight}
+use Rattle.pass_split_proof.specs.simulation.Followed.{AreStepsFollowed, AreStepsFollowedBy, IsFollowed, IsFollowedBy, IsOwed, ShowsOn}
+use Rattle.pass_split_proof.specs.simulation.Statement.{IsBetween, IsEntryOfParts, PartsKeepStates, parts_given}
+use Rattle.pass_split_proof.specs.states.Related.{AreHeadersKept, AreRelated, Follows, IsFollowing, IsOn, credit_of, fetched_at, is_behind_suspend, measure, part_price, weight}
 use Rattle.pass_proofs.proofs.run_agreement.Costs.{weaken_by}
 use Rattle.pass_proofs.proofs.run_agreement.PricedLockstep.{AdvanceBy, IsPassed, SimulatesBy, lockstep_by}
 use Rattle.pass_proofs.proofs.run_agreement.Runs.{iterate-add}
@@ -27,6 +27,8 @@ use Rattle.pass_proofs.specs.run_source.Source.{first_state}
 use Rattle.pass_proofs.specs.run_source.declared.state.State.{State}
 use Rattle.pass_proofs.specs.run_states.moved_states.Beside.{framed_machine}
 use Rattle.pass_proofs.specs.run_step.Runs.{seen_event}
+use Rattle.pass_split_proof.proofs.states.Headers.{headers_all}
+use Rattle.pass_proofs.specs.run_memory.declared.block.MemoryBlock.{MemoryBlock}
 
 -- ---- the account of one step
 
@@ -150,10 +152,10 @@ module _ (ls : Layouts) (m : Module) (entry other : ℕ) (args : List Word) (ans
         sums : (b i : ℕ) → b ≤ i → b + (i - b) ≡ i
         sums b i le = omega arith
 
-    on_here : (i : ℕ) → i < b + n → IsOn s (iterate step i t)
+    on_here : (i : ℕ) → i < b + n → IsOn g s (iterate step i t)
     on_here i lt = ⊎_elim
         (λ l. r.passes i l)
-        (λ le. subst (IsOn s) (sym (from_there i le)) (f.passes (i - b) (less b n i le lt)))
+        (λ le. subst (IsOn g s) (sym (from_there i le)) (f.passes (i - b) (less b n i le lt)))
         (cases_lt i b)
       where
         less : (b n i : ℕ) → b ≤ i → i < b + n → i - b < n
@@ -181,11 +183,11 @@ module _ (ls : Layouts) (m : Module) (entry other : ℕ) (args : List Word) (ans
             few : (b n i : ℕ) → b ≤ i → i < b + n → n ≤ 9 → i - b ≤ 9 - 1
             few b n i le lt short = omega arith
 
-    passed : (i : ℕ) → i < b + n → IsPassed ours theirs (IsNear theirs 9 (AreRelated g h)) s (iterate step i t)
+    passed : (i : ℕ) → i < b + n → IsPassed ours theirs (IsBetween g h theirs) s (iterate step i t)
     passed i lt = record {
       runs = (on_here i lt).running;
       events = ap (map (seen_event m)) (on_here i lt).events;
-      holds = near_here i lt;
+      holds = record { near = near_here i lt; headers = (on_here i lt).headers };
     }
 
     split : taken + d ≡ b + n
@@ -198,11 +200,11 @@ module _ (ls : Layouts) (m : Module) (entry other : ℕ) (args : List Word) (ans
     way : iterate step n u ≡ iterate step d (iterate step taken t)
     way = sym (iterate-add step b n t) ∙ steps_on taken d (b + n) t split
 
-    on_next : (i : ℕ) → i < d → IsOn next (iterate step i (iterate step taken t))
+    on_next : (i : ℕ) → i < d → IsOn g next (iterate step i (iterate step taken t))
     on_next i lt = ⊎_elim
         (λ z. absurd (none i d z lt))
-        (λ p. subst (IsOn next) (steps_on taken i (taken + i) t refl) (shows p.1 (on_here (taken + i)
-        (less b n d i f.within lt))))
+        (λ p. subst (IsOn g next) (steps_on taken i (taken + i) t refl) (shows p.shows (on_here (taken + i)
+        (less b n d i f.within lt)) (headers p)))
         f.owed
       where
         none : (i d : ℕ) → d ≡ 0 → i < d → ⊥
@@ -211,12 +213,29 @@ module _ (ls : Layouts) (m : Module) (entry other : ℕ) (args : List Word) (ans
         less : (b n d i : ℕ) → d ≤ n → i < d → ((b + n) - d) + i < b + n
         less b n d i le lt = omega arith
 
-        shows : {x : PlainState} → ShowsOn s next → IsOn s x → IsOn next x
-        shows p o = record {
+        late : (b n d i : ℕ) → d ≤ n → b ≤ (b + n) - d + i
+        late b n d i le = omega arith
+
+        owes : (b n d i : ℕ) → d ≤ n → n ≤ ((b + n) - d + i) - b + d
+        owes b n d i le = omega arith
+
+        early : (b n d i : ℕ) → d ≤ n → i < d → ((b + n) - d + i) - b < n
+        early b n d i le lt = omega arith
+
+        -- the memory is what it is behind the debt
+        headers : IsOwed g h s u n d → AreHeadersKept g next (iterate step (taken + i) t).world.memory
+        headers p = subst (λ (m : List MemoryBlock). AreHeadersKept g next m)
+            (sym (ap (λ (y : PlainState). y.world.memory) (from_there (taken + i) (late b n d i f.within))
+            ∙ p.still ((taken + i) - b) (owes b n d i f.within) (early b n d i f.within lt)))
+            (headers_all g next (iterate step n u).world.memory f.related.frames.headed)
+
+        shows : {x : PlainState} → ShowsOn s next → IsOn g s x → AreHeadersKept g next x.world.memory → IsOn g next x
+        shows p o h = record {
           goes = p.goes;
           running = o.running;
           events = o.events ∙ sym p.events;
           allocs = o.allocs ∙ sym p.allocs;
+          headers = h;
         }
 
     following : IsFollowing g h (credit_of next) next (iterate step taken t)
@@ -224,7 +243,7 @@ module _ (ls : Layouts) (m : Module) (entry other : ℕ) (args : List Word) (ans
       behind = d;
       related = subst (AreRelated g h next) way f.related;
       passes = on_next;
-      paid = ⊎_elim inl (λ p. inr p.0) f.owed;
+      paid = ⊎_elim inl (λ p. inr p.room) f.owed;
       calls = same (credit_of next);
     }
       where
@@ -234,7 +253,7 @@ module _ (ls : Layouts) (m : Module) (entry other : ℕ) (args : List Word) (ans
     on_run : framed_step g s ≡ framed_state_at g entry args (index + 1)
     on_run = ap (framed_step g) reached ∙ sym (iterate-add (framed_step g) index 1 (first_state m entry args))
 
-    advances : AdvanceBy ours (part_price g) theirs (λ t. 1) IsKept (IsNear theirs 9 (AreRelated g h)) (measure g) c s t
+    advances : AdvanceBy ours (part_price g) theirs (λ t. 1) IsKept (IsBetween g h theirs) (measure g) c s t
     unfolding following
     advances = record {
       steps = taken;
@@ -277,8 +296,14 @@ module _ (ls : Layouts) (m : Module) (entry other : ℕ) (args : List Word) (ans
       (λ z. let k = stands c s t r z in sym k.world.allocs)
       (zero_or r.behind)
 
-  near : (c : ℕ) (s : State) (t : PlainState) → IsFollowing g h c s t → IsNear theirs 9 (AreRelated g h) s t
-  near c s t r = (r.behind, few r.behind (low_behind c s t r), inr r.related)
+  between : (c : ℕ) (s : State) (t : PlainState) → IsFollowing g h c s t → IsBetween g h theirs s t
+  between c s t r = record {
+    near = (r.behind, few r.behind (low_behind c s t r), inr r.related);
+    headers = ⊎_elim
+        (λ pos. (r.passes 0 pos).headers)
+        (λ z. headers_all g s t.world.memory (stands c s t r z).frames.headed)
+        (zero_or r.behind);
+  }
     where
       few : (b : ℕ) → b ≤ 3 → b ≤ 9 - 1
       few b le = omega arith
@@ -304,13 +329,13 @@ module _ (ls : Layouts) (m : Module) (entry other : ℕ) (args : List Word) (ans
     followed s u index reached = subst (λ (x : State). AreRelated g h x u → Knows x u → x.outcome ≡ Outcome.Running
         → IsFine (framed_step g x).outcome → IsFollowedBy g h Knows x u) (sym reached) (all index u)
 
-    simulates : SimulatesBy ours (part_price g) theirs (λ t. 1) IsKept (IsNear theirs 9 (AreRelated g h)) (measure g)
+    simulates : SimulatesBy ours (part_price g) theirs (λ t. 1) IsKept (IsBetween g h theirs) (measure g)
     unfolding begins
     simulates = record {
       begin = record { follows = begins; knows = known; index = 0; reached = refl };
       same = λ c s t k. shows c s t k.follows;
       counts = λ c s t k. counts c s t k.follows;
-      holds = λ c s t k. near c s t k.follows;
+      holds = λ c s t k. between c s t k.follows;
       advance = λ c s t k runs fine. advances c s t k.follows
           (followed s (iterate (plain_step h) k.follows.behind t) k.index k.reached k.follows.related
           k.knows (running_is s.outcome runs) fine) k.index k.reached;
@@ -319,14 +344,14 @@ module _ (ls : Layouts) (m : Module) (entry other : ℕ) (args : List Word) (ans
     }
 
     pub assembled_by : AgreesBy (Follows (framed_given m ls.coroutines answers) (parts_given ls m answers))
-        (IsNear (plain_machine (parted_module ls m) other args answers) 9
-        (AreRelated (framed_given m ls.coroutines answers) (parts_given ls m answers)))
+        (IsBetween (framed_given m ls.coroutines answers) (parts_given ls m answers)
+        (plain_machine (parted_module ls m) other args answers))
         (framed_machine m ls entry args answers) (part_price (framed_given m ls.coroutines answers))
         (plain_machine (parted_module ls m) other args answers) (λ t. 1)
-    assembled_by = weaken_by (λ s t. (c : ℕ) × IsKept c s t) (IsNear theirs 9 (AreRelated g h)) (Follows g h)
-        (IsNear theirs 9 (AreRelated g h)) ours (part_price g) (part_price g) theirs (λ t. 1) (λ t. 1)
+    assembled_by = weaken_by (λ s t. (c : ℕ) × IsKept c s t) (IsBetween g h theirs) (Follows g h)
+        (IsBetween g h theirs) ours (part_price g) (part_price g) theirs (λ t. 1) (λ t. 1)
         (λ s t k. (k.0, k.1.follows)) (λ s t v. v) (λ n fine. omega arith) (λ n. omega arith)
-        (lockstep_by ours (part_price g) theirs (λ t. 1) IsKept (IsNear theirs 9 (AreRelated g h)) (measure g)
+        (lockstep_by ours (part_price g) theirs (λ t. 1) IsKept (IsBetween g h theirs) (measure g)
         simulates)
 
 -- where nothing more is known
@@ -335,8 +360,8 @@ pub assembled : (ls : Layouts) (m : Module) (entry other : ℕ) (args : List Wor
     (plain_first (parted_module ls m) other args)
     → AreStepsFollowed (framed_given m ls.coroutines answers) (parts_given ls m answers) entry args
     → AgreesBy (Follows (framed_given m ls.coroutines answers) (parts_given ls m answers))
-    (IsNear (plain_machine (parted_module ls m) other args answers) 9
-    (AreRelated (framed_given m ls.coroutines answers) (parts_given ls m answers)))
+    (IsBetween (framed_given m ls.coroutines answers) (parts_given ls m answers)
+    (plain_machine (parted_module ls m) other args answers))
     (framed_machine m ls entry args answers) (part_price (framed_given m ls.coroutines answers))
     (plain_machine (parted_module ls m) other args answers) (λ t. 1)
 assembled ls m entry other args answers start all = assembled_by ls m entry other args answers (λ s t. Unit

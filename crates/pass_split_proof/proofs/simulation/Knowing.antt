@@ -145,6 +145,7 @@ module _ (g : FramedGiven) (xs ys : List Instance) (m k : List MemoryBlock) (ext
     given = λ frame e. subst (λ (u : Value). IsValue (homes_of k) frame u) (sym (same frame e))
         (value_on (homes_of m) (homes_of k) ext frame (value_in values (given_name (shape_at g func))) (h.given
         frame e));
+    calls = h.calls;
     runs = λ part i y at some own there. let p : HasPlace xs m k i y = places i y there in
         p.given ∙ h.runs part i p.old at some own p.there;
   }
@@ -155,6 +156,7 @@ module _ (g : FramedGiven) (xs ys : List Instance) (m k : List MemoryBlock) (ext
       → KnowsFrame g ys k func other instance position others
   mode_knows func mode other instance position values others h none = record {
     given = λ frame e. absurd (none frame e);
+    calls = λ frame e. absurd (none frame e);
     runs = λ part i y at some own there. let p : HasPlace xs m k i y = places i y there in
         p.given ∙ h.runs part i p.old at some own p.there;
   }
@@ -209,9 +211,12 @@ module _ (g : FramedGiven) (s : State) (t : PlainState) (ys : List Instance) (k 
 pub new_knows : (g : FramedGiven) (xs : List Instance) (m : List MemoryBlock) (func : ℕ) (mode : Mode) (position : ℕ)
     (values : Env) → ((frame : Value) → mode ≡ Mode.GivenRamp frame
     → IsValue (homes_of m) frame (value_in values (given_name (shape_at g func))))
+    → ((frame : Value) → mode ≡ Mode.GivenRamp frame
+    → has_given_call g.given.code (function_at g.given.code func) ≡ true)
     → KnowsFrame g xs m func mode None position values
-new_knows g xs m func mode position values given = record {
+new_knows g xs m func mode position values given called = record {
   given = given;
+  calls = called;
   runs = λ part i x at some own there. absurd (none i own);
 }
   where
@@ -223,15 +228,17 @@ pub calls_knows : (g : FramedGiven) (h : PlainGiven) (s : State) (t : PlainState
     (result : Option ℕ) (position : ℕ) (values : Env) → KnowsGiven g s t
     → ((frame : Value) → mode ≡ Mode.GivenRamp frame
     → IsValue (homes_of s.world.memory) frame (value_in values (given_name (shape_at g func))))
+    → ((frame : Value) → mode ≡ Mode.GivenRamp frame
+    → has_given_call g.given.code (function_at g.given.code func) ≡ true)
     → LeavesGiven g result s.top.func s.top.mode
     → (KnowsFrame g s.instances s.world.memory func mode None position values
     × (KnowsFrame g s.instances s.world.memory s.top.func s.top.mode s.top.instance t.top.func t.top.values
     × (LeavesGiven g result s.top.func s.top.mode
     × KnowFrames g s.instances s.world.memory s.top.result s.below t.below)))
     × KnowCalls g s.instances s.world.memory
-calls_knows g h s t func mode result position values know given leaves = (
+calls_knows g h s t func mode result position values know given called leaves = (
   (
-    new_knows g s.instances s.world.memory func mode position values given,
+    new_knows g s.instances s.world.memory func mode position values given called,
     (know.0.0, (leaves, know.0.1)),
   ),
   know.1,
@@ -252,6 +259,7 @@ module _ (g : FramedGiven) (h : Module) (xs : List Instance) (x : Instance) (m k
     record {
       given = λ frame e. value_on (homes_of m) (homes_of k) ext frame
           (value_in b.values (given_name (shape_at g a.func))) (know.0.given frame e);
+      calls = know.0.calls;
       runs = λ part i y at some own there.
           let w = all.0.beside.frame i own in
           let was : slice_get xs i ≡ Some y = sym (get_more xs x i (slice_get_within xs i w.instance w.there))
@@ -282,9 +290,12 @@ pub newest_knows : (g : FramedGiven) (xs : List Instance) (x : Instance) (k : Li
     → is_given_in (slice_get k x.block) x ≡ is_given part
     → ((frame : Value) → mode ≡ Mode.GivenRamp frame
     → IsValue (homes_of k) frame (value_in values (given_name (shape_at g func))))
+    → ((frame : Value) → mode ≡ Mode.GivenRamp frame
+    → has_given_call g.given.code (function_at g.given.code func) ≡ true)
     → KnowsFrame g (xs ++ x ∷ []) k func mode (Some (length xs)) position values
-newest_knows g xs x k func mode position values part at right given = record {
+newest_knows g xs x k func mode position values part at right given called = record {
   given = given;
+  calls = called;
   runs = λ other i y is some own there. subst (λ (z : Instance). is_given_in (slice_get k z.block) z ≡ is_given other)
       (newest i y own there) (right ∙ ap is_given (same_part g func part other (sym at ∙ is)));
 }
@@ -304,6 +315,7 @@ pub waking_knows : (g : FramedGiven) (xs : List Instance) (m : List MemoryBlock)
     → KnowsFrame g (slice_set xs i now) m func mode (Some i) position values
 waking_knows g xs m i now func mode position values part lt at right none = record {
   given = λ frame e. absurd (none frame e);
+  calls = λ frame e. absurd (none frame e);
   runs = λ other j y is some own there.
       let same : other ≡ part = same_part g func other part (sym is ∙ at) in
       subst (λ (z : Instance). is_given_in (slice_get m z.block) z ≡ is_given other) (woken j y own there)

@@ -14,11 +14,13 @@ use Rattle.pass_split_proof.proofs.simulation.Started.{starts_related}
 use Rattle.pass_split_proof.specs.code.Positions.{layout_at, moved}
 use Rattle.pass_split_proof.specs.first_exits.Parted.{parted_function, parted_module}
 use Rattle.pass_split_proof.specs.places.Places.{IsCodeOf, IsPlace, OfPlain}
-use Rattle.pass_split_proof.specs.simulation.Statement.{IsEntryOfParts, IsPartable, parts_given}
+use Rattle.pass_split_proof.specs.simulation.Statement.{IsEntryOfParts, IsPartableIn, parts_given}
 use Rattle.pass_split_proof.specs.states.Related.{AreRelated}
 use Rattle.pass_proofs.specs.pass_split.Given.{has_given_call}
 use Rattle.pass_proofs.specs.pass_split.Parts.{marked_parts, plain_of, plain_shape}
-use Rattle.pass_proofs.specs.rule_laws.rules.function_rules.Kept.{KeepsFunctionRules}
+use Rattle.pass_proofs.specs.rule_laws.rules.function_rules.Kept.{KeepsFunctionRulesAt}
+use Rattle.pass_proofs.specs.rule_names.declared.stage.Stage.{Stage}
+use Rattle.pass_proofs.proofs.rule_laws.rules.function_rules.Stages.{rules_larger}
 use Rattle.pass_proofs.specs.run_framed.Framed.{framed_given}
 use Rattle.run_access_worked.specs.run_plain.Plain.{plain_first}
 use Rattle.pass_proofs.specs.run_source.Source.{first_state}
@@ -32,8 +34,8 @@ no_more k = omega arith
 there_is : (m : Module) (k : ℕ) (f : Function) → slice_get m.functions k ≡ Some f → function_at m k ≡ f
 there_is m k f e = ap (λ (o : Option Function). unwrap_or o no_function) e
 
-module _ (ls : Layouts) (m : Module) (p : IsPartable ls m) (entry other : ℕ) (args : List Word) (answers : List ℤ)
-    (e : IsEntryOfParts ls m entry other) where
+module _ {stage : Stage} {ruler : Module} (ls : Layouts) (m : Module) (p : IsPartableIn stage ruler ls m)
+    (entry other : ℕ) (args : List Word) (answers : List ℤ) (e : IsEntryOfParts ls m entry other) where
   abbrev f : Function
   f = e.function
 
@@ -64,7 +66,8 @@ module _ (ls : Layouts) (m : Module) (p : IsPartable ls m) (entry other : ℕ) (
 
   code : IsCodeOf (function_at m entry) (function_at (parted_module ls m) other) (plain_shape (function_at m entry))
       Part.Ramp
-  code = OfPlain m entry plain (subst (KeepsFunctionRules m entry) (sym at_entry) (p.plain entry f e.there e.plain)) same
+  code = OfPlain ruler entry plain (subst (KeepsFunctionRulesAt Stage.Plain ruler entry) (sym at_entry)
+      (rules_larger stage ruler entry f (p.plain entry f e.there e.plain))) same
 
   place : IsPlace (plain_shape (function_at m entry)) Part.Ramp (function_at m entry)
       (function_at (parted_module ls m) other) 0 0 0 0

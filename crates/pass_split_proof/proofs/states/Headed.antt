@@ -1,5 +1,5 @@
 -- The header of a coroutine that begins is stored, and the memories stand beside each other.
-use Rattle.std.proofs.Common.{◌≡◌, ◌≢◌, ℕ, ◌+◌, ◌%◌, ◌<◌, ◌≤◌, ◌⊎◌, inl, inr, true, false, not, List, [], ◌∷◌, ◌++◌, length, Option, Some, refl, sym, ap, ◌∙◌, subst, arith, ◌||◌, ◌==◌}
+use Rattle.std.proofs.Common.{◌≡◌, ◌≢◌, ℕ, ◌+◌, ◌%◌, ◌<◌, ◌≤◌, ◌⊎◌, inl, inr, Bool, true, false, not, List, [], ◌∷◌, ◌++◌, length, Option, Some, refl, sym, ap, ◌∙◌, subst, arith, ◌||◌, ◌==◌}
 use Rattle.std.specs.Prelude.{slice_get}
 use Rattle.std.proofs.lemmas.Bool.{and_from, and_right, eq-eqb}
 use Rattle.pass_proofs.specs.ir_paths.declared.point.Point.{Point}
@@ -12,7 +12,7 @@ use Rattle.pass_split_proof.proofs.states.SameKind.{given_kept}
 use Rattle.pass_split_proof.proofs.states.Twins.{twin_at}
 use Rattle.pass_split_proof.proofs.states.Written.{range_holds}
 use Rattle.pass_split_proof.specs.states.Begun.{BeginsIn, IsFreshBlock, IsNewInstance, with_header}
-use Rattle.pass_split_proof.specs.states.Instances.{AreFrames, AreLaidFrames, IsControl, IsHeadedIn, IsLaidOut, StandsThere, address_of_part, is_destroyer, is_given_in, is_held, lives_in}
+use Rattle.pass_split_proof.specs.states.Instances.{AreFrames, AreLaidFrames, IsControl, IsHeaded, IsHeadedIn, IsLaidOut, StandsThere, address_of_part, is_destroyer, is_given_in, is_held, lives_in}
 use Rattle.pass_split_proof.specs.code.Positions.{is_given}
 use Rattle.pass_split_proof.specs.states.Memories.{AreBeside}
 use Rattle.pass_proofs.specs.run_framed.Framed.{FramedGiven, layout_of}
@@ -28,6 +28,8 @@ use Rattle.pass_proofs.specs.run_memory.declared.block.Kind.{Kind}
 use Rattle.pass_proofs.specs.run_memory.declared.block.MemoryBlock.{MemoryBlock}
 use Rattle.pass_proofs.specs.run_memory.declared.pointer.Value.{Value}
 use Rattle.pass_proofs.specs.run_source.State.{is_finished}
+use Rattle.run_access_worked.proofs.Begun.{get_more}
+use Rattle.std.proofs.lemmas.Option.{slice_get_within}
 use Rattle.pass_proofs.specs.run_source.declared.state.Instance.{Instance}
 use Rattle.pass_proofs.specs.run_source.declared.state.Status.{Status}
 
@@ -155,25 +157,48 @@ module _ (g : FramedGiven) (xs : List Instance) (x : Instance) (m n : List Memor
       runs : {suspend : Point} {values : List (Option Value)} → Status.Running ≡ Status.Suspended suspend values → ⊥
       runs e = cc
 
-  old_headed : (i : ℕ) (z : Instance) → i < length xs → slice_get xs i ≡ Some z → slice_get more i ≡ Some z
-      → is_held source z ≡ true → IsHeadedIn g source two z
-  old_headed i z lt e e' held' =
-      let was : IsHeadedIn g source n z = headed_on g m source n z (given_kept (owned_to size) (λ y. refl) m
-      x.block z.block z)
-      (frames.headed i z e
-      (sym (old_held g xs x m n u size there fresh frames.laid beside laid sized new.start new.slots new.unfreed i
-      z e) ∙ held')) in
-      let first = headed_held g n one z (others_move g more source n before lies (length xs) x (get_new xs x) held 0 8
-      room_one.0 (encode 8 resumes) room_one.1.0
-      (length-encode 8 resumes ∙ sym room_one.1.1) (some_of room_one.0 room_one.1.1) (λ k lt. in_header 0 (inl refl) k
-      (below room_one.0 room_one.1.1 k lt)) i z (other i (length xs) lt) e' held') was in
-      headed_held g one two z (others_move g more source one beside_one lies (length xs) x (get_new xs x) held 8 8
-      room_two.0 (encode 8 destroys) room_two.1.0
-      (length-encode 8 destroys ∙ sym room_two.1.1) (some_of room_two.0 room_two.1.1) (λ k lt. in_header 8 (inr refl) k
-      (below room_two.0 room_two.1.1 k lt)) i z (other i (length xs) lt) e' held') first
-    where
-      other : (i k : ℕ) → i < k → i ≢ k
-      other i k lt e = omega arith
+  -- the headers of old frames stand behind each store
+  module _ (i : ℕ) (z : Instance) (e : slice_get xs i ≡ Some z) where
+    lt : i < length xs
+    lt = slice_get_within xs i z e
+
+    other : i ≢ length xs
+    other same = let less = lt in omega (arith, less, same)
+
+    got : slice_get more i ≡ Some z
+    got = get_more xs x i lt ∙ e
+
+    held_before : is_held source z ≡ is_held m z
+    held_before = old_held g xs x m n u size there fresh frames.laid beside laid sized new.start new.slots
+        new.unfreed i
+        z e
+
+    first_headed : {given : Bool} → is_held source z ≡ true → IsHeaded g n given z → IsHeaded g one given z
+    first_headed held' = headed_held g n one z (others_move g more source n before lies (length xs) x (get_new xs
+        x) held
+        0 8 room_one.0 (encode 8 resumes) room_one.1.0
+        (length-encode 8 resumes ∙ sym room_one.1.1) (some_of room_one.0 room_one.1.1) (λ k lt. in_header 0 (inl
+        refl) k
+        (below room_one.0 room_one.1.1 k lt)) i z other got held')
+
+    second_headed : {given : Bool} → is_held source z ≡ true → IsHeaded g one given z → IsHeaded g two given z
+    second_headed held' = headed_held g one two z (others_move g more source one beside_one lies (length xs) x
+        (get_new xs x) held 8 8 room_two.0 (encode 8 destroys) room_two.1.0
+        (length-encode 8 destroys ∙ sym room_two.1.1) (some_of room_two.0 room_two.1.1) (λ k lt. in_header 8 (inr
+        refl) k
+        (below room_two.0 room_two.1.1 k lt)) i z other got held')
+
+    old_headed : is_held source z ≡ true → IsHeadedIn g source two z
+    old_headed held' = second_headed held' (first_headed held'
+        (headed_on g m source n z (given_kept (owned_to size) (λ y. refl) m x.block z.block z)
+        (frames.headed i z e (sym held_before ∙ held'))))
+
+    pub headed_by_first : is_held m z ≡ true → IsHeadedIn g m (refilled_at n x.block 0 (encode 8 resumes)) z
+    headed_by_first h = first_headed (held_before ∙ h) (frames.headed i z e h)
+
+    pub headed_by_both : is_held m z ≡ true
+        → IsHeadedIn g m (with_header n x.block resumes (address_of_part g x.coroutine destroyer)) z
+    headed_by_both h = second_headed (held_before ∙ h) (first_headed (held_before ∙ h) (frames.headed i z e h))
 
   -- the frame is among those that there are
   pub begins : BeginsIn g xs x source n resumes destroyer
@@ -189,7 +214,7 @@ module _ (g : FramedGiven) (xs : List Instance) (x : Instance) (m n : List Memor
       laid = lies;
       headed = λ i z e held'. parted g xs x m n u size there fresh frames.laid beside laid sized new.start new.slots
           new.unfreed (λ (w : Instance). is_held source w ≡ true → IsHeadedIn g source two w) i z e
-          (λ lt f h. old_headed i z lt f e h)
+          (λ lt f h. old_headed i z f h)
           (λ at f h. subst (IsHeadedIn g source two) (sym f) new_headed) held';
     };
   }

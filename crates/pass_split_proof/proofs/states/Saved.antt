@@ -255,20 +255,23 @@ module _ (g : FramedGiven) (xs : List Instance) (i : ℕ) (x : Instance) (m n : 
       behind : (s i l : ℕ) → 16 ≤ i → l ≡ 8 → s + l ≤ s + i
       behind s i l p e = omega arith
 
-  destroys_stored : Holds owner_rights two x.block (x.start + 8) 8
+  destroys_indexed : Holds owner_rights one x.block (x.start + 8) 8
       (encode 8 (address_of_part g x.coroutine header.destroyer))
-  destroys_stored = other_held owner_rights one x.block (x.start + 8) 8 x.block x.start 8 _ room_two.0
-      (encode 8 resumes) owner_rights_fit
-      (other_held owner_rights n x.block (x.start + 8) 8 x.block (index_at g x) len _ room_one.0
+  destroys_indexed = other_held owner_rights n x.block (x.start + 8) 8 x.block (index_at g x) len _ room_one.0
       (digits len number) owner_rights_fit header.destroys room_one.1.0 (long_digits ∙ sym room_one.1.1)
       (inr (inl (before x.start (layout_of g.layouts x.coroutine).index
       (length (encode 8 (address_of_part g x.coroutine header.destroyer))) laid.behind
-      (length-encode 8 (address_of_part g x.coroutine header.destroyer))))))
-      room_two.1.0 long_pointer (inr (inr (next x.start (length (encode 8 resumes)) (length-encode 8 resumes))))
+      (length-encode 8 (address_of_part g x.coroutine header.destroyer)))))
     where
       before : (s i l : ℕ) → 16 ≤ i → l ≡ 8 → s + 8 + l ≤ s + i
       before s i l p e = omega arith
 
+  destroys_stored : Holds owner_rights two x.block (x.start + 8) 8
+      (encode 8 (address_of_part g x.coroutine header.destroyer))
+  destroys_stored = other_held owner_rights one x.block (x.start + 8) 8 x.block x.start 8 _ room_two.0
+      (encode 8 resumes) owner_rights_fit destroys_indexed
+      room_two.1.0 long_pointer (inr (inr (next x.start (length (encode 8 resumes)) (length-encode 8 resumes))))
+    where
       next : (s l : ℕ) → l ≡ 8 → s + l ≤ s + 8
       next s l e = omega arith
 
@@ -292,15 +295,44 @@ module _ (g : FramedGiven) (xs : List Instance) (i : ℕ) (x : Instance) (m n : 
     saved = λ point vs f. subst (IsSavedAt g two now) (same_suspend suspend point values vs f) saved_there;
   }
 
-  others_headed : (j : ℕ) (z : Instance) → slice_get xs j ≡ Some z → j ≢ i → is_held m z ≡ true → IsHeadedIn g m two z
-  others_headed j z f ne h = headed_held g one two z
-      (others_move g xs m one beside_one frames.laid i x e held x.start 8 room_two.0 (encode 8 resumes) room_two.1.0
-      long_pointer (some_of room_two.0 8 room_two.1.1 (omega arith)) pointer_control j z ne f h)
-      (headed_held g n one z
+  pub others_indexed : (j : ℕ) (z : Instance) → slice_get xs j ≡ Some z → j ≢ i → is_held m z ≡ true
+      → IsHeadedIn g m (with_index g n x number) z
+  others_indexed j z f ne h = headed_held g n one z
       (others_move g xs m n beside frames.laid i x e held (index_at g x) len room_one.0
       (digits len number) room_one.1.0 (long_digits ∙ sym room_one.1.1) (some_of room_one.0 len room_one.1.1
       (index_some (shape_at g x.coroutine).width)) index_control j z ne f h)
-      (frames.headed j z f h))
+      (frames.headed j z f h)
+
+  pub others_headed : (j : ℕ) (z : Instance) → slice_get xs j ≡ Some z → j ≢ i → is_held m z ≡ true
+      → IsHeadedIn g m (with_save g n x number (resumer_of g x.coroutine numbered.suspend)) z
+  others_headed j z f ne h = headed_held g one two z
+      (others_move g xs m one beside_one frames.laid i x e held x.start 8 room_two.0 (encode 8 resumes) room_two.1.0
+      long_pointer (some_of room_two.0 8 room_two.1.1 (omega arith)) pointer_control j z ne f h)
+      (others_indexed j z f ne h)
+
+  -- on the way its header names what a destroy calls
+  module _ (k : List MemoryBlock) (destroys : Holds owner_rights k x.block (x.start + 8) 8
+      (encode 8 (address_of_part g x.coroutine header.destroyer))) where
+    destroyed : IsHeadedIn g m k (in_state x Status.Running x.last_save x.released)
+    destroyed = record {
+      destroyer = header.destroyer;
+      stands = header.stands;
+      is = header.is;
+      right = header.right;
+      destroys = destroys;
+      saved = λ point vs f. absurd (running f);
+    }
+      where
+        running : {point : Point} {vs : List (Option Value)} → Status.Running ≡ Status.Suspended point vs → ⊥
+        running f = cc
+
+  pub indexed_destroyed : IsHeadedIn g m (with_index g n x number)
+      (in_state x Status.Running x.last_save x.released)
+  indexed_destroyed = destroyed one destroys_indexed
+
+  pub saved_destroyed : IsHeadedIn g m (with_save g n x number (resumer_of g x.coroutine numbered.suspend))
+      (in_state x Status.Running x.last_save x.released)
+  saved_destroyed = destroyed two destroys_stored
 
   -- the instance is Suspended, and its frame says where
   pub saves : SavesIn g xs i x m n number resumes suspend values saved released

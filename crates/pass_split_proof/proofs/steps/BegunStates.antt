@@ -11,7 +11,7 @@ use Rattle.pass_proofs.specs.pass_intrinsics.Lowered.{begin_stores, destroyed_by
 use Rattle.pass_proofs.specs.pass_intrinsics.declared.shape.Part.{Part}
 use Rattle.pass_proofs.specs.pass_intrinsics.declared.shape.Shape.{Shape}
 use Rattle.pass_split_proof.proofs.states.Advanced.{KeepsFrames, all_beside_on}
-use Rattle.pass_split_proof.proofs.states.Headed.{begins}
+use Rattle.pass_split_proof.proofs.states.Headed.{begins, headed_by_both, headed_by_first}
 use Rattle.pass_split_proof.proofs.states.Judged.{get_new}
 use Rattle.pass_split_proof.proofs.states.Values.{values_set}
 use Rattle.pass_split_proof.proofs.states.Written.{length-changed}
@@ -26,7 +26,7 @@ use Rattle.pass_split_proof.specs.states.Begun.{BeginsIn, IsFreshBlock, IsNewIns
 use Rattle.pass_split_proof.specs.states.Going.{stands_at}
 use Rattle.pass_split_proof.specs.states.Instances.{IsLaidOut, StandsThere, address_of_part, destroyer_of, is_destroyer, part_position, shape_at}
 use Rattle.pass_split_proof.specs.states.Memories.{homes_of}
-use Rattle.pass_split_proof.specs.states.Related.{AreRelated}
+use Rattle.pass_split_proof.specs.states.Related.{AreHeadersKept, AreRelated}
 use Rattle.pass_split_proof.specs.states.Values.{AreValuesOf}
 use Rattle.pass_split_proof.specs.steps.Begins.{HasBeginCode, begun_to}
 use Rattle.run_access_worked.proofs.Begun.{get_more}
@@ -47,6 +47,8 @@ use Rattle.pass_proofs.specs.run_source.declared.state.State.{State}
 use Rattle.pass_proofs.specs.run_step.Runs.{iterate}
 use Rattle.pass_proofs.specs.run_step.Step.{Work, set_memory, set_value, value_at}
 use Rattle.pass_proofs.specs.run_step.Values.{Env, value_in, with_value}
+use Rattle.pass_split_proof.proofs.states.Headers.{headers_all}
+use Rattle.pass_split_proof.proofs.steps.Through.{RunsThrough, runs_of}
 
 -- ---- one instance more
 
@@ -76,17 +78,19 @@ module _ (g : FramedGiven) (h : PlainGiven) (s : State) (t : PlainState) (r : Ar
   abbrev destroyer : Part
   destroyer = destroyer_of r.top.part
 
+  destroys : (part : Part) → is_destroyer (destroyer_of part) ≡ true
+  destroys Part.Ramp = refl
+  destroys Part.GivenRamp = refl
+  destroys Part.Resume = refl
+  destroys Part.Destroy = refl
+  destroys Part.Cleanup = refl
+
+  standing : StandsThere g x.coroutine destroyer
+  standing = subst (λ (k : ℕ). StandsThere g k destroyer) (sym mine) code.standing
+
   stored : BeginsIn g s.instances x source t.world.memory resumes (destroyer_of r.top.part)
   stored = begins g s.instances x s.world.memory t.world.memory u size there fresh r.frames r.world.memory laid sized
-      new roomy resumes destroyer (destroys r.top.part)
-      (subst (λ (k : ℕ). StandsThere g k destroyer) (sym mine) code.standing) own
-    where
-      destroys : (part : Part) → is_destroyer (destroyer_of part) ≡ true
-      destroys Part.Ramp = refl
-      destroys Part.GivenRamp = refl
-      destroys Part.Resume = refl
-      destroys Part.Destroy = refl
-      destroys Part.Cleanup = refl
+      new roomy resumes destroyer (destroys r.top.part) standing own
 
   abbrev memory_after : List MemoryBlock
   memory_after = with_header t.world.memory x.block resumes (address_of_part g x.coroutine destroyer)
@@ -122,32 +126,58 @@ module _ (g : FramedGiven) (h : PlainGiven) (s : State) (t : PlainState) (r : Ar
   room_for : shape.begin < length t.top.values
   room_for = let a = r.top.values.room in let b = code.begin in omega arith
 
-  pub runs : Runs (plain_context h t) (begin_stores shape r.top.part code.name p) (plain_work t) four
-  runs = (
+  -- headers stand on the way
+  first_kept : AreHeadersKept g s (refilled_at t.world.memory x.block 0 (encode 8 resumes))
+  first_kept = headers_all g s (refilled_at t.world.memory x.block 0 (encode 8 resumes))
+      (headed_by_first g s.instances x s.world.memory t.world.memory u size there fresh r.frames r.world.memory laid
+      sized new roomy resumes destroyer (destroys r.top.part) standing own)
+
+  both_kept : AreHeadersKept g s (with_header t.world.memory x.block resumes (address_of_part g s.top.func destroyer))
+  both_kept = subst (λ (f : ℕ). AreHeadersKept g s (with_header t.world.memory x.block resumes
+      (address_of_part g f destroyer))) mine
+      (headers_all g s (with_header t.world.memory x.block resumes (address_of_part g x.coroutine destroyer))
+      (headed_by_both g s.instances x s.world.memory t.world.memory u size there fresh r.frames r.world.memory laid
+      sized new roomy resumes destroyer (destroys r.top.part) standing own))
+
+  pub runs_keeping : RunsThrough (λ n. AreHeadersKept g s n) (plain_context h t)
+      (begin_stores shape r.top.part code.name p) (plain_work t) four
+  runs_keeping = (
     one,
     (
       address_done (plain_context h t) (plain_work t) shape.begin x.block 0 0 p leads (omega arith),
       (
-        two,
+        headers_all g s t.world.memory r.frames.headed,
         (
-          pointer_stored (plain_context h t) one x.block 0 8 (Operand.Global shape.resume_name)
-              (Operand.Local shape.begin) (Pointer.Func (part_position g s.top.func Part.Resume)) stored.old
-              (set_there t.top.values shape.begin (pointer_at x.block 0) room_for) code.resumes stored.first
-              stored.long (omega arith),
+          two,
           (
-            three,
+            pointer_stored (plain_context h t) one x.block 0 8 (Operand.Global shape.resume_name)
+                (Operand.Local shape.begin) (Pointer.Func (part_position g s.top.func Part.Resume)) stored.old
+                (set_there t.top.values shape.begin (pointer_at x.block 0) room_for) code.resumes stored.first
+                stored.long (omega arith),
             (
-              address_done (plain_context h t) two code.name x.block 0 8 (Operand.Local shape.begin)
-                  (set_there t.top.values shape.begin (pointer_at x.block 0) room_for) (omega arith),
+              first_kept,
               (
-                four,
+                three,
                 (
-                  pointer_stored (plain_context h t) three x.block 8 8 (Operand.Global (destroyed_by shape r.top.part))
-                      (Operand.Local code.name) (Pointer.Func (part_position g s.top.func destroyer)) stored.older
-                      (set_there with_frame code.name (pointer_at x.block 8) (subst (λ (k : ℕ). code.name < k)
-                      (sym (set_length t.top.values shape.begin (pointer_at x.block 0))) code.room)) code.destroys
-                      stored.second stored.longer (omega arith),
-                  refl,
+                  address_done (plain_context h t) two code.name x.block 0 8 (Operand.Local shape.begin)
+                      (set_there t.top.values shape.begin (pointer_at x.block 0) room_for) (omega arith),
+                  (
+                    first_kept,
+                    (
+                      four,
+                      (
+                        pointer_stored (plain_context h t) three x.block 8 8
+                            (Operand.Global (destroyed_by shape r.top.part))
+                            (Operand.Local code.name) (Pointer.Func (part_position g s.top.func destroyer))
+                            stored.older
+                            (set_there with_frame code.name (pointer_at x.block 8) (subst (λ (k : ℕ). code.name < k)
+                            (sym (set_length t.top.values shape.begin (pointer_at x.block 0))) code.room))
+                            code.destroys
+                            stored.second stored.longer (omega arith),
+                        (both_kept, refl),
+                      ),
+                    ),
+                  ),
                 ),
               ),
             ),
@@ -156,6 +186,11 @@ module _ (g : FramedGiven) (h : PlainGiven) (s : State) (t : PlainState) (r : Ar
       ),
     ),
   )
+
+  pub runs : Runs (plain_context h t) (begin_stores shape r.top.part code.name p) (plain_work t) four
+  runs = runs_of (λ n. AreHeadersKept g s n) (plain_context h t) (begin_stores shape r.top.part code.name p)
+      (plain_work t)
+      four runs_keeping
 
   -- it takes five steps
   pub begin_steps : t.outcome ≡ Outcome.Running

@@ -18,7 +18,7 @@ use Rattle.pass_split_proof.specs.simulation.Followed.{IsFollowed, ShowsOn}
 use Rattle.pass_split_proof.specs.simulation.Knowing.{KnowsGiven}
 use Rattle.pass_split_proof.specs.states.Activations.{is_entering}
 use Rattle.pass_split_proof.specs.states.Going.{stands_at}
-use Rattle.pass_split_proof.specs.states.Related.{AreRelated, IsOn, credit_of, fetched_at, is_behind_suspend, measure, part_price, price_of, weight}
+use Rattle.pass_split_proof.specs.states.Related.{AreHeadersKept, AreRelated, IsOn, credit_of, fetched_at, is_behind_suspend, measure, part_price, price_of, weight}
 use Rattle.pass_split_proof.specs.steps.Branches.{AreReadablePhis, Entered}
 use Rattle.pass_split_proof.specs.steps.Ordinary.{IsAtOrdinary}
 use Rattle.pass_proofs.specs.run_agreement.Machines.{IsFine, iterate}
@@ -30,6 +30,8 @@ use Rattle.pass_proofs.specs.run_source.State.{function_of, or_undefined, settle
 use Rattle.pass_proofs.specs.run_source.declared.state.State.{State}
 use Rattle.pass_proofs.specs.run_source_tables.Given.{Given}
 use Rattle.pass_proofs.specs.run_step.Step.{Action, AtInstr, AtTerm, Done, Fetched, GoTo, Work, action_of, fetch, label_of, phis_of}
+use Rattle.pass_split_proof.proofs.states.Headers.{headers_all}
+use Rattle.pass_proofs.specs.run_step.declared.world.World.{World}
 
 -- ---- a step of the framed run
 
@@ -55,18 +57,24 @@ fine_ok g s (Err c) f = absurd f
 
 module _ (g : FramedGiven) (h : PlainGiven) (s : State) (t : PlainState) (r : AreRelated g h s t)
     (runs : s.outcome ≡ Outcome.Running) where
-  pub here_on : IsOn s t
-  here_on = record {
+  -- where the world is the same, so is all that is seen
+  pub still_on : {u : PlainState} → u.outcome ≡ Outcome.Running → u.world ≡ t.world → IsOn g s u
+  still_on goes same = record {
     goes = runs;
-    running = r.outcome ∙ runs;
-    events = r.world.events;
-    allocs = r.world.allocs;
+    running = goes;
+    events = ap (λ (w : World). w.events) same ∙ r.world.events;
+    allocs = ap (λ (w : World). w.allocs) same ∙ r.world.allocs;
+    headers = subst (λ (w : World). AreHeadersKept g s w.memory) (sym same)
+        (headers_all g s t.world.memory r.frames.headed);
   }
+
+  pub here_on : IsOn g s t
+  here_on = still_on (r.outcome ∙ runs) refl
 
   -- several steps, each of them seen on its way
   pub many_followed : (n : ℕ) (u : State) → n ≤ 9 → 0 < n → framed_step g s ≡ u
       → n + credit_of u ≤ weight (fetched_at g s) + credit_of s
-      → ((i : ℕ) → i < n → IsOn s (iterate (plain_step h) i t)) → AreRelated g h u (iterate (plain_step h) n t)
+      → ((i : ℕ) → i < n → IsOn g s (iterate (plain_step h) i t)) → AreRelated g h u (iterate (plain_step h) n t)
       → (KnowsGiven g s t → KnowsGiven g u (iterate (plain_step h) n t)) → IsFollowed g h s t
   many_followed n u short pos is few passes related keeps = record {
     steps = n;
@@ -95,7 +103,7 @@ module _ (g : FramedGiven) (h : PlainGiven) (s : State) (t : PlainState) (r : Ar
       one_more : (c w k : ℕ) → c ≤ k → 1 ≤ w → 1 + c ≤ w + k
       one_more c w k le some = omega arith
 
-      on_way : (i : ℕ) → i < 1 → IsOn s (iterate (plain_step h) i t)
+      on_way : (i : ℕ) → i < 1 → IsOn g s (iterate (plain_step h) i t)
       on_way zero lt = here_on
       on_way (suc i) lt = absurd (none i lt)
         where
@@ -113,7 +121,7 @@ module _ (g : FramedGiven) (h : PlainGiven) (s : State) (t : PlainState) (r : Ar
       one_more : (c w k : ℕ) → c ≤ 1 + k → 2 ≤ w → 1 + c ≤ w + k
       one_more c w k le some = omega arith
 
-      on_way : (i : ℕ) → i < 1 → IsOn s (iterate (plain_step h) i t)
+      on_way : (i : ℕ) → i < 1 → IsOn g s (iterate (plain_step h) i t)
       on_way zero lt = here_on
       on_way (suc i) lt = absurd (none i lt)
         where
@@ -201,14 +209,9 @@ module _ (g : FramedGiven) (h : PlainGiven) (s : State) (t : PlainState) (r : Ar
       jumps = plain_does h (stands_at t mark 0 (plain_work t)) (AtTerm (Terminator.Jump label)) (GoTo label)
           (r.outcome ∙ runs) on.jumps refl
 
-      on_way : (i : ℕ) → i < 2 → IsOn s (iterate (plain_step h) i t)
+      on_way : (i : ℕ) → i < 2 → IsOn g s (iterate (plain_step h) i t)
       on_way zero lt = here_on
-      on_way (suc zero) lt = subst (IsOn s) (sym steps) (record {
-        goes = runs;
-        running = r.outcome ∙ runs;
-        events = r.world.events;
-        allocs = r.world.allocs;
-      })
+      on_way (suc zero) lt = subst (IsOn g s) (sym steps) (still_on (r.outcome ∙ runs) refl)
       on_way (suc (suc i)) lt = absurd (none i lt)
         where
           none : (i : ℕ) → suc (suc i) < 2 → ⊥
@@ -227,6 +230,20 @@ module _ (g : FramedGiven) (h : PlainGiven) (s : State) (t : PlainState) (r : Ar
       has_room = subst (λ (x : Fetched). 1 + weight x ≤ price_of (is_behind_suspend g next.0) x) (sym end_there)
           (light (is_behind_suspend g next.0) begins.first begins.ends)
 
+      -- the jump changes no memory
+      still : (i : ℕ) → 2 ≤ i + 1 → i < 2
+          → (iterate (plain_step h) i t).world.memory ≡ (iterate (plain_step h) 2 t).world.memory
+      still zero low lt = absurd (none low)
+        where
+          none : 2 ≤ 0 + 1 → ⊥
+          none low = omega arith
+      still (suc zero) low lt = ap (λ (y : PlainState). y.world.memory) steps
+          ∙ sym (ap (λ (y : PlainState). y.world.memory) (ap (plain_step h) steps ∙ jumps))
+      still (suc (suc i)) low lt = absurd (none i lt)
+        where
+          none : (i : ℕ) → suc (suc i) < 2 → ⊥
+          none i lt = omega arith
+
       shows : ShowsOn s next.0
       shows = subst (ShowsOn s) (sym entered.is) (record { goes = runs; events = refl; allocs = refl })
 
@@ -239,10 +256,11 @@ module _ (g : FramedGiven) (h : PlainGiven) (s : State) (t : PlainState) (r : Ar
         few = subst (λ (x : State). 2 + credit_of x ≤ weight (fetched_at g s) + 1 + credit_of s) (sym is)
             (two_more (credit_of next.0) (weight (fetched_at g s)) (credit_of s) same_credit
             (weight_some (fetched_at g s)));
-        owed = inr (
-          subst (λ (x : State). 1 + weight (fetched_at g x) ≤ part_price g x) (sym is) has_room,
-          subst (ShowsOn s) (sym is) shows,
-        );
+        owed = inr (record {
+          room = subst (λ (x : State). 1 + weight (fetched_at g x) ≤ part_price g x) (sym is) has_room;
+          shows = subst (ShowsOn s) (sym is) shows;
+          still = still;
+        });
         goes_on = inl (omega arith);
         passes = on_way;
         related = subst (λ (x : State). AreRelated g h x (iterate (plain_step h) 2 t)) (sym is)

@@ -26,7 +26,7 @@ use Rattle.pass_split_proof.proofs.waking.Addressed.{leads}
 use Rattle.pass_split_proof.proofs.waking.Cut.{begins_none, marks_stays, returns_stays, suspends_stays, transfers_stays}
 use Rattle.pass_split_proof.specs.places.Places.{AreNew, IsPlace, BeginsAgain, HasCode, IsCode, Marks, Returns, Stays, Suspends, Transfers}
 use Rattle.pass_split_proof.specs.simulation.Followed.{IsFollowed}
-use Rattle.pass_split_proof.specs.states.Activations.{Inside, IsBehind, IsLeaving, IsPlaced, Passed}
+use Rattle.pass_split_proof.specs.states.Activations.{Inside, IsBehind, IsBehindTransfer, IsLeaving, IsPlaced, Passed}
 use Rattle.pass_split_proof.specs.states.Going.{placed_at, stands_at}
 use Rattle.pass_split_proof.specs.states.Instances.{part_position, address_of_part, resumer_of, shape_at}
 use Rattle.pass_split_proof.specs.states.Memories.{homes_of}
@@ -196,10 +196,10 @@ module _ (g : FramedGiven) (h : PlainGiven) (s : State) (t : PlainState) (r : Ar
           one_less : (i : ℕ) → suc i < 3 → i < 2
           one_less i lt = omega arith
 
-      pub passing : fetch q pass 2 ≡ AtTerm (Terminator.Ret None)
+      pub passing : IsBehindTransfer r.top.shape f q s.top.block (s.top.at + 1) pass 2
           → IsLeaving f r.top.shape.end (record s.top { at = s.top.at + 1 }) → s.top.mode ≡ Mode.Resumed
           → HasCalled g h s t r w.instance Part.Resume
-      passing ret leaving resumed = record {
+      passing waits leaving resumed = record {
         calls = 3;
         few = omega arith;
         some = omega arith;
@@ -213,7 +213,7 @@ module _ (g : FramedGiven) (h : PlainGiven) (s : State) (t : PlainState) (r : Ar
         begin = begin_stays pass 0 n new line;
         given = given_stays pass 0 n new line;
         waiting = subst (λ (mode : Mode). IsPlaced r.top.shape r.top.part f q (record s.top { at = s.top.at + 1 })
-            (placed_at t.top pass 2 (after pass 0 n new line)) mode) (sym resumed) (Passed ret leaving);
+            (placed_at t.top pass 2 (after pass 0 n new line)) mode) (sym resumed) (Passed waits leaving);
         behind = behind;
       }
 
@@ -279,14 +279,14 @@ module _ (g : FramedGiven) (h : PlainGiven) (s : State) (t : PlainState) (r : Ar
         (λ some. absurd (false≢true some))
 
     pub passes_followed : (pass n : ℕ) → AreNew f q n 1 → plain_step h t ≡ stands_at t pass 0 (plain_work t)
-        → StandAt q pass 0 (resume_call n k.arg.value) → fetch q pass 2 ≡ AtTerm (Terminator.Ret None)
+        → StandAt q pass 0 (resume_call n k.arg.value)
+        → IsBehindTransfer r.top.shape f q s.top.block (s.top.at + 1) pass 2
         → IsLeaving f r.top.shape.end (record s.top { at = s.top.at + 1 }) → s.top.mode ≡ Mode.Resumed
         → IsFollowed g h s t
-    passes_followed pass n new jumps line ret leaving resumed = woken_followed g h s t r k.running k.settled p w
+    passes_followed pass n new jumps line waits leaving resumed = woken_followed g h s t r k.running k.settled p w
         Part.Resume label wakes.waking is heavy wakes.ends
         (passing w wakes stored (r.frames.laid.known w.number w.instance w.there) small_start pass n new jumps
-        line ret
-        leaving resumed) (λ some. absurd (false≢true some))
+        line waits leaving resumed) (λ some. absurd (false≢true some))
 
     -- by the code that stands there
     code : HasCode r.top.shape r.top.part f q s.top.block s.top.at t.top.block t.top.at here

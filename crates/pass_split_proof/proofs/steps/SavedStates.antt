@@ -40,6 +40,8 @@ use Rattle.pass_proofs.specs.run_source.declared.state.Status.{Status}
 use Rattle.pass_proofs.specs.run_step.Runs.{iterate}
 use Rattle.pass_proofs.specs.run_step.Step.{Work, set_memory, set_value, value_at}
 use Rattle.pass_proofs.specs.run_step.Values.{address_of, value_in}
+use Rattle.pass_split_proof.proofs.steps.Through.{RunsThrough, runs_of}
+use Rattle.pass_proofs.specs.run_memory.declared.block.MemoryBlock.{MemoryBlock}
 
 -- what a save stores for a resume is a pointer
 pointer_for : FramedGiven → ℕ → SuspendPoint → Pointer
@@ -124,9 +126,13 @@ module _ (g : FramedGiven) (h : PlainGiven) (s : State) (t : PlainState) (r : Ar
       = set_memory (set_value (plain_work t) code.name
       (pointer_at x.block (x.start + (layout_of g.layouts x.coroutine).index))) (with_save g t.world.memory x number v)
 
-  pub runs_here : Runs (plain_context h t) (save_stores (shape_at g x.coroutine) code.name number) (plain_work t) after
-  runs_here = subst (λ (b : Bool). Runs (plain_context h t) (line_by b) (plain_work t) after) (sym final)
-      (subst (λ (v : Value). Runs (plain_context h t) (line_by numbered.suspend.is_final) (plain_work t)
+  -- what holds of the memory before, with the index, and with the pointer too, holds all the way
+  pub runs_through : (P : List MemoryBlock → Type 0) → P t.world.memory → P (with_index g t.world.memory x number)
+      → P (with_save g t.world.memory x number (resumer_of g x.coroutine numbered.suspend))
+      → RunsThrough P (plain_context h t) (save_stores (shape_at g x.coroutine) code.name number) (plain_work t) after
+  runs_through P none index all = subst (λ (b : Bool). RunsThrough P (plain_context h t) (line_by b) (plain_work t)
+      after) (sym final)
+      (subst (λ (v : Value). RunsThrough P (plain_context h t) (line_by numbered.suspend.is_final) (plain_work t)
       (after_with v)) (sym (resumer_is g x.coroutine numbered.suspend))
       (save_runs (plain_context h t) (plain_work t) (shape_at g x.coroutine) code.name number x.block x.start
       (resumed_by (shape_at g x.coroutine) numbered.suspend.is_final) (pointer_for g x.coroutine numbered.suspend)
@@ -142,7 +148,13 @@ module _ (g : FramedGiven) (h : PlainGiven) (s : State) (t : PlainState) (r : Ar
       numbered.suspend) (sym mine) (λ w. operand_is g h t s.top.func numbered.suspend w code.named)
       (set_memory (set_value (plain_work t) code.name
       (pointer_at x.block (x.start + (layout_of g.layouts x.coroutine).index)))
-      (with_index g t.world.memory x number)) ∙ resumer_is g x.coroutine numbered.suspend)))
+      (with_index g t.world.memory x number)) ∙ resumer_is g x.coroutine numbered.suspend) P none index
+      (subst (λ (v : Value). P (with_save g t.world.memory x number v)) (resumer_is g x.coroutine numbered.suspend)
+      all)))
+
+  pub runs_here : Runs (plain_context h t) (save_stores (shape_at g x.coroutine) code.name number) (plain_work t) after
+  runs_here = runs_of (λ n. Unit {0}) (plain_context h t) (save_stores (shape_at g x.coroutine) code.name number)
+      (plain_work t) after (runs_through (λ n. Unit {0}) tt tt tt)
 
   -- it takes four steps
   pub save_steps : t.outcome ≡ Outcome.Running

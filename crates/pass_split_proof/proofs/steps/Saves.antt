@@ -18,7 +18,7 @@ use Rattle.pass_split_proof.proofs.steps.Small.{index_stored, pointer_stored}
 use Rattle.pass_split_proof.specs.states.Values.{AreValuesOf}
 use Rattle.pass_split_proof.specs.steps.Small.{IsIndexWidth}
 use Rattle.pass_proofs.proofs.run_laws.transfer.Sets.{set_elsewhere, set_length}
-use Rattle.pass_proofs.specs.run_laws.access.Lines.{Holds, Runs, pointer_at, refilled_at}
+use Rattle.pass_proofs.specs.run_laws.access.Lines.{Holds, pointer_at, refilled_at}
 use Rattle.pass_proofs.specs.run_laws.memory.Pointers.{Home, IsValue}
 use Rattle.pass_proofs.specs.run_memory.Memory.{digits, encode}
 use Rattle.pass_proofs.specs.run_memory.declared.block.Byte.{Byte}
@@ -33,6 +33,7 @@ use Rattle.pass_split_proof.specs.states.Instances.{in_state}
 use Rattle.pass_proofs.specs.ir_model.declared.module.Function.{Function}
 use Rattle.pass_proofs.specs.run_step.Step.{Context, Work, set_memory, set_value, value_at}
 use Rattle.pass_proofs.specs.run_step.Values.{Env, value_in, with_value}
+use Rattle.pass_split_proof.proofs.steps.Through.{RunsThrough}
 
 -- ---- names that the framed run hasn't
 
@@ -114,22 +115,29 @@ module _ (c : Context) (w : Work) (s : Shape) (n j b o : ℕ) (x : Operand) (q :
       → IsIndexWidth s.width → (s.width ≡ IntWidth.I8 → j < 2 ^ 8) → (s.width ≡ IntWidth.I16 → j < 2 ^ 16)
       → Holds c.rights w.world.memory b (o + s.index) (index_bytes s.width) old → length old ≡ index_bytes s.width
       → Holds c.rights indexed b o 8 older → length older ≡ 8
-      → value_at c two ptr x ≡ Value.Ptr q → Runs c line w three
-  save_runs begin small other room width eight sixteen first long second longer is = (
+      → value_at c two ptr x ≡ Value.Ptr q → (P : List MemoryBlock → Type 0) → P w.world.memory → P indexed
+      → P three.world.memory → RunsThrough P c line w three
+  save_runs begin small other room width eight sixteen first long second longer is P none index all = (
     one,
     (
       address_done c w n b o s.index (Operand.Local s.begin) begin small,
       (
-        two,
+        none,
         (
-          index_stored c one s.width b (o + s.index) j (Operand.Local n) old eight sixteen
-              (set_there w.values n (pointer_at b (o + s.index)) room) first long width,
+          two,
           (
-            three,
+            index_stored c one s.width b (o + s.index) j (Operand.Local n) old eight sixteen
+                (set_there w.values n (pointer_at b (o + s.index)) room) first long width,
             (
-              pointer_stored c two b o 8 x (Operand.Local s.begin) q older (set_elsewhere w.values n s.begin
-                  (pointer_at b (o + s.index)) other ∙ begin) is second longer (omega arith),
-              refl,
+              index,
+              (
+                three,
+                (
+                  pointer_stored c two b o 8 x (Operand.Local s.begin) q older (set_elsewhere w.values n s.begin
+                      (pointer_at b (o + s.index)) other ∙ begin) is second longer (omega arith),
+                  (all, refl),
+                ),
+              ),
             ),
           ),
         ),

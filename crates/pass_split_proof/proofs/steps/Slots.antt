@@ -1,5 +1,5 @@
 -- An alloca makes a slot in both runs.
-use Rattle.std.proofs.Common.{◌≡◌, ℕ, suc, ◌+◌, ◌<◌, ◌≤◌, ◌^◌, Bool, true, false, List, ◌∷◌, length, Option, Some, refl, sym, ap, ◌∙◌, subst, arith}
+use Rattle.std.proofs.Common.{◌≡◌, ◌≢◌, ℕ, suc, ◌+◌, ◌<◌, ◌≤◌, ◌^◌, Bool, true, false, List, ◌∷◌, length, Option, Some, refl, sym, ap, ◌∙◌, subst, arith}
 use Rattle.std.specs.Prelude.{slice_get}
 use Rattle.std.proofs.lemmas.Bool.{false≢true}
 use Rattle.pass_proofs.specs.ir_model.Names.{function_at}
@@ -23,7 +23,7 @@ use Rattle.pass_split_proof.proofs.steps.Calls.{result_elsewhere, result_length}
 use Rattle.pass_split_proof.proofs.steps.Operands.{block_itself}
 use Rattle.pass_split_proof.specs.states.Activations.{AtEnd, AtSuspend, AtSwitch, Inside, IsPlaced, Making, Passed, Stopping, is_entering}
 use Rattle.pass_split_proof.specs.states.Going.{moved_to, placed_at}
-use Rattle.pass_split_proof.specs.states.Instances.{AreFrames, is_given_in, shape_at}
+use Rattle.pass_split_proof.specs.states.Instances.{AreFrames, IsHeadedIn, is_given_in, is_held, is_held_in, shape_at}
 use Rattle.pass_split_proof.specs.states.Memories.{AreBeside, homes_of, plain_kind}
 use Rattle.pass_split_proof.specs.states.Related.{AreRelated}
 use Rattle.pass_split_proof.specs.states.Values.{AreValuesOf}
@@ -48,6 +48,8 @@ use Rattle.pass_proofs.specs.run_source.declared.state.State.{State}
 use Rattle.pass_proofs.specs.run_step.Step.{Work}
 use Rattle.pass_proofs.specs.run_step.Values.{pointer_to, with_result}
 use Rattle.pass_proofs.specs.run_step.declared.world.Slot.{Slot}
+use Rattle.pass_split_proof.proofs.states.Closed.{headed_on}
+use Rattle.pass_proofs.proofs.run_laws.memory.Written.{changed_elsewhere}
 
 -- ---- a slot more
 
@@ -151,6 +153,25 @@ module _ (g : FramedGiven) (xs : List Instance) (m n : List MemoryBlock) (size a
       = subst (λ (b : ℕ). AreFrames g xs (end made_source (length m)) (end made_target b)) (sym long)
       (dead_frames ended ended ends g xs made_source made_target (length m)
       (fresh_frames g xs m n size align kind small unlike frames))
+
+  -- the frames of instances have their headers as they had
+  slot_there : (marked : Bool) (b : ℕ) → b < length m
+      → slice_get (slot_memory m size align kind marked) b ≡ slice_get m b
+  slot_there true b lt = changed_elsewhere made_source (length m) b ended (below b (length m) lt)
+      ∙ got_before m (blank_block size align kind) b lt
+    where
+      below : (a k : ℕ) → a < k → a ≢ k
+      below a k lt e = omega (arith, lt, e)
+  slot_there false b lt = got_before m (blank_block size align kind) b lt
+
+  pub slot_headed : (marked too : Bool) → (too ≡ true → marked ≡ true) → AreFrames g xs m n → (i : ℕ) (z : Instance)
+      → slice_get xs i ≡ Some z → is_held m z ≡ true
+      → IsHeadedIn g m (slot_memory n size align (plain_kind kind) too) z
+  slot_headed marked too less frames i z e held =
+      let same = slot_there marked z.block (frames.laid.known i z e) in
+      headed_on g (slot_memory m size align kind marked) m (slot_memory n size align (plain_kind kind) too) z
+      (sym (ap (λ (o : Option MemoryBlock). is_given_in o z) same))
+      ((slot_frames marked too less frames).headed i z e (ap (λ (o : Option MemoryBlock). is_held_in o z) same ∙ held))
 
 -- the block of a frame is of the kind that it was of
 pub slot_given : (m : List MemoryBlock) (size align : ℕ) (kind : Kind) (marked : Bool) (c : ℕ) (z : Instance)

@@ -17,7 +17,7 @@ use Rattle.pass_split_proof.proofs.simulation.Knowing.{KeepsPlaces, calls_know, 
 use Rattle.pass_split_proof.proofs.steps.Calling.{IsCounted, counted_is, counted_related}
 use Rattle.pass_split_proof.proofs.steps.Calls.{result_length}
 use Rattle.pass_split_proof.proofs.steps.Dispatched.{leads_on, quiet_on}
-use Rattle.pass_split_proof.proofs.steps.Followed.{many_followed}
+use Rattle.pass_split_proof.proofs.steps.Followed.{many_followed, still_on}
 use Rattle.pass_split_proof.proofs.steps.Saves.{values_extra}
 use Rattle.pass_split_proof.proofs.steps.Waking.{index_inside, ours, returning, start_frame, start_stands, theirs, woken_related}
 use Rattle.pass_split_proof.proofs.states.Values.{entry_length}
@@ -159,13 +159,9 @@ module _ (g : FramedGiven) (h : PlainGiven) (s : State) (t : PlainState) (r : Ar
   comes_in : iterate (plain_step h) calls t ≡ record called { elided = tally.count }
   comes_in = c.comes ∙ tally.is
 
-  on_quiet : {u : PlainState} → (u.outcome ≡ Outcome.Running) × (u.world ≡ t.world) → IsOn s u
-  on_quiet {u} e = record {
-    goes = runs;
-    running = e.0;
-    events = ap (λ (v : World). v.events) e.1 ∙ r.world.events;
-    allocs = ap (λ (v : World). v.allocs) e.1 ∙ r.world.allocs;
-  }
+  -- the part goes on, and changes nothing that is seen
+  abbrev IsStill : PlainState → Type 0
+  IsStill u = (u.outcome ≡ Outcome.Running) × (u.world ≡ t.world)
 
   same_credit : left_of_calls (s.top ∷ s.below) ≡ 0 + left_of_calls (s.top ∷ s.below)
   same_credit = zero_more (left_of_calls (s.top ∷ s.below))
@@ -245,7 +241,8 @@ module _ (g : FramedGiven) (h : PlainGiven) (s : State) (t : PlainState) (r : Ar
         (subst (λ (n : ℕ). calls + credit_of making ≤ n + credit_of s) (sym heavy)
         (subst (λ (n : ℕ). calls + n ≤ 4 + left_of_calls (s.top ∷ s.below)) same_credit
         (fits calls (left_of_calls (s.top ∷ s.below)) few)))
-        (λ i lt. on_quiet (c.quiet i lt)) (subst (AreRelated g h making) (sym comes_in) makes)
+        (λ i lt. still_on g h s t r runs (c.quiet i lt).0 (c.quiet i lt).1)
+        (subst (AreRelated g h making) (sym comes_in) makes)
         (λ know. subst (KnowsGiven g making) (sym comes_in) (knows mode no_ramp start know))
       where
         low : (n : ℕ) → n ≤ 3 → n ≤ 9
@@ -388,8 +385,8 @@ module _ (g : FramedGiven) (h : PlainGiven) (s : State) (t : PlainState) (r : Ar
       whole : iterate (plain_step h) (calls + 4) t ≡ arrived
       whole = iterate-add (plain_step h) calls 4 t ∙ ap (iterate (plain_step h) 4) comes_in ∙ arrives
 
-      on_way : (i : ℕ) → i < calls + 4 → IsOn s (iterate (plain_step h) i t)
-      on_way i lt = ⊎_elim (λ l. on_quiet (c.quiet i l)) later (cases_lt i calls)
+      all_still : (i : ℕ) → i < calls + 4 → IsStill (iterate (plain_step h) i t)
+      all_still i lt = ⊎_elim (λ l. c.quiet i l) later (cases_lt i calls)
         where
           sums : (i n : ℕ) → n ≤ i → n + (i - n) ≡ i
           sums i n le = omega arith
@@ -397,12 +394,20 @@ module _ (g : FramedGiven) (h : PlainGiven) (s : State) (t : PlainState) (r : Ar
           less : (i n : ℕ) → n ≤ i → i < n + 4 → i - n < 4
           less i n le lt = omega arith
 
-          later : calls ≤ i → IsOn s (iterate (plain_step h) i t)
-          later le = subst (IsOn s) (sym (ap (λ (j : ℕ). iterate (plain_step h) j t) (sym (sums i calls le))
+          later : calls ≤ i → IsStill (iterate (plain_step h) i t)
+          later le = subst IsStill (sym (ap (λ (j : ℕ). iterate (plain_step h) j t) (sym (sums i calls le))
               ∙ iterate-add (plain_step h) calls (i - calls) t
               ∙ ap (iterate (plain_step h) (i - calls)) comes_in))
-              (on_quiet (quiet_on h entered f (layout_of g.layouts func) part number point x.block x.start at_index
-              (i - calls) (less i calls le lt)))
+              (quiet_on h entered f (layout_of g.layouts func) part number point x.block x.start at_index
+              (i - calls) (less i calls le lt))
+
+      on_way : (i : ℕ) → i < calls + 4 → IsOn g s (iterate (plain_step h) i t)
+      on_way i lt = let y = all_still i lt in still_on g h s t r runs y.0 y.1
+
+      still : (i : ℕ) → calls + 4 ≤ i + calls → i < calls + 4
+          → (iterate (plain_step h) i t).world.memory ≡ (iterate (plain_step h) (calls + 4) t).world.memory
+      still i low lt = ap (λ (v : World). v.memory) (all_still i lt).1
+          ∙ sym (ap (λ (y : PlainState). y.world.memory) whole)
 
       light : (b : Bool) (z : Fetched) → b ≡ true → weight z ≡ 1 → calls + weight z ≤ price_of b z
       light b z e one = subst (λ (y : Bool). calls + weight z ≤ price_of y z) (sym e)
@@ -431,10 +436,11 @@ module _ (g : FramedGiven) (h : PlainGiven) (s : State) (t : PlainState) (r : Ar
             (sym is_going) (subst (λ (n : ℕ). calls + 4 + credit_of going ≤ n + calls + credit_of s) (sym heavy)
             (subst (λ (n : ℕ). calls + 4 + n ≤ 4 + calls + left_of_calls (s.top ∷ s.below)) same_credit
             (fits calls (left_of_calls (s.top ∷ s.below)))));
-        owed = inr (
-          subst (λ (y : State). calls + weight (fetched_at g y) ≤ part_price g y) (sym is_going) has_room,
-          subst (ShowsOn s) (sym is_going) (record { goes = runs; events = refl; allocs = refl }),
-        );
+        owed = inr (record {
+          room = subst (λ (y : State). calls + weight (fetched_at g y) ≤ part_price g y) (sym is_going) has_room;
+          shows = subst (ShowsOn s) (sym is_going) (record { goes = runs; events = refl; allocs = refl });
+          still = still;
+        });
         goes_on = inl (grows calls);
         passes = on_way;
         related = subst (λ (y : State). AreRelated g h y (iterate (plain_step h) (calls + 4) t)) (sym is_going)

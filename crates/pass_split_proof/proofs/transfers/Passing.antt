@@ -17,7 +17,7 @@ use Rattle.pass_proofs.specs.ir_model.declared.operand.Intrinsic.{Intrinsic}
 use Rattle.pass_proofs.specs.ir_model.declared.operand.Operand.{Operand}
 use Rattle.pass_proofs.specs.ir_paths.Windows.{call_result, end_block, operand_at}
 use Rattle.pass_proofs.specs.pass_intrinsics.Cuts.{goes_on, token_in}
-use Rattle.pass_proofs.specs.pass_intrinsics.Shapes.{save_of, token_of}
+use Rattle.pass_proofs.specs.pass_intrinsics.Shapes.{is_end, save_of, token_of}
 use Rattle.pass_proofs.specs.pass_intrinsics.declared.shape.Part.{Part}
 use Rattle.pass_proofs.specs.pass_intrinsics.declared.shape.Shape.{Shape}
 use Rattle.pass_split_proof.proofs.simulation.Knowing.{goes_knows, left_places}
@@ -30,7 +30,7 @@ use Rattle.pass_split_proof.proofs.transfers.Stayed.{end_less_ahead, one_less_ah
 use Rattle.pass_split_proof.proofs.transfers.Stop.{at_end_block, switch_stops}
 use Rattle.pass_split_proof.specs.places.Places.{IsCodeOf, IsStop, OfCoroutine, OfPlain, StartsWithEnd}
 use Rattle.pass_split_proof.specs.simulation.Followed.{IsFollowed}
-use Rattle.pass_split_proof.specs.states.Activations.{AtEnd, AtSuspend, AtSwitch, IsBehind, IsLeaving, IsPlaced, Passed, RunsPart, is_entering}
+use Rattle.pass_split_proof.specs.states.Activations.{AtEnd, AtSuspend, AtSwitch, IsBehind, IsBehindTransfer, IsLeaving, IsPlaced, Passed, RunsPart, is_entering}
 use Rattle.pass_split_proof.specs.states.Going.{goes_to, moved_to}
 use Rattle.pass_split_proof.specs.states.Memories.{homes_of}
 use Rattle.pass_split_proof.specs.states.Related.{AreRelated, credit_of}
@@ -84,6 +84,17 @@ local_is : (v : ℕ) (x : Operand) → is_local v x ≡ true → x ≡ Operand.L
 local_is v (Operand.Local u) e = ap Operand.Local (sym (eqb-true v u e))
 local_is v _ e = absurd (cc)
 
+no_instr : {t : Terminator} {i : Instr} → AtTerm t ≡ AtInstr i → ⊥
+no_instr e = absurd (cc)
+
+one_instr : {i j : Instr} → AtInstr i ≡ AtInstr j → i ≡ j
+one_instr e = cc
+
+-- no suspend is an end
+never_both : (i : Instr) → is_end i ≡ true → is_suspend i ≡ true → ⊥
+never_both (Instr.Call result must_tail ty (Callee.Intrinsic Intrinsic.CoroSuspend) args) e sus = absurd (cc)
+never_both _ e sus = absurd (cc)
+
 -- ---- what the rules give of a coroutine
 
 record HasEnd (f : Function) (end : ℕ) : Type 0 where
@@ -122,6 +133,16 @@ module _ (g : FramedGiven) (h : PlainGiven) (s : State) (t : PlainState) (r : Ar
 
   same : (n : ℕ) → n ≤ n
   same n = omega arith
+
+  -- the part stays where it is, while the framed run leaves the suspend
+  onward : (at block : ℕ) → ((i : Instr) → fetch f block at ≡ AtInstr i → is_suspend i ≡ true → ⊥)
+      → IsBehindTransfer r.top.shape f q block at t.top.block t.top.at
+  onward at block none = record {
+    number = k.waits.number;
+    stands = k.waits.stands;
+    returns = k.waits.returns;
+    suspends = λ i there sus. absurd (none i there sus);
+  }
 
   -- ---- over the suspend
 
@@ -192,7 +213,8 @@ module _ (g : FramedGiven) (h : PlainGiven) (s : State) (t : PlainState) (r : Ar
         (set_length s.top.values stop.result minus)
         (subst (λ (mode : Mode). IsPlaced r.top.shape r.top.part f q
         (moved_to s.top s.top.block (s.top.at + 1) values s.top.has_left) t.top mode) (sym k.mode)
-        (Passed k.returns (AtSwitch g.given.code stop.arg stop.cases
+        (Passed (onward (s.top.at + 1) s.top.block (λ j there sus. no_instr (sym stop.switch ∙ there)))
+        (AtSwitch g.given.code stop.arg stop.cases
         (record { before = s.top.at; at = refl; instr = i; there = here; is = is }) stop.switch stop.both value))))
         (λ know. know)
 
@@ -232,7 +254,8 @@ module _ (g : FramedGiven) (h : PlainGiven) (s : State) (t : PlainState) (r : Ar
         r.top.values refl
         (subst (λ (mode : Mode). IsPlaced r.top.shape r.top.part f q
         (moved_to s.top (position_of f end) 0 s.top.values entered.left) t.top mode) (sym k.mode)
-        (Passed k.returns (AtEnd refl refl))))
+        (Passed (onward 0 (position_of f end) (λ j there sus. never_both j
+        (ap is_end (one_instr (sym there ∙ has.starts.here)) ∙ has.starts.ends) sus)) (AtEnd refl refl))))
         (λ know. goes_knows g s t entered.instances s.world.memory t.top.values (record { each = λ b e. refl })
         (left_places s.world.memory s.instances entered.instances entered.was) know (λ frame e. refl))
 
@@ -247,7 +270,7 @@ module _ (g : FramedGiven) (h : PlainGiven) (s : State) (t : PlainState) (r : Ar
     end = has.starts.first;
     there = ap (λ (p : ℕ × ℕ). fetch f p.0 p.1) (λ j. (block j, at j)) ∙ has.starts.here;
     ends = has.starts.ends;
-    returns = k.returns;
+    returns = k.waits.returns;
   })
 
   pub passing_followed : IsFollowed g h s t

@@ -1,6 +1,6 @@
 -- A resume that transfers, and one in any kind of part.
 use Rattle.std.proofs.Common.{◌≡◌, ℕ, ◌+◌, ◌⊎◌, inl, inr, true, List, [], ◌∷◌, refl, sym, ap, ◌∙◌}
-use Rattle.std.specs.Prelude.{slice_get}
+use Rattle.std.specs.Prelude.{Some, slice_get}
 use Rattle.std.proofs.lemmas.Bool.{false≢true}
 use Rattle.pass_proofs.specs.ir_base.declared.outcome.Outcome.{Outcome}
 use Rattle.pass_proofs.specs.ir_model.Names.{position_of}
@@ -10,7 +10,8 @@ use Rattle.pass_proofs.specs.ir_model.declared.instr.Terminator.{Terminator}
 use Rattle.pass_proofs.specs.ir_model.declared.module.Function.{Function}
 use Rattle.pass_proofs.specs.ir_model.declared.operand.Callee.{Callee}
 use Rattle.pass_proofs.specs.ir_model.declared.operand.Intrinsic.{Intrinsic}
-use Rattle.pass_proofs.specs.pass_intrinsics.Cuts.{cut_at, goes_on, next_suspend}
+use Rattle.pass_proofs.specs.pass_intrinsics.Cuts.{cut_at, goes_on, next_suspend, token_in}
+use Rattle.pass_proofs.specs.pass_intrinsics.Lowered.{number_of_save}
 use Rattle.pass_proofs.specs.pass_intrinsics.Shapes.{pass_label}
 use Rattle.pass_proofs.specs.pass_intrinsics.declared.cuts.Cut.{Cut}
 use Rattle.pass_proofs.specs.pass_intrinsics.declared.shape.Part.{Part}
@@ -87,6 +88,18 @@ module _ (g : FramedGiven) (h : PlainGiven) (s : State) (t : PlainState) (r : Ar
       on y = AtSuspend y.suspend y.here y.suspends
           (stop_of f q r.top.shape r.top.part r.top.coded goes s.top.block (s.top.at + 1) y.suspend y.here y.suspends)
 
+  -- the suspend has the transfer's number
+  names : (j : ℕ) (after : List Instr) → StandAt f s.top.block s.top.at (here ∷ after)
+      → cut_at r.top.shape r.top.part here after ≡ Cut.Transfers j → (i : Instr)
+      → fetch f s.top.block (s.top.at + 1) ≡ AtInstr i → is_suspend i ≡ true
+      → number_of_save r.top.shape (token_in i) ≡ Some j
+  names j after stand e i there is =
+      let y = suspend_behind r.top.shape r.top.part f s.top.block s.top.at j here after stand e in
+      ap (λ (u : Instr). number_of_save r.top.shape (token_in u)) (same (sym there ∙ y.here)) ∙ y.number
+    where
+      same : {u v : Instr} → AtInstr u ≡ AtInstr v → u ≡ v
+      same e = cc
+
   transferring : (j : ℕ) (after : List Instr) (term : Terminator) → StandAt f s.top.block s.top.at (here ∷ after)
       → goes_on r.top.part ≡ true → cut_at r.top.shape r.top.part here after ≡ Cut.Transfers j
       → IsCode r.top.shape r.top.part f q s.top.block s.top.at t.top.block t.top.at here after term
@@ -99,7 +112,13 @@ module _ (g : FramedGiven) (h : PlainGiven) (s : State) (t : PlainState) (r : Ar
   transferring j after term here_on goes e (Returns begins cut ret) = absurd (returns_transfers j (sym cut ∙ e))
   transferring j after term here_on goes e (Transfers n number begins cut new jump bare remain)
       = passes_followed g h s t r k fine can (position_of q (pass_label r.top.shape number)) n new
-      (jumps_bare h t (pass_label r.top.shape number) (r.outcome ∙ k.running) jump bare) remain.stand remain.ends
+      (jumps_bare h t (pass_label r.top.shape number) (r.outcome ∙ k.running) jump bare) remain.stand
+      (record {
+        number = number;
+        stands = refl;
+        returns = remain.ends;
+        suspends = names number after here_on cut;
+      })
       (leaving j after here_on e goes)
       (resumed_mode s.top.mode r.top.part r.top.runs goes k.settled)
   transferring j after term here_on goes e (BeginsAgain begins jump)

@@ -50,9 +50,10 @@ use Rattle.pass_split_proof.specs.giving.Intrinsics.{IsAtIntrinsic, is_constant}
 use Rattle.pass_split_proof.proofs.whole.Held.{starts_none, unfreed_held}
 use Rattle.pass_split_proof.proofs.whole.Woken.{can_be_destroyed, can_be_resumed, woken_held}
 use Rattle.pass_split_proof.specs.simulation.Knowing.{KnowsGiven, is_for_some}
-use Rattle.pass_split_proof.specs.whole.Giving.{AreGivenPlacesMet, SavesUnfinished, StartsNoFrame, here_of}
+use Rattle.pass_split_proof.specs.whole.Giving.{AreGivenPlacesMet, AsksSmall, SavesUnfinished, StartsNoFrame, here_of}
 use Rattle.pass_split_proof.specs.given_begins.Beginning.{IsAtGivenBegin}
 use Rattle.pass_split_proof.specs.held.Kept.{IsKeptState, IsNoHeap, begins_heap}
+use Rattle.pass_split_proof.specs.making.Blocks.{allocates}
 use Rattle.pass_split_proof.specs.marking.Markers.{IsAtMarker}
 use Rattle.pass_split_proof.specs.own_blocks.Own.{FitsMode, HasOwnBlocks, IsOwnState}
 use Rattle.pass_split_proof.specs.simulation.Followed.{IsFollowed}
@@ -80,9 +81,6 @@ use Rattle.pass_proofs.specs.run_source.declared.state.State.{State}
 use Rattle.pass_proofs.specs.run_step.Results.{and_then, ok_if}
 use Rattle.pass_proofs.specs.run_step.Step.{Action, AtInstr, AtTerm, Coro, Deallocate, Done, Enter, Fetched, GoTo, NewSlot, Nowhere, Return, Stuck, action_of, block_of, fetch, instr_action, is_lifetime, named_call}
 use Rattle.pass_proofs.specs.run_step.Values.{arg_value, arg_values, nth, value_in}
-use Rattle.run_types.proofs.Runs.{sizes_small}
-use Rattle.run_types.specs.Fitting.{AreFitting}
-use Rattle.run_types.specs.States.{IsMalloc, IsNew, TakesSize}
 use Rattle.run_types.specs.run_hooks.Reached.{IsReachedState}
 
 -- ---- what holds of a state of the framed run
@@ -92,7 +90,7 @@ pub record IsHeldState (g : FramedGiven) (s : State) : Type 0 where
   pub own : IsOwnState g.given.code s
   pub kept : IsKeptState s
   pub reached : IsReachedState g.given s
-  pub fits : AreFitting (function_of g.given s) s.top.values
+  pub small : AsksSmall g s (here_of g s)
 
 -- what holds of related states, where calls may give frames
 pub record IsGivingState (g : FramedGiven) (h : PlainGiven) (s : State) (t : PlainState) (r : AreRelated g h s t)
@@ -181,16 +179,15 @@ module _ (g : FramedGiven) (h : PlainGiven) (met : ArePremisesMet g h) (s : Stat
             (q.places.called result must_tail ty n args func here at e)
         by None e = on e (function_named c n) refl
 
-    small : (a : Allocator) → TakesSize a → IsAt g s (call (Callee.Allocator a)) → (x : Word)
+    small : (a : Allocator) → allocates a ≡ true → IsAt g s (call (Callee.Allocator a)) → (x : Word)
         → nth (arg_values c s.top.values args) 0 ≡ Value.Int x → x.bits < 2 ^ 64
-    small a takes here x e = sizes_small c f s.top.values (met.functions.typed s.top.func) k.fits s.top.block s.top.at
-        result must_tail ty a args here takes x e
+    small a is here x e = subst (AsksSmall g s) here k.small is x e
 
     allocator_here : (a : Allocator) → IsAt g s (call (Callee.Allocator a)) → IsFollowed g h s t
     allocator_here Allocator.Malloc here = allocator_followed g h s t r at.running fine
-        (places.allocator result must_tail ty Allocator.Malloc args here at refl (small Allocator.Malloc IsMalloc here))
+        (places.allocator result must_tail ty Allocator.Malloc args here at refl (small Allocator.Malloc refl here))
     allocator_here Allocator.Znwm here = allocator_followed g h s t r at.running fine
-        (places.allocator result must_tail ty Allocator.Znwm args here at refl (small Allocator.Znwm IsNew here))
+        (places.allocator result must_tail ty Allocator.Znwm args here at refl (small Allocator.Znwm refl here))
     allocator_here Allocator.Free here = deallocation_followed g h s t r at.running fine
         (places.deallocator result must_tail ty Allocator.Free args here at refl)
     allocator_here Allocator.ZdlPv here = deallocation_followed g h s t r at.running fine
@@ -262,7 +259,8 @@ module _ (g : FramedGiven) (h : PlainGiven) (met : ArePremisesMet g h) (s : Stat
         by Mode.Resumed e fits = absurd (again Mode.Resumed e refl fits.1)
         by (Mode.GivenRamp frame) e fits = q.begins (q.places.begin result must_tail ty args frame here at e
             (subst (λ (z : Shape). IsValue (homes_of s.world.memory) frame (value_in t.top.values (given_name z)))
-            (sym (shape_is g s.top.func f r.top.shape r.top.shaped fits.0)) (q.knows.0.0.given frame e)))
+            (sym (shape_is g s.top.func f r.top.shape r.top.shaped fits.0)) (q.knows.0.0.given frame e))
+            (q.knows.0.0.calls frame e))
         by (Mode.Entering from label) e fits = absurd (false≢true (sym at.settled ∙ ap is_entering e))
 
     -- the end

@@ -3,7 +3,6 @@ use Rattle.std.proofs.Common.{◌≡◌, ℕ, ◌+◌, ◌<◌, ◌≤◌, ⊎_e
 use Rattle.std.proofs.lemmas.Bool.{cases_lt}
 use Rattle.pass_proofs.specs.ir_base.declared.outcome.Outcome.{Outcome}
 use Rattle.pass_proofs.specs.ir_model.Names.{function_at}
-use Rattle.pass_proofs.specs.ir_model.declared.instr.Terminator.{Terminator}
 use Rattle.pass_proofs.specs.ir_model.declared.module.Function.{Function}
 use Rattle.pass_proofs.specs.pass_front.Front.{allocas_of}
 use Rattle.pass_proofs.specs.pass_intrinsics.declared.shape.Shape.{Shape}
@@ -16,7 +15,7 @@ use Rattle.pass_split_proof.proofs.begins.SaveCode.{shape_is}
 use Rattle.pass_split_proof.specs.own_blocks.Own.{FitsMode}
 use Rattle.pass_split_proof.specs.simulation.Followed.{IsFollowed}
 use Rattle.pass_split_proof.specs.simulation.Premises.{ArePremisesMet}
-use Rattle.pass_split_proof.specs.states.Activations.{Inside, IsLeaving, IsPlaced, Making, Passed, Stopping, is_entering}
+use Rattle.pass_split_proof.specs.states.Activations.{Inside, IsBehindTransfer, IsLeaving, IsPlaced, Making, Passed, Stopping, is_entering}
 use Rattle.pass_split_proof.specs.states.Related.{AreRelated}
 use Rattle.pass_split_proof.specs.transfers.Passing.{HasSuspendsBeforeEnd}
 use Rattle.pass_proofs.specs.run_agreement.Machines.{IsFine}
@@ -26,7 +25,6 @@ use Rattle.run_access_worked.specs.run_plain.declared.state.PlainState.{PlainSta
 use Rattle.pass_proofs.specs.run_source.State.{function_of}
 use Rattle.pass_proofs.specs.run_source.declared.state.Mode.{Mode}
 use Rattle.pass_proofs.specs.run_source.declared.state.State.{State}
-use Rattle.pass_proofs.specs.run_step.Step.{AtTerm, fetch}
 
 module _ (g : FramedGiven) (h : PlainGiven) (met : ArePremisesMet g h) (s : State) (t : PlainState)
     (r : AreRelated g h s t) (k : IsGivingState g h s t r) (runs : s.outcome ≡ Outcome.Running)
@@ -51,12 +49,13 @@ module _ (g : FramedGiven) (h : PlainGiven) (met : ArePremisesMet g h) (s : Stat
       last a n lt le = omega arith
 
   -- one that comes from behind a transfer to the end
-  passes : s.top.mode ≡ Mode.Resumed → fetch q t.top.block t.top.at ≡ AtTerm (Terminator.Ret None)
+  passes : s.top.mode ≡ Mode.Resumed
+      → IsBehindTransfer r.top.shape f q s.top.block s.top.at t.top.block t.top.at
       → IsLeaving f r.top.shape.end s.top → IsFollowed g h s t
-  passes e returns leaving = passing_followed g h s t r (record {
+  passes e waits leaving = passing_followed g h s t r (record {
     running = runs;
     mode = e;
-    returns = returns;
+    waits = waits;
     leaving = leaving;
     suspends = subst (λ (z : Shape). HasSuspendsBeforeEnd f z.end)
         (sym (shape_is g s.top.func f r.top.shape r.top.shaped coroutine))
@@ -77,7 +76,7 @@ module _ (g : FramedGiven) (h : PlainGiven) (met : ArePremisesMet g h) (s : Stat
   by_place _ e (Stopping mode m arg cases settled behind there both value jump enters) =
       stop_followed g h s t r m arg cases there both value runs fine (ap is_entering e ∙ settled) jump enters
   by_place _ e (Making from label block piece at among) = makes from label e block piece at among
-  by_place _ e (Passed returns leaving) = passes e returns leaving
+  by_place _ e (Passed waits leaving) = passes e waits leaving
 
   pub step_followed : IsFollowed g h s t
   step_followed = by_place s.top.mode refl r.top.place

@@ -14,6 +14,7 @@ starts_know g h entry other args = (
   (
     record {
       given = λ frame e. absurd (plain frame e);
+      calls = λ frame e. absurd (plain frame e);
       runs = λ part i x func some own there. absurd (none i own);
     },
     tt,

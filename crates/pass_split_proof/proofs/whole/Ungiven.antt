@@ -86,7 +86,7 @@ module _ (g : FramedGiven) (h : PlainGiven) (met : AreFunctionsMet g h) (ungiven
     called = λ result must_tail ty name args func here at gives.
         absurd (other (sym (ungiven.calls s.top.func s.top.block s.top.at result must_tail ty name args here) ∙
         gives));
-    begin = λ result must_tail ty args frame here at e given. absurd (no_given_mode frame e);
+    begin = λ result must_tail ty args frame here at e given called. absurd (no_given_mode frame e);
     frees = λ result must_tail ty args here at part. ungiven.coroutines s.top.func
         (met.intrinsics s.top.func s.top.block s.top.at result must_tail ty Intrinsic.CoroFree args here refl);
   }

@@ -2,7 +2,7 @@
 use Rattle.std.specs.Prelude.{◌≡◌, ℕ, true, false, List, [], map, length, slice_get, Some, None, ◌+◌, ◌∷◌, ◌++◌, ◌≤◌}
 use Rattle.pass_proofs.specs.frame_layout.declared.layout.Layout.{Layout}
 use Rattle.pass_proofs.specs.flow_solver.Paths.{IsListed}
-use Rattle.pass_proofs.specs.rule_laws.rules.function_rules.Kept.{KeepsFunctionRules}
+use Rattle.pass_proofs.specs.rule_laws.rules.function_rules.Kept.{KeepsFunctionRulesAt}
 use Rattle.pass_proofs.specs.ir_model.Names.{is_local, position_of}
 use Rattle.pass_proofs.specs.ir_model.Ty.{Ty}
 use Rattle.pass_proofs.specs.ir_model.declared.instr.Case.{Case}
@@ -29,17 +29,19 @@ use Rattle.pass_proofs.specs.split.rules.Splittable.{IsSplittable}
 use Rattle.pass_proofs.specs.pass_split.Parts.{plain_of, plain_shape}
 use Rattle.pass_proofs.specs.pass_split.Pieces.{begins_again, origin_in, redirected, stop_label}
 use Rattle.pass_proofs.specs.pass_split.declared.origin.Origin.{Origin}
+use Rattle.pass_proofs.specs.rule_names.declared.stage.Stage.{Stage}
 use Rattle.pass_proofs.specs.rule_shape.Suspends.{is_suspend}
 use Rattle.pass_proofs.specs.rule_shape.Switches.{are_both}
 use Rattle.pass_proofs.specs.run_laws.access.Lines.{StandAt}
 use Rattle.pass_proofs.specs.run_step.Step.{AtInstr, AtTerm, fetch, incoming_from, label_of, phis_of}
 
--- g is one of the functions that splitting makes of a function f that breaks no rule, by a shape and as a part
+-- g is one of the functions that splitting makes of a function f that breaks no rule, by a shape and as a part.
+-- Allocas of another function may be frames that it gives (2^24 bytes).
 pub data IsCodeOf (f g : Function) : Shape → Part → Type 0 where
   OfCoroutine : (m : Module) (k : ℕ) (layout : Layout) (begin : ℕ) (part : Part) → IsSplittable m k f begin
       → IsPartOf (shape_of f layout) f part g → IsCodeOf f g (shape_of f layout) part
-  OfPlain : (m : Module) (k : ℕ) → f.coroutine ≡ false → KeepsFunctionRules m k f → g ≡ plain_of (plain_shape f) f
-      → IsCodeOf f g (plain_shape f) Part.Ramp
+  OfPlain : (m : Module) (k : ℕ) → f.coroutine ≡ false → KeepsFunctionRulesAt Stage.Plain m k f
+      → g ≡ plain_of (plain_shape f) f → IsCodeOf f g (plain_shape f) Part.Ramp
 
 -- what phis take where their block is entered from a label: the name that is set, its type and the operand
 abbrev pub entering : ℕ → List Phi → List (ℕ × (Ty × Operand))

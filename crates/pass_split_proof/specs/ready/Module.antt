@@ -17,10 +17,11 @@ use Rattle.pass_proofs.specs.pass_intrinsics.Shapes.{part_name, shape_of}
 use Rattle.pass_proofs.specs.pass_kept_proof.SuspendRules.{IsCallAt}
 use Rattle.pass_split_proof.specs.ready.Fields.{AreInnerIndices}
 use Rattle.pass_split_proof.specs.ready.Names.{HasMovedNames}
-use Rattle.pass_split_proof.specs.simulation.Statement.{IsPartable}
+use Rattle.pass_split_proof.specs.simulation.Statement.{IsPartableIn, IsRulerOf}
 use Rattle.pass_proofs.specs.rule_laws.frames.replaced.Parted.{IsSmall}
 use Rattle.pass_proofs.specs.rule_laws.rules.counted.Widths.{first_other_width}
-use Rattle.pass_proofs.specs.rule_laws.rules.function_rules.Kept.{KeepsFunctionRules}
+use Rattle.pass_proofs.specs.rule_laws.rules.function_rules.Kept.{KeepsFunctionRulesAt}
+use Rattle.pass_proofs.specs.rule_names.declared.stage.Stage.{Stage}
 use Rattle.pass_proofs.specs.rule_shape.OneOfEach.{wrong_call}
 use Rattle.pass_proofs.specs.rule_shape.Suspends.{is_suspend}
 use Rattle.pass_proofs.specs.rule_shape.Switches.{wrong_switch}
@@ -28,9 +29,9 @@ use Rattle.pass_proofs.specs.run_framed.Framed.{is_promise_kind, layout_of, no_l
 use Rattle.pass_proofs.specs.run_step.Step.{AtInstr, fetch}
 
 -- A function at a position breaks no rule of functions, and as a coroutine neither K2 nor K3. Its integers have the
--- widths of the grammar.
+-- widths of the grammar. Allocas of a function that is no coroutine may be frames that it gives (2^24 bytes).
 pub record IsRuled (m : Module) (k : ℕ) (f : Function) : Type 0 where
-  pub rules : KeepsFunctionRules m k f
+  pub rules : KeepsFunctionRulesAt Stage.Plain m k f
   pub widths : first_other_width k f ≡ None
   pub calls : f.coroutine ≡ true → wrong_call k f ≡ None
   pub switches : f.coroutine ≡ true → wrong_switch k f ≡ None
@@ -52,9 +53,10 @@ pub record IsCoroutineFollowable (ls : Layouts) (m : Module) (k : ℕ) (f : Func
   -- N3: no function has the name of its cleanup
   pub untaken : function_named m (part_name f.name (codes ".cleanup")) ≡ None
 
--- A module whose runs may be followed in its parts.
-pub record IsFollowable (ls : Layouts) (m : Module) : Type 0 where
-  pub partable : IsPartable ls m
+-- A module whose runs may be followed in its parts, by the rules of another.
+pub record IsFollowableIn (stage : Stage) (r : Module) (ls : Layouts) (m : Module) : Type 0 where
+  pub partable : IsPartableIn stage r ls m
+  pub ruler : IsRulerOf r m
   pub names : HasMovedNames ls m
   -- Y1, and structures with fewer than 2^31 fields
   pub fields : (k : ℕ) (f : Function) → slice_get m.functions k ≡ Some f
@@ -68,3 +70,7 @@ pub record IsFollowable (ls : Layouts) (m : Module) : Type 0 where
   -- layouts are of coroutines
   pub plain : (k : ℕ) (f : Function) → slice_get m.functions k ≡ Some f → f.coroutine ≡ false
       → layout_of ls.coroutines k ≡ no_layout k
+
+-- by its own, where no call gives a frame
+abbrev pub IsFollowable : Layouts → Module → Type 0
+IsFollowable ls m = IsFollowableIn Stage.Source m ls m

@@ -16,6 +16,14 @@ pub record ShowsOn (s u : State) : Type 0 where
   pub events : u.world.events ≡ s.world.events
   pub allocs : u.world.allocs ≡ s.world.allocs
 
+-- The last steps are a debt, for which the framed run's next step has room. Meanwhile it shows what it showed, and the
+-- parts' memory stays.
+pub record IsOwed (g : FramedGiven) (h : PlainGiven) (s : State) (t : PlainState) (steps debt : ℕ) : Type 0 where
+  pub room : debt + weight (fetched_at g (framed_step g s)) ≤ part_price g (framed_step g s)
+  pub shows : ShowsOn s (framed_step g s)
+  pub still : (i : ℕ) → steps ≤ i + debt → i < steps
+      → (iterate (plain_step h) i t).world.memory ≡ (iterate (plain_step h) steps t).world.memory
+
 -- From a related state so many steps of the parts lead to one that is related to the framed run's next state. The last
 -- of them may be a debt, for which the next step has room.
 pub record IsFollowed (g : FramedGiven) (h : PlainGiven) (s : State) (t : PlainState) : Type 0 where
@@ -24,10 +32,9 @@ pub record IsFollowed (g : FramedGiven) (h : PlainGiven) (s : State) (t : PlainS
   pub within : debt ≤ steps
   pub short : steps ≤ 9
   pub few : steps + credit_of (framed_step g s) ≤ weight (fetched_at g s) + debt + credit_of s
-  pub owed : (debt ≡ 0) ⊎ ((debt + weight (fetched_at g (framed_step g s)) ≤ part_price g (framed_step g s))
-      × ShowsOn s (framed_step g s))
+  pub owed : (debt ≡ 0) ⊎ IsOwed g h s t steps debt
   pub goes_on : (debt < steps) ⊎ (measure g (framed_step g s) < measure g s)
-  pub passes : (i : ℕ) → i < steps → IsOn s (iterate (plain_step h) i t)
+  pub passes : (i : ℕ) → i < steps → IsOn g s (iterate (plain_step h) i t)
   pub related : AreRelated g h (framed_step g s) (iterate (plain_step h) steps t)
   -- what is known of frames that callers give is known behind it
   pub keeps : KnowsGiven g s t → KnowsGiven g (framed_step g s) (iterate (plain_step h) steps t)

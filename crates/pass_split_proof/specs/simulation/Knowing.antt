@@ -27,12 +27,14 @@ abbrev pub is_for_some : Part → Bool
 is_for_some Part.Resume = false
 is_for_some part = true
 
--- What a ramp was given stands for the last parameter of its part, the function at a position. The instance of an
--- activation was given its frame exactly if its part is for such instances.
+-- What a ramp was given stands for the last parameter of its part, the function at a position, and some call gives
+-- frames to its coroutine. The instance of an activation was given its frame exactly if its part is for such instances.
 pub record KnowsFrame (g : FramedGiven) (xs : List Instance) (m : List MemoryBlock) (func : ℕ) (mode : Mode)
     (instance : Option ℕ) (position : ℕ) (values : Env) : Type 0 where
   pub given : (frame : Value) → mode ≡ Mode.GivenRamp frame
       → IsValue (homes_of m) frame (value_in values (given_name (shape_at g func)))
+  pub calls : (frame : Value) → mode ≡ Mode.GivenRamp frame
+      → has_given_call g.given.code (function_at g.given.code func) ≡ true
   pub runs : (part : Part) (i : ℕ) (x : Instance) → position ≡ part_position g func part → is_for_some part ≡ true
       → instance ≡ Some i → slice_get xs i ≡ Some x → is_given_in (slice_get m x.block) x ≡ is_given part
 

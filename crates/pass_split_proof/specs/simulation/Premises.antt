@@ -61,7 +61,6 @@ use Rattle.pass_proofs.specs.run_source.declared.state.Mode.{Mode}
 use Rattle.pass_proofs.specs.run_source.declared.state.State.{State}
 use Rattle.pass_proofs.specs.run_step.Step.{AtInstr, AtTerm, Fetched, fetch, is_lifetime}
 use Rattle.pass_proofs.specs.run_step.Values.{arg_values, nth}
-use Rattle.run_types.specs.Rules.{KeepsAllTypes}
 
 -- ---- functions, whatever the states are
 
@@ -147,7 +146,6 @@ pub record AreFunctionsMet (g : FramedGiven) (h : PlainGiven) : Type 0 where
   pub coroutines : (func : ℕ) → (function_at g.given.code func).coroutine ≡ true → IsCoroutineThere g h func
   pub allocas : (func : ℕ) → AreAllocasAlone (function_at g.given.code func)
   pub switches : AllHaveSwitches g.given.code
-  pub typed : KeepsAllTypes g.given.code
   -- K1
   pub intrinsics : (func block at : ℕ) (result : Option ℕ) (must_tail : Bool) (ty : Option Ty) (x : Intrinsic)
       (args : List Arg) → fetch (function_at g.given.code func) block at ≡ AtInstr (Instr.Call result must_tail ty

@@ -9,7 +9,9 @@ use Rattle.pass_proofs.specs.ir_model.declared.module.Module.{Module}
 use Rattle.pass_proofs.specs.ir_model.declared.operand.Arg.{Arg}
 use Rattle.pass_proofs.specs.ir_paths.Slots.{allocas_of}
 use Rattle.pass_proofs.specs.pass_front.Front.{allocas_of as front_allocas}
-use Rattle.pass_proofs.specs.pass_intrinsics.Cuts.{goes_on}
+use Rattle.pass_proofs.specs.pass_intrinsics.Cuts.{goes_on, token_in}
+use Rattle.pass_proofs.specs.pass_intrinsics.Lowered.{number_of_save}
+use Rattle.pass_proofs.specs.pass_intrinsics.Shapes.{pass_label}
 use Rattle.pass_proofs.specs.pass_intrinsics.declared.shape.Part.{Part}
 use Rattle.pass_proofs.specs.pass_intrinsics.declared.shape.Shape.{Shape}
 use Rattle.pass_proofs.specs.pass_intrinsics.declared.shape.SuspendPoint.{SuspendPoint}
@@ -75,6 +77,15 @@ pub data IsLeaving (f : Function) (end : ℕ) (a : Activation) : Type 0 where
       → are_both cases ≡ true → arg_value m a.values arg ≡ integer 8 (negsuc 0) → IsLeaving f end a
   AtEnd : a.block ≡ position_of f end → a.at ≡ 0 → IsLeaving f end a
 
+-- Behind the call of a transfer the part returns, in the block of the transfer. That has the number of the suspend
+-- before which the transfer stands, where the framed run is now.
+pub record IsBehindTransfer (s : Shape) (f q : Function) (block at piece offset : ℕ) : Type 0 where
+  pub number : ℕ
+  pub stands : piece ≡ position_of q (pass_label s number)
+  pub returns : fetch q piece offset ≡ AtTerm (Terminator.Ret None)
+  pub suspends : (i : Instr) → fetch f block at ≡ AtInstr i → is_suspend i ≡ true
+      → number_of_save s (token_in i) ≡ Some number
+
 -- the index of an activation that executes its allocas once more leads to the label that it enters
 pub record IsReturning (g : FramedGiven) (s : Shape) (part : Part) (f : Function) (instances : List Instance)
     (n : List MemoryBlock) (instance : Option ℕ) (from label : ℕ) : Type 0 where
@@ -92,7 +103,7 @@ pub record IsReturning (g : FramedGiven) (s : Shape) (part : Part) (f : Function
 
 -- Where the part is for the place of the framed run: in the piece of that place; at the jump to the end, where the
 -- framed run is at the switch of a suspend; among the allocas that a part makes first; or behind the call of a
--- transfer, where it returns.
+-- transfer, in the transfer's own block.
 pub data IsPlaced (s : Shape) (part : Part) (f q : Function) (a : Activation) (b : PlainActivation) : Mode
     → Type 0 where
   Inside : (mode : Mode) → is_entering mode ≡ false → IsPlace s part f q a.block a.at b.block b.at
@@ -103,7 +114,7 @@ pub data IsPlaced (s : Shape) (part : Part) (f q : Function) (a : Activation) (b
       → Enters s part f q a.block b.block s.end → IsPlaced s part f q a b mode
   Making : (from label : ℕ) → a.block ≡ 0 → b.block ≡ 0 → b.at ≡ a.at → a.at < length (front_allocas f.blocks)
       → IsPlaced s part f q a b (Mode.Entering from label)
-  Passed : fetch q b.block b.at ≡ AtTerm (Terminator.Ret None) → IsLeaving f s.end a
+  Passed : IsBehindTransfer s f q a.block a.at b.block b.at → IsLeaving f s.end a
       → IsPlaced s part f q a b Mode.Resumed
 
 -- ---- activations

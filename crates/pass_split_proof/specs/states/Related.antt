@@ -7,20 +7,23 @@ use Rattle.pass_proofs.specs.ir_model.declared.module.Block.{Block}
 use Rattle.pass_proofs.specs.ir_model.declared.module.Function.{Function}
 use Rattle.pass_proofs.specs.ir_model.declared.operand.Callee.{Callee}
 use Rattle.pass_proofs.specs.ir_model.declared.operand.Intrinsic.{Intrinsic}
-use Rattle.pass_proofs.specs.ir_paths.Windows.{end_block}
+use Rattle.pass_proofs.specs.ir_paths.Windows.{end_block, is_call_of}
 use Rattle.pass_proofs.specs.pass_intrinsics.Shapes.{suspends_of}
 use Rattle.pass_proofs.specs.pass_intrinsics.declared.shape.SuspendPoint.{SuspendPoint}
 use Rattle.pass_split_proof.specs.states.Activations.{AreAllWaiting, IsBeside, IsReturning}
-use Rattle.pass_split_proof.specs.states.Instances.{AreFrames}
+use Rattle.pass_split_proof.specs.states.Instances.{AreFrames, IsHeadedIn, in_state, is_held}
 use Rattle.pass_split_proof.specs.states.Memories.{AreWorldsBeside, homes_of}
 use Rattle.pass_proofs.specs.run_agreement.Machines.{iterate}
 use Rattle.pass_proofs.specs.run_framed.Framed.{FramedGiven}
+use Rattle.pass_proofs.specs.run_memory.declared.block.MemoryBlock.{MemoryBlock}
 use Rattle.run_access_worked.specs.run_plain.Plain.{PlainGiven, plain_step}
 use Rattle.run_access_worked.specs.run_plain.declared.state.PlainState.{PlainState}
 use Rattle.pass_proofs.specs.run_source.State.{function_of}
 use Rattle.pass_proofs.specs.run_source.declared.state.Activation.{Activation}
+use Rattle.pass_proofs.specs.run_source.declared.state.Instance.{Instance}
 use Rattle.pass_proofs.specs.run_source.declared.state.Mode.{Mode}
 use Rattle.pass_proofs.specs.run_source.declared.state.State.{State}
+use Rattle.pass_proofs.specs.run_source.declared.state.Status.{Status}
 use Rattle.pass_proofs.specs.run_step.Step.{AtInstr, AtTerm, Fetched, Nowhere, fetch, label_of}
 
 -- the two runs are at the same place, and have the same memory, values and instances
@@ -91,19 +94,33 @@ credit_of s = left_of_calls (s.top ∷ s.below)
 
 -- ---- the relation
 
--- a state that shows what the framed run shows, where neither is over
-pub record IsOn (s : State) (t : PlainState) : Type 0 where
+-- a save stands there
+abbrev pub is_save_there : Fetched → Bool
+is_save_there (AtInstr i) = is_call_of Intrinsic.CoroSave i
+is_save_there x = false
+
+-- In a memory of the parts' run each frame that is there has its header and its index, as its instance says. Only
+-- while the topmost activation saves, what its own instance's frame says of the suspend is being written.
+pub record AreHeadersKept (g : FramedGiven) (s : State) (n : List MemoryBlock) : Type 0 where
+  pub headed : (i : ℕ) (x : Instance) → slice_get s.instances i ≡ Some x → is_held s.world.memory x ≡ true
+      → (s.top.instance ≡ Some i → is_save_there (fetched_at g s) ≡ true → ⊥) → IsHeadedIn g s.world.memory n x
+  pub destroyed : (i : ℕ) (x : Instance) → slice_get s.instances i ≡ Some x → is_held s.world.memory x ≡ true
+      → IsHeadedIn g s.world.memory n (in_state x Status.Running x.last_save x.released)
+
+-- a state that shows what the framed run shows, where neither is over, and keeps headers
+pub record IsOn (g : FramedGiven) (s : State) (t : PlainState) : Type 0 where
   pub goes : s.outcome ≡ Outcome.Running
   pub running : t.outcome ≡ Outcome.Running
   pub events : t.world.events ≡ s.world.events
   pub allocs : t.world.allocs ≡ s.world.allocs
+  pub headers : AreHeadersKept g s t.world.memory
 
 -- The parts are so many steps behind, and show the same. What they are behind and the next step are paid by that
 -- step.
 pub record IsFollowing (g : FramedGiven) (h : PlainGiven) (credit : ℕ) (s : State) (t : PlainState) : Type 0 where
   pub behind : ℕ
   pub related : AreRelated g h s (iterate (plain_step h) behind t)
-  pub passes : (i : ℕ) → i < behind → IsOn s (iterate (plain_step h) i t)
+  pub passes : (i : ℕ) → i < behind → IsOn g s (iterate (plain_step h) i t)
   pub paid : (behind ≡ 0) ⊎ (behind + weight (fetched_at g s) ≤ part_price g s)
   pub calls : credit_of s ≤ credit
 

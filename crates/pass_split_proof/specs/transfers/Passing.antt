@@ -7,7 +7,7 @@ use Rattle.pass_proofs.specs.ir_model.declared.instr.Terminator.{Terminator}
 use Rattle.pass_proofs.specs.ir_model.declared.module.Function.{Function}
 use Rattle.pass_proofs.specs.pass_intrinsics.Cuts.{token_in}
 use Rattle.pass_proofs.specs.pass_intrinsics.Shapes.{is_end}
-use Rattle.pass_split_proof.specs.states.Activations.{IsLeaving}
+use Rattle.pass_split_proof.specs.states.Activations.{IsBehindTransfer, IsLeaving}
 use Rattle.pass_split_proof.specs.states.Related.{AreRelated}
 use Rattle.pass_proofs.specs.rule_shape.Suspends.{is_suspend}
 use Rattle.pass_proofs.specs.run_framed.Framed.{FramedGiven}
@@ -33,11 +33,13 @@ pub record HasSuspendsBeforeEnd (f : Function) (end : ℕ) : Type 0 where
       → is_some (token_in i) ≡ true
   pub elsewhere : (at : ℕ) (i : Instr) → fetch f (position_of f end) at ≡ AtInstr i → is_suspend i ≡ true → ⊥
 
--- The framed run comes from behind a transfer to the end, and the part returns.
+-- The framed run comes from behind a transfer to the end, and the part returns from the transfer's block.
 pub record IsPassing (g : FramedGiven) (h : PlainGiven) (s : State) (t : PlainState) (r : AreRelated g h s t)
     : Type 0 where
   pub running : s.outcome ≡ Outcome.Running
   pub mode : s.top.mode ≡ Mode.Resumed
-  pub returns : fetch (plain_function h t) t.top.block t.top.at ≡ AtTerm (Terminator.Ret None)
+  pub waits : IsBehindTransfer r.top.shape (function_of g.given s) (plain_function h t) s.top.block s.top.at
+      t.top.block
+      t.top.at
   pub leaving : IsLeaving (function_of g.given s) r.top.shape.end s.top
   pub suspends : HasSuspendsBeforeEnd (function_of g.given s) r.top.shape.end

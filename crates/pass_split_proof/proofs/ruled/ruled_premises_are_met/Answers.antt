@@ -1,0 +1,5 @@
+use Rattle.pass_split_proof.proofs.ready.Steps.{premises_met}
+use Rattle.pass_split_proof.proofs.ruled.ruled_premises_are_met.Goals as goal
+
+pub returns : goal.returns
+returns c = λ stage r ls m w answers. premises_met ls m w answers
