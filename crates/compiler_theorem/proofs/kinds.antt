@@ -3,6 +3,7 @@ pub mod Classes
 pub mod Held
 pub mod Early
 pub mod Opened
+pub mod Pairs
 pub mod Crossed
 pub mod Values
 pub mod Ramps

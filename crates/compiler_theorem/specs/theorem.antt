@@ -2,6 +2,7 @@ pub mod Anew
 pub mod Asked
 pub mod Between
 pub mod Built
+pub mod Conflicting
 pub mod Elision
 pub mod Entries
 pub mod GoodLayouts

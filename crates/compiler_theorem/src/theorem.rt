@@ -45,7 +45,7 @@ ghost use Rattle.compiler.specs.ir_paths.declared.point.Point.{Point};
 ghost use Rattle.compiler.specs.pass_proofs.kept.sources.Beside.{IsKeptOf};
 ghost use Rattle.compiler.specs.run_step.Values.{Env, value_in};
 ghost use Rattle.compiler.specs.run_agreement.Costs.{cost_at};
-ghost use Rattle.compiler.specs.run_agreement.Factor.{size_factor};
+ghost use Rattle.pass_frames_prices.specs.FramePrices.{frames_factor};
 ghost use Rattle.compiler.specs.run_agreement.Machines.{IsFine, at, state_at};
 ghost use Rattle.compiler.specs.frame_classes.Classes.{IsOf};
 ghost use Rattle.compiler.specs.frame_classes.declared.class.SlotClass.{SlotClass};
@@ -111,12 +111,12 @@ pub fn steps_of_sources_are_followed()
         (building l low.is_framed r.answers) (IsBlankState (asking l low a r)) }
 {}
 
-/// The prices of a run of an accepted source, in which a resume hands on values, are at most 4 times the size factor for
-/// each step.
+/// The prices of a run of an accepted source, in which a resume hands on values, are at most 4 times the factor of frames
+/// for each step. That counts the names of the function that has most, those of tokens and of begin apart.
 pub fn runs_of_sources_are_paid()
     ensures { (l : Lowered) (low : IsLowered l) → HasFewBytes l → (a : Anew) → IsAnewOf (early l) a → (r : Run)
         → IsEntryCall l.source r → (n : ℕ) → IsFine (at (kept_run l a r) n).outcome
-        → cost_at (kept_run l a r) (price_kept l a r (prices_of l low a)) n ≤ (4 * size_factor l.source) * n }
+        → cost_at (kept_run l a r) (price_kept l a r (prices_of l low a)) n ≤ (4 * frames_factor l.source) * n }
 {}
 
 /// Bytes and values that stand for others in a row of memories stand for them by the joined homes.

@@ -1,9 +1,10 @@
 -- Which states of the run that makes slots anew are followed in the framed run, where a resume hands on some values in the
 -- run before.
-use Rattle.std.specs.Prelude.{◌≡◌, ℕ}
+use Rattle.std.specs.Prelude.{◌≡◌, ◌≤◌, ℕ}
 use Rattle.pass_frames_proof.specs.frame_layout.declared.layout.Layouts.{Layouts}
 use Rattle.pass_frames_proof.specs.ir_base.declared.outcome.Outcome.{Outcome}
 use Rattle.pass_frames_proof.specs.Followed.{IsFollowed, renewed_state_at}
+use Rattle.pass_frames_proof.specs.Meaning.{step_cost}
 use Rattle.pass_frames_proof.specs.Related.{AreBuiltOf, AreShownAlike, Building}
 use Rattle.pass_frames_proof.specs.pass_kept_proof.Machines.{kept_machine}
 use Rattle.pass_renewed_meaning.specs.Followed.{AreAlike, AreInStep, IsEntering}
@@ -11,7 +12,7 @@ use Rattle.pass_renewed_meaning.specs.Offsets.{first_at}
 use Rattle.pass_renewed_meaning.specs.Rules.{Setting}
 use Rattle.pass_renewed_meaning.specs.Runs.{first_given, first_step, second_given}
 use Rattle.pass_frames_proof.specs.pass_renewed_proof.Beside.{IsBeside}
-use Rattle.pass_frames_proof.specs.pass_renewed_proof.Prices.{Prices, kept_price}
+use Rattle.pass_frames_proof.specs.pass_renewed_proof.Prices.{Prices, kept_price, renewed_price}
 use Rattle.pass_frames_proof.specs.pass_renewed_proof.Renewed.{renewed_step}
 use Rattle.pass_frames_proof.specs.run_agreement.Costs.{AgreesBy, Through}
 use Rattle.pass_frames_proof.specs.run_agreement.Machines.{IsFine}
@@ -35,6 +36,13 @@ pub record IsKeptOver (c : Setting) (b : Building) (Holds : State → Type 0) : 
       → (renewed_state_at (second_given c) c.entry c.args n).outcome ≡ Outcome.Running
       → Holds (renewed_state_at (second_given c) c.entry c.args n)
       → Holds (renewed_step (second_given c) (renewed_state_at (second_given c) c.entry c.args n))
+
+-- each step of that run pays for the framed one's
+abbrev pub AreStepsPaid : Setting → Building → Prices → Type 0
+AreStepsPaid c b p =
+    (n : ℕ) → step_cost b (second_given c) (renewed_state_at (second_given c) c.entry c.args n)
+    (renewed_state_at (second_given c) c.entry c.args n).top.mode
+    ≤ renewed_price p (second_given c).given (renewed_state_at (second_given c) c.entry c.args n)
 
 -- each step from such a state is followed
 abbrev pub AreCoveredStepsFollowed : Setting → Building → (State → Type 0) → Type 0

@@ -4,13 +4,11 @@
 
 ghost use Rattle.std.specs.Prelude.{◌≡◌};
 ghost use Rattle.pass_frames_proof.specs.frame_layout.declared.layout.Layouts.{Layouts as TheLayouts};
-ghost use Rattle.pass_frames_meaning.specs.Covered.{AgreesWithFrames, AreCoveredStepsFollowed, IsKeptOver};
+ghost use Rattle.pass_frames_meaning.specs.Covered.{AgreesWithFrames, AreCoveredStepsFollowed, AreStepsPaid, IsKeptOver};
 ghost use Rattle.pass_frames_proof.specs.Followed.{IsGiven};
-ghost use Rattle.pass_frames_proof.specs.Meaning.{PaysForFrames};
 ghost use Rattle.pass_frames_proof.specs.Related.{AreBuiltOf, Building};
 ghost use Rattle.pass_renewed_meaning.specs.Rules.{KeepsAll, Setting};
-ghost use Rattle.pass_renewed_meaning.specs.Runs.{second_given};
-ghost use Rattle.pass_frames_proof.specs.pass_renewed_proof.Prices.{Prices, renewed_price};
+ghost use Rattle.pass_frames_proof.specs.pass_renewed_proof.Prices.{Prices};
 ghost use Rattle.pass_frames_proof.specs.run_source.Source.{first_state};
 ghost use Rattle.pass_frames_proof.specs.run_source.declared.state.State.{State as TheState};
 
@@ -19,13 +17,13 @@ pub trait TellsStates {
     ghost tells: { TheState → Type 0 };
 }
 
-/// Where the starts are related, prices pay, and each step from a covered state is followed, the run in which a resume
-/// hands on some values agrees with the framed one, by what its steps cost. Where a step is followed something may be
-/// told that holds at the start, and behind each step from a related state.
+/// The run in which a resume hands on some values agrees with the framed one, by what its steps cost. The starts have to
+/// be related, the prices to pay in the run that makes slots anew, and each step from a covered state to be followed. Where
+/// a step is followed something may be told that holds at the start, and behind each step from a related state.
 pub fn kept_runs_agree_with_framed_ones<T: TellsStates>()
     ensures { (c : Setting) (p : Prices) (b : Building) (layouts : TheLayouts) → KeepsAll c
         → IsGiven b layouts c.answers → b.framed_code.declarations ≡ c.code.declarations
-        → PaysForFrames b (second_given c) (renewed_price p (second_given c).given)
+        → AreStepsPaid c b p
         → AreBuiltOf b (first_state c.code c.entry c.args) (first_state b.framed_code c.entry c.args)
         → IsKeptOver c b T.tells → AreCoveredStepsFollowed c b T.tells → AgreesWithFrames c p b layouts }
 {}

@@ -4,12 +4,14 @@ ghost use Rattle.std.specs.Prelude.{ℕ, List};
 ghost use Rattle.pass_frames_proof.specs.ir_base.declared.outcome.Word.{Word};
 ghost use Rattle.pass_frames_meaning.specs.Sized.{IsLonger, IsSizedAt, IsSizedState, KeepsSizes, KeepsSlotwise};
 ghost use Rattle.pass_frames_meaning.specs.Sized.{sizes_of};
+ghost use Rattle.pass_frames_proof.specs.pass_kept_proof.Kept.{Keep, continue_keeping};
 ghost use Rattle.pass_frames_proof.specs.pass_renewed_proof.Renewed.{RenewedGiven, renewed_step};
 ghost use Rattle.pass_renewed_meaning.specs.run_hooks.Hooks.{Hooks, step_of};
 ghost use Rattle.pass_renewed_meaning.specs.run_hooks.Meanings.{renewed_hooks};
 ghost use Rattle.pass_renewed_meaning.specs.run_hooks.Reached.{AllHaveSwitches, IsReachedState};
-ghost use Rattle.pass_frames_proof.specs.run_source.Source.{first_state};
+ghost use Rattle.pass_frames_proof.specs.run_source.Source.{first_state, step_by};
 ghost use Rattle.pass_frames_proof.specs.run_source.declared.state.State.{State as TheState};
+ghost use Rattle.pass_frames_proof.specs.run_source_tables.Given.{Given};
 ghost use Rattle.pass_frames_proof.specs.run_step.Runs.{iterate};
 
 /// A step makes new blocks behind the others, and leaves the size and the alignment of each. So slots keep theirs,
@@ -26,4 +28,6 @@ pub fn sizes_of_slots_stay()
         → KeepsSlotwise (IsSizedAt g.given.code sizes) (renewed_hooks g) }
     ensures renewed { (g : RenewedGiven) (entry : ℕ) (args : List Word) (n : ℕ) → AllHaveSwitches g.given.code
         → IsSizedState g.given.code (iterate (renewed_step g) n (first_state g.given.code entry args)) }
+    ensures kept { (g : Given) (keep : Keep) (entry : ℕ) (args : List Word) (n : ℕ) → AllHaveSwitches g.code
+        → IsSizedState g.code (iterate (step_by g (continue_keeping g keep)) n (first_state g.code entry args)) }
 {}

@@ -1,5 +1,5 @@
 -- The prices that pay for frames, by the code of the coroutine with blocks on edges and the places of its framed form.
-use Rattle.std.specs.Prelude.{◌≡◌, ◌≢◌, ◌≤◌, ℕ, ◌+◌, ◌-◌, ◌*◌, Bool, true, false, Some, Option, length, option_map}
+use Rattle.std.specs.Prelude.{◌≡◌, ◌≤◌, ℕ, ◌+◌, ◌-◌, ◌*◌, Bool, true, false, List, [], ◌∷◌, Some, Option, length, option_map}
 use Rattle.std.specs.Prelude.{not, slice_get, if◌then◌else◌, ◌&&◌, ◌==◌}
 use Rattle.pass_frames_proof.specs.ir_model.Names.{function_at}
 use Rattle.pass_frames_proof.specs.ir_model.declared.instr.Instr.{Instr}
@@ -8,12 +8,15 @@ use Rattle.pass_frames_proof.specs.ir_model.declared.module.Module.{Module}
 use Rattle.pass_frames_proof.specs.ir_parts.Contents.{instr_operands}
 use Rattle.pass_frames_proof.specs.ir_paths.declared.point.Point.{Point}
 use Rattle.pass_frames_proof.specs.Costs.{allocas_before, slot_cost}
-use Rattle.pass_frames_prices.specs.Numbers.{names_of}
+use Rattle.pass_frames_prices.specs.Bounds.{behind_of}
+use Rattle.pass_frames_prices.specs.Numbers.{most_names, names_of}
 use Rattle.pass_frames_proof.specs.Passes.{block_at}
 use Rattle.pass_frames_proof.specs.Places.{Framing, edged, instrs_at, is_return}
 use Rattle.pass_frames_proof.specs.Related.{Building, is_coroutine}
 use Rattle.pass_frames_proof.specs.pass_renewed_proof.Prices.{Prices}
 use Rattle.pass_frames_proof.specs.pass_renewed_proof.Renewed.{Flags, renewed_from}
+use Rattle.pass_frames_proof.specs.run_agreement.Factor.{most_operands_of_functions, most_phis_of_functions}
+use Rattle.pass_frames_proof.specs.run_source.declared.state.Activation.{Activation}
 use Rattle.pass_frames_proof.specs.run_source.declared.state.State.{State}
 
 -- ---- by code
@@ -69,11 +72,29 @@ pub record IsWithin (names operands : ℕ) (x : Framing) : Type 0 where
   pub operand : (k at : ℕ) (i : Instr) → slice_get (instrs_at x k) at ≡ Some i → length (instr_operands i) ≤ operands
   pub phi : (k : ℕ) → length (block_at (edged x) k).phis ≤ operands
 
--- of all coroutines: names are those of all functions together, so also those of two of them
+-- of each coroutine
 pub record AreWithin (b : Building) (names operands : ℕ) : Type 0 where
   pub each : (func : ℕ) → is_coroutine b func ≡ true → IsWithin names operands (b.framing func)
-  pub two : (func other : ℕ) → is_coroutine b func ≡ true → is_coroutine b other ≡ true → func ≢ other
-      → names_of (edged (b.framing func)) + names_of (edged (b.framing other)) ≤ names
+
+-- what building frames costs on average is 4 times this: a name counts once for the function that has most
+abbrev pub frames_factor : Module → ℕ
+frames_factor m =
+    1 + most_names m.functions + (most_operands_of_functions m.functions + most_phis_of_functions m.functions)
+
+-- ---- what a return comes back to
+
+-- an activation below stands right behind an instruction, behind which at most the store of its result was put in
+pub record IsBehindOne (x : Framing) (a : Activation) : Type 0 where
+  pub at : ℕ
+  pub behind : a.at ≡ at + 1
+  pub instr : Instr
+  pub there : slice_get (instrs_at x a.block) at ≡ Some instr
+  pub none : behind_of x instr ≡ 0
+
+-- so does the topmost of these, if it is a coroutine's
+abbrev pub ComesBehindOne : Building → List Activation → Type 0
+ComesBehindOne b [] = Unit {0}
+ComesBehindOne b (a ∷ below) = is_coroutine b a.func ≡ true → IsBehindOne (b.framing a.func) a
 
 -- ---- what is left for a jump from a block on a resume or destroy edge
 

@@ -1,5 +1,5 @@
 -- The numbers of a coroutine with blocks on edges by which what is woven in is bounded.
-use Rattle.std.specs.Prelude.{ℕ, ◌+◌, List, [], ◌∷◌, ◌++◌, length, Some, None, Option, if◌then◌else◌, ◌==◌, ◌||◌}
+use Rattle.std.specs.Prelude.{ℕ, ◌+◌, List, [], ◌∷◌, ◌++◌, length, max, Some, None, Option, if◌then◌else◌, ◌==◌, ◌||◌}
 use Rattle.pass_frames_proof.specs.frame_crossing.Values.{is_token_result}
 use Rattle.pass_frames_proof.specs.ir_model.declared.instr.Incoming.{Incoming}
 use Rattle.pass_frames_proof.specs.ir_model.declared.instr.Instr.{Instr}
@@ -30,6 +30,11 @@ names_of_blocks (b ∷ bs) = length b.phis + names_of_instrs b.instrs + names_of
 -- the parameters and named results, tokens and begin's apart
 abbrev pub names_of : Function → ℕ
 names_of f = length f.params + names_of_blocks f.blocks
+
+-- of the function that has most
+abbrev pub most_names : List Function → ℕ
+most_names [] = 0
+most_names (f ∷ fs) = max (names_of f) (most_names fs)
 
 -- ---- of these the allocas
 

@@ -10,10 +10,11 @@ ghost use Rattle.pass_frames_proof.specs.ir_model.declared.module.Module.{Module
 ghost use Rattle.pass_frames_proof.specs.ir_paths.Paths.{targets};
 ghost use Rattle.pass_frames_proof.specs.pass_early.Early.{early_module};
 ghost use Rattle.pass_frames_proof.specs.Costs.{allocas_before, slot_cost};
-ghost use Rattle.pass_frames_prices.specs.FramePrices.{AreWithin, IsAfforded, IsWithin, coroutine_price, credit, first_flagged};
-ghost use Rattle.pass_frames_prices.specs.FramePrices.{frame_prices, full_price, left_at};
+ghost use Rattle.pass_frames_prices.specs.FramePrices.{AreWithin, ComesBehindOne, IsAfforded, IsWithin, coroutine_price, credit};
+ghost use Rattle.pass_frames_prices.specs.FramePrices.{first_flagged, frame_prices, frames_factor, full_price, left_at};
 ghost use Rattle.pass_frames_proof.specs.Framings.{IsFraming};
-ghost use Rattle.pass_frames_proof.specs.Meaning.{PaysForFrames};
+ghost use Rattle.pass_frames_proof.specs.Meaning.{step_cost};
+ghost use Rattle.pass_frames_prices.specs.Numbers.{most_names};
 ghost use Rattle.pass_frames_proof.specs.Passes.{block_at};
 ghost use Rattle.pass_frames_proof.specs.Places.{Framing, edged, instrs_at, is_return};
 ghost use Rattle.pass_frames_proof.specs.Related.{AreBuilt, Building, is_coroutine};
@@ -23,30 +24,34 @@ ghost use Rattle.pass_frames_proof.specs.pass_renewed_proof.Renewed.{Flags, Rene
 ghost use Rattle.pass_frames_proof.specs.rule_laws.frames.rows.Returns.{HaveOwnReturns};
 ghost use Rattle.pass_frames_proof.specs.rule_types.Signatures.{first_otherwise};
 ghost use Rattle.pass_frames_proof.specs.run_agreement.Costs.{cost_at};
-ghost use Rattle.pass_frames_proof.specs.run_agreement.Factor.{most_operands_of_functions, most_phis_of_functions, names_of_functions};
+ghost use Rattle.pass_frames_proof.specs.run_agreement.Factor.{most_operands_of_functions, most_phis_of_functions};
 ghost use Rattle.pass_frames_proof.specs.run_agreement.Factor.{size_factor};
 ghost use Rattle.pass_frames_proof.specs.run_agreement.Machines.{Machine, state_at};
 ghost use Rattle.pass_frames_proof.specs.run_source.declared.state.State.{State};
 
-/// Each step's price is what it costs at least, in all states. Blocks on resume and destroy edges are jumps alone,
-/// which the pass of edges gives. Names and operands are counted by the step factor.
+/// Each step's price is what it costs at least, in each state in which a return comes back behind a call. Blocks on resume
+/// and destroy edges are jumps alone, which the pass of edges gives.
 pub fn prices_pay_for_frames()
     ensures { (b : Building) (g : RenewedGiven) → AreGiven b g
         → ((func : ℕ) → is_coroutine b func ≡ true → HaveOwnReturns (edged (b.framing func)))
-        → (names operands : ℕ) → AreWithin b names operands
-        → PaysForFrames b g (renewed_price (frame_prices b g.flags g.given.code names operands) g.given) }
+        → (names operands : ℕ) → AreWithin b names operands → (s : State) → ComesBehindOne b s.below
+        → step_cost b g s s.top.mode
+        ≤ renewed_price (frame_prices b g.flags g.given.code names operands) g.given s }
 {}
 
-/// The numbers of the step factor bound those of each coroutine with written saves and with blocks on edges. Of calls
-/// it takes rule Y2: calls of `coro.id` and `coro.save` give tokens.
-pub fn size_factors_bound_coroutines()
+/// The names of the function that has most, and the step factor's operands, bound those of each coroutine with written
+/// saves and with blocks on edges. They are no more than what the step factor counts, by rule Y2: calls of `coro.id` and
+/// `coro.save` give tokens.
+pub fn most_names_bound_coroutines()
     ensures within { (b : Building) (m : Module) → AreBuilt b → b.code ≡ early_module m
-        → ((k : ℕ) (f : Function) → slice_get m.functions k ≡ Some f → first_otherwise m k f ≡ None)
-        → AreWithin b (names_of_functions m.functions)
+        → AreWithin b (most_names m.functions)
         (most_operands_of_functions m.functions + most_phis_of_functions m.functions) }
     ensures price { (m : Module)
-        → full_price (names_of_functions m.functions)
-        (most_operands_of_functions m.functions + most_phis_of_functions m.functions) ≡ 4 * size_factor m }
+        → full_price (most_names m.functions)
+        (most_operands_of_functions m.functions + most_phis_of_functions m.functions) ≡ 4 * frames_factor m }
+    ensures less { (m : Module)
+        → ((k : ℕ) (f : Function) → slice_get m.functions k ≡ Some f → first_otherwise m k f ≡ None)
+        → frames_factor m ≤ size_factor m }
 {}
 
 /// A jump from a block on a resume or destroy edge leads to no such block: a suspend's block alone leads to one.

@@ -4,7 +4,6 @@ use Rattle.std.proofs.Common.{◌≡◌, ◌⊎◌, ⊎_elim, inl, inr, ℕ, zer
 use Rattle.std.proofs.Common.{◌∷◌, ◌++◌, length, Option, Some, None, refl, sym, ap, ◌∙◌, subst, arith}
 use Rattle.std.proofs.lemmas.Bool.{eqb-true, false≢true}
 use Rattle.std.specs.Prelude.{option_to_list, slice_get, ◌==◌}
-use Rattle.compiler_theorem.proofs.kinds.Crossed.{listed_in}
 use Rattle.compiler_theorem.proofs.kinds.Held.{early_lies}
 use Rattle.compiler.specs.flow_solver.Paths.{IsListed}
 use Rattle.compiler.specs.frame_classes.declared.class.SlotClass.{SlotClass}
@@ -36,6 +35,7 @@ use Rattle.pass_frames_meaning.specs.Blank.{IsUnusedEarly}
 use Rattle.pass_frames_meaning.specs.Led.{IsBegin}
 use Rattle.pass_frames_meaning.specs.Unbegun.{IsBefore, after, along, first as first_point}
 use Rattle.pass_frames_meaning.proofs.pass_frames_proof.early.Placed.{all_early, frame_class, slot_low}
+use Rattle.pass_frames_meaning.proofs.pass_frames_proof.from_edges.Front.{listed_contains}
 use Rattle.pass_frames_meaning.proofs.pass_frames_proof.lines.Cells.{contained}
 use Rattle.pass_frames_meaning.proofs.pass_frames_proof.stepping.Names.{edged_named, named_written}
 use Rattle.pass_frames_meaning.specs.pass_frames_proof.Framings.{IsFraming}
@@ -224,7 +224,7 @@ module _ (x : Framing) (is : IsFraming x) where
         let low : e.slot < length F.names = early_low e l in
         absurd (omega (arith, up, low)))
         (in_either x.code is.position x.layout x.function x.contents is.begin (length (with_copies x).names) is.frameable
-        e.slot (early_lies x is k own e (listed_in (copies x).slots e l)))
+        e.slot (early_lies x is k own e (listed_contains (copies x).slots e l)))
 
     -- they lie in the frame
     pub early_entry : (v : ℕ) (f : Fetch) → fetch_of (where_table x) (Operand.Local v) ≡ Some f

@@ -1,30 +1,24 @@
 -- In a good layout the fields of two slots of the frame that conflict lie apart.
-use Rattle.std.proofs.Common.{◌≡◌, ◌≢◌, ◌⊎◌, ⊎_elim, inl, inr, ℕ, ◌<◌, ◌≤◌, true, List, [], ◌∷◌, Option, Some, refl, sym, ap, ◌∙◌, subst, arith}
-use Rattle.std.proofs.lemmas.Bool.{cases_lt}
-use Rattle.std.proofs.lemmas.Option.{slice_get_within}
-use Rattle.std.specs.List.{Contains}
+use Rattle.std.proofs.Common.{◌≡◌, ◌≢◌, ℕ, true, Some, refl, sym, ap, ◌∙◌, subst}
 use Rattle.std.specs.Prelude.{slice_get}
 use Rattle.compiler_theorem.proofs.apart.Facts.{good, layout, placed, size_is}
-use Rattle.compiler_theorem.proofs.apart.Layouts.{position_at, ranges}
-use Rattle.compiler_theorem.proofs.kinds.Crossed.{listed_in}
+use Rattle.compiler_theorem.proofs.apart.Layouts.{ranges}
 use Rattle.compiler_theorem.proofs.kinds.Held.{IsPlacedAs}
-use Rattle.compiler_theorem.proofs.kinds.Opened.{field_there}
+use Rattle.compiler_theorem.proofs.kinds.Pairs.{first_field, places_differ, second_field, slots_conflict}
 use Rattle.compiler_theorem.proofs.theorem.Needed.{stands_at}
 use Rattle.compiler_theorem.specs.theorem.Anew.{Anew, IsSlotOf}
 use Rattle.compiler_theorem.specs.theorem.Asked.{asking}
 use Rattle.compiler_theorem.specs.theorem.Entries.{Run}
 use Rattle.compiler_theorem.specs.theorem.Lowered.{IsLowered, Lowered, early, edged}
-use Rattle.compiler.specs.flow_solver.Paths.{IsListed}
 use Rattle.compiler.specs.frame_classes.Classes.{IsOf}
 use Rattle.compiler.specs.frame_classes.declared.class.SlotClass.{SlotClass}
-use Rattle.compiler.specs.frame_conflicts.Conflicts.{AreConflicts, Conflict, Early, Together, Unmarked}
-use Rattle.compiler.specs.frame_contents.Held.{at_fields, both_at_fields, both_with, field_of, fields_of, position_of, slot_held, slot_position}
+use Rattle.compiler.specs.frame_conflicts.Conflicts.{Conflict, IsFrameSlotAt}
+use Rattle.compiler.specs.frame_contents.Held.{field_of, fields_of, position_of, slot_held}
+use Rattle.compiler.specs.frame_contents.declared.contents.Contents.{Contents}
 use Rattle.compiler.specs.frame_contents.declared.held.Holding.{Holding}
 use Rattle.compiler.specs.frame_good.Frames.{AreInConflict}
 use Rattle.compiler.specs.frame_good.Good.{IsGoodLayout}
-use Rattle.compiler.proofs.frame_layout.Grouped.{Named, pairs_at}
 use Rattle.compiler.specs.frame_layout.declared.layout.Layout.{Layout}
-use Rattle.compiler.proofs.ir_laws.paths.source_rules.Locals.{listed_left, listed_right}
 use Rattle.compiler.specs.ir_model.Layout.{size_of}
 use Rattle.compiler.specs.ir_model.Names.{function_at}
 use Rattle.compiler.specs.ir_model.Ty.{Ty}
@@ -37,32 +31,6 @@ use Rattle.pass_frames_meaning.specs.pass_frames_proof.Slotted.{AreRangesApart}
 use Rattle.compiler.proofs.pass_kept_proof.Read.{listed_by_name}
 use Rattle.compiler.specs.run_framed.Framed.{layout_of}
 use Rattle.compiler.specs.run_step.Step.{AtInstr, fetch}
-
--- ---- pairs
-
-both_listed : (at : ℕ → Option ℕ) (ps : List (ℕ × ℕ)) (i j m n : ℕ) → IsListed (i, j) ps → at i ≡ Some m
-    → at j ≡ Some n → IsListed (m, n) (both_at_fields at ps)
-both_listed at [] i j m n l d e = absurd l
-both_listed at (p ∷ ps) i j m n (inl same) d e =
-    listed_left (m, n) (both_with (at p.0) (at p.1)) (both_at_fields at ps)
-    (subst (λ (q : ℕ × ℕ). IsListed (m, n) (both_with (at q.0) (at q.1))) same
-    (subst (λ (q : Option ℕ × Option ℕ). IsListed (m, n) (both_with q.0 q.1)) (λ k. (sym d k, sym e k)) (inl refl)))
-both_listed at (p ∷ ps) i j m n (inr l) d e =
-    listed_right (m, n) (both_with (at p.0) (at p.1)) (both_at_fields at ps) (both_listed at ps i j m n l d e)
-
-conflict_back : (f : Function) (a b : ℕ) → Conflict f a b → Conflict f b a
-conflict_back f a b (Unmarked (inl e)) = Unmarked (inr e)
-conflict_back f a b (Unmarked (inr e)) = Unmarked (inl e)
-conflict_back f a b (Early (inl e)) = Early (inr e)
-conflict_back f a b (Early (inr e)) = Early (inl e)
-conflict_back f a b (Together t) = Together (record {
-  point = t.point;
-  is_point = t.is_point;
-  is_outside = t.is_outside;
-  is_before_end = t.is_before_end;
-  one = t.other;
-  other = t.one;
-})
 
 -- ---- a layout
 
@@ -80,74 +48,41 @@ module _ (x : Framing) (func : ℕ) (f : Function) (l : Layout) (layout : x.layo
     (good : IsGoodLayout func (fields_of f x.contents.held) (AreInConflict f x.contents) l) (one other : ℕ)
     (h k : Holding) (a : HasFramePlace x f one h) (b : HasFramePlace x f other k) (unlike : one ≢ other)
     (conflict : Conflict f one other) where
+  abbrev c : Contents
+  c = x.contents
+
+  abbrev first : IsPlacedAs c.held h
+  first = record {
+    position = a.position;
+    told = ap (position_of c.held) a.value ∙ a.told;
+    there = a.there;
+  }
+
+  abbrev second : IsPlacedAs c.held k
+  second = record {
+    position = b.position;
+    told = ap (position_of c.held) b.value ∙ b.told;
+    there = b.there;
+  }
+
   not_same : a.position ≢ b.position
-  not_same e =
-      let both : Some h ≡ Some k = sym a.there ∙ ap (slice_get x.contents.held) e ∙ b.there in
-      let same : h ≡ k = cc in
-      unlike (sym a.value ∙ ap (λ (z : Holding). z.value) same ∙ b.value)
+  not_same = places_differ c h k first second (λ e. unlike (sym a.value ∙ e ∙ b.value))
 
-  apart_numbers : a.number ≢ b.number
-  apart_numbers e =
-      let both : Some one ≡ Some other = sym a.index ∙ ap (slice_get (allocas_of f)) e ∙ b.index in
-      let same : one ≡ other = cc in
-      unlike same
+  slot_at : (v n : ℕ) (z : Holding) → z.value ≡ v → slice_get (allocas_of f) n ≡ Some v → IsOf f v SlotClass.Frame
+      → IsFrameSlotAt f n z.value
+  slot_at v n z e index frame = subst (IsFrameSlotAt f n) (sym e) (record { stands = index; is_frame = frame })
 
-  first : slice_get (fields_of f x.contents.held) a.position ≡ Some (field_of f h)
-  first = field_there f x.contents.held a.position h a.there
-
-  second : slice_get (fields_of f x.contents.held) b.position ≡ Some (field_of f k)
-  second = field_there f x.contents.held b.position k b.there
-
-  abbrev at : ℕ → Option ℕ
-  at = slot_position f x.contents.held
-
-  at_one : slot_position f x.contents.held a.number ≡ Some a.position
-  at_one = position_at (position_of x.contents.held) (allocas_of f) a.number one a.index ∙ a.told
-
-  at_other : slot_position f x.contents.held b.number ≡ Some b.position
-  at_other = position_at (position_of x.contents.held) (allocas_of f) b.number other b.index ∙ b.told
-
-  is_pair : (conflicts : List (ℕ × ℕ)) → AreConflicts f conflicts
-      → Contains (both_at_fields (slot_position f x.contents.held) conflicts) (a.position, b.position)
-      ⊎ Contains (both_at_fields (slot_position f x.contents.held) conflicts) (b.position, a.position)
-  is_pair conflicts are = ⊎_elim
-      (λ (lt : a.number < b.number). inl (listed_in (both_at_fields at conflicts) (a.position, b.position)
-      (both_listed at conflicts a.number b.number a.position b.position ((are.each a.number b.number).1 (record {
-        one = one;
-        other = other;
-        is_one = record { stands = a.index; is_frame = a.frame };
-        is_other = record { stands = b.index; is_frame = b.frame };
-        is_lower = lt;
-        conflict = conflict;
-      })) at_one at_other)))
-      (λ (le : b.number ≤ a.number). inr (listed_in (both_at_fields at conflicts) (b.position, a.position)
-      (both_listed at conflicts b.number a.number b.position a.position ((are.each b.number a.number).1 (record {
-        one = other;
-        other = one;
-        is_one = record { stands = b.index; is_frame = b.frame };
-        is_other = record { stands = a.index; is_frame = a.frame };
-        is_lower = lower a.number b.number le apart_numbers;
-        conflict = conflict_back f one other conflict;
-      })) at_other at_one)))
-      (cases_lt a.number b.number)
-    where
-      lower : (m n : ℕ) → n ≤ m → m ≢ n → n < m
-      lower m n le unlike = ⊎_elim (λ (lt : n < m). lt) (λ (low : m ≤ n). absurd (unlike (omega (arith, le, low)))) (cases_lt n m)
-
-  in_conflict : AreInConflict f x.contents a.position b.position
-  in_conflict lives conflicts lives_are conflicts_are =
-      pairs_at (fields_of f x.contents.held) (at_fields (position_of x.contents.held) x.contents.crossing)
-      (at_fields (slot_position f x.contents.held) lives)
-      (both_at_fields (slot_position f x.contents.held) conflicts) a.position b.position
-      (slice_get_within (fields_of f x.contents.held) a.position (field_of f h) first)
-      (slice_get_within (fields_of f x.contents.held) b.position (field_of f k) second)
-      not_same (Named (is_pair conflicts conflicts_are))
+  in_conflict : AreInConflict f c a.position b.position
+  in_conflict = slots_conflict f c h k first second not_same a.number b.number
+      (slot_at one a.number h a.value a.index a.frame) (slot_at other b.number k b.value b.index b.frame)
+      (subst (λ (q : ℕ × ℕ). Conflict f q.0 q.1) (λ j. (sym a.value j, sym b.value j)) conflict)
 
   pub held_apart : AreRangesApart (offset_at x.layout a.position) h.size (offset_at x.layout b.position) k.size
   held_apart = subst (λ (y : Layout). AreRangesApart (offset_at y a.position) h.size (offset_at y b.position) k.size)
       (sym layout)
       (ranges (offset_at l a.position) h.size (offset_at l b.position) k.size
-      (good.apart a.position b.position (field_of f h) (field_of f k) first second not_same in_conflict))
+      (good.apart a.position b.position (field_of f h) (field_of f k)
+      (first_field f c h k first second not_same) (second_field f c h k first second not_same) not_same in_conflict))
 
 -- ---- of an accepted source
 

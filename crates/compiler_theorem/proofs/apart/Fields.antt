@@ -210,9 +210,9 @@ module _ (l : Lowered) (low : IsLowered l) (few : HasFewBytes l) (a : Anew) (ane
                 ),
               ))
               (alive_apart framing x.coroutine f (layout_of l.layouts.coroutines x.coroutine) (layout l low a r x.coroutine coroutine)
-              (good l low a r x.coroutine coroutine) suspend v slot.alloca slot_at.position index.at k value field.crosses
+              (good l low a r x.coroutine coroutine) suspend v index.at k value field.crosses
               (slot_held framing.code (promise_of framing.function) slot.alloca ty align)
-              (slot_kind_is (promise_of framing.function) slot.alloca) slot_at.there slot_at.told index.there frame.is_of
+              (slot_kind_is (promise_of framing.function) slot.alloca) slot_at index.there frame.is_of
               point.0 point.1.0 may_there)
 
     -- where its activation stands it may be alive, and so behind what isn't an end of it

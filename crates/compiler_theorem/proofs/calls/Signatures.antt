@@ -9,20 +9,20 @@ use Rattle.compiler.specs.ir_model.declared.module.Module.{Module}
 use Rattle.compiler.specs.pass_exits.ExitBlocks.{with_exit_blocks}
 use Rattle.compiler.specs.pass_split.Given.{has_given_call}
 use Rattle.compiler.specs.pass_split.Parts.{first_layout, layouts_after, marked_parts, plain_of, plain_shape, split_function, split_functions, split_module}
-use Rattle.compiler_theorem.specs.Calls.{HasSignature, KeepsSignatures}
+use Rattle.compiler_theorem.specs.Calls.{HasFunctionLike, KeepsSignatures}
 
 at_front : (l : Layout) (given b : Bool) (f : Function) (rest : List Function) → b ≡ false
-    → HasSignature f ((if b then marked_parts l given (with_exit_blocks f) else plain_of (plain_shape f) f ∷ []) ++ rest)
+    → HasFunctionLike f ((if b then marked_parts l given (with_exit_blocks f) else plain_of (plain_shape f) f ∷ []) ++ rest)
 at_front l given true f rest d = absurd (cc)
 at_front l given false f rest d =
     record { at = 0; function = plain_of (plain_shape f) f; there = refl; name = refl; result = refl; params = refl }
 
 stands : (ls : List Layout) (m : Module) (fs : List Function) (k : ℕ) (f : Function) → slice_get fs k ≡ Some f
-    → f.coroutine ≡ false → HasSignature f (split_functions ls m fs)
+    → f.coroutine ≡ false → HasFunctionLike f (split_functions ls m fs)
 stands ls m [] k f e d = absurd (cc)
 stands ls m (g ∷ fs) zero f e d =
     let same : g ≡ f = cc in
-    subst (λ (x : Function). HasSignature x (split_functions ls m (g ∷ fs))) same
+    subst (λ (x : Function). HasFunctionLike x (split_functions ls m (g ∷ fs))) same
     (at_front (first_layout ls) (has_given_call m g) g.coroutine g (split_functions (layouts_after g ls) m fs)
     (ap (λ (x : Function). x.coroutine) same ∙ d))
 stands ls m (g ∷ fs) (suc k) f e d =

@@ -1,20 +1,20 @@
 -- Values that cross a suspend have fields of their own.
-use Rattle.std.proofs.Common.{◌≡◌, ◌≢◌, inl, inr, ⊎_elim, ℕ, zero, suc, ◌+◌, ◌<◌, ◌≤◌, List, [], ◌∷◌, ◌++◌, length, Option, Some, None, refl, sym, ap, ◌∙◌, subst, arith}
+use Rattle.std.proofs.Common.{◌≡◌, ◌≢◌, inl, inr, ⊎_elim, ℕ, zero, suc, ◌+◌, ◌<◌, ◌≤◌, List, [], ◌∷◌, ◌++◌, Option, Some, None, refl, sym, ◌∙◌, subst, arith}
 use Rattle.std.proofs.lemmas.Bool.{cases_lt}
-use Rattle.std.proofs.lemmas.Option.{slice_get_within}
 use Rattle.std.specs.List.{Contains}
 use Rattle.std.specs.Prelude.{replicate, slice_get}
-use Rattle.compiler_theorem.proofs.kinds.Opened.{field_there, opened}
+use Rattle.compiler_theorem.proofs.kinds.Held.{IsPlacedAs}
+use Rattle.compiler_theorem.proofs.kinds.Opened.{opened}
+use Rattle.compiler_theorem.proofs.kinds.Pairs.{first_field, places_differ, second_field, values_conflict}
 use Rattle.compiler_theorem.specs.kinds.Held.{IsHeldAsValue}
 use Rattle.compiler.specs.flow_solver.Paths.{IsListed}
-use Rattle.compiler.specs.frame_contents.Held.{at_fields, both_at_fields, field_of, fields_of, pair_with, position_of, slot_position, value_held}
+use Rattle.compiler.specs.frame_contents.Held.{field_of, fields_of, position_of, value_held}
 use Rattle.compiler.specs.frame_contents.declared.held.Holding.{Holding}
 use Rattle.compiler.specs.frame_good.Frames.{AreInConflict}
 use Rattle.compiler.specs.frame_good.Good.{AreApart, AreFit, IsGoodLayout}
-use Rattle.compiler.proofs.frame_layout.Grouped.{Crossing, pairs_at}
 use Rattle.compiler.specs.frame_layout.declared.layout.Layout.{Layout}
 use Rattle.compiler.proofs.ir_laws.facts.Lists.{set_at}
-use Rattle.compiler.proofs.ir_laws.paths.source_rules.Locals.{listed_either, listed_left, listed_right}
+use Rattle.compiler.proofs.ir_laws.paths.source_rules.Locals.{listed_either}
 use Rattle.compiler.specs.ir_model.declared.module.Function.{Function}
 use Rattle.compiler.specs.pass_cells.Kept.{entry, row_or, rows_from, with_pair, with_row, with_row_of}
 use Rattle.compiler.specs.pass_cells.Written.{row_at}
@@ -23,6 +23,7 @@ use Rattle.compiler.specs.pass_fetch.Fetching.{value_bytes}
 use Rattle.compiler.specs.pass_frames.Tables.{offset_at}
 use Rattle.pass_frames_meaning.specs.Kinds.{AreBehind}
 use Rattle.pass_frames_meaning.proofs.pass_frames_proof.code.Names.{Kept, keeping}
+use Rattle.pass_frames_meaning.proofs.pass_frames_proof.from_edges.Front.{listed_contains}
 use Rattle.pass_frames_meaning.proofs.pass_frames_proof.lines.Cells.{contained}
 use Rattle.pass_frames_meaning.specs.pass_frames_proof.Framings.{IsFraming}
 use Rattle.pass_frames_meaning.specs.pass_frames_proof.Places.{Framing, plan}
@@ -81,14 +82,6 @@ module _ (places : List (Option ℕ)) (all : List (ℕ × ℕ)) where
   none_from : (count : ℕ) → AreFrom (replicate count [])
   none_from count j n row e l = absurd (no_rows count j n row e l)
 
-pub listed_in : {A : Type 0} (xs : List A) (x : A) → IsListed x xs → Contains xs x
-listed_in [] x l = absurd l
-listed_in (z ∷ xs) x (inl e) = (0, omega arith, sym e)
-listed_in (z ∷ xs) x (inr l) =
-    let r = listed_in xs x l in
-    let lt : r.0 < length xs = r.1 in
-    (suc r.0, omega (arith, lt), r.2)
-
 module _ (x : Framing) (is : IsFraming x) where
   -- a value of which a suspend's row has the number crosses it
   pub row_crosses : (order v : ℕ) (k : KeptValue) (kept : IsKeptValue x v k)
@@ -101,22 +94,10 @@ module _ (x : Framing) (is : IsFraming x) where
       let other = (keeping x is).there v kept.number kept.told in
       let same : z.0 ≡ v = same_number z.0 v (sym one ∙ other) in
       subst (λ (u : ℕ). Contains x.contents.crossing (u, order)) same
-      (listed_in x.contents.crossing (z.0, order) z.1)
+      (listed_contains x.contents.crossing (z.0, order) z.1)
     where
       same_number : (u w : ℕ) → Some u ≡ Some w → u ≡ w
       same_number u w e = cc
-
--- ---- positions of pairs
-
-pub pair_listed : (at : ℕ → Option ℕ) (ps : List (ℕ × ℕ)) (v j n : ℕ) → IsListed (v, j) ps → at v ≡ Some n
-    → IsListed (n, j) (at_fields at ps)
-pair_listed at [] v j n l e = absurd l
-pair_listed at (p ∷ ps) v j n (inl same) e =
-    listed_left (n, j) (pair_with (at p.0) p.1) (at_fields at ps)
-    (subst (λ (q : ℕ × ℕ). IsListed (n, j) (pair_with (at q.0) q.1)) same
-    (subst (λ (o : Option ℕ). IsListed (n, j) (pair_with o j)) (sym e) (inl refl)))
-pair_listed at (p ∷ ps) v j n (inr l) e =
-    listed_right (n, j) (pair_with (at p.0) p.1) (at_fields at ps) (pair_listed at ps v j n l e)
 
 -- ---- ranges
 
@@ -161,36 +142,18 @@ module _ (x : Framing) (is : IsFraming x) (func : ℕ) (f : Function) (l : Layou
     abbrev other_field : Holding
     other_field = value_held v (value_bytes j.field_ty)
 
-    first : slice_get (fields_of f x.contents.held) one_at.position ≡ Some (field_of f one_field)
-    first = field_there f x.contents.held one_at.position one_field one_at.there
+    abbrev one : IsPlacedAs x.contents.held one_field
+    one = record { position = one_at.position; told = one_at.told; there = one_at.there }
 
-    second : slice_get (fields_of f x.contents.held) other_at.position ≡ Some (field_of f other_field)
-    second = field_there f x.contents.held other_at.position other_field other_at.there
+    abbrev two : IsPlacedAs x.contents.held other_field
+    two = record { position = other_at.position; told = other_at.told; there = other_at.there }
 
     not_same : one_at.position ≢ other_at.position
-    not_same e =
-        let both : Some one_field ≡ Some other_field =
-        sym one_at.there ∙ ap (slice_get x.contents.held) e ∙ other_at.there in
-        let same : one_field ≡ other_field = cc in
-        ne (ap (λ (h : Holding). h.value) same)
+    not_same = places_differ x.contents one_field other_field one two ne
 
     in_conflict : AreInConflict f x.contents one_at.position other_at.position
-    in_conflict alive conflicts alive_are conflicts_are =
-        pairs_at (fields_of f x.contents.held) (at_fields (position_of x.contents.held) x.contents.crossing)
-        (at_fields (slot_position f x.contents.held) alive)
-        (both_at_fields (slot_position f x.contents.held) conflicts) one_at.position other_at.position
-        (slice_get_within (fields_of f x.contents.held) one_at.position (field_of f one_field) first)
-        (slice_get_within (fields_of f x.contents.held) other_at.position (field_of f other_field) second)
-        not_same
-        (Crossing (
-          order,
-          listed_in (at_fields (position_of x.contents.held) x.contents.crossing) (one_at.position, order)
-              (pair_listed (position_of x.contents.held) x.contents.crossing u order one_at.position
-              (contained x.contents.crossing (u, order) crosses) one_at.told),
-          listed_in (at_fields (position_of x.contents.held) x.contents.crossing) (other_at.position, order)
-              (pair_listed (position_of x.contents.held) x.contents.crossing v order other_at.position
-              (contained x.contents.crossing (v, order) other) other_at.told),
-        ))
+    in_conflict = values_conflict f x.contents one_field other_field one two not_same order
+        (contained x.contents.crossing (u, order) crosses) (contained x.contents.crossing (v, order) other)
 
     pub values_behind : AreBehind (offset_at x.layout one_at.position) (value_bytes k.field_ty)
         (offset_at x.layout other_at.position) (value_bytes j.field_ty)
@@ -199,5 +162,6 @@ module _ (x : Framing) (is : IsFraming x) (func : ℕ) (f : Function) (l : Layou
         (offset_at y other_at.position) (value_bytes j.field_ty)) (sym layout)
         (behind (offset_at l one_at.position) (value_bytes k.field_ty) (offset_at l other_at.position)
         (value_bytes j.field_ty) some some_other
-        (good.apart one_at.position other_at.position (field_of f one_field) (field_of f other_field) first second
-        not_same in_conflict))
+        (good.apart one_at.position other_at.position (field_of f one_field) (field_of f other_field)
+        (first_field f x.contents one_field other_field one two not_same)
+        (second_field f x.contents one_field other_field one two not_same) not_same in_conflict))

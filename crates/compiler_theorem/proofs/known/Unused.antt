@@ -1,7 +1,6 @@
 -- An accepted source uses slots in a frame behind begin (rule K9).
 use Rattle.std.proofs.Common.{◌≡◌, ℕ, zero, suc, true, List, [], ◌∷◌, Option, Some, None, refl, sym, ap, ◌∙◌, subst}
 use Rattle.std.specs.Prelude.{slice_get, take, unwrap_or}
-use Rattle.compiler_theorem.proofs.kinds.Crossed.{listed_in}
 use Rattle.compiler_theorem.proofs.known.Behind.{unused}
 use Rattle.compiler_theorem.proofs.known.Left.{left_positions, left_rules, left_uses}
 use Rattle.compiler_theorem.proofs.known.Names.{framed, framed_function}
@@ -35,6 +34,7 @@ use Rattle.pass_frames_meaning.specs.Unbegun.{IsBefore}
 use Rattle.pass_frames_meaning.proofs.pass_frames_proof.code.Left.{fetch_found}
 use Rattle.pass_frames_meaning.proofs.pass_frames_proof.code.Names.{kept_left}
 use Rattle.pass_frames_meaning.proofs.pass_frames_proof.code.Passes.{block_is}
+use Rattle.pass_frames_meaning.proofs.pass_frames_proof.from_edges.Front.{listed_contains}
 use Rattle.pass_frames_meaning.proofs.pass_frames_proof.layers.Grown.{both_passed}
 use Rattle.pass_frames_meaning.specs.pass_frames_proof.Framings.{IsFraming}
 use Rattle.pass_frames_meaning.specs.pass_frames_proof.Layers.{passed, state_at}
@@ -95,7 +95,7 @@ never_fetched x v apart = on (fetch_of (copies x).fetches (Operand.Local v)) ref
     on None e = e
     on (Some f) e =
         let c = cell_found (written x) (copies x).slots v f e in
-        absurd (apart c.slot (listed_in (copies x).slots c.slot c.listed) c.value)
+        absurd (apart c.slot (listed_contains (copies x).slots c.slot c.listed) c.value)
 
 module _ (l : Lowered) (low : IsLowered l) (few : HasFewBytes l) (a : Anew) (anew : IsAnewOf (early l) a) (r : Run)
     (entered : IsEntryCall l.source r) where

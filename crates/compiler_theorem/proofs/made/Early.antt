@@ -2,7 +2,6 @@
 use Rattle.std.proofs.Common.{◌≡◌, ℕ, ◌<◌, Bool, true, List, length, Option, Some, None, sym, ap, ◌∙◌, subst}
 use Rattle.std.specs.List.{Contains}
 use Rattle.std.specs.Prelude.{slice_get, unwrap_or, ◌==◌}
-use Rattle.compiler_theorem.proofs.kinds.Crossed.{listed_in}
 use Rattle.compiler_theorem.proofs.kinds.Early.{early_alloca}
 use Rattle.compiler_theorem.proofs.known.Names.{begin_known, begin_there, framed, framed_function, low_name}
 use Rattle.compiler_theorem.proofs.known.Runs.{run}
@@ -29,6 +28,7 @@ use Rattle.compiler.specs.ir_model.declared.operand.Intrinsic.{Intrinsic}
 use Rattle.compiler.specs.pass_copies.declared.slot.EarlySlot.{EarlySlot}
 use Rattle.compiler.specs.pass_frames.Framed.{begin_of, layout_at}
 use Rattle.pass_frames_meaning.proofs.executed.Renewed.{renewed_keeps_executed}
+use Rattle.pass_frames_meaning.proofs.pass_frames_proof.from_edges.Front.{listed_contains}
 use Rattle.pass_frames_meaning.proofs.pass_frames_proof.lines.Cells.{contained}
 use Rattle.pass_frames_meaning.specs.Executed.{IsFirstMode}
 use Rattle.pass_frames_meaning.specs.pass_frames_proof.Passes.{no_block}
@@ -131,4 +131,4 @@ module _ (l : Lowered) (low : IsLowered l) (few : HasFewBytes l) (a : Anew) (ane
       let z : HasSlotOf s.top.slots e.slot = (made_state n runs).0 (subst IsFirstMode (sym ramp) tt) none e.slot
       (alloca s.top.func coroutine e among)
       (passed s.top.func coroutine e among s.top.block s.top.at result must_tail ty args there) in
-      (z.0, listed_in s.top.slots z.0 z.1, z.2)
+      (z.0, listed_contains s.top.slots z.0 z.1, z.2)

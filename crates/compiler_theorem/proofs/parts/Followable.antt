@@ -25,6 +25,7 @@ use Rattle.compiler.proofs.pass_proofs.split.exited.Exited.{splittable_exited}
 use Rattle.compiler.specs.pass_proofs.exits.states.Exits.{exit_function, exits_split}
 use Rattle.compiler.specs.pass_proofs.split.rules.Splittable.{IsSplittable}
 use Rattle.compiler.specs.pass_split.Parts.{first_layout, layouts_after, other_layouts}
+use Rattle.pass_split_proof.proofs.ready.Given.{own_ruler}
 use Rattle.pass_split_proof.proofs.ready.Globals.{globals_kept}
 use Rattle.pass_split_proof.proofs.ready.Layouts.{layouts_found, no_layouts}
 use Rattle.pass_split_proof.proofs.ready.Moved.{cleanup_untaken, names_moved}
@@ -233,6 +234,7 @@ module _ (ls : Layouts) (m : Module) (ready : IsReady ls m) (laid : AreLayoutsOf
       globals = globals_kept ls m ready.items ready.short;
       contents = contents;
     };
+    ruler = own_ruler (exits_split m);
     names = names_moved ls m ready.items ready.short;
     fields = λ k f there block at name inbounds ty base indices e.
         fields_found (exits_split m) k f (rules k f there) block at name inbounds ty base indices e

@@ -3,6 +3,8 @@ use Rattle.std.proofs.Common.{◌≡◌, ℕ, Bool, true, false, List, [], ◌�
 use Rattle.std.proofs.lemmas.Bool.{false≢true}
 use Rattle.std.proofs.lemmas.Option.{slice_get-map}
 use Rattle.std.specs.Prelude.{None, Option, Some, is_some, map, option_map, slice_get, unwrap_or, ◌&&◌, ◌||◌}
+use Rattle.compiler.proofs.pass_proofs.rule_laws.rules.function_rules.Stages.{rules_larger}
+use Rattle.compiler.specs.rule_names.declared.stage.Stage.{Stage}
 use Rattle.compiler.proofs.whole.lowered_sources.Sources.{early_items, early_others, early_rules}
 use Rattle.compiler_theorem.proofs.narrow.Modules.{edged_inner}
 use Rattle.compiler_theorem.proofs.theorem.Built.{coroutine_there, sources_built}
@@ -149,7 +151,8 @@ module _ (l : Lowered) (low : IsLowered l) where
   call_known func block at r must_tail ty n args here =
       let there = edged_at func block at (Instr.Call r must_tail ty (Callee.Named n) args) here in
       callee_known (edged l) func (function_at (edged l) func)
-      (split_rules l.text l.source low.source.stands low.source.accepted func (function_at (edged l) func) there)
+      (rules_larger Stage.Source (edged l) func (function_at (edged l) func)
+      (split_rules l.text l.source low.source.stands low.source.accepted func (function_at (edged l) func) there))
       block at r must_tail ty args n here
 
   none_given : (n : Name) → knows_name (edged l) n ≡ true → (o : Option ℕ) → given_ramp l.framed n ≡ o

@@ -10,7 +10,7 @@ use Rattle.compiler_theorem.proofs.theorem.Renewing.{all_kept, early_entry}
 use Rattle.compiler_theorem.specs.theorem.Anew.{Anew, IsAnewOf}
 use Rattle.compiler_theorem.specs.theorem.Built.{building}
 use Rattle.compiler_theorem.specs.theorem.Entries.{IsEntryCall, Run}
-use Rattle.compiler_theorem.specs.theorem.Lowered.{HasFewBytes, IsLowered, Lowered, early, edged, price_renewed, sizes_of}
+use Rattle.compiler_theorem.specs.theorem.Lowered.{HasFewBytes, IsLowered, Lowered, early, edged, sizes_of}
 use Rattle.compiler_theorem.specs.theorem.Between.{renewing, setting}
 use Rattle.compiler.specs.ir_base.declared.name.Name.{Name}
 use Rattle.compiler.proofs.ir_laws.facts.Lists.{map_same}
@@ -20,11 +20,10 @@ use Rattle.compiler.specs.ir_model.declared.module.Function.{Function}
 use Rattle.compiler.specs.ir_model.declared.module.GlobalItem.{GlobalItem}
 use Rattle.compiler.specs.ir_model.declared.module.Module.{Module}
 use Rattle.pass_frames_meaning.proofs.covered.Assembly.{kept_agrees}
-use Rattle.pass_frames_meaning.specs.Covered.{AgreesWithFrames, AreCoveredStepsFollowed, IsKeptOver}
+use Rattle.pass_frames_meaning.specs.Covered.{AgreesWithFrames, AreCoveredStepsFollowed, AreStepsPaid, IsKeptOver}
 use Rattle.pass_frames_meaning.proofs.pass_frames_proof.givens.Runs.{given_runs}
 use Rattle.pass_frames_meaning.proofs.pass_frames_proof.start.States.{starts_built}
 use Rattle.pass_frames_meaning.proofs.pass_frames_proof.stepping.Operands.{AreSameNames, empty_same}
-use Rattle.pass_frames_meaning.specs.pass_frames_proof.Meaning.{PaysForFrames}
 use Rattle.pass_frames_meaning.specs.pass_frames_proof.Related.{AreBuiltOf, Building}
 use Rattle.pass_frames_meaning.specs.pass_frames_proof.Stepping.{AreGiven}
 use Rattle.compiler.proofs.pass_proofs.frames.headings.Headings.{framed_names}
@@ -129,7 +128,7 @@ module _ (l : Lowered) (low : IsLowered l) where
       pub framing_by : HasFewBytes l → (p : Prices) (Holds : State → Type 0)
           → IsKeptOver (setting l a r) (building l low.is_framed r.answers) Holds
           → AreCoveredStepsFollowed (setting l a r) (building l low.is_framed r.answers) Holds
-          → PaysForFrames (building l low.is_framed r.answers) (renewing l a r) (price_renewed l a r p)
+          → AreStepsPaid (setting l a r) (building l low.is_framed r.answers) p
           → AgreesWithFrames (setting l a r) p (building l low.is_framed r.answers) l.layouts
       framing_by few p Holds over followed pays =
           kept_agrees (setting l a r) p built l.layouts (all_kept l low a anew r call few) refl
@@ -139,7 +138,7 @@ pub framing : (l : Lowered) (low : IsLowered l) → HasFewBytes l → (a : Anew)
     → IsEntryCall l.source r → (Holds : State → Type 0)
     → IsKeptOver (setting l a r) (building l low.is_framed r.answers) Holds
     → AreCoveredStepsFollowed (setting l a r) (building l low.is_framed r.answers) Holds
-    → PaysForFrames (building l low.is_framed r.answers) (renewing l a r) (price_renewed l a r p)
+    → AreStepsPaid (setting l a r) (building l low.is_framed r.answers) p
     → AgreesWithFrames (setting l a r) p (building l low.is_framed r.answers) l.layouts
 framing l low few a anew p r call Holds over followed pays =
     framing_by l low a r anew call few p Holds over followed pays

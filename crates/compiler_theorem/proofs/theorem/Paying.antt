@@ -1,5 +1,5 @@
--- Prices of a run of an accepted source, in which a resume hands on values, are at most 4 times the size factor for each
--- step.
+-- Prices of a run of an accepted source, in which a resume hands on values, are at most 4 times the factor of frames for
+-- each step.
 use Rattle.std.proofs.Common.{◌≡◌, inl, ℕ, ◌+◌, ◌*◌, ◌≤◌, Bool, true, false, refl, sym, ap, ◌∙◌, subst, arith}
 use Rattle.std.specs.Prelude.{[], None, Option, Some, slice_get, unwrap_or, ◌&&◌, if◌then◌else◌}
 use Rattle.compiler_theorem.proofs.theorem.Affording.{MayBePaid, steps_paid}
@@ -19,7 +19,8 @@ use Rattle.compiler.specs.ir_model.declared.module.Function.{Function}
 use Rattle.compiler.specs.ir_model.declared.operand.Intrinsic.{Intrinsic}
 use Rattle.compiler.specs.ir_paths.declared.point.Point.{Point}
 use Rattle.pass_frames_meaning.specs.Setting.{KeepsAll}
-use Rattle.pass_frames_prices.specs.FramePrices.{credit, full_price, left_at}
+use Rattle.pass_frames_prices.specs.FramePrices.{credit, frames_factor, full_price, left_at}
+use Rattle.pass_frames_prices.specs.Numbers.{most_names}
 use Rattle.pass_frames_meaning.specs.pass_frames_proof.Places.{is_return}
 use Rattle.pass_frames_meaning.specs.pass_frames_proof.Related.{Building, is_coroutine}
 use Rattle.compiler.specs.pass_kept_proof.Kept.{continue_keeping}
@@ -29,7 +30,7 @@ use Rattle.run_accepted.proofs.Plain.{no_call}
 use Rattle.compiler.proofs.pass_proofs.kept.sources.Names.{suspend_inside}
 use Rattle.compiler.proofs.run_agreement.Costs.{cost_below, cost_paid}
 use Rattle.compiler.specs.run_agreement.Costs.{cost_at, cost_from}
-use Rattle.compiler.specs.run_agreement.Factor.{most_operands_of_functions, most_phis_of_functions, names_of_functions, size_factor}
+use Rattle.compiler.specs.run_agreement.Factor.{most_operands_of_functions, most_phis_of_functions}
 use Rattle.compiler.specs.run_agreement.Machines.{IsFine, IsRunning, Machine, at}
 use Rattle.pass_frames_meaning.proofs.run_hooks.Keeping.{kept_keeps}
 use Rattle.pass_frames_meaning.proofs.run_hooks.Reaching.{states_reached, step_stays}
@@ -61,7 +62,7 @@ module _ (l : Lowered) (low : IsLowered l) (few : HasFewBytes l) (a : Anew) (ane
   k = given (edged l) (sizes_of l) r.answers
 
   abbrev names : ℕ
-  names = names_of_functions l.source.functions
+  names = most_names l.source.functions
 
   abbrev operands : ℕ
   operands = most_operands_of_functions l.source.functions + most_phis_of_functions l.source.functions
@@ -125,7 +126,7 @@ module _ (l : Lowered) (low : IsLowered l) (few : HasFewBytes l) (a : Anew) (ane
       on true e = absurd (cc)
 
   pub runs_paid : (n : ℕ) → IsFine (at (kept_run l a r) n).outcome
-      → cost_at (kept_run l a r) (price_kept l a r (prices_of l low a)) n ≤ (4 * size_factor l.source) * n
+      → cost_at (kept_run l a r) (price_kept l a r (prices_of l low a)) n ≤ (4 * frames_factor l.source) * n
   runs_paid n fine =
       let m : Machine State = kept_run l a r in
       let start : State = first_state (edged l) r.entry r.args in

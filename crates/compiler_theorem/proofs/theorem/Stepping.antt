@@ -2,6 +2,8 @@
 use Rattle.std.proofs.Common.{◌≡◌, ℕ, Bool, true, false, List, length, map, refl, sym, ap, ◌∙◌, subst}
 use Rattle.std.proofs.lemmas.Bool.{false≢true}
 use Rattle.std.specs.Prelude.{All, None, Option, Some, slice_get, unwrap_or, ◌==◌, ◌&&◌}
+use Rattle.compiler.proofs.pass_proofs.rule_laws.rules.function_rules.Stages.{rules_larger}
+use Rattle.compiler.specs.rule_names.declared.stage.Stage.{Stage}
 use Rattle.compiler.proofs.whole.lowered_sources.Row.{is_ready}
 use Rattle.compiler.specs.cleanup.accepted.Ready.{IsReady}
 use Rattle.compiler_theorem.proofs.theorem.Renewing.{all_kept}
@@ -81,11 +83,14 @@ module _ (l : Lowered) (low : IsLowered l) where
     known_in k g there here = on g.coroutine refl
       where
         on : (c : Bool) → g.coroutine ≡ c → knows_name l.framed n ≡ true
-        on false c = callee_known l.framed k g (ready.plain k g there c).rules block at result must_tail ty args n here
+        on false c = callee_known l.framed k g
+            (rules_larger Stage.Source l.framed k g (ready.plain k g there c).rules) block at result must_tail ty args n
+            here
         on true c =
             let p = moved g (point block at) in
-            callee_known l.framed k (with_exit_blocks g) (ready.coroutines k g there c).splittable.rules p.block p.at
-            result must_tail ty args n
+            callee_known l.framed k (with_exit_blocks g)
+            (rules_larger Stage.Source l.framed k (with_exit_blocks g) (ready.coroutines k g there c).splittable.rules)
+            p.block p.at result must_tail ty args n
             (fetched (with_exit_blocks g) p call (instr_moved g (point block at) ∙ instr_there g block at call here))
 
     known : (func : ℕ) → fetch (function_at l.framed func) block at ≡ AtInstr call → knows_name l.framed n ≡ true

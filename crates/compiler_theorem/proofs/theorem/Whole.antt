@@ -8,12 +8,13 @@ use Rattle.compiler.specs.pass_cleanup.Cleanup.{clean_function}
 use Rattle.compiler_theorem.proofs.parts.Agree.{framed_agrees}
 use Rattle.compiler_theorem.proofs.theorem.Entries.{entry_before}
 use Rattle.compiler_theorem.proofs.theorem.Facts.{good_layouts, live_apart}
-use Rattle.compiler_theorem.proofs.theorem.Rows.{framed_within, somewhere_shown}
+use Rattle.compiler_theorem.proofs.theorem.Rows.{fields_conflict, framed_few, framed_within, somewhere_shown}
 use Rattle.compiler_theorem.proofs.theorem.Tables.{source_tables}
 use Rattle.compiler_theorem.specs.theorem.Anew.{Anew, IsAnewOf}
 use Rattle.compiler_theorem.specs.theorem.Entries.{IsEntry, IsEntryCall, Run}
 use Rattle.compiler_theorem.specs.theorem.Lowered.{HasFewBytes, IsLowered, Lowered, early, framed_run, lowered_from, plain_run, printed_from, source_run, split_from}
 use Rattle.compiler_theorem.specs.Calls.{KeepsFrames}
+use Rattle.pass_frames_prices.specs.FramePrices.{frames_factor}
 use Rattle.compiler_theorem.specs.theorem.Theorem.{KeepsMeaning, KeepsRuns}
 use Rattle.compiler.specs.ir_model.declared.module.Module.{Module}
 use Rattle.pass_frames_meaning.specs.run_types.States.{AreArguments}
@@ -102,6 +103,7 @@ module _ (a : Anew) (l : Lowered) (low : IsLowered l) (few : HasFewBytes l) (ane
     runs = keeps_runs;
     shared = somewhere_shown a l low few anew r (record { callable = entry.callable; fits = fits });
     apart = λ n fine. live_apart l low.source r n;
+    conflicts = fields_conflict a l low few anew r (record { callable = entry.callable; fits = fits });
   }
 
 -- ---- an accepted source has the tables of what is handed on and made anew
@@ -133,9 +135,10 @@ frames_kept l low few r call =
     let tables = source_tables l low in
     record {
       agrees = subst (λ k. AgreesWithin k (at (source_run l r)) (at (framed_run l l.framed r)))
-          (sixteen (size_factor l.source)) (framed_within tables.0 l low few tables.1 r call);
+          (sixteen (frames_factor l.source)) (framed_few tables.0 l low few tables.1 r call);
       shared = somewhere_shown tables.0 l low few tables.1 r call;
       apart = λ n fine. live_apart l low.source r n;
+      conflicts = fields_conflict tables.0 l low few tables.1 r call;
     }
 
 -- and so do its parts

@@ -1,13 +1,16 @@
 pub mod Behind
 pub mod Bytes
+pub mod Conflicting
 pub mod Contents
 pub mod Crossed
 pub mod Dying
 pub mod Encoded
 pub mod Fields
+pub mod Found
 pub mod Homes
 pub mod Kept
 pub mod KeptStatus
+pub mod Moved
 pub mod Numbered
 pub mod Placed
 pub mod Reading

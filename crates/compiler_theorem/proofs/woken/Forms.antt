@@ -2,6 +2,8 @@
 -- is one in both forms.
 use Rattle.std.proofs.Common.{◌≡◌, ℕ, List, Option, Some, true, sym, ap, ◌∙◌, subst}
 use Rattle.std.specs.Prelude.{ℤ, slice_get, unwrap_or}
+use Rattle.compiler.proofs.pass_proofs.rule_laws.rules.function_rules.Stages.{rules_larger}
+use Rattle.compiler.specs.rule_names.declared.stage.Stage.{Stage}
 use Rattle.compiler.proofs.whole.lowered_sources.Sources.{comes_from, early_rules}
 use Rattle.compiler_theorem.proofs.parts.Returned.{buildable, named}
 use Rattle.compiler_theorem.proofs.theorem.Built.{coroutine_there, framed_there, framings, sources_built}
@@ -110,11 +112,12 @@ module _ (l : Lowered) (low : IsLowered l) (answers : List ℤ) (func : ℕ)
   pub begins : begin_name (edged x) ≡ Some (begin_of x.function)
   begins =
       let h = framing.frameable in
-      begin_name_is x.code framing.position (edged x) h.rules framing.begin (first x framing) h.coroutine h.calls
+      begin_name_is x.code framing.position (edged x)
+      (rules_larger Stage.Source x.code framing.position (edged x) h.rules) framing.begin (first x framing) h.coroutine h.calls
       ∙ sym (ap (λ (o : Option ℕ). Some (unwrap_or o 0)) h.begins)
 
   pub framed_begins : begin_name (framed x) ≡ Some (begin_of x.function)
   framed_begins =
       let k = form.kept in
-      begin_name_is e func (framed x) k.rules form.begin k.shape.named k.coroutine k.shape.calls
+      begin_name_is e func (framed x) (rules_larger Stage.Source e func (framed x) k.rules) form.begin k.shape.named k.coroutine k.shape.calls
       ∙ ap Some (sym same_begin)

@@ -3,6 +3,8 @@
 use Rattle.std.proofs.Common.{◌≡◌, ℕ, Bool, true, false, [], refl, sym, ap, ◌∙◌, subst}
 use Rattle.std.proofs.lemmas.Bool.{false≢true}
 use Rattle.std.specs.Prelude.{None, Option, Some, slice_get, unwrap_or}
+use Rattle.compiler.proofs.pass_proofs.rule_laws.rules.function_rules.Stages.{rules_larger}
+use Rattle.compiler.specs.rule_names.declared.stage.Stage.{Stage}
 use Rattle.compiler.proofs.whole.lowered_sources.Row.{is_ready}
 use Rattle.compiler.specs.cleanup.accepted.Ready.{IsReady}
 use Rattle.compiler_theorem.proofs.theorem.Built.{sources_built}
@@ -66,11 +68,13 @@ module _ (l : Lowered) (low : IsLowered l) where
 
   own_blocks : HasOwnBlocks l.framed
   own_blocks = record {
-    allocas = allocas_alone l.framed framed_rules;
+    allocas = allocas_alone l.framed l.framed (λ k there. rules_larger Stage.Source l.framed k (function_at l.framed k)
+        (framed_rules k there));
     intrinsics = λ func block at result must_tail ty x args here of.
         in_coroutine l.framed func (function_at l.framed func)
+        (rules_larger Stage.Source l.framed func (function_at l.framed func)
         (framed_rules func (function_of_instr l.framed func block at
-        (Instr.Call result must_tail ty (Callee.Intrinsic x) args) here)) block at result must_tail ty x args here
+        (Instr.Call result must_tail ty (Callee.Intrinsic x) args) here))) block at result must_tail ty x args here
         (inner_of x of);
   }
 

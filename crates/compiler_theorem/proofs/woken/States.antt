@@ -1,6 +1,8 @@
 -- States of accepted sources are as is asked where coroutines are woken, and where slots are made anew.
 use Rattle.std.proofs.Common.{◌≡◌, inl, inr, ℕ, Bool, true, false, List, Option, Some, None, refl, sym, ap, ◌∙◌, subst}
 use Rattle.std.specs.Prelude.{slice_get}
+use Rattle.compiler.proofs.pass_proofs.rule_laws.rules.function_rules.Stages.{rules_larger}
+use Rattle.compiler.specs.rule_names.declared.stage.Stage.{Stage}
 use Rattle.compiler_theorem.proofs.theorem.Asked.{asked_kept}
 use Rattle.compiler_theorem.proofs.theorem.Begins.{begun_once}
 use Rattle.compiler_theorem.proofs.theorem.Built.{framings, sources_built}
@@ -115,7 +117,8 @@ module _ (l : Lowered) (low : IsLowered l) (few : HasFewBytes l) (a : Anew) (ane
       on false e =
           sym (ap (λ (f : Function). f.coroutine) (plain_is func e) ∙ e)
           ∙ in_coroutine (edged_module l) func (E func)
-          (rules func (function_there (edged_module l) func block at i here)) block at result must_tail ty x args here
+          (rules_larger Stage.Source (edged_module l) func (E func)
+          (rules func (function_there (edged_module l) func block at i here))) block at result must_tail ty x args here
           inner
 
   -- ---- begin's name
@@ -137,9 +140,10 @@ module _ (l : Lowered) (low : IsLowered l) (few : HasFewBytes l) (a : Anew) (ane
       let x : Framing = (building l low.is_framed r.answers).framing func in
       let h = is.frameable in
       let same = (sources_given l low a r).coroutines func c in
+      let wide = rules_larger Stage.Source x.code is.position (edged x) h.rules in
       ap begin_name same
-      ∙ begin_name_is x.code is.position (edged x) h.rules is.begin (first x is) h.coroutine h.calls
-      ∙ sym (begin_makes x.code is.position (edged x) h.rules is.begin (first x is) h.coroutine h.calls block at i
+      ∙ begin_name_is x.code is.position (edged x) wide is.begin (first x is) h.coroutine h.calls
+      ∙ sym (begin_makes x.code is.position (edged x) wide is.begin (first x is) h.coroutine h.calls block at i
       (sym (ap (λ (f : Function). fetch f block at) same) ∙ here) refl)
 
   all_names : KeepAllNames m.given none_counts

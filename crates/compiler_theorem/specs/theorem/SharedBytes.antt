@@ -21,7 +21,8 @@ use Rattle.compiler.specs.ir_model.declared.module.Function.{Function}
 use Rattle.compiler.specs.ir_model.declared.module.Module.{Module}
 use Rattle.compiler.specs.ir_paths.Slots.{addresses_of, has_name}
 use Rattle.compiler.specs.ir_paths.declared.point.Point.{Point}
-use Rattle.compiler.specs.run_laws.memory.Pointers.{AreBytes, Home}
+use Rattle.compiler.specs.run_laws.embedded.Making.{whole_home}
+use Rattle.compiler.specs.run_laws.memory.Pointers.{AreBytes, Home, home_of}
 use Rattle.compiler.specs.run_step.Values.{Env, value_in}
 use Rattle.compiler.specs.run_step.declared.world.Slot.{Slot}
 use Rattle.compiler.specs.frame_classes.Classes.{IsOf}
@@ -82,16 +83,42 @@ AreDistancesIn m l homes x start block =
     → IsInLocalSlot (function_at m x.coroutine) v → value_in values v ≡ Value.Ptr (Pointer.At b o)
     → StandAt homes (digits size o.bits) block (start + offset)
 
+-- each frame slot of an instance has a field, as large as its block
+abbrev pub HaveSlotFields : Module → Layout → State → Instance → Type 0
+HaveSlotFields m l s x =
+    (slot : Slot) (y : MemoryBlock) → Contains x.slots slot
+    → IsOf (function_at m x.coroutine) slot.alloca SlotClass.Frame → slice_get s.world.memory slot.block ≡ Some y
+    → (offset : ℕ) × HasField m (function_at m x.coroutine) l slot.alloca offset y.size
+
+-- where it is suspended each value that crosses its suspend has a field
+abbrev pub HaveValueFields : Module → Layout → Instance → Type 0
+HaveValueFields m l x =
+    (suspend : Point) (values : Env) (v : ℕ) → x.status ≡ Status.Suspended suspend values
+    → Crosses (function_at m x.coroutine) v suspend
+    → (offset : ℕ) × ((size : ℕ) × HasField m (function_at m x.coroutine) l v offset size)
+
+-- pointers to an instance's block are moved to its frame's, and those into a frame slot to where its field lies
+pub record IsMoved (m : Module) (l : Layout) (homes : List Home) (x y : Instance) : Type 0 where
+  pub start : y.start ≡ x.start
+  pub frame : home_of homes x.block ≡ whole_home y.block
+  pub slots : (slot : Slot) (offset size : ℕ) → Contains x.slots slot
+      → IsOf (function_at m x.coroutine) slot.alloca SlotClass.Frame
+      → HasField m (function_at m x.coroutine) l slot.alloca offset size
+      → home_of homes slot.block ≡ record { block = y.block; offset = y.start + offset; is_seen = true }
+
 -- the frame of an instance has what the source's instance has: its live frame slots, and where it is suspended the
 -- values that cross its suspend, of an address in a local slot its distance
-pub record IsShown (m : Module) (l : Layout) (homes : List Home) (s : State) (x : Instance) (start : ℕ)
-    (block : MemoryBlock) : Type 0 where
-  pub slots : AreSlotsIn m l homes s x start block
-  pub values : AreValuesIn m l homes x start block
-  pub distances : AreDistancesIn m l homes x start block
+pub record IsShown (m : Module) (l : Layout) (homes : List Home) (s : State) (x y : Instance) (block : MemoryBlock)
+    : Type 0 where
+  pub moved : IsMoved m l homes x y
+  pub slot_fields : HaveSlotFields m l s x
+  pub slots : AreSlotsIn m l homes s x y.start block
+  pub value_fields : HaveValueFields m l x
+  pub values : AreValuesIn m l homes x y.start block
+  pub distances : AreDistancesIn m l homes x y.start block
 
 -- each instance of the source whose block isn't freed is shown
 pub record AreShown (m : Module) (layouts : List Layout) (s t : State) : Type 0 where
   pub homes : List Home
   pub each : (i : ℕ) (x : Instance) → slice_get s.instances i ≡ Some x → x.freed ≡ false
-      → (y : Frame t i) × IsShown m (layout_of layouts x.coroutine) homes s x y.instance.start y.block
+      → (y : Frame t i) × IsShown m (layout_of layouts x.coroutine) homes s x y.instance y.block

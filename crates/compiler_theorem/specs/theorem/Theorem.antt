@@ -2,18 +2,20 @@
 use Rattle.std.specs.Prelude.{ℕ, ◌+◌, []}
 use Rattle.pass_frames_meaning.specs.run_hooks.alive.Apart.{LiveAreApart}
 use Rattle.compiler.specs.run_agreement.Agreements.{Agrees, AgreesWithin}
-use Rattle.compiler.specs.run_agreement.Factor.{most_operands_of_functions, most_phis_of_functions, names_of_functions}
+use Rattle.compiler.specs.run_agreement.Factor.{most_operands_of_functions, most_phis_of_functions}
 use Rattle.compiler.specs.run_agreement.Factor.{step_factor}
 use Rattle.compiler.specs.run_agreement.Machines.{IsFine, at, state_at}
 use Rattle.compiler.specs.text_canonical.canonical.Items.{module_text}
 use Rattle.compiler.specs.run_source.declared.state.State.{State}
 use Rattle.compiler_theorem.specs.theorem.Anew.{Anew}
+use Rattle.compiler_theorem.specs.theorem.Conflicting.{HasConflicts}
 use Rattle.compiler_theorem.specs.theorem.Entries.{Run}
 use Rattle.compiler_theorem.specs.theorem.Built.{building}
 use Rattle.compiler_theorem.specs.theorem.Lowered.{IsLowered, Lowered, edged, framed_run, lowered_from}
 use Rattle.compiler_theorem.specs.theorem.Lowered.{plain_run, printed_from}
 use Rattle.compiler_theorem.specs.theorem.Lowered.{source_run}
 use Rattle.pass_frames_prices.specs.FramePrices.{frame_prices}
+use Rattle.pass_frames_prices.specs.Numbers.{most_names}
 use Rattle.pass_frames_meaning.specs.pass_renewed_proof.Prices.{Prices}
 use Rattle.compiler_theorem.specs.theorem.SharedBytes.{AreShown}
 use Rattle.compiler.specs.text_grammar.Text.{StandsFor}
@@ -23,10 +25,10 @@ use Rattle.pass_frames_meaning.specs.pass_renewed_meaning.Followed.{AreInStep}
 abbrev pub AreMadeAnew : Lowered → Anew → State → State → Type 0
 AreMadeAnew l a = AreInStep (edged l) a.flags a.roots
 
--- the prices of steps: 4 for each name and operand that the step factor counts, and 4
+-- the prices of steps: 4 for each name of the function that has most and each operand, and 4
 abbrev pub prices_of : (l : Lowered) → IsLowered l → Anew → Prices
 prices_of l low a =
-    frame_prices (building l low.is_framed []) a.flags (edged l) (names_of_functions l.source.functions)
+    frame_prices (building l low.is_framed []) a.flags (edged l) (most_names l.source.functions)
     (most_operands_of_functions l.source.functions + most_phis_of_functions l.source.functions)
 
 -- | Pass | from | to | costs | law | standing |
@@ -57,3 +59,5 @@ pub record KeepsMeaning (l : Lowered) (r : Run) (other : ℕ) : Type 0 where
   pub runs : KeepsRuns l r other
   pub shared : (n : ℕ) → IsFine (at (source_run l r) n).outcome → IsSomewhereShown l r n
   pub apart : (n : ℕ) → IsFine (at (source_run l r) n).outcome → LiveAreApart l.source (state_at (source_run l r) n)
+  pub conflicts : (n : ℕ) → IsFine (at (source_run l r) n).outcome
+      → HasConflicts l.source (state_at (source_run l r) n)

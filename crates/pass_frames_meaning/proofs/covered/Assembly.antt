@@ -6,12 +6,12 @@ use Rattle.std.specs.Prelude.{slice_get}
 use Rattle.pass_frames_proof.specs.frame_layout.declared.layout.Layouts.{Layouts}
 use Rattle.pass_frames_proof.specs.ir_base.declared.outcome.Outcome.{Outcome}
 use Rattle.pass_frames_proof.specs.ir_model.Names.{function_at}
-use Rattle.pass_frames_meaning.specs.Covered.{IsKeptOver, AgreesWithFrames, AreCoveredStepsFollowed, IsCovered, Makes, Stands}
+use Rattle.pass_frames_meaning.specs.Covered.{IsKeptOver, AgreesWithFrames, AreCoveredStepsFollowed, AreStepsPaid, IsCovered, Makes, Stands}
 use Rattle.pass_frames_proof.proofs.followed.Assembly.{cost_ones, events_same, framed_stays, running_is, seen_same}
 use Rattle.pass_frames_proof.proofs.followed.Assembly.{shown_alike}
 use Rattle.pass_frames_proof.specs.Followed.{IsFollowed as FrameFollowed, IsGiven, IsOn, instr_count, measure}
 use Rattle.pass_frames_proof.specs.Followed.{renewed_state_at}
-use Rattle.pass_frames_proof.specs.Meaning.{PaysForFrames, step_cost}
+use Rattle.pass_frames_proof.specs.Meaning.{step_cost}
 use Rattle.pass_frames_proof.specs.Related.{AreBuiltOf, AreShownAlike, Building}
 use Rattle.pass_frames_proof.specs.pass_kept_proof.Kept.{continue_keeping}
 use Rattle.pass_frames_proof.specs.pass_kept_proof.Machines.{kept_machine}
@@ -60,7 +60,7 @@ fine_running o e = subst IsFine (sym e) tt
 
 module _ (c : Setting) (p : Prices) (b : Building) (layouts : Layouts) (all : KeepsAll c)
     (is : IsGiven b layouts c.answers) (declared : b.framed_code.declarations ≡ c.code.declarations)
-    (pay : PaysForFrames b (second_given c) (renewed_price p (second_given c).given))
+    (pay : AreStepsPaid c b p)
     (start : AreBuiltOf b (first_state c.code c.entry c.args) (first_state b.framed_code c.entry c.args))
     (Holds : State → Type 0) (over : IsKeptOver c b Holds) (follow : AreCoveredStepsFollowed c b Holds) where
   abbrev h : RenewedGiven
@@ -150,6 +150,13 @@ module _ (c : Setting) (p : Prices) (b : Building) (layouts : Layouts) (all : Ke
       events : map (seen_event c.code) (iterate (renewed_step (second_given c)) j k.renewed).world.events
           ≡ map (seen_event c.code) who.world.events
       like : AreAlike who (iterate (renewed_step (second_given c)) j k.renewed)
+
+    run_at : (j : ℕ) → at j ≡ renewed_state_at (second_given c) c.entry c.args (k.second + j)
+    run_at j = ap (iterate step j) k.second_is ∙ sym (iterate-add step k.second j (first_state c.code c.entry c.args))
+
+    paid : (j : ℕ) → step_cost b (second_given c) (at j) (at j).top.mode ≤ price (at j)
+    paid j = subst (λ (z : State). step_cost b (second_given c) z z.top.mode ≤ price z) (sym (run_at j))
+        (pay (k.second + j))
 
     on_way : (j : ℕ) → 0 < j → j < f.steps → IsOnItsWay (first_step c s) (at j)
     on_way j pos lt = f.between j pos lt
@@ -242,7 +249,7 @@ module _ (c : Setting) (p : Prices) (b : Building) (layouts : Layouts) (all : Ke
         (built : AreBuiltOf b (iterate (renewed_step (second_given c)) j k.renewed) (iterate (framed_step b.given) steps t))
         (holds : Holds (iterate (renewed_step (second_given c)) j k.renewed)) where
       now : at j ≡ renewed_state_at (second_given c) c.entry c.args (k.second + j)
-      now = ap (iterate step j) k.second_is ∙ sym (iterate-add step k.second j (first_state c.code c.entry c.args))
+      now = run_at j
 
       there : iterate framed steps t ≡ framed_state_at b.given c.entry c.args (k.place + steps)
       there = ap (iterate framed steps) k.there
@@ -281,7 +288,7 @@ module _ (c : Setting) (p : Prices) (b : Building) (layouts : Layouts) (all : Ke
     way_on j lt w = record {
       steps = w.steps + n.steps;
       few = sums w.steps n.steps (step_cost b (second_given c) (at j) (at j).top.mode) (price (at j))
-          (cost_from step price j k.renewed) (cost_from step price (suc j) k.renewed) w.few n.few (pay (at j))
+          (cost_from step price j k.renewed) (cost_from step price (suc j) k.renewed) w.few n.few (paid j)
           (cost_last step price j k.renewed);
       built = subst (λ (z : State × State). AreBuiltOf b z.0 z.1)
           (λ i. (sym (step_last step j k.renewed) i, sym (iterate-add framed w.steps n.steps t) i)) n.related;

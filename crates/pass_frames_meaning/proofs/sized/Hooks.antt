@@ -1,4 +1,4 @@
--- The hooks that make slots anew keep what holds of each slot.
+-- The hooks that make slots anew keep what holds of each slot, and so do those of a source.
 use Rattle.std.proofs.Common.{◌≡◌, ℕ, Bool, true, false, List, [], ◌∷◌, ◌++◌, length, Option, Some, None, Result}
 use Rattle.std.proofs.Common.{Ok, Err, refl, sym, ap, ◌∙◌, subst}
 use Rattle.std.specs.Prelude.{if◌then◌else◌, filter, is_none, not, slice_get, ◌&&◌, ◌==◌}
@@ -203,5 +203,17 @@ module _ (W : Function → Slot → Type 0) where
     place = λ s slot r k h. life_kept g s slot s.top.mode r k h;
     start = begin_kept g.given;
     close = finish_kept g.given.code;
+    call = λ s x r e. absurd (cc);
+  }
+
+  -- a source's do, of which a resume hands on some values
+  pub kept_keeps_slots : (g : Given) (keep : Keep) → KeepsSlotwise W (kept_hooks g keep)
+  kept_keeps_slots g keep = record {
+    go_on = λ s i x at vs label h e.
+        let k = pushed_kept g.code s i x at (kept (keep x.coroutine at) vs) h e in
+        record { stack = k.stack; instances = k.instances };
+    place = λ s slot r k h. new_slot_kept g s slot r k h;
+    start = begin_kept g;
+    close = finish_kept g.code;
     call = λ s x r e. absurd (cc);
   }

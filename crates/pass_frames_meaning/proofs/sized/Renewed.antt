@@ -1,4 +1,4 @@
--- The hooks that make slots anew keep the sizes of blocks.
+-- The hooks that make slots anew keep the sizes of blocks, and so do those of a source.
 use Rattle.std.proofs.Common.{◌≡◌, ℕ, Bool, true, false, not, List, [], ◌∷◌, Option, Some, None, Result, Ok, Err, ◌&&◌}
 use Rattle.std.specs.Prelude.{if◌then◌else◌, is_none}
 use Rattle.pass_frames_proof.specs.ir_base.declared.cause.Cause.{Cause}
@@ -8,9 +8,9 @@ use Rattle.pass_frames_meaning.proofs.sized.Memory.{GivesSizes, killed_keeps, mo
 use Rattle.pass_frames_meaning.proofs.sized.Memory.{start_keeps}
 use Rattle.pass_frames_meaning.proofs.sized.Memory.{without_keeps}
 use Rattle.pass_frames_meaning.specs.Sized.{IsLonger, KeepsSizes, StaysLonger, sizes_of}
-use Rattle.pass_frames_proof.specs.pass_kept_proof.Kept.{kept}
+use Rattle.pass_frames_proof.specs.pass_kept_proof.Kept.{Keep, kept}
 use Rattle.pass_frames_proof.specs.pass_renewed_proof.Renewed.{RenewedGiven, renew_after, renewed_from, renewed_slot, with_life}
-use Rattle.pass_renewed_meaning.specs.run_hooks.Meanings.{renewed_hooks}
+use Rattle.pass_renewed_meaning.specs.run_hooks.Meanings.{kept_hooks, renewed_hooks}
 use Rattle.pass_frames_proof.specs.run_memory.Memory.{killed, own, start}
 use Rattle.pass_frames_proof.specs.run_memory.declared.block.Kind.{Kind}
 use Rattle.pass_frames_proof.specs.run_memory.declared.block.MemoryBlock.{MemoryBlock}
@@ -107,6 +107,16 @@ renewed_keeps_sizes g = record {
       (same_sizes (sizes_of s.world.memory));
   place = λ s slot. life_longer g s slot s.top.mode;
   start = λ s result mem. begin_longer g.given s result mem;
+  close = λ s. finish_longer s;
+  call = λ s x r e. absurd (cc);
+}
+
+-- a source's do, of which a resume hands on some values
+pub kept_keeps_sizes : (g : Given) (keep : Keep) → KeepsSizes (kept_hooks g keep)
+kept_keeps_sizes g keep = record {
+  go_on = λ s i x suspend values label. same_sizes (sizes_of s.world.memory);
+  place = λ s slot. slot_longer g s slot;
+  start = λ s result mem. begin_longer g s result mem;
   close = λ s. finish_longer s;
   call = λ s x r e. absurd (cc);
 }

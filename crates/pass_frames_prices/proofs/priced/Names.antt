@@ -1,8 +1,9 @@
 -- Names of a coroutine with written saves are those of the source, and at most those that the step factor counts.
-use Rattle.std.proofs.Common.{◌≡◌, ◌≢◌, ℕ, zero, suc, ◌+◌, ◌≤◌, Bool, true, false, List, [], ◌∷◌, ◌++◌, Option, Some}
+use Rattle.std.proofs.Common.{◌≡◌, ℕ, zero, suc, ◌+◌, ◌≤◌, Bool, true, false, List, [], ◌∷◌, ◌++◌, Option, Some}
 use Rattle.std.proofs.Common.{None, length, refl, ap, ◌∙◌, subst, arith}
+use Rattle.std.proofs.Math.Nat.{le-max_left, le-max_right}
 use Rattle.std.proofs.lemmas.List.{length-map}
-use Rattle.std.specs.Prelude.{map, not, slice_get, if◌then◌else◌, ◌&&◌, ◌||◌}
+use Rattle.std.specs.Prelude.{map, max, not, slice_get, if◌then◌else◌, ◌&&◌, ◌||◌}
 use Rattle.pass_frames_proof.specs.frame_crossing.Values.{is_token_result}
 use Rattle.pass_frames_proof.specs.ir_base.declared.outcome.Place.{Place}
 use Rattle.pass_frames_proof.specs.ir_model.Calls.{first_result}
@@ -19,7 +20,7 @@ use Rattle.pass_frames_proof.specs.pass_early.Early.{after_instrs, after_one, ea
 use Rattle.pass_frames_proof.specs.pass_early.Early.{early_one, is_none, save_call, saved}
 use Rattle.pass_frames_proof.specs.pass_early.Renaming.{renamed_instr, renamed_phi}
 use Rattle.pass_frames_proof.specs.pass_early.declared.renaming.Renaming.{Renaming}
-use Rattle.pass_frames_prices.specs.Numbers.{name_of_instr, names_of, names_of_blocks, names_of_instrs}
+use Rattle.pass_frames_prices.specs.Numbers.{most_names, name_of_instr, names_of, names_of_blocks, names_of_instrs}
 use Rattle.pass_frames_proof.proofs.rule_laws.rules.path_rules.Holding.{of_parts}
 use Rattle.pass_frames_proof.proofs.rule_laws.rules.renamed.Switches.{none_part}
 use Rattle.pass_frames_proof.specs.rule_types.Signatures.{are_wanted, calls_otherwise, first_otherwise, is_result}
@@ -212,29 +213,24 @@ module _ (m : Module) where
 
 -- ---- of all functions
 
-pub counted_in : (fs : List Function) (k : ℕ) (f : Function) → slice_get fs k ≡ Some f
-    → length f.params + counted_blocks f.blocks ≤ names_of_functions fs
-counted_in [] k f e = absurd (cc)
-counted_in (g ∷ fs) zero f e =
+pub names_in : (fs : List Function) (k : ℕ) (f : Function) → slice_get fs k ≡ Some f → names_of f ≤ most_names fs
+names_in [] k f e = absurd (cc)
+names_in (g ∷ fs) zero f e =
     let same : g ≡ f = cc in
-    subst (λ (h : Function). length h.params + counted_blocks h.blocks ≤ names_of_functions (g ∷ fs)) same
-    (omega arith)
-counted_in (g ∷ fs) (suc k) f e = let a = counted_in fs k f e in omega (arith, a)
+    let a = le-max_left (names_of g) (most_names fs) in
+    subst (λ (h : Function). names_of h ≤ most_names (g ∷ fs)) same a
+names_in (g ∷ fs) (suc k) f e =
+    let a = names_in fs k f e in
+    let b = le-max_right (names_of g) (most_names fs) in
+    omega (arith, a, b)
 
-pub counted_both : (fs : List Function) (k j : ℕ) (f h : Function) → slice_get fs k ≡ Some f → slice_get fs j ≡ Some h
-    → k ≢ j
-    → length f.params + counted_blocks f.blocks + (length h.params + counted_blocks h.blocks) ≤ names_of_functions fs
-counted_both [] k j f h e d other = absurd (cc)
-counted_both (g ∷ fs) zero zero f h e d other = absurd (other refl)
-counted_both (g ∷ fs) zero (suc j) f h e d other =
-    let same : g ≡ f = cc in
-    let a = counted_in fs j h d in
-    subst (λ (z : Function). length z.params + counted_blocks z.blocks
-    + (length h.params + counted_blocks h.blocks) ≤ names_of_functions (g ∷ fs)) same (omega (arith, a))
-counted_both (g ∷ fs) (suc k) zero f h e d other =
-    let same : g ≡ h = cc in
-    let a = counted_in fs k f e in
-    subst (λ (z : Function). length f.params + counted_blocks f.blocks
-    + (length z.params + counted_blocks z.blocks) ≤ names_of_functions (g ∷ fs)) same (omega (arith, a))
-counted_both (g ∷ fs) (suc k) (suc j) f h e d other =
-    let a = counted_both fs k j f h e d (λ same. other (ap suc same)) in omega (arith, a)
+most_low : (a b c n : ℕ) → a ≤ c → b ≤ n → max a b ≤ c + n
+most_low a b c n h k = omega (arith, h, k)
+
+pub most_counted : (fs : List Function) → ((k : ℕ) (f : Function) → slice_get fs k ≡ Some f
+    → names_of f ≤ length f.params + counted_blocks f.blocks)
+    → most_names fs ≤ names_of_functions fs
+most_counted [] h = omega arith
+most_counted (f ∷ fs) h =
+    most_low (names_of f) (most_names fs) (length f.params + counted_blocks f.blocks) (names_of_functions fs)
+    (h 0 f refl) (most_counted fs (λ k g e. h (suc k) g e))

@@ -1,9 +1,8 @@
 -- Each step pays: over coroutines and other functions, by modes, by what stands there, and by what comes of it.
-use Rattle.std.proofs.Common.{◌≡◌, ◌≢◌, ⊎_elim, ℕ, ◌+◌, ◌-◌, ◌*◌, ◌≤◌, Bool, true, false, List, [], ◌∷◌, Option}
+use Rattle.std.proofs.Common.{◌≡◌, ℕ, ◌+◌, ◌-◌, ◌*◌, ◌≤◌, Bool, true, false, List, [], ◌∷◌, Option}
 use Rattle.std.proofs.Common.{Some, None, Result, Ok, Err, refl, sym, ap, ◌∙◌, subst, arith}
 use Rattle.std.specs.Prelude.{length, slice_get, unwrap_or, if◌then◌else◌, ◌==◌}
 use Rattle.pass_frames_proof.specs.ir_base.declared.cause.Cause.{Cause}
-use Rattle.pass_frames_proof.proofs.ir_laws.facts.Truth.{either}
 use Rattle.pass_frames_proof.specs.ir_model.Names.{function_at, position_of}
 use Rattle.pass_frames_proof.specs.ir_model.declared.instr.Instr.{Instr}
 use Rattle.pass_frames_proof.specs.ir_model.declared.instr.Terminator.{Terminator}
@@ -17,12 +16,12 @@ use Rattle.pass_frames_prices.proofs.priced.Steps.{behind_few, call_few, end_few
 use Rattle.pass_frames_prices.proofs.priced.Steps.{own_paid, phis_few, return_few, return_price}
 use Rattle.pass_frames_prices.specs.Bounds.{more_of}
 use Rattle.pass_frames_proof.specs.Costs.{allocas_before, call_cost, instr_cost, jump_cost, whole}
-use Rattle.pass_frames_prices.specs.FramePrices.{AreWithin, IsWithin, coroutine_price, credit, first_flagged}
+use Rattle.pass_frames_prices.specs.FramePrices.{AreWithin, ComesBehindOne, IsWithin, coroutine_price, credit, first_flagged}
 use Rattle.pass_frames_prices.specs.FramePrices.{frame_prices, full_price}
 use Rattle.pass_frames_proof.specs.Framings.{IsFraming}
-use Rattle.pass_frames_proof.specs.Meaning.{PaysForFrames, action_at, behind_at, behind_cost, coroutine_cost}
+use Rattle.pass_frames_proof.specs.Meaning.{action_at, behind_at, behind_cost, coroutine_cost}
 use Rattle.pass_frames_proof.specs.Meaning.{entered_cost, other_cost, own_cost, step_cost, woken_cost}
-use Rattle.pass_frames_prices.specs.Numbers.{names_of, phis_of_blocks}
+use Rattle.pass_frames_prices.specs.Numbers.{phis_of_blocks}
 use Rattle.pass_frames_proof.specs.Passes.{block_at, no_block}
 use Rattle.pass_frames_proof.specs.Places.{Framing, copies, edged, instrs_at, place, plan}
 use Rattle.pass_frames_proof.specs.Related.{Building, is_coroutine, point_of}
@@ -47,7 +46,7 @@ enter_fits : (own entered names operands price : ℕ) → own ≤ 3 + operands �
     → full_price names operands ≤ price → own + entered ≤ price
 enter_fits own entered names operands price a c d = omega (arith, a, c, d)
 
-end_fits : (own behind names operands price : ℕ) → own ≤ 2 + operands → behind ≤ 1 + 4 * names + 3 * operands
+end_fits : (own behind names operands price : ℕ) → own ≤ 2 + operands → behind ≤ 1
     → full_price names operands ≤ price → own + behind ≤ price
 end_fits own behind names operands price a c d = omega (arith, a, c, d)
 
@@ -121,66 +120,28 @@ module _ (b : Building) (g : RenewedGiven) (given : AreGiven b g)
           let c = (within.each func e).few in
           omega (arith, a, c)
 
-  behind_one : (a : Activation) → is_coroutine b a.func ≡ true
-      → behind_at (b.framing a.func) a.block a.at + 2 * phis a.func
-      ≤ 1 + 4 * names_of (edged (b.framing a.func)) + 3 * operands
-  behind_one a e =
-      behind_few (b.framing a.func) (given.framings a.func e) names operands (within.each a.func e) a.block
-      a.at
-
-  behind_any : (below : List Activation) → behind_cost b below ≤ 1 + 4 * names + 3 * operands
-  behind_any [] = omega arith
-  behind_any (a ∷ below) = on (is_coroutine b a.func) refl
+  behind_any : (below : List Activation) → ComesBehindOne b below → behind_cost b below ≤ 1
+  behind_any [] back = omega arith
+  behind_any (a ∷ below) back = on (is_coroutine b a.func) refl
     where
       on : (t : Bool) → is_coroutine b a.func ≡ t
-          → (if t then behind_at (b.framing a.func) a.block a.at else 0)
-          ≤ 1 + 4 * names + 3 * operands
+          → (if t then behind_at (b.framing a.func) a.block a.at else 0) ≤ 1
       on false e = omega arith
-      on true e =
-          let c = behind_one a e in
-          let d = (within.each a.func e).few in
-          omega (arith, c, d)
+      on true e = behind_few (b.framing a.func) (given.framings a.func e) a (back e)
 
   module _ (func : ℕ) (coroutine : is_coroutine b func ≡ true) where
-    own_few : phis func ≤ names_of (edged (b.framing func))
-    own_few = phis_few (b.framing func) (given.framings func coroutine)
-
-    none_with : 0 + 2 * phis func ≤ 1 + 4 * names + 3 * operands
-    none_with =
-        let c = own_few in
-        let d = (within.each func coroutine).few in
-        omega (arith, c, d)
-
     -- with the phis at whose end it is returned
-    behind_with : (below : List Activation) → behind_cost b below + 2 * phis func ≤ 1 + 4 * names + 3 * operands
-    behind_with [] = none_with
-    behind_with (a ∷ below) = on (is_coroutine b a.func) refl
-      where
-        one : is_coroutine b a.func ≡ true
-            → behind_at (b.framing a.func) a.block a.at + 2 * phis func
-            ≤ 1 + 4 * names + 3 * operands
-        one e = ⊎_elim
-            (λ (same : func ≡ a.func).
-            let c = behind_one a e in
-            let d = (within.each a.func e).few in
-            let h : phis func ≡ phis a.func = ap phis same in
-            omega (arith, c, d, h))
-            (λ (other : func ≢ a.func).
-            let c = behind_one a e in
-            let d = within.two func a.func coroutine e other in
-            let h = own_few in
-            omega (arith, c, d, h))
-            (either func a.func)
-
-        on : (t : Bool) → is_coroutine b a.func ≡ t
-            → (if t then behind_at (b.framing a.func) a.block a.at else 0)
-            + 2 * phis func ≤ 1 + 4 * names + 3 * operands
-        on false e = none_with
-        on true e = one e
+    behind_with : (below : List Activation) → ComesBehindOne b below
+        → behind_cost b below + 2 * phis func ≤ 1 + 4 * names + 3 * operands
+    behind_with below back =
+        let a = behind_any below back in
+        let c = phis_few (b.framing func) (given.framings func coroutine) in
+        let d = (within.each func coroutine).few in
+        omega (arith, a, c, d)
 
   -- ---- one state
 
-  module _ (s : State) where
+  module _ (s : State) (back : ComesBehindOne b s.below) where
     abbrev x : Framing
     x = b.framing s.top.func
 
@@ -217,7 +178,8 @@ module _ (b : Building) (g : RenewedGiven) (given : AreGiven b g)
           woken 1 (omega arith) plain_price (sleeper_at s (nth (arg_values g.given.code s.top.values args) 0))
       other_paid (Coro Intrinsic.CoroDestroy args result) =
           woken 1 (omega arith) plain_price (sleeper_at s (nth (arg_values g.given.code s.top.values args) 0))
-      other_paid (Return v) = plain_fits (behind_cost b s.below) (behind_any s.below)
+      other_paid (Return v) =
+          let c = behind_any s.below back in plain_fits (behind_cost b s.below) (omega (arith, c))
       other_paid _ = one_fits
 
     -- of a coroutine
@@ -297,7 +259,7 @@ module _ (b : Building) (g : RenewedGiven) (given : AreGiven b g)
             end_fits (instr_cost x (point_of s.top)) (behind_cost b s.below) names operands step
             (end_few x is names operands fits returns s.top.block s.top.at i stands
             (added c w (length (plan x).kept) (length (copies x).slots) i (Coro Intrinsic.CoroEnd args result) h))
-            (behind_any s.below) enough
+            (behind_any s.below back) enough
         instr_paid (GoTo label) h =
             absurd (added c w (length (plan x).kept) (length (copies x).slots) i (GoTo label) h)
         instr_paid (Return v) h = absurd (added c w (length (plan x).kept) (length (copies x).slots) i (Return v) h)
@@ -326,7 +288,7 @@ module _ (b : Building) (g : RenewedGiven) (given : AreGiven b g)
             - (place x (point_of s.top)).at) (behind_cost b s.below)
             (phis s.top.func) names operands step
             (return_few x is names operands fits returns s.top.block s.top.at t end (leads c w t (Return v) h))
-            (behind_with s.top.func e s.below)
+            (behind_with s.top.func e s.below back)
             (priced full (return_price x is names operands fits returns s.top.block s.top.at t end
             (leads c w t (Return v) h)))
         term_paid _ h = none_paid no_instr
@@ -353,5 +315,7 @@ module _ (b : Building) (g : RenewedGiven) (given : AreGiven b g)
     pays_by Mode.Resumed = ordinary (is_coroutine b s.top.func) refl
     pays_by (Mode.GivenRamp frame) = ordinary (is_coroutine b s.top.func) refl
 
-  pub pays : PaysForFrames b g (renewed_price (frame_prices b g.flags g.given.code names operands) g.given)
-  pays s = pays_by s s.top.mode
+  pub pays : (s : State) → ComesBehindOne b s.below
+      → step_cost b g s s.top.mode
+      ≤ renewed_price (frame_prices b g.flags g.given.code names operands) g.given s
+  pays s back = pays_by s back s.top.mode

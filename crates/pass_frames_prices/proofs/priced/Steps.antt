@@ -1,5 +1,5 @@
 -- What steps of a coroutine cost is at most their price, each by what stands at its place.
-use Rattle.std.proofs.Common.{◌≡◌, ◌≢◌, ℕ, zero, suc, ◌+◌, ◌-◌, ◌*◌, ◌<◌, ◌≤◌, Bool, true, false, List, [], length}
+use Rattle.std.proofs.Common.{◌≡◌, ◌≢◌, ℕ, ◌+◌, ◌-◌, ◌*◌, ◌<◌, ◌≤◌, Bool, true, false, List, [], length}
 use Rattle.std.proofs.Common.{Option, Some, None, refl, sym, ap, ◌∙◌, subst, arith}
 use Rattle.std.proofs.lemmas.Option.{slice_get_within}
 use Rattle.std.specs.Prelude.{not, slice_get, unwrap_or, ◌&&◌, ◌==◌}
@@ -16,16 +16,16 @@ use Rattle.pass_frames_proof.specs.ir_paths.declared.point.Point.{Point}
 use Rattle.pass_frames_prices.proofs.bounds.Ends.{end_cost_short}
 use Rattle.pass_frames_prices.proofs.bounds.Entry.{entry_unreturned}
 use Rattle.pass_frames_prices.proofs.bounds.Jumps.{other_jump, return_jump}
-use Rattle.pass_frames_prices.proofs.bounds.Paid.{behind_paid, first_behind, instr_paid, none_behind}
+use Rattle.pass_frames_prices.proofs.bounds.Paid.{instr_paid}
 use Rattle.pass_frames_prices.proofs.bounds.Rows.{row_few}
-use Rattle.pass_frames_prices.proofs.bounds.Steps.{cost_short, own_few}
+use Rattle.pass_frames_prices.proofs.bounds.Steps.{behind_cost_short, cost_short, own_few}
 use Rattle.pass_frames_prices.proofs.bounds.Totals.{blocks_counted, call_total}
 use Rattle.pass_frames_proof.proofs.code.Passes.{block_is}
 use Rattle.pass_frames_prices.proofs.priced.Jumps.{bare}
 use Rattle.pass_frames_proof.proofs.ramps.Plain.{entry_there}
 use Rattle.pass_frames_prices.specs.Bounds.{more_of}
 use Rattle.pass_frames_proof.specs.Costs.{call_cost, instr_cost, jump_cost, whole}
-use Rattle.pass_frames_prices.specs.FramePrices.{IsWithin, coroutine_price, credit, full_price, goes_on, price_by}
+use Rattle.pass_frames_prices.specs.FramePrices.{IsBehindOne, IsWithin, coroutine_price, credit, full_price, goes_on, price_by}
 use Rattle.pass_frames_prices.specs.FramePrices.{returns_by}
 use Rattle.pass_frames_proof.specs.Framings.{IsFraming}
 use Rattle.pass_frames_proof.specs.Meaning.{behind_at, own_cost}
@@ -36,6 +36,7 @@ use Rattle.pass_frames_proof.proofs.rule_laws.frames.crossing.Entries.{none_ente
 use Rattle.pass_frames_proof.proofs.rule_laws.rules.sources.Places.{IsEnd}
 use Rattle.pass_frames_proof.proofs.rule_laws.rules.threaded.Labels.{HasBlock, target_there}
 use Rattle.pass_frames_proof.specs.rule_laws.frames.rows.Returns.{HaveOwnReturns}
+use Rattle.pass_frames_proof.specs.run_source.declared.state.Activation.{Activation}
 
 -- ---- prices
 
@@ -75,6 +76,13 @@ module _ (x : Framing) (is : IsFraming x) where
   pub phis_few : phis ≤ names_of (edged x)
   phis_few = let a = blocks_counted (edged x).blocks in omega (arith, a)
 
+  -- what stands behind a call, to which a return comes back
+  pub behind_few : (a : Activation) → IsBehindOne x a → behind_at x a.block a.at ≤ 1
+  behind_few a h =
+      let low = behind_cost_short x is (row_few x is) a.block h.at h.instr h.there in
+      let none = h.none in
+      subst (λ (n : ℕ). behind_at x a.block n ≤ 1) (sym h.behind) (omega (arith, low, none))
+
   -- a call of the ramp
   pub call_few : call_cost x ≤ 4 * names_of (edged x)
   call_few = call_total x is (entry_there x is) (entry_unreturned x is (entry_there x is))
@@ -86,29 +94,6 @@ module _ (x : Framing) (is : IsFraming x) where
   module _ (names operands : ℕ) (within : IsWithin names operands x) where
     abbrev full : ℕ
     full = full_price names operands
-
-    -- ---- what stands behind a call
-
-    behind_by : (k at : ℕ) (o : Option Instr) → slice_get (instrs_at x k) at ≡ o
-        → behind_at x k (at + 1) + 2 * phis ≤ 1 + 4 * names_of (edged x) + 3 * operands
-    behind_by k at None e =
-        let a = none_behind x k at e in
-        let b = phis_few in
-        omega (arith, a, b)
-    behind_by k at (Some i) e =
-        let a = behind_paid x is (record { block = k; at = at }) i e in
-        let b = within.operand k at i e in
-        omega (arith, a, b)
-
-    pub behind_few : (k at : ℕ) → behind_at x k at + 2 * phis ≤ 1 + 4 * names_of (edged x) + 3 * operands
-    behind_few k zero =
-        let a = first_behind x k in
-        let b = phis_few in
-        omega (arith, a, b)
-    behind_few k (suc at) =
-        let same : at + 1 ≡ suc at = omega arith in
-        subst (λ (n : ℕ). behind_at x k n + 2 * phis ≤ 1 + 4 * names_of (edged x) + 3 * operands) same
-        (behind_by k at (slice_get (instrs_at x k) at) refl)
 
     module _ (own : HaveOwnReturns (edged x)) (k at : ℕ) where
       abbrev p : Point

@@ -8,4 +8,4 @@ pub returns-clause-signatures : goal.returns-clause-signatures
 returns-clause-signatures c = split_signs c.args.layouts.now c.args.framed.now c.split.result c.split.ensures
 
 pub returns-clause-meaning : goal.returns-clause-meaning
-returns-clause-meaning c = split_keeps c.args.layouts.now c.args.framed.now c.split.result
+returns-clause-meaning c = split_keeps c.args.layouts.now c.args.framed.now c.split.result c.split.ensures

@@ -9,11 +9,10 @@ use Rattle.compiler_theorem.proofs.kinds.Calls.{free_pointer, save_pointer}
 use Rattle.compiler_theorem.proofs.kinds.Whole.{kinds_kept}
 use Rattle.compiler_theorem.proofs.theorem.Built.{coroutine_there}
 use Rattle.compiler_theorem.proofs.theorem.Framing.{sources_given}
-use Rattle.compiler_theorem.proofs.theorem.Needed.{some_class, stands_at}
 use Rattle.compiler_theorem.proofs.theorem.shown.Behind.{needed_behind}
-use Rattle.compiler_theorem.proofs.theorem.shown.Contents.{class_once, same_held}
-use Rattle.compiler_theorem.proofs.theorem.shown.Fields.{contents_are, early_are, same_allocas}
-use Rattle.compiler_theorem.proofs.theorem.shown.Numbered.{early_coroutine, edged_addresses, source_number}
+use Rattle.compiler_theorem.proofs.theorem.shown.Contents.{same_held}
+use Rattle.compiler_theorem.proofs.theorem.shown.Fields.{class_now, class_was, contents_are, early_are, same_allocas}
+use Rattle.compiler_theorem.proofs.theorem.shown.Numbered.{early_coroutine, edged_addresses, edged_number, source_number}
 use Rattle.compiler_theorem.proofs.theorem.shown.Reading.{IsUntaken}
 use Rattle.compiler_theorem.proofs.woken.Crossings.{pair_crosses, value_paired}
 use Rattle.compiler_theorem.proofs.woken.Handed.{framing, same_edged}
@@ -27,14 +26,12 @@ use Rattle.compiler_theorem.specs.theorem.Lowered.{IsLowered, Lowered, early, ed
 use Rattle.compiler_theorem.specs.theorem.SharedBytes.{HasField, IsInLocalSlot}
 use Rattle.compiler_theorem.specs.theorem.Suspended.{IsFieldKept, IsValueKept, kept_place}
 use Rattle.compiler.specs.flow_solver.Paths.{IsListed}
-use Rattle.compiler.specs.frame_classes.Classes.{IsOf}
 use Rattle.compiler.specs.frame_classes.declared.class.SlotClass.{SlotClass}
 use Rattle.compiler.specs.frame_contents.Held.{position_of, value_held}
 use Rattle.compiler.specs.frame_contents.declared.held.Holding.{Holding}
 use Rattle.compiler.specs.frame_crossing.Crossing.{AreCrossing, Crosses, suspends_of}
 use Rattle.compiler.specs.frame_crossing.Paths.{IsOutside}
 use Rattle.compiler.specs.frame_crossing.Values.{is_apart, is_token_result, values_of}
-use Rattle.compiler.proofs.ir_laws.facts.Lists.{below}
 use Rattle.compiler.specs.ir_laws.facts.sound_states.Named.{HasNamedLocals}
 use Rattle.compiler.proofs.ir_laws.paths.path_rules.Where.{has_where, where_has}
 use Rattle.compiler.proofs.ir_laws.paths.path_rules.Windows.{got_has}
@@ -135,12 +132,20 @@ module _ (l : Lowered) (low : IsLowered l) (a : Anew) (anew : IsAnewOf (early l)
 
   -- ---- what crosses
 
+  -- a suspend of the source has its number
+  pub numbered : (j : ℕ) (p : Point) → slice_get (suspends_of (function_at l.source func)) j ≡ Some p
+      → IsSuspendNumber ((building l low.is_framed r.answers).framing func) j (kept_place l.source func p)
+  numbered j p e = subst (λ (h : Function). slice_get (suspends_of h) j ≡ Some (kept_place l.source func p))
+      (sym edged_is) (edged_number l low func was j p e)
+
   module _ (p : Point) (v : ℕ) (c : Crosses (function_at l.source func) v p) where
     suspend : (j : ℕ) → IsSuspendNumber x j (kept_place l.source func p)
         → slice_get (suspends_of (with_edge_blocks g)) j ≡ Some (kept_place l.source func p)
     suspend j e = subst (λ (h : Function). slice_get (suspends_of h) j ≡ Some (kept_place l.source func p)) edged_is e
 
-    pair : (j : ℕ) → IsSuspendNumber x j (kept_place l.source func p) → IsListed {X = ℕ × ℕ} (v, j) x.contents.crossing
+    pub pair : (j : ℕ) → IsSuspendNumber ((building l low.is_framed r.answers).framing func) j
+        (kept_place l.source func p)
+        → IsListed {X = ℕ × ℕ} (v, j) ((building l low.is_framed r.answers).framing func).contents.crossing
     pair j e = value_paired f (values_of f) x.contents.crossing (contents_are l low r.answers func is).crossing_are v
         c.is_value j p (source_number l low func was j p (suspend j e)) c
 
@@ -204,43 +209,22 @@ module _ (l : Lowered) (low : IsLowered l) (a : Anew) (anew : IsAnewOf (early l)
 
   -- ---- local slots
 
-  -- a slot of a class in the one form is of the class in the other
-  class_was : (s : ℕ) → IsListed s (allocas_of g) → IsOf g s SlotClass.Local → IsOf f s SlotClass.Local
-  class_was s li h =
-      let at = stands_at s (allocas_of g) li in
-      let ours = (contents_are l low r.answers func is).classes_are in
-      let theirs = (early_are l low r.answers func is).classes_are in
-      let c = some_class x.contents.classes at.at (subst (λ (n : ℕ). at.at < n) (sym theirs.count)
-      (below (allocas_of g) at.at s at.there)) in
-      let there : slice_get (allocas_of f) at.at ≡ Some s =
-      ap (λ (vs : List ℕ). slice_get vs at.at) (sym (same_allocas l low r.answers func is)) ∙ at.there in
-      subst (IsOf f s) (class_once g s c.0 SlotClass.Local (theirs.each at.at s c.0 at.there c.1) h)
-      (ours.each at.at s c.0 there c.1)
-
-  class_now : (s : ℕ) → IsListed s (allocas_of g) → IsOf f s SlotClass.Local → IsOf g s SlotClass.Local
-  class_now s li h =
-      let at = stands_at s (allocas_of g) li in
-      let ours = (contents_are l low r.answers func is).classes_are in
-      let theirs = (early_are l low r.answers func is).classes_are in
-      let c = some_class x.contents.classes at.at (subst (λ (n : ℕ). at.at < n) (sym theirs.count)
-      (below (allocas_of g) at.at s at.there)) in
-      let there : slice_get (allocas_of f) at.at ≡ Some s =
-      ap (λ (vs : List ℕ). slice_get vs at.at) (sym (same_allocas l low r.answers func is)) ∙ at.there in
-      subst (IsOf g s) (class_once f s c.0 SlotClass.Local (ours.each at.at s c.0 there c.1) h)
-      (theirs.each at.at s c.0 at.there c.1)
-
   local_was : (s : ℕ) → IsSlotOf g SlotClass.Local s → IsSlotOf f SlotClass.Local s
   local_was s h = record {
     coroutine = was;
     is_alloca = subst (λ (vs : List ℕ). IsTrue (has_name vs s)) (same_allocas l low r.answers func is) h.is_alloca;
-    is_of = class_was s (listed_by_name (allocas_of g) s h.is_alloca) h.is_of;
+    is_of = class_was l low r.answers func is SlotClass.Local s (listed_by_name (allocas_of g) s h.is_alloca) h.is_of;
   }
 
   local_now : (s : ℕ) → IsSlotOf f SlotClass.Local s → IsSlotOf g SlotClass.Local s
   local_now s h =
       let named : IsTrue (has_name (allocas_of g) s) =
       subst (λ (vs : List ℕ). IsTrue (has_name vs s)) (sym (same_allocas l low r.answers func is)) h.is_alloca in
-      record { coroutine = is; is_alloca = named; is_of = class_now s (listed_by_name (allocas_of g) s named) h.is_of }
+      record {
+        coroutine = is;
+        is_alloca = named;
+        is_of = class_now l low r.answers func is SlotClass.Local s (listed_by_name (allocas_of g) s named) h.is_of;
+      }
 
   -- what has a root is an address in a local slot, and such an address has one
   rooted_local : (v s : ℕ) → a.roots func v ≡ Some s → IsInLocalSlot (function_at l.source func) v

@@ -3,12 +3,13 @@ use Rattle.std.proofs.Common.{◌≡◌, ◌↔◌, ℕ, ◌<◌, Bool, true, fa
 use Rattle.std.proofs.lemmas.Option.{slice_get-map}
 use Rattle.std.specs.Prelude.{ℤ, if◌then◌else◌, option_map, slice_get, unwrap_or}
 use Rattle.compiler_theorem.proofs.theorem.Built.{framings, sources_built}
-use Rattle.compiler_theorem.proofs.theorem.Needed.{some_class, stands_at}
+use Rattle.compiler_theorem.proofs.theorem.Needed.{StandsIn, some_class, stands_at}
 use Rattle.compiler_theorem.proofs.theorem.shown.Contents.{class_once, same_held}
 use Rattle.compiler_theorem.specs.theorem.Anew.{Anew, IsAnewOf, IsSlotOf}
 use Rattle.compiler_theorem.specs.theorem.Built.{building}
 use Rattle.compiler_theorem.specs.theorem.Lowered.{IsLowered, Lowered, early}
 use Rattle.compiler_theorem.specs.theorem.SharedBytes.{HasField}
+use Rattle.compiler.specs.flow_solver.Paths.{IsListed}
 use Rattle.compiler.specs.frame_classes.Classes.{IsOf}
 use Rattle.compiler.specs.frame_classes.declared.class.SlotClass.{SlotClass}
 use Rattle.compiler.specs.frame_contents.Frames.{AreContents}
@@ -127,26 +128,34 @@ module _ (l : Lowered) (low : IsLowered l) (answers : List ℤ) (func : ℕ)
         offset_is = ap (λ (y : Layout). offset_at y h.position) layout ∙ h.offset_is;
       }
 
+  -- a slot has one class in both forms
+  module _ (class : SlotClass) (s : ℕ) (li : IsListed s (allocas_of (function_at (early l) func))) where
+    at : StandsIn (allocas_of (function_at (early l) func)) s
+    at = stands_at s (allocas_of g) li
+
+    there : slice_get (allocas_of f) at.at ≡ Some s
+    there = ap (λ (vs : List ℕ). slice_get vs at.at) (sym same_allocas) ∙ at.there
+
+    classed : (c : SlotClass) × (slice_get x.contents.classes at.at ≡ Some c)
+    classed = some_class x.contents.classes at.at (subst (λ (n : ℕ). at.at < n) (sym early_are.classes_are.count)
+        (below (allocas_of g) at.at s at.there))
+
+    pub class_was : IsOf (function_at (early l) func) s class → IsOf (function_at l.source func) s class
+    class_was h = subst (IsOf f s)
+        (class_once g s classed.0 class (early_are.classes_are.each at.at s classed.0 at.there classed.1) h)
+        (contents_are.classes_are.each at.at s classed.0 there classed.1)
+
+    pub class_now : IsOf (function_at l.source func) s class → IsOf (function_at (early l) func) s class
+    class_now h = subst (IsOf g s)
+        (class_once f s classed.0 class (contents_are.classes_are.each at.at s classed.0 there classed.1) h)
+        (early_are.classes_are.each at.at s classed.0 at.there classed.1)
+
   -- a frame slot isn't made anew
   pub frame_unflagged : (a : Anew) → IsAnewOf (early l) a → (v : ℕ) → IsOf f v SlotClass.Frame → a.flags func v ≡ false
   frame_unflagged a anew v frame = on (a.flags func v) refl
     where
-      apart : (c : SlotClass) → c ≡ SlotClass.Local → c ≡ SlotClass.Frame → ⊥
-      apart SlotClass.Local d e = absurd (cc)
-      apart SlotClass.Frame d e = absurd (cc)
-      apart SlotClass.Ramp d e = absurd (cc)
-
       no : IsSlotOf g SlotClass.Local v → ⊥
-      no h =
-          let at = stands_at v (allocas_of g) (listed_by_name (allocas_of g) v h.is_alloca) in
-          let ours = contents_are.classes_are in
-          let theirs = early_are.classes_are in
-          let c = some_class x.contents.classes at.at (subst (λ (n : ℕ). at.at < n) (sym theirs.count)
-          (below (allocas_of g) at.at v at.there)) in
-          let there : slice_get (allocas_of f) at.at ≡ Some v =
-          ap (λ (vs : List ℕ). slice_get vs at.at) (sym same_allocas) ∙ at.there in
-          apart c.0 (class_once g v c.0 SlotClass.Local (theirs.each at.at v c.0 at.there c.1) h.is_of)
-          (class_once f v c.0 SlotClass.Frame (ours.each at.at v c.0 there c.1) frame)
+      no h = h.is_of.1 (class_now SlotClass.Frame v (listed_by_name (allocas_of g) v h.is_alloca) frame).1
 
       on : (b : Bool) → a.flags func v ≡ b → a.flags func v ≡ false
       on false e = e

@@ -22,12 +22,14 @@ use Rattle.compiler.specs.run_states.shortened.Shortened.{short_instance}
 pub record IsLike (x y : Instance) : Type 0 where
   pub coroutine : y.coroutine ≡ x.coroutine
   pub block : y.block ≡ x.block
+  pub start : y.start ≡ x.start
   pub slots : y.slots ≡ x.slots
 
 then : (x y z : Instance) → IsLike x y → IsLike y z → IsLike x z
 then x y z h k = record {
   coroutine = k.coroutine ∙ h.coroutine;
   block = k.block ∙ h.block;
+  start = k.start ∙ h.start;
   slots = k.slots ∙ h.slots;
 }
 
@@ -58,6 +60,7 @@ was_mapped f like xs ys is i y e =
       like = record {
         coroutine = back.coroutine ∙ ap (λ (u : Instance). u.coroutine) (sym z.1.1);
         block = back.block ∙ ap (λ (u : Instance). u.block) (sym z.1.1);
+        start = back.start ∙ ap (λ (u : Instance). u.start) (sym z.1.1);
         slots = back.slots ∙ ap (λ (u : Instance). u.slots) (sym z.1.1);
       };
     }
@@ -75,6 +78,7 @@ handed g (z ∷ xs) (y ∷ ys) h zero x e =
       like = record {
         coroutine = ap (λ (u : Instance). u.coroutine) is ∙ ap (λ (u : Instance). u.coroutine) same;
         block = ap (λ (u : Instance). u.block) is ∙ ap (λ (u : Instance). u.block) same;
+        start = ap (λ (u : Instance). u.start) is ∙ ap (λ (u : Instance). u.start) same;
         slots = ap (λ (u : Instance). u.slots) is ∙ ap (λ (u : Instance). u.slots) same;
       };
     }
@@ -89,10 +93,12 @@ module _ (m : Module) (sizes : List Frame) (answers : List ℤ) (s t : State) wh
   early_instance v h i x e =
       let short = h.1 in
       let saved = h.2 in
-      let was = was_mapped (short_instance m) (λ u. record { coroutine = refl; block = refl; slots = refl })
+      let was = was_mapped (short_instance m)
+      (λ u. record { coroutine = refl; block = refl; start = refl; slots = refl })
       h.0.instances s.instances (ap (λ (u : State). u.instances) short.is) i x e in
       further v.instances i x was.instance was.like
-      (mapped (saved_instance (unsaved_module m)) (λ u. record { coroutine = refl; block = refl; slots = refl })
+      (mapped (saved_instance (unsaved_module m))
+      (λ u. record { coroutine = refl; block = refl; start = refl; slots = refl })
       h.0.instances v.instances (ap (λ (u : State). u.instances) saved.is) i was.instance was.there)
 
   early_world : (v : State) → IsEarlyOf m s v → v.world ≡ s.world
@@ -104,7 +110,8 @@ module _ (m : Module) (sizes : List Frame) (answers : List ℤ) (s t : State) wh
   split_instance v h i x e =
       let was = early_instance h.0 h.1 i x e in
       further v.instances i x was.instance was.like
-      (mapped (moved_instance (early_module m)) (λ u. record { coroutine = refl; block = refl; slots = refl })
+      (mapped (moved_instance (early_module m))
+      (λ u. record { coroutine = refl; block = refl; start = refl; slots = refl })
       h.0.instances v.instances (ap (λ (u : State). u.instances) h.2.is) i was.instance was.there)
 
   split_world : (v : State) → IsEarlySplitOf m s v → v.world ≡ s.world

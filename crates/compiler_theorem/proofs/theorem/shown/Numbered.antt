@@ -2,7 +2,8 @@
 -- out and edges have blocks.
 use Rattle.std.proofs.Common.{◌≡◌, ◌↔◌, ℕ, Bool, true, List, [], ◌∷◌, length, map, Option, Some, None, inl, inr, refl}
 use Rattle.std.proofs.Common.{sym, ap, ◌∙◌, subst}
-use Rattle.std.specs.Prelude.{if◌then◌else◌, slice_get}
+use Rattle.std.proofs.lemmas.Option.{slice_get-map}
+use Rattle.std.specs.Prelude.{if◌then◌else◌, option_map, slice_get}
 use Rattle.compiler_theorem.specs.theorem.Lowered.{IsLowered, Lowered, early}
 use Rattle.compiler_theorem.specs.theorem.Suspended.{kept_place}
 use Rattle.compiler.specs.flow_solver.Paths.{IsListed}
@@ -156,6 +157,14 @@ module _ (l : Lowered) (low : IsLowered l) (func : ℕ) (was : (function_at l.so
       let same : back_of u p ≡ y.0 =
       moved_once g (back_of u p) y.0 (sym (placed_moved g early_coroutine (back_of u p)) ∙ y.1.1) in
       z.1.0 ∙ ap Some (sym (back_back u p z.0 (same ∙ z.1.1)))
+
+  pub edged_number : (j : ℕ) (p : Point) → slice_get (suspends (function_at l.source func)) j ≡ Some p
+      → slice_get (suspends (with_edge_blocks (function_at (early l) func))) j ≡ Some (kept_place l.source func p)
+  edged_number j p e =
+      ap (λ (ps : List Point). slice_get ps j) edged_suspends
+      ∙ slice_get-map (moved g) (map (back_of u) (suspends f)) j
+      ∙ ap (option_map (moved g)) (slice_get-map (back_of u) (suspends f) j ∙ ap (option_map (back_of u)) e)
+      ∙ ap Some (sym (placed_moved g early_coroutine (back_of u p)))
 
   -- ---- addresses
 

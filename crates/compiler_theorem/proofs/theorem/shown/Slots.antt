@@ -112,7 +112,7 @@ module _ (l : Lowered) (low : IsLowered l) (a : Anew) (anew : IsAnewOf (early l)
     pub frame : Frame t i
     frame = frame_there b u t built i frame_beside.instance frame_beside.there frame_beside.block frame_beside.held
 
-    coroutine : (function_at (early l) x.coroutine).coroutine ≡ true
+    pub coroutine : (function_at (early l) x.coroutine).coroutine ≡ true
     coroutine =
         let f = frame_beside in
         let is = (built.instances i f.instance frame.instance f.there frame.there).is_coroutine in

@@ -42,6 +42,22 @@ pub record HasSlotBeside (homes : List Home) (u : State) (i : ℕ) (x : Instance
   pub own : Contains instance.slots (record { alloca = slot.alloca; block = block })
   pub standing : HasStanding homes u.world.memory block z
 
+-- the slot of an instance is at home in that of another
+pub record HasSlotHome (homes : List Home) (u : State) (i : ℕ) (x : Instance) (slot : Slot) : Type 0 where
+  pub instance : Instance
+  pub there : slice_get u.instances i ≡ Some instance
+  pub coroutine : instance.coroutine ≡ x.coroutine
+  pub block : ℕ
+  pub own : Contains instance.slots (record { alloca = slot.alloca; block = block })
+  pub home : home_of homes slot.block ≡ whole_home block
+
+-- and so is its own block
+pub record HasOwnHome (homes : List Home) (u : State) (i : ℕ) (x : Instance) : Type 0 where
+  pub instance : Instance
+  pub there : slice_get u.instances i ≡ Some instance
+  pub start : instance.start ≡ x.start
+  pub home : home_of homes x.block ≡ whole_home instance.block
+
 -- an instance, and a block in which it begins
 pub record HasFrameBeside (u : State) (i : ℕ) (x : Instance) : Type 0 where
   pub instance : Instance
@@ -134,6 +150,29 @@ module _ (m : Module) (flags : Flags) (roots : Roots) (s u : State) (b : IsBesid
         block = w.both.block;
         own = w.both.own;
         standing = standing slot.block w.both.block z w.both.home w.both.unseated there live free;
+      }
+
+  pub slot_home : (i : ℕ) (x : Instance) → slice_get s.instances i ≡ Some x → (slot : Slot) → Contains x.slots slot
+      → flags x.coroutine slot.alloca ≡ false → HasSlotHome b.ledger.homes u i x slot
+  slot_home i x e slot own off =
+      let w = with_slot i x e slot own off in
+      record {
+        instance = w.instance;
+        there = w.there;
+        coroutine = w.coroutine;
+        block = w.both.block;
+        own = w.both.own;
+        home = w.both.home;
+      }
+
+  pub own_home : (i : ℕ) (x : Instance) → slice_get s.instances i ≡ Some x → HasOwnHome b.ledger.homes u i x
+  own_home i x e =
+      let r = instance_beside m flags roots b.ledger s.world.memory 0 s.instances u.instances b.instances i x e in
+      record {
+        instance = r.instance;
+        there = r.there;
+        start = ap (λ (y : Instance). y.start) r.beside.is;
+        home = r.beside.home ∙ ap (λ (y : Instance). whole_home y.block) (sym r.beside.is);
       }
 
   pub beside_frame : (i : ℕ) (x : Instance) → slice_get s.instances i ≡ Some x → (z : MemoryBlock)
@@ -261,4 +300,35 @@ module _ (m : Module) (flags : Flags) (roots : Roots) (s u : State) where
         coroutine = f.coroutine;
         block = f.block;
         held = ap (λ (v : State). slice_get v.world.memory f.instance.block) r.other_is ∙ f.held;
+      }
+
+  pub step_slot_home : (h : AreInStep m flags roots s u) (i : ℕ) (x : Instance) → slice_get s.instances i ≡ Some x
+      → (slot : Slot) → Contains x.slots slot → flags x.coroutine slot.alloca ≡ false
+      → HasSlotHome (step_homes m flags roots s u h) u i x slot
+  step_slot_home (Goes b) i x e slot own off = slot_home m flags roots s u b i x e slot own off
+  step_slot_home (Ended h) i x e slot own off =
+      let r = h.last in
+      let w = slot_home m flags roots r.before r.other r.beside i x
+      (ap (λ (v : State). slice_get v.instances i) (sym r.is) ∙ e) slot own off in
+      record {
+        instance = w.instance;
+        there = ap (λ (v : State). slice_get v.instances i) r.other_is ∙ w.there;
+        coroutine = w.coroutine;
+        block = w.block;
+        own = w.own;
+        home = w.home;
+      }
+
+  pub step_own_home : (h : AreInStep m flags roots s u) (i : ℕ) (x : Instance) → slice_get s.instances i ≡ Some x
+      → HasOwnHome (step_homes m flags roots s u h) u i x
+  step_own_home (Goes b) i x e = own_home m flags roots s u b i x e
+  step_own_home (Ended h) i x e =
+      let r = h.last in
+      let w = own_home m flags roots r.before r.other r.beside i x
+      (ap (λ (v : State). slice_get v.instances i) (sym r.is) ∙ e) in
+      record {
+        instance = w.instance;
+        there = ap (λ (v : State). slice_get v.instances i) r.other_is ∙ w.there;
+        start = w.start;
+        home = w.home;
       }

@@ -1,9 +1,0 @@
-use Rattle.std.proofs.Common.{refl}
-use Rattle.pass_frames_prices.proofs.priced.Within.{within}
-use Rattle.pass_frames_prices.proofs.priced.size_factors_bound_coroutines.Goals as goal
-
-pub returns-clause-within : goal.returns-clause-within
-returns-clause-within c = within
-
-pub returns-clause-price : goal.returns-clause-price
-returns-clause-price c = λ m. refl
