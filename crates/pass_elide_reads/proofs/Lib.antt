@@ -1,0 +1,11 @@
+mod Defined
+mod Detours
+mod Diamonds
+mod Regions
+mod Used
+mod Sides
+mod Ways
+mod ReadNames
+mod Looks
+mod Ends
+mod Forms
