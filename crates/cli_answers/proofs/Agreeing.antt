@@ -2,7 +2,7 @@
 use Rattle.std.proofs.Common.{◌≡◌, ◌<◌, ℕ, List, length, Ok, Err, refl, subst, arith}
 use Rattle.std.specs.Prelude.{◌^◌, IfOk, Result}
 use Rattle.cli_answers.specs.Answers.{AreAgreeing, IsComparedOf, IsComparison, IsInput, options_of}
-use Rattle.cli_compare.specs.cli_runs.declared.verdict.Answer.{Answer}
+use Rattle.cli_compare.specs.cli_runs.cli_entries.declared.verdict.Answer.{Answer}
 use Rattle.cli_words.specs.declared.words.RunWords.{RunWords}
 use Rattle.cli_compare.specs.compiler.Lowering.{IsLowering}
 use Rattle.cli_compare.specs.compiler.Printed.{HasFewNames}

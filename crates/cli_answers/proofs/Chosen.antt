@@ -3,7 +3,7 @@ use Rattle.std.proofs.Common.{◌≡◌, ℕ, Bool, List, Option, Ok, Err, subst
 use Rattle.std.specs.Prelude.{Result, IfOk}
 use Rattle.ir_base.specs.declared.status.Options.{Options}
 use Rattle.cli_answers.specs.Answers.{IsMadeOf, IsMadeOfAcceptance, IsMadeOfRefusal, IsMadeOfRules, check_answer, checked_run, options_of}
-use Rattle.cli_compare.specs.cli_runs.declared.verdict.Answer.{Answer}
+use Rattle.cli_compare.specs.cli_runs.cli_entries.declared.verdict.Answer.{Answer}
 use Rattle.cli_words.specs.declared.words.RunWords.{RunWords}
 use Rattle.rule_all.specs.Refused.{IsRefused}
 use Rattle.ir_model.specs.declared.module.Module.{Module}

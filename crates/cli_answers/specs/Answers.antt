@@ -1,8 +1,8 @@
 -- What a command answers to the bytes of its input.
 use Rattle.std.specs.Prelude.{◌≡◌, ℕ, Bool, true, false, not, List, max, min, codes, Some, None, Option, is_some, if◌then◌else◌, length, ◌≤◌}
 use Rattle.ir_base.specs.declared.status.Options.{Options}
-use Rattle.cli_compare.specs.cli_runs.declared.verdict.Answer.{Answer}
-use Rattle.cli_compare.specs.cli_runs.declared.verdict.Verdict.{Verdict}
+use Rattle.cli_compare.specs.cli_runs.cli_entries.declared.verdict.Answer.{Answer}
+use Rattle.cli_compare.specs.cli_runs.cli_entries.declared.verdict.Verdict.{Verdict}
 use Rattle.cli_words.specs.declared.words.Form.{Form}
 use Rattle.cli_words.specs.declared.words.RunWords.{RunWords}
 use Rattle.cli_words.specs.declared.words.Words.{Words}
@@ -25,7 +25,8 @@ use Rattle.cli_compare.specs.frame_acceptance.declared.accepting.Acceptance.{Acc
 use Rattle.cli_gen.specs.Generated.{generated_module}
 use Rattle.rule_modules.specs.declared.order.Refusal.{Refusal}
 use Rattle.rule_names.specs.declared.stage.Stage.{Stage}
-use Rattle.cli_compare.specs.cli_runs.Runs.{shown, refused, syntax_fault, entry_call, not_callable, run_module, sizes_of, source_or, run_framed}
+use Rattle.cli_compare.specs.cli_runs.cli_entries.Entries.{shown, refused, syntax_fault, entry_call, not_callable}
+use Rattle.cli_compare.specs.cli_runs.Runs.{run_module, sizes_of, source_or, run_framed}
 
 -- ---- lower
 

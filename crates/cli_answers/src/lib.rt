@@ -10,10 +10,10 @@ ghost use Rattle.cli_words.specs.declared.words.Form.{Form};
 ghost use Rattle.cli_answers.specs.Answers.{lower_answer, checked_run, check_answer, IsTextAnswer, IsCheckAnswer, IsLayoutAnswer, IsMadeOfAcceptance, IsMadeOfRefusal, IsMadeOfRules, IsSourceAnswer, layout_answer, gen_answer, options_of, within, run_lowered, lowered_answer, run_laid_out, framed_form_answer, source_form_answer, IsRunAnswer, IsMadeOf, IsAnswer, AreAgreeing, IsComparedOf, IsComparison, IsInput};
 ghost use Rattle.text_parser.specs.Parse.{read_module};
 
-use cli_compare::cli_runs_library::{
-    Answer, Verdict, entry_call, not_callable, refused, run_framed, run_module, run_source, shown,
-    syntax_fault,
+use cli_compare::cli_runs_library::cli_entries_library::{
+    Answer, Verdict, entry_call, not_callable, refused, shown, syntax_fault,
 };
+use cli_compare::cli_runs_library::{run_framed, run_module, run_source};
 use cli_compare::compare_lowered;
 use cli_compare::compiler_library::{Lowered, Lowering, lower};
 use cli_compare::frame_acceptance_library::{Acceptance, accept, refused_for};

@@ -4,8 +4,9 @@ use Rattle.std.specs.Prelude.{◌&&◌, not, slice_get, unwrap_or}
 use Rattle.std.specs.List.{AllByRecursion}
 use Rattle.cli_compare.specs.Agreeing.{AreRunsFollowed, MayBeCompared}
 use Rattle.cli_compare.specs.Compared.{counterpart}
-use Rattle.cli_runs.specs.Runs.{call_at, call_if, call_of, entry_call, entry_named, has_int_result, is_entry, sizes_of, with_word, word_as, words_for}
-use Rattle.cli_runs.specs.declared.verdict.EntryCall.{EntryCall}
+use Rattle.cli_runs.specs.cli_entries.Entries.{call_at, call_if, call_of, entry_call, entry_named, has_int_result, is_entry, with_word, word_as, words_for}
+use Rattle.cli_runs.specs.Runs.{sizes_of}
+use Rattle.cli_runs.specs.cli_entries.declared.verdict.EntryCall.{EntryCall}
 use Rattle.cli_words.specs.declared.words.RunWords.{RunWords}
 use Rattle.compiler.specs.declared.lowered.Lowered.{Lowered}
 use Rattle.compiler.proofs.ir_laws.facts.same_names.Lists.{what_is_found}

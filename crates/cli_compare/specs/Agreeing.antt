@@ -2,7 +2,7 @@
 use Rattle.std.specs.Prelude.{◌≡◌, ℕ, ℤ, List, Some, slice_get}
 use Rattle.cli_compare.specs.Compared.{counterpart}
 use Rattle.cli_runs.specs.Runs.{sizes_of}
-use Rattle.cli_runs.specs.declared.verdict.EntryCall.{EntryCall}
+use Rattle.cli_runs.specs.cli_entries.declared.verdict.EntryCall.{EntryCall}
 use Rattle.cli_words.specs.declared.words.RunWords.{RunWords}
 use Rattle.compiler.specs.declared.lowered.Lowered.{Lowered}
 use Rattle.ir_model.specs.declared.module.Frame.{Frame}

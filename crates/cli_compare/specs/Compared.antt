@@ -1,10 +1,11 @@
 -- What is answered where a source and what it was lowered to are compared.
 use Rattle.std.specs.Prelude.{◌≡◌, ◌++◌, ℕ, List, [], None, Option, Some, codes, decimal, slice_get}
 use Rattle.cli_report.specs.Report.{outcome_text}
-use Rattle.cli_runs.specs.Runs.{entry_call, not_callable, shown, sizes_of}
-use Rattle.cli_runs.specs.declared.verdict.Answer.{Answer}
-use Rattle.cli_runs.specs.declared.verdict.EntryCall.{EntryCall}
-use Rattle.cli_runs.specs.declared.verdict.Verdict.{Verdict}
+use Rattle.cli_runs.specs.cli_entries.Entries.{entry_call, not_callable, shown}
+use Rattle.cli_runs.specs.Runs.{sizes_of}
+use Rattle.cli_runs.specs.cli_entries.declared.verdict.Answer.{Answer}
+use Rattle.cli_runs.specs.cli_entries.declared.verdict.EntryCall.{EntryCall}
+use Rattle.cli_runs.specs.cli_entries.declared.verdict.Verdict.{Verdict}
 use Rattle.cli_words.specs.declared.words.RunWords.{RunWords}
 use Rattle.compiler.specs.declared.lowered.Lowered.{Lowered}
 use Rattle.ir_base.specs.declared.outcome.Outcome.{Outcome}

@@ -3,20 +3,20 @@
 ghost use Rattle.std.specs.Prelude.{◌≡◌, IfOk, slice_get};
 ghost use Rattle.cli_compare.specs.Compared.{IsCompared, IsReported, IsReportedBy, IsReportedOf, counterpart as counterpart_of};
 ghost use Rattle.run_compare.specs.Report.{AreFollowed};
-ghost use Rattle.run_plain.specs.Machines.{machine_at as plain_at, run_of as plain_run_of};
-ghost use Rattle.run_source.specs.Machines.{machine_at as source_at, run_of};
+ghost use Rattle.run_plain.specs.Machines.{run_of as plain_run_of};
+ghost use Rattle.run_source.specs.Machines.{run_of};
 ghost use Rattle.cli_compare.specs.Agreeing.{AreRunsFollowed, MayBeCompared};
 ghost use Rattle.cli_runs.specs.Runs.{sizes_of as sizes_of_layouts};
 ghost use Rattle.compiler_theorem.specs.theorem.Texts.{AgreeInRuns};
 
 use crate::text::{report_text, report_verdict};
-use cli_runs::{Answer, EntryCall, entry_call, not_callable, shown, sizes_of};
+use cli_runs::cli_entries_library::{Answer, EntryCall, entry_call, not_callable, shown};
+use cli_runs::run_whole_library::{start_plain, start_source};
+use cli_runs::sizes_of;
 use cli_words::RunWords;
 use compiler::Lowered;
-use flow_facts::all_facts;
 use ir_base::{FuncId, Items};
 use ir_model::{Frame, Module};
-use ir_paths::Facts;
 use ir_tables::Names;
 use run_compare::{Report, compare};
 use run_plain::PlainMachine;
@@ -54,56 +54,7 @@ fn compare_machines(
     Ok(shown(alloc, report_verdict(report.outcome), Items::from_vec(text)))
 }
 
-/// The answer of a source's machine, and of the lowered one, which is started.
-fn compare_from(
-    alloc: Global,
-    source: &mut SourceMachine,
-    lowered: Module,
-    other: FuncId,
-    call: &EntryCall,
-    words: &RunWords,
-) -> Result<Answer, AllocError>
-    requires { AreFollowed (run_of source.old) (plain_at (record { code = lowered; answers = words.now.answers }) other call.now.args 0) }
-    ensures { IfOk result (λ a. IsReportedOf (run_of source.old) (plain_at (record { code = lowered; answers = words.now.answers }) other call.now.args 0) words.now.steps a) }
-{
-    let mut second = PlainMachine::start(
-        alloc,
-        lowered,
-        other,
-        call.args.as_slice(),
-        words.answers.as_slice(),
-    )?;
-    compare_machines(alloc, source, &mut second, words.steps)
-}
-
-/// The answer of both runs, with these facts of the source.
-fn compare_with(
-    alloc: Global,
-    source: Module,
-    sizes: &[Frame],
-    facts: Items<Facts>,
-    lowered: Module,
-    words: &RunWords,
-    call: &EntryCall,
-    other: FuncId,
-) -> Result<Answer, AllocError>
-    requires { AreFollowed (source_at (record { code = source; sizes = sizes.now; answers = words.now.answers; facts = facts }) call.now.func call.now.args 0) (plain_at (record { code = lowered; answers = words.now.answers }) other call.now.args 0) }
-    ensures { IfOk result (λ a. IsReportedOf (source_at (record { code = source; sizes = sizes.now; answers = words.now.answers; facts = facts }) call.now.func call.now.args 0) (plain_at (record { code = lowered; answers = words.now.answers }) other call.now.args 0) words.now.steps a) }
-{
-    let mut first = SourceMachine::start(
-        alloc,
-        source,
-        sizes,
-        facts,
-        call.func,
-        call.args.as_slice(),
-        words.answers.as_slice(),
-    )?;
-    compare_from(alloc, &mut first, lowered, other, call, words)
-}
-
-/// The answer of both runs.
-#[tactic(auto, using(crate::proofs::Reported::followed_with, crate::proofs::Reported::reported_with))]
+/// The answer of both runs, which begin with the same arguments.
 fn compare_runs(
     alloc: Global,
     source: Module,
@@ -116,8 +67,11 @@ fn compare_runs(
     requires { AreRunsFollowed source sizes.now lowered words.now.answers call.now other }
     ensures { IfOk result (λ a. IsReported source sizes.now lowered words.now call.now other a) }
 {
-    let facts = all_facts(alloc, source.functions.as_slice())?;
-    compare_with(alloc, source, sizes, facts, lowered, words, call, other)
+    let args = call.args.as_slice();
+    let answers = words.answers.as_slice();
+    let mut first = start_source(alloc, source, sizes, call.func, args, answers)?;
+    let mut second = start_plain(alloc, lowered, other, args, answers)?;
+    compare_machines(alloc, &mut first.machine, &mut second.machine, words.steps)
 }
 
 /// The answer to a call of an entry of the source.

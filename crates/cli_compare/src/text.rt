@@ -4,7 +4,7 @@ ghost use Rattle.std.specs.Prelude.{◌≡◌, ◌++◌, IfOk, OnOk, codes};
 ghost use Rattle.cli_compare.specs.Compared.{allocs_line, counted_text, counts_text, elided_text, events_line, pair_text, report_text, report_verdict as report_verdict_of, some_counts_text, steps_line};
 
 use cli_report::push_outcome;
-use cli_runs::Verdict;
+use cli_runs::cli_entries_library::Verdict;
 use ir_base::Outcome;
 use ir_model::Module;
 use itoa::Buffer;

@@ -4,8 +4,8 @@ use Rattle.cli_answers.specs.Answers.{IsAnswer, IsMadeOf, lower_answer, options_
 use Rattle.cli_drive.proofs.Plain.{order_has_none}
 use Rattle.cli_drive.specs.Endings.{EndsBy, EndsRead, Gets, IsAnswered, IsEnding, IsReadWhole, IsWritten, Stream, reads_input}
 use Rattle.cli_drive.specs.Headline.{IsLoweredWhole, KeepsMeaning, TellFrames}
-use Rattle.cli_runs.specs.Runs.{verdict_status}
-use Rattle.cli_runs.specs.declared.verdict.Answer.{Answer}
+use Rattle.cli_runs.specs.cli_entries.Entries.{verdict_status}
+use Rattle.cli_runs.specs.cli_entries.declared.verdict.Answer.{Answer}
 use Rattle.cli_words.specs.Asked.{asked}
 use Rattle.cli_words.specs.declared.words.Reading.{Reading}
 use Rattle.cli_words.specs.declared.words.Words.{Words}

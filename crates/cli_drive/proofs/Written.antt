@@ -2,8 +2,8 @@
 use Rattle.std.proofs.Common.{◌≡◌, ◌∙◌, ℕ, Bool, true, false, List, [], sym, subst}
 use Rattle.cli_answers.specs.Answers.{IsAnswer}
 use Rattle.cli_drive.specs.Endings.{EndsBy, EndsRead, IsAnswered, IsUnread, IsWritten, Stream, reads_input}
-use Rattle.cli_runs.specs.Runs.{verdict_status}
-use Rattle.cli_runs.specs.declared.verdict.Answer.{Answer}
+use Rattle.cli_runs.specs.cli_entries.Entries.{verdict_status}
+use Rattle.cli_runs.specs.cli_entries.declared.verdict.Answer.{Answer}
 use Rattle.cli_words.specs.Told.{Tells}
 use Rattle.cli_words.specs.declared.answer.Taken.{Taken}
 use Rattle.cli_words.specs.declared.words.Words.{Words}

@@ -6,8 +6,8 @@ use Rattle.cli_answers.specs.Answers.{IsAnswer, IsInput}
 use Rattle.cli_io.specs.Faults.{Rose}
 use Rattle.cli_io.specs.Parts.{AppendsPrefix, ConsumesAtMost, HoldsMore}
 use Rattle.cli_report.specs.Report.{bad_list_text}
-use Rattle.cli_runs.specs.Runs.{verdict_status}
-use Rattle.cli_runs.specs.declared.verdict.Answer.{Answer}
+use Rattle.cli_runs.specs.cli_entries.Entries.{verdict_status}
+use Rattle.cli_runs.specs.cli_entries.declared.verdict.Answer.{Answer}
 use Rattle.cli_words.specs.Asked.{asked, asks_help}
 use Rattle.cli_words.specs.Told.{wants_help}
 use Rattle.cli_words.specs.declared.words.Reading.{Reading}

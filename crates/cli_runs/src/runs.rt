@@ -1,18 +1,19 @@
 //! Runs of modules.
 
 ghost use Rattle.std.specs.Prelude.{◌≡◌, IfOk, map};
-ghost use Rattle.cli_runs.specs.Runs.{run_verdict, plain_run, run_answer, not_callable, run_module, size_of, sizes_of, source_shown, source_answer, source_or, framed_shown, framed_answer, run_framed, entry_call};
+ghost use Rattle.cli_runs.specs.Runs.{run_verdict, plain_shown, plain_answer, run_module, size_of, sizes_of, source_shown, source_answer, source_or, framed_shown, framed_answer, run_framed};
+ghost use Rattle.cli_entries.specs.Entries.{entry_call};
 
-use crate::entry::entry_call;
-use crate::texts::{shown, told};
-use crate::verdict::{Answer, EntryCall, Verdict};
-use cli_report::{not_callable_text, run_text};
+use cli_entries::{Answer, EntryCall, Verdict, entry_call, not_callable, shown};
+use cli_report::run_text;
 use cli_words::RunWords;
 use frame_layout::{Layout, Layouts};
 use ir_base::{Items, Outcome};
 use ir_model::{Frame, Module};
-use run_plain::PlainMachine;
-use run_whole::{FramedView, SourceView, run_framed as whole_framed, run_source as whole_source};
+use run_whole::{
+    FramedView, PlainView, SourceView, run_framed as whole_framed, run_plain as whole_plain,
+    run_source as whole_source,
+};
 use std::alloc::{AllocError, Global};
 
 fn run_verdict(outcome: Outcome) -> Verdict
@@ -25,41 +26,28 @@ fn run_verdict(outcome: Outcome) -> Verdict
     }
 }
 
-/// The entry isn't callable.
-pub fn not_callable(alloc: Global, entry: &[u8]) -> Result<Answer, AllocError>
-    ensures { IfOk result (λ a. a ≡ not_callable entry.now) }
+/// The answer by what a module's machine shows.
+fn plain_shown(alloc: Global, view: &PlainView) -> Result<Answer, AllocError>
+    ensures { IfOk result (λ a. a ≡ plain_shown view.now) }
 {
-    let text = not_callable_text(alloc, entry)?;
-    Ok(told(alloc, Verdict::NotCallable, text))
-}
-
-fn plain_run(
-    alloc: Global,
-    code: Module,
-    answers: &[i128],
-    call: &EntryCall,
-    steps: u64,
-) -> Result<Answer, AllocError>
-    ensures { IfOk result (λ a. a ≡ plain_run code answers.now call.now steps) }
-{
-    let mut machine = PlainMachine::start(alloc, code, call.func, call.args.as_slice(), answers)?;
-    let outcome = machine.run(steps)?;
-    let text = run_text(alloc, machine.code(), machine.events(), outcome)?;
-    Ok(shown(alloc, run_verdict(outcome), Items::from_vec(text)))
+    let machine = &view.machine;
+    let text = run_text(alloc, machine.code(), machine.events(), view.outcome)?;
+    Ok(shown(alloc, run_verdict(view.outcome), Items::from_vec(text)))
 }
 
 /// What is seen of a run of a module without coroutines.
-#[tactic(auto, using(crate::proofs::Seen::plain_by))]
-fn run_answer(
+fn plain_answer(
     alloc: Global,
     code: Module,
     answers: &[i128],
     call: &EntryCall,
     steps: u64,
 ) -> Result<Answer, AllocError>
-    ensures { IfOk result (λ a. a ≡ run_answer code answers.now call.now steps) }
+    ensures { IfOk result (λ a. a ≡ plain_answer code answers.now call.now steps) }
 {
-    plain_run(alloc, code, answers, call, steps)
+    let args = call.args.as_slice();
+    let view = whole_plain(alloc, code, call.func, args, answers, steps)?;
+    plain_shown(alloc, &view)
 }
 
 /// Calls an entry of a module without coroutines.
@@ -69,7 +57,7 @@ pub fn run_module(alloc: Global, code: Module, words: &RunWords) -> Result<Answe
     let entry = words.entry.as_bytes();
     match entry_call(alloc, &code, entry, words.args.as_slice())? {
         None => not_callable(alloc, entry),
-        Some(call) => run_answer(alloc, code, words.answers.as_slice(), &call, words.steps),
+        Some(call) => plain_answer(alloc, code, words.answers.as_slice(), &call, words.steps),
     }
 }
 

@@ -1,2 +1,3 @@
 pub mod FramedRuns
+pub mod PlainRuns
 pub mod SourceRuns

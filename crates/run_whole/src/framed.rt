@@ -12,14 +12,22 @@ use run_framed_facts::all_framed_facts;
 use std::alloc::{AllocError, Global};
 
 /// The machine of a framed module, and what the run came to.
-#[derive(Drop)]
 pub struct FramedView {
     pub machine: FramedMachine,
     pub outcome: Outcome,
 }
 
-/// The machine of a framed module at an entry, before its first step. The layouts are those of its coroutines' frames.
-pub fn start_framed(
+impl Drop for FramedView {
+    fn drop(self) {
+        let FramedView {
+            machine,
+            outcome: _,
+        } = self;
+        drop(machine);
+    }
+}
+
+fn machine_of_framed(
     alloc: Global,
     framed: Module,
     layouts: &Layouts,
@@ -31,6 +39,25 @@ pub fn start_framed(
 {
     let facts = all_framed_facts(alloc, framed.functions.as_slice())?;
     FramedMachine::start(alloc, framed, layouts, facts, entry, args, answers)
+}
+
+/// The machine of a framed module at an entry, before its first step. The layouts are those of its coroutines' frames.
+pub fn start_framed(
+    alloc: Global,
+    framed: Module,
+    layouts: &Layouts,
+    entry: FuncId,
+    args: &[Word],
+    answers: &[i128],
+) -> Result<FramedView, AllocError>
+    ensures started { IfOk result (λ view. IsStarted framed layouts.now entry args.now answers.now (run_of view.machine)) }
+    ensures running { IfOk result (λ view. view.outcome ≡ Outcome.Running) }
+{
+    let machine = machine_of_framed(alloc, framed, layouts, entry, args, answers)?;
+    Ok(FramedView {
+        machine,
+        outcome: Outcome::Running,
+    })
 }
 
 /// What is seen of a framed module after so many steps.
@@ -45,7 +72,7 @@ pub fn run_framed(
 ) -> Result<FramedView, AllocError>
     ensures { IfOk result (λ view. ShowsFramed framed layouts.now entry args.now answers.now steps view) }
 {
-    let mut machine = start_framed(alloc, framed, layouts, entry, args, answers)?;
+    let mut machine = machine_of_framed(alloc, framed, layouts, entry, args, answers)?;
     let outcome = machine.run(steps)?;
     Ok(FramedView { machine, outcome })
 }

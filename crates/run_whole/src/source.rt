@@ -11,14 +11,22 @@ use run_source::SourceMachine;
 use std::alloc::{AllocError, Global};
 
 /// The machine of a source, and what the run came to.
-#[derive(Drop)]
 pub struct SourceView {
     pub machine: SourceMachine,
     pub outcome: Outcome,
 }
 
-/// The machine of a source at an entry, before its first step.
-pub fn start_source(
+impl Drop for SourceView {
+    fn drop(self) {
+        let SourceView {
+            machine,
+            outcome: _,
+        } = self;
+        drop(machine);
+    }
+}
+
+fn machine_of_source(
     alloc: Global,
     source: Module,
     sizes: &[Frame],
@@ -30,6 +38,25 @@ pub fn start_source(
 {
     let facts = all_facts(alloc, source.functions.as_slice())?;
     SourceMachine::start(alloc, source, sizes, facts, entry, args, answers)
+}
+
+/// The machine of a source at an entry, before its first step.
+pub fn start_source(
+    alloc: Global,
+    source: Module,
+    sizes: &[Frame],
+    entry: FuncId,
+    args: &[Word],
+    answers: &[i128],
+) -> Result<SourceView, AllocError>
+    ensures started { IfOk result (λ view. IsStarted source sizes.now entry args.now answers.now (run_of view.machine)) }
+    ensures running { IfOk result (λ view. view.outcome ≡ Outcome.Running) }
+{
+    let machine = machine_of_source(alloc, source, sizes, entry, args, answers)?;
+    Ok(SourceView {
+        machine,
+        outcome: Outcome::Running,
+    })
 }
 
 /// What is seen of a source after so many steps.
@@ -44,7 +71,7 @@ pub fn run_source(
 ) -> Result<SourceView, AllocError>
     ensures { IfOk result (λ view. ShowsSource source sizes.now entry args.now answers.now steps view) }
 {
-    let mut machine = start_source(alloc, source, sizes, entry, args, answers)?;
+    let mut machine = machine_of_source(alloc, source, sizes, entry, args, answers)?;
     let outcome = machine.run(steps)?;
     Ok(SourceView { machine, outcome })
 }

@@ -1,11 +1,18 @@
-use Rattle.std.proofs.Common.{List, subst}
-use Rattle.cli_compare.proofs.Reported.{followed_with}
-use Rattle.flow_facts.specs.HaveFacts.{HaveFacts}
-use Rattle.ir_model.specs.declared.module.Function.{Function}
+use Rattle.run_plain.specs.Machines.{run_of as plain_run_of}
+use Rattle.run_source.specs.Machines.{run_of}
+use Rattle.cli_compare.proofs.Reported.{followed_with, reported_with}
 use Rattle.cli_compare.proofs.answers.compare_runs.Goals as goal
 
-pub compare_with-requires : goal.compare_with-requires
-compare_with-requires c =
-    followed_with c.args.source c.args.sizes.now c.in_ok-facts.facts c.args.lowered c.args.words.now c.args.call.now
-    c.args.other (subst (λ (fs : List Function). HaveFacts fs c.in_ok-facts.facts) c.as_slice.ensures
-    c.in_ok-facts.ensures) c.requires
+pub compare_machines-requires : goal.compare_machines-requires
+compare_machines-requires c =
+    followed_with c.args.source c.args.sizes.now c.args.lowered c.args.words.now c.args.call.now c.args.other
+    c.as_slice-args.result.now c.as_slice-answers.result.now c.as_slice-args.ensures c.as_slice-answers.ensures
+    (run_of c.in_ok-first.first.machine) (plain_run_of c.in_ok-second.second.machine) c.in_ok-first.ensures.started
+    c.in_ok-second.ensures.started c.requires
+
+pub returns : goal.returns
+returns c =
+    reported_with c.args.source c.args.sizes.now c.args.lowered c.args.words.now c.args.call.now c.args.other
+    c.as_slice-args.result.now c.as_slice-answers.result.now c.as_slice-args.ensures c.as_slice-answers.ensures
+    (run_of c.in_ok-first.first.machine) (plain_run_of c.in_ok-second.second.machine) c.in_ok-first.ensures.started
+    c.in_ok-second.ensures.started c.compare_machines.result c.compare_machines.ensures

@@ -1,5 +1,5 @@
 use Rattle.run_whole.proofs.FramedRuns.{started_by}
-use Rattle.run_whole.proofs.framed.start_framed.Goals as goal
+use Rattle.run_whole.proofs.framed.machine_of_framed.Goals as goal
 
 pub returns : goal.returns
 returns c =

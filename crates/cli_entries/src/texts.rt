@@ -1,10 +1,10 @@
 //! Answers and their texts.
 
 ghost use Rattle.std.specs.Prelude.{◌≡◌, IfOk};
-ghost use Rattle.cli_runs.specs.Runs.{shown, told, refused, syntax_fault};
+ghost use Rattle.cli_entries.specs.Entries.{shown, told, refused, syntax_fault, not_callable};
 
 use crate::verdict::{Answer, Verdict};
-use cli_report::{refused_text, syntax_text as text_of_fault};
+use cli_report::{not_callable_text, refused_text, syntax_text as text_of_fault};
 use ir_base::{Items, Place, Rule};
 use ir_model::Module;
 use std::alloc::{AllocError, Global};
@@ -50,4 +50,12 @@ pub fn syntax_fault(alloc: Global, items: usize) -> Result<Answer, AllocError>
 {
     let text = text_of_fault(alloc, items)?;
     Ok(told(alloc, Verdict::Refused, text))
+}
+
+/// The entry isn't callable.
+pub fn not_callable(alloc: Global, entry: &[u8]) -> Result<Answer, AllocError>
+    ensures { IfOk result (λ a. a ≡ not_callable entry.now) }
+{
+    let text = not_callable_text(alloc, entry)?;
+    Ok(told(alloc, Verdict::NotCallable, text))
 }

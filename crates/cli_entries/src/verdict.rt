@@ -1,7 +1,7 @@
 //! What the program answers.
 
 ghost use Rattle.std.specs.Prelude.{◌≡◌, ◌≢◌};
-ghost use Rattle.cli_runs.specs.Runs.{verdict_status};
+ghost use Rattle.cli_entries.specs.Entries.{verdict_status};
 
 use ir_base::{FuncId, Items, Status, Word};
 

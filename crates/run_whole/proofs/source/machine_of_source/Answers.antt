@@ -1,5 +1,5 @@
 use Rattle.run_whole.proofs.SourceRuns.{started_by}
-use Rattle.run_whole.proofs.source.start_source.Goals as goal
+use Rattle.run_whole.proofs.source.machine_of_source.Goals as goal
 
 pub returns : goal.returns
 returns c =

@@ -1,7 +1,7 @@
 //! Callable entries.
 
 ghost use Rattle.std.specs.Prelude.{◌≡◌, IfOk, Some};
-ghost use Rattle.cli_runs.specs.Runs.{word_as, words_for, has_int_result, is_entry, entry_named, call_of, call_at, entry_call};
+ghost use Rattle.cli_entries.specs.Entries.{word_as, words_for, has_int_result, is_entry, entry_named, call_of, call_at, entry_call};
 ghost use Rattle.ir_model.specs.Names.{same_text};
 ghost use Rattle.text_names.specs.Spelling.{spelling};
 

@@ -1,7 +1,7 @@
 -- Arguments one by one.
 use Rattle.std.proofs.Common.{◌≡◌, List, [], ◌∷◌, ◌++◌, Option, Some, None, ap, refl, sym, append_assoc, append-nil}
 use Rattle.ir_base.specs.declared.outcome.Word.{Word}
-use Rattle.cli_runs.specs.Runs.{with_word}
+use Rattle.cli_entries.specs.Entries.{with_word}
 
 -- words, and others behind them where there are some
 abbrev pub with_words : List Word → Option (List Word) → Option (List Word)
