@@ -64,10 +64,10 @@ AsksOn g v = (a : AskingBlocks) × ((s : AsksBlocks g a) × (s.on ≡ Operand.Lo
 module _ (l : Lowered) (low : IsLowered l) (k : ℕ) (f : Function)
     (there : slice_get (early l).functions k ≡ Some f) (coroutine : f.coroutine ≡ true) (taken : ℕ) (g : Function)
     (h : IsFramedCoroutine (early l) (layout_at l.layouts.coroutines taken) f g) (guarded : is_guarded f ≡ true) where
-  rules : KeepsFunctionRules (early l) k f
+  pub rules : KeepsFunctionRules (early l) k f
   rules = early_rules l.text l.source low.source.stands low.source.accepted k f there
 
-  abbrev y : IsGuarded f
+  abbrev pub y : IsGuarded f
   y = guarded_is f guarded
 
   abbrev q : ℕ
@@ -96,7 +96,7 @@ module _ (l : Lowered) (low : IsLowered l) (k : ℕ) (f : Function)
   old_there : slice_get (with_edge_blocks f).blocks (spot f q) ≡ Some old
   old_there = own_there f q y.asked.asking y.asked.got
 
-  s : AsksBlocks (with_edge_blocks f) (blocks f (labels_known k f rules.tabled (early l) rules.known)
+  pub s : AsksBlocks (with_edge_blocks f) (blocks f (labels_known k f rules.tabled (early l) rules.known)
       (own_label k f rules.definitions) y)
   s = asks_blocks f (labels_known k f rules.tabled (early l) rules.known) (own_label k f rules.definitions) y
 
@@ -104,7 +104,7 @@ module _ (l : Lowered) (low : IsLowered l) (k : ℕ) (f : Function)
   unfolding s
   on_need = asks_on f (labels_known k f rules.tabled (early l) rules.known) (own_label k f rules.definitions) y
 
-  abbrev a : AskingBlocks
+  abbrev pub a : AskingBlocks
   a = blocks f (labels_known k f rules.tabled (early l) rules.known) (own_label k f rules.definitions) y
 
   old_term : old.term ≡ Terminator.Branch (Operand.Local need) a.one a.other
@@ -114,7 +114,7 @@ module _ (l : Lowered) (low : IsLowered l) (k : ℕ) (f : Function)
       let one : old.term ≡ Terminator.Branch s.on a.one a.other = cc in
       one ∙ ap (λ (o : Operand). Terminator.Branch o a.one a.other) on_need
 
-  new_branch : fetch g (spot f q) (length (instrs_of g (spot f q)))
+  pub new_branch : fetch g (spot f q) (length (instrs_of g (spot f q)))
       ≡ AtTerm (Terminator.Branch (Operand.Local need) a.one a.other)
   new_branch = stays_branch l low k f there coroutine taken g h q at need y.asked.one y.asked.other y.asked.asking
       asked.instr y.asked.got own gives (no_alloca asked.instr need asked.gives) y.asked.branch y.asked.once a.one a.other

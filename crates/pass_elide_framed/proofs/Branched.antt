@@ -81,6 +81,6 @@ module _ (l : Lowered) (low : IsLowered l) (k : ℕ) (f : Function)
       ∙ ap AtTerm (term_there x (spot f q) old m.block old_there
       (ap (λ (z : Function). slice_get z.blocks (spot f q)) (sym h.is) ∙ m.there)
       (subst (IsBareIn x) (sym is) (record {
-        loads = (loads_none x h.contents_are.crossing_are v crosses, tt);
+        loads = (loads_none x f h.contents_are.crossing_are v (λ s listed c. crosses s c), tt);
         slots = (slots_none x framing (spot f q) at v old i old_there stands gives other, tt);
       })) ∙ is)

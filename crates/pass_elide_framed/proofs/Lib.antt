@@ -1,13 +1,13 @@
-mod Ruled
-mod Plain
-mod EdgeKinds
-mod Terms
-mod SameWays
-mod Freed
-mod Layouts
-mod Returned
-mod Unfetched
-mod Answered
-mod ElidedForms
-mod Branched
-mod Tested
+pub mod Ruled
+pub mod Plain
+pub mod EdgeKinds
+pub mod Terms
+pub mod SameWays
+pub mod Freed
+pub mod Layouts
+pub mod Returned
+pub mod Unfetched
+pub mod Answered
+pub mod ElidedForms
+pub mod Branched
+pub mod Tested

@@ -105,15 +105,15 @@ any_flat test give (x ∷ xs) e =
     (sym (list_any-append test (give x) (flat_map give xs)) ∙ e) (any_flat test give xs)
 
 -- what gives a name that is a frame
-record GivesFrame (f : Function) (v : ℕ) : Type 0 where
-  block : ℕ
-  own : Block
-  got : slice_get f.blocks block ≡ Some own
-  at : ℕ
-  instr : Instr
-  there : slice_get own.instrs at ≡ Some instr
-  frame : is_frame_call instr ≡ true
-  gives : call_result instr ≡ Some v
+pub record GivesFrame (f : Function) (v : ℕ) : Type 0 where
+  pub block : ℕ
+  pub own : Block
+  pub got : slice_get f.blocks block ≡ Some own
+  pub at : ℕ
+  pub instr : Instr
+  pub there : slice_get own.instrs at ≡ Some instr
+  pub frame : is_frame_call instr ≡ true
+  pub gives : call_result instr ≡ Some v
 
 frame_given : (v : ℕ) (i : Instr) → list_any (is_local v) (frame_value i) ≡ true
     → (is_frame_call i ≡ true) × (call_result i ≡ Some v)
@@ -132,7 +132,7 @@ frame_given v i e = on (is_frame_call i) refl e
     on true d h = (d, by (call_result i) h)
     on false d h = absurd (false≢true h)
 
-gives_frame : (f : Function) (v : ℕ) → is_frame f (Operand.Local v) ≡ true → GivesFrame f v
+pub gives_frame : (f : Function) (v : ℕ) → is_frame f (Operand.Local v) ≡ true → GivesFrame f v
 gives_frame f v e =
     let x = any_flat (is_local v) (λ (b : Block). flat_map frame_value b.instrs) f.blocks e in
     let y = any_flat (is_local v) frame_value x.element.instrs x.passes_it in
@@ -148,15 +148,15 @@ gives_frame f v e =
       gives = z.1;
     }
 
-call_gives : (i : Instr) (v : ℕ) → call_result i ≡ Some v → result_of i ≡ Some v
+pub call_gives : (i : Instr) (v : ℕ) → call_result i ≡ Some v → result_of i ≡ Some v
 call_gives (Instr.Call result must_tail ty callee args) v e = e
 call_gives _ v e = absurd (cc)
 
-instr_of : (f : Function) (block at : ℕ) (b : Block) (i : Instr) → slice_get f.blocks block ≡ Some b
+pub instr_of : (f : Function) (block at : ℕ) (b : Block) (i : Instr) → slice_get f.blocks block ≡ Some b
     → slice_get b.instrs at ≡ Some i → slice_get (instrs_of f block) at ≡ Some i
 instr_of f block at b i got there = ap (λ (o : Option Block). slice_get (instrs_in o) at) got ∙ there
 
-all_at : {A : Type 0} (test : A → Bool) (xs : List A) (k : ℕ) (x : A) → list_all test xs ≡ true
+pub all_at : {A : Type 0} (test : A → Bool) (xs : List A) (k : ℕ) (x : A) → list_all test xs ≡ true
     → slice_get xs k ≡ Some x → test x ≡ true
 all_at test [] k x e there = absurd (cc)
 all_at test (y ∷ xs) zero x e there = let same : y ≡ x = cc in sym (ap test same) ∙ and_first (test y) _ e
@@ -190,7 +190,7 @@ module _ (l : Lowered) (low : IsLowered l) (k : ℕ) (f : Function)
   rules : KeepsFunctionRules (early l) k f
   rules = early_rules l.text l.source low.source.stands low.source.accepted k f there
 
-  abbrev begin : ℕ
+  abbrev pub begin : ℕ
   begin = (named l low k f there coroutine lay (number_given l.layouts.coroutines taken)).begin
 
   framing : IsFraming x
@@ -225,11 +225,11 @@ module _ (l : Lowered) (low : IsLowered l) (k : ℕ) (f : Function)
 
   -- ---- begin's name stays
 
-  loads : fetch_of (fetches_of (plan x)) (Operand.Local begin) ≡ None
+  pub loads : fetch_of (fetches_of (plan x)) (Operand.Local begin) ≡ None
   loads = subst (λ (v : ℕ). fetch_of (fetches_of (plan x)) (Operand.Local v) ≡ None) begin_of_is
       (unplaced_fetch (plan x) (begin_of f) (begin_plain x framing).unkept)
 
-  slots : fetch_of (slot_fetches (begin_of f) (offsets x)) (Operand.Local begin) ≡ None
+  pub slots : fetch_of (slot_fetches (begin_of f) (offsets x)) (Operand.Local begin) ≡ None
   slots = subst (λ (v : ℕ). fetch_of (slot_fetches (begin_of f) (offsets x)) (Operand.Local v) ≡ None) begin_of_is
       (outside_unfetched (begin_of f) (offsets x) (begin_of f) (begin_plain x framing).outside)
 
@@ -282,7 +282,7 @@ module _ (l : Lowered) (low : IsLowered l) (k : ℕ) (f : Function)
       ∙ ap (λ (o : Operand). not (is_other v o && true)) value
       ∙ ap (λ (t : Bool). not (not t && true)) (itself v))
 
-  own_begin_is : (q at : ℕ) (b : Block) (i : Instr) (v : ℕ) → slice_get f.blocks q ≡ Some b
+  pub own_begin_is : (q at : ℕ) (b : Block) (i : Instr) (v : ℕ) → slice_get f.blocks q ≡ Some b
       → slice_get b.instrs at ≡ Some i → is_call_of Intrinsic.CoroBegin i ≡ true → call_result i ≡ Some v → v ≡ begin
   own_begin_is q at b i v got stands is gives_v =
       let result = own_begins.named q at begin i (instr_of f q at b i got stands) is own_begin in

@@ -254,7 +254,7 @@ module _ (l : Lowered) (low : IsLowered l) (k : ℕ) (f : Function)
 
   -- ---- kinds of edges
 
-  edged_switches : wrong_switch k (with_edge_blocks f) ≡ None
+  pub edged_switches : wrong_switch k (with_edge_blocks f) ≡ None
   edged_switches =
       let others = early_others l.text l.source low.source.stands low.source.accepted in
       switches_kept (early l) k f (early_rules l.text l.source low.source.stands low.source.accepted k f there)

@@ -20,7 +20,7 @@ use Rattle.compiler_theorem.specs.pass_frames_meaning.pass_frames_proof.Places.{
 abbrev pub AreBare : List (Option Fetch) → Terminator → Type 0
 AreBare T t = Each (λ (o : Operand). fetch_of T o ≡ None) (term_operands t)
 
-fetched_bare : (T : List (Option Fetch)) (n : ℕ) (t : Terminator) → AreBare T t → fetched_term T n t ≡ t
+pub fetched_bare : (T : List (Option Fetch)) (n : ℕ) (t : Terminator) → AreBare T t → fetched_term T n t ≡ t
 fetched_bare T n (Terminator.Jump label) h = refl
 fetched_bare T n (Terminator.Branch c a b) h = λ i. Terminator.Branch (operand_by n (h.0 i) c) a b
 fetched_bare T n (Terminator.Switch arg default cases) h =

@@ -198,11 +198,11 @@ module _ (v : ℕ) where
       (listed_either (incoming_uses f to p.incoming) (phis_uses f to ps) (edge_use from to v) l)
 
   -- a block whose phis use it
-  record PhisUse (bs : List Block) : Type 0 where
-    index : ℕ
-    block : Block
-    got : slice_get bs index ≡ Some block
-    some_hits : 1 ≤ hits (flat_map phi_operands block.phis)
+  pub record PhisUse (bs : List Block) : Type 0 where
+    pub index : ℕ
+    pub block : Block
+    pub got : slice_get bs index ≡ Some block
+    pub some_hits : 1 ≤ hits (flat_map phi_operands block.phis)
 
   use_other : (f : Function) (k to from : ℕ) (ps : List Phi) → IsListed (edge_use from to v) (phis_uses f k ps)
       → k ≡ to
@@ -226,7 +226,7 @@ module _ (v : ℕ) where
           (listed_either (uses_by (position_of f i.from) k (local_of i.value)) (incoming_uses f k is)
           (edge_use from to v) m)
 
-  phis_use : (f : Function) (k to from : ℕ) (bs : List Block) → IsListed (edge_use from to v) (blocks_uses f k bs)
+  pub phis_use : (f : Function) (k to from : ℕ) (bs : List Block) → IsListed (edge_use from to v) (blocks_uses f k bs)
       → PhisUse bs
   phis_use f k to from [] l = absurd l
   phis_use f k to from (b ∷ bs) l = ⊎_elim

@@ -1,0 +1,11 @@
+pub mod Rooms
+pub mod Rets
+pub mod Globals
+pub mod Kept
+pub mod Marks
+pub mod Beside
+pub mod Spots
+pub mod Told
+pub mod Reached
+pub mod Placed
+pub mod Ended
